@@ -46,11 +46,11 @@ abbrev pub is_covered : Fpr → Use → Demand → ℕ → Labels → Row → Bo
 is_covered target used demand most table row =
     is_within most (label_at table row.edge.issuer) || not (may_stand target used demand row)
 
--- so for a target and what is used
+-- whether an edge is covered, by its target and what is used
 abbrev pub is_covered_by : Demand → ℕ → Labels → Fpr → Use → Row → Bool
 is_covered_by demand most table target used row = is_covered target used demand most table row
 
--- so for each edge into a fingerprint that is this many edges from the target
+-- each edge into a fingerprint that is this many edges from the target is covered
 abbrev pub Covers : Question → Use → ℕ → Labels → Fpr → Type 0
 Covers q used size table at =
     (row : Row) → Has (rows_into q.told at) row

@@ -85,7 +85,7 @@ CoversLayer q used size layer table = (at : Fpr) → Has layer at → Covers q u
 abbrev pub LeadsFromLayer : Question → Use → ℕ → List Fpr → Labels → Type 0
 LeadsFromLayer q used size layer table = (at : Fpr) → Has layer at → Leads q used table size at
 
--- so after the edges into each fingerprint of a layer
+-- the next layer grew by the edges into each fingerprint of a layer
 abbrev pub GrowsByLayer : Question → Use → ℕ → List Fpr → Growth → Growth → Type 0
 GrowsByLayer q used size layer old new =
     LeadsFromLayer q used size layer old.table → IsLayered q used (suc size) old

@@ -150,7 +150,7 @@ module _ (rows : PolicyRows) where
       (omega arith)
       (h.written_is ∙ ap (λ (x : List ℕ). Some x) (sym (append-nil (before ++ h.done))))) h
 
-  -- so after a write of the buffer was cut short
+  -- what was written is a prefix, if a write of the buffer was cut short
   pub Held-cut : OneOutcome rows → (left0 written0 : Option (List ℕ)) (origin : Option World) (held : List ℕ)
       (taken : ℕ) (left written : Option (List ℕ)) (out : List ℕ) (shelf : Option World) (state : Whole)
       (after : Option (List ℕ))
@@ -164,7 +164,7 @@ module _ (rows : PolicyRows) where
       takes_more rows origin world law input before held taken left shelf state h.done out g'.0 after h.stands
       (omega (arith, g'.1)) g'.2) h
 
-  -- so after 2 ^ 30 octets, even if more was read
+  -- all complete lines of 2 ^ 30 octets are answered, even if more was read
   pub Held-most : OneOutcome rows → (left0 written0 : Option (List ℕ)) (origin : Option World) (held : List ℕ)
       (taken : ℕ) (left written : Option (List ℕ)) (out : List ℕ) (shelf : Option World) (state : Whole)
       (after left' : Option (List ℕ)) (taken' : ℕ)
@@ -193,7 +193,7 @@ module _ (rows : PolicyRows) where
       (puts_nothing rows origin world shelf h.stands.now state (drop (length h.stands.done) (lines_of input))
       h.stands.is_now)) h
 
-  -- so after a write of the buffer was cut short
+  -- how far the run has come if a write of the buffer was cut short
   pub Held-reached_cut : (left0 written0 : Option (List ℕ)) (origin : Option World) (held : List ℕ) (taken : ℕ)
       (left written : Option (List ℕ)) (out : List ℕ) (shelf : Option World) (state : Whole) (after : Option (List ℕ))
       → Held left0 written0 origin held taken left written out shelf state →
@@ -208,7 +208,7 @@ module _ (rows : PolicyRows) where
       (puts_nothing rows origin world shelf h.stands.now state (drop (length h.stands.done) (lines_of input))
       h.stands.is_now)) h
 
-  -- so after a line for which memory ran out
+  -- how far the run has come if memory ran out for a line
   pub Held-reached_next : (left0 written0 : Option (List ℕ)) (origin : Option World) (old : ReaderState)
       (left written : Option (List ℕ)) (out : List ℕ) (shelf : Option World) (state : Whole) (after : Option (List ℕ))
       (new : ReaderState) (left' : Option (List ℕ)) (shelf' : Option World) (line : Line)

@@ -39,7 +39,7 @@ module _ {T : Type 0} where
   pub never_ok : (r : Result T Stop) (value : T) (stop : Stop) → r ≡ Ok value → r ≡ Err stop → ⊥
   never_ok r value stop e f = absurd (cc (e, f))
 
--- so of an error that `?` returns
+-- a claim about success holds trivially of an error that `?` returns
 pub unless_ok : {T E : Type 0} (r : Result T E) (Q : E → Type 0) (P : Type 0) → IsErrAnd r Q → OnOk r P
 unless_ok (Ok value) Q P h = absurd h
 unless_ok (Err e) Q P h = tt

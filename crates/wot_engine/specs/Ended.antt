@@ -17,7 +17,7 @@ pub record IsMost (input : List ℕ) (left : Option (List ℕ)) : Type 0 where
   pub taken : IsTaken input octets left
   pub size : length octets ≡ 2 ^ 30
 
--- so if the source's octets are known
+-- 2 ^ 30 octets were taken, if the source's octets are known
 abbrev pub TakesMost : Option (List ℕ) → Option (List ℕ) → Type 0
 TakesMost None left = Unit {0}
 TakesMost (Some input) left = IsMost input left
@@ -32,8 +32,8 @@ pub record Finished (rows : PolicyRows) (world : World) (lines : List (List ℕ)
   pub written : after ≡ Some (before ++ octets_of replies)
   pub left : IsNow origin shelf told.last.world
 
--- So for all complete lines of the octets that were taken. At the end of the source, a last line without a line feed
--- may count as complete.
+-- All complete lines of the octets that were taken are finished. At the end of the source, a last line without a line
+-- feed may count as complete.
 pub record FinishedTaken (rows : PolicyRows) (world : World) (input before : List ℕ) (left after : Option (List ℕ))
     (origin shelf : Option World) : Type 0 where
   pub octets : List ℕ
@@ -41,7 +41,7 @@ pub record FinishedTaken (rows : PolicyRows) (world : World) (input before : Lis
   pub finished : Finished rows world (whole_lines_of octets) before after origin shelf
       ⊎ ((taken.rest ≡ []) × Finished rows world (lines_of octets) before after origin shelf)
 
--- so for all complete lines of the 2 ^ 30 octets that were taken
+-- 2 ^ 30 octets were taken, and all complete lines of them are finished
 pub record FinishedMost (rows : PolicyRows) (world : World) (input before : List ℕ) (left after : Option (List ℕ))
     (origin shelf : Option World) : Type 0 where
   pub octets : List ℕ
@@ -78,7 +78,8 @@ pub record IsLastTaken (lines : List (List ℕ)) (left : Option (List ℕ)) : Ty
   pub lines_are : lines ≡ line ∷ lines_of (behind ++ rest)
   pub few : length behind < 65536
 
--- So with all replies complete: those to the lines before the last one that was taken, or none if nothing was taken.
+-- The complete replies were written: those to the lines before the last one that was taken, or none if nothing was
+-- taken. The next line wrote at most its own entry.
 pub record ReachedWhole (rows : PolicyRows) (world : World) (input before : List ℕ) (source after : Option (List ℕ))
     (origin shelf : Option World) : Type 0 where
   pub count : ℕ

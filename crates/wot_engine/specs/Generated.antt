@@ -38,7 +38,7 @@ pub record SummaryBegun (rows : PolicyRows) (start count : ℕ) (before : List �
   pub size : ℕ
   pub written : after ≡ Some (before ++ take size text)
 
--- so if what was written to the sink is known
+-- the three lines were written, if what was written to the sink is known
 abbrev pub WritesSummary : PolicyRows → Ends (Option (List ℕ)) → ℕ → ℕ → Type 0
 WritesSummary rows output start count = IfSome output.old (λ before. Summarized rows start count before output.new)
 

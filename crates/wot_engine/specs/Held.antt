@@ -7,7 +7,7 @@ pub record MovesOf (before held : List ℕ) (after : Option (List ℕ)) (rest : 
   pub written_is : after ≡ Some (before ++ more)
   pub parts : held ≡ more ++ rest
 
--- so if what was written to the sink is known
+-- a prefix of the buffer was written, if what was written to the sink is known
 abbrev pub Moves : Option (List ℕ) → List ℕ → Option (List ℕ) → List ℕ → Type 0
 Moves None held after rest = Unit {0}
 Moves (Some before) held after rest = MovesOf before held after rest

@@ -30,7 +30,7 @@ world_in shelf = shelf.world
 abbrev pub seen_in : ShelfMemory → Seen
 seen_in shelf = record { world = Some shelf.world; faults = shelf.faults }
 
--- so for what is kept, the directory's world and the tally before and after the line
+-- a line was answered, by what is kept, the directory's world and the tally before and after it
 abbrev pub AddsLine : PolicyRows → List ℕ → Ends Whole → Ends World → Ends Tally → Type 0
 AddsLine rows line machine shelf tally =
     Adds rows line (record { whole = machine.old; world = shelf.old }) tally.old
@@ -43,7 +43,7 @@ pub record AddsReply (rows : PolicyRows) (line : List ℕ) (old : Whole) (before
   pub replied : Replied rows line old before reply new after
   pub tells : (replies : List Reply) → Tells had replies → Tells has (replies ++ listed reply)
 
--- so for what is kept, what is seen of the directory and the tally before and after the line
+-- a line was answered, by what is kept, what is seen of the directory and the tally before and after it
 abbrev pub AddsOne : PolicyRows → List ℕ → Ends Whole → Ends Seen → Ends Tally → Type 0
 AddsOne rows line machine shelf tally =
     AddsReply rows line machine.old shelf.old tally.old machine.new shelf.new tally.new

@@ -49,7 +49,8 @@ abbrev pub WritesTaken : PolicyRows → Octets → Octets → Ends (Option World
 WritesTaken rows input output shelf = OnContents input output shelf (λ octets before world.
     FinishedTaken rows world octets before input.new output.new shelf.old shelf.new)
 
--- so after 2 ^ 30 octets were taken
+-- 2 ^ 30 octets were taken, the replies to all complete lines of them were written, and the directory is as these lines
+-- leave it
 abbrev pub WritesMost : PolicyRows → Octets → Octets → Ends (Option World) → Type 0
 WritesMost rows input output shelf = OnContents input output shelf (λ octets before world.
     FinishedMost rows world octets before input.new output.new shelf.old shelf.new)

@@ -60,12 +60,12 @@ pub record RepliesBehind (rows : PolicyRows) (line : Line) (text : List ℕ) (ol
   pub replies : Replies rows line text old before octets new after
   pub behind : has ≡ had ++ octets
 
--- so for the reply alone, before and after the call
+-- the octets of the reply were appended, by the values before and after the call
 abbrev pub Says : PolicyRows → Line → List ℕ → Ends Whole → Ends (Option World) → Ends (List ℕ) → Type 0
 Says rows line text machine shelf out =
     SaidBehind rows line text machine.old shelf.old out.old machine.new shelf.new out.new
 
--- so for the reply and the watch lines after it
+-- the octets of the reply and of the watch lines after it were appended
 abbrev pub SaysAll : PolicyRows → Line → List ℕ → Ends Whole → Ends (Option World) → Ends (List ℕ) → Type 0
 SaysAll rows line text machine shelf out =
     RepliesBehind rows line text machine.old shelf.old out.old machine.new shelf.new out.new

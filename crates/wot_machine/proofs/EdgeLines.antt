@@ -26,7 +26,7 @@ marked : (k : Keyring) (t : ℕ) (fpr : Fpr) (uid : List ℕ) (o : Option Explai
 marked k t fpr uid None p = inl refl
 marked k t fpr uid (Some told) p = inr (record { target = told.target; reasons = told.certs; lines = refl; edges = p })
 
--- so over the parts of the view
+-- a reply over the parts of a view marks the edges
 marked_seen : (engine : Engine) (p : Parts) (fpr : Fpr) (uid : List ℕ) (o : Option View)
     → EdgesAreTold p.keyring.now p.t fpr uid
     → IsSomeAnd o (λ (v : View). ArePartsOf engine.keyring v p)

@@ -24,7 +24,7 @@ abbrev pub IsUncalled : Option World → List ℕ → Type 0
 IsUncalled None input = CallNothing (lines_of input)
 IsUncalled (Some origin) input = Unit {0}
 
--- so for a single line
+-- if the directory's world is unknown, this line doesn't use the directory
 abbrev pub MayCall : Option World → List ℕ → Type 0
 MayCall None line = use_of (heard line) ≡ unused
 MayCall (Some origin) line = Unit {0}

@@ -132,7 +132,7 @@ watched_ran rows command old new cursors before after seen reply watching stays 
       watching = puts;
     })
 
--- so for a reply by itself
+-- a command of a watch, with a reply by itself
 pub watched_told : {E : Type 0} (r : Result Reply E) (t : Result Told E) (rows : PolicyRows) (command : Command)
     (old new : Engine) (cursors : Cursors) (before after : Watches)
     (seen : Seen) → IfOk r (λ reply. t ≡ Ok (record { reply = reply; moved = None })) → is_ok t ≡ is_ok r →
@@ -149,7 +149,7 @@ watched_told (Ok reply) t rows command old new cursors before after seen is ok w
     (watched (whole_of new (settled told.moved cursors)) after) seen))
     (sym is) (watched_ran rows command old new cursors before after seen reply watching stays puts)
 
--- so for a reply that moves no cursor
+-- a command of a watch whose reply moves no cursor
 pub watched_alone : (told : Told) (rows : PolicyRows) (command : Command) (engine : Engine) (cursors : Cursors)
     (before after : Watches) (seen : Seen) (reply : Reply)
     → told.reply ≡ reply → told.moved ≡ None → is_watching command ≡ true → StaysButMarks engine engine →
@@ -521,7 +521,7 @@ module _ {T E : Type 0} where
       (subst (λ (x : Whole). Replied rows line old before (Some told.reply) x after)
       (λ i. watched (whole_of (sym e i) (sym s i)) (sym w i)) p) same f
 
--- so for the reply alone
+-- a reply that moves no cursor was written
 pub told_settled : (rows : PolicyRows) (line : List ℕ) (old : Whole) (before : Seen) (mid : Engine) (at : Cursors)
     (watches : Watches) (new : Engine) (cursors : Cursors)
     (left : Watches) (after : Seen) (told : Told) (reply : Reply) (moved : Option Moved) → told.reply ≡ reply →

@@ -47,7 +47,7 @@ all_later later old new basis watches on =
       rests = λ some. later old new basis watch.view watch.target watch.wanted watch.uid watch.told on (s.rests some);
     }) watches
 
--- so on a basis that was moved forward
+-- what is settled is settled on a basis that was moved forward
 pub all_carried : (engine : Engine) (old new : Basis) (watches : Watches) → bases.CarriesOn engine old new
     → AllSettled engine old watches → AllSettled engine new watches
 all_carried engine old new watches carries =
@@ -256,7 +256,7 @@ module _ (rows : PolicyRows) (on : TurnGoesOn) where
       all_left new basis watches left (answers_leaves was now command given reply a plain)
       (all_later later old new basis watches goes s)
 
-  -- so by the counts from before the line, for a basis that was kept or dropped
+  -- a line was answered, by the counts before it, for a basis that was kept or dropped
   pub settled_told : RestsOnLater → ChangedOn → (old new : Engine) (cursors after : Cursors) (watches left : Watches)
       (command : Option Command) (given : Served) (reply : Reply) (found taken : Option Basis)
       (certificates changes turns : ℕ)
@@ -289,7 +289,7 @@ sum_has s (Some view) target wanted uid sum some seen is =
 
 -- ---- the loop that collects watch lines
 
--- so for the engine as it was before marks were made
+-- a watch that is settled after marks were made was settled before
 pub settled_before : RestsOnLater → (old new : Engine) (basis : Basis) (watch : Watch) → IsKeptOn new old →
     IsSettled new basis watch
     → IsSettled old basis watch

@@ -39,11 +39,11 @@ MarksFrom engine name fpr uid =
     IfSome (view_at engine.views name) (λ (v : View).
     MarksEdges engine.keyring v.time fpr uid (explained_from (state_of engine) (Some v) fpr uid))
 
--- it holds if the command is `explain`
+-- what holds of the reply if the command is `explain`
 abbrev pub CommandMarks : Engine → Command → Type 0
 CommandMarks engine (Explain name fpr uid) = MarksFrom engine name fpr uid
 CommandMarks engine _ = Unit {0}
 
--- it holds if the line's command is `explain`
+-- what holds of the reply if the line's command is `explain`
 abbrev pub LineMarks : Engine → Option Command → Type 0
 LineMarks engine command = IfSome command (CommandMarks engine)

@@ -92,12 +92,12 @@ pub record MayPutIn (s : State) (use_ : Use) (old : World) (after : Option World
   pub is_new : after ≡ Some new
   pub entries : (new.entries ≡ old.entries) ⊎ HasPut s use_ old new
 
--- so if the world is known
+-- the entries are unchanged or have what the line writes, if the world is known
 abbrev pub MayPut : State → Use → Option World → Option World → Type 0
 MayPut s use_ None after = Unit {0}
 MayPut s use_ (Some old) after = MayPutIn s use_ old after
 
--- so for the directory before and after a line
+-- what a line may write, by the worlds before and after it
 abbrev pub MayPutTo : State → Use → Ends (Option World) → Type 0
 MayPutTo s use_ shelf = MayPut s use_ shelf.old shelf.new
 

@@ -46,7 +46,7 @@ abbrev pub Did : PolicyRows → Command → State → Seen → Reply → State �
 Did rows command old before reply new after =
     IsBy (λ given. Does rows old command given reply new) old (use_of (Some command)) before after
 
--- so for the state and the directory before and after the command
+-- what a command does, by the state and the directory before and after it
 abbrev pub Acts : PolicyRows → Command → Ends State → Ends Seen → Reply → Type 0
 Acts rows command state shelf reply = Did rows command state.old shelf.old reply state.new shelf.new
 

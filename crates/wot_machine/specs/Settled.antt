@@ -14,11 +14,11 @@ pub record IsSettled (engine : Engine) (basis : Basis) (watch : Watch) : Type 0 
   pub none : watch.wanted ≡ 0 → watch.told ≡ 0
   pub rests : 1 ≤ watch.wanted → RestsOn engine basis watch.view watch.target watch.wanted watch.uid watch.told
 
--- so for each of these watches
+-- each of these watches is settled
 abbrev pub AllSettled : Engine → Basis → Watches → Type 0
 AllSettled engine basis watches = AllByRecursion (λ (e : List ℕ × Watch). IsSettled engine basis e.1) watches
 
--- so if there is a basis
+-- all watches are settled, if there is a basis
 abbrev pub AreSettled : Engine → Watches → Option Basis → Type 0
 AreSettled engine watches None = Unit {0}
 AreSettled engine watches (Some basis) = AllSettled engine basis watches

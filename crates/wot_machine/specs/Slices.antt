@@ -59,7 +59,7 @@ DoRepliesRestOnSlices rows =
     → AreAlikeFor name target one.state other.state
     → (line : List ℕ) → IsQuestion name target line → AreRepliesAlike rows one other line
 
--- So does the answer itself, and thus the amount that `list` and `watch` report for a binding.
+-- The answer itself depends on a slice only, and so does the amount that `list` and `watch` report for a binding.
 abbrev pub DoAnswersRestOnSlices : PolicyRows → Type 0
 DoAnswersRestOnSlices rows =
     (name : List ℕ) (target : Fpr) (one other : Whole) → IsReached rows one → IsReached rows other

@@ -27,13 +27,13 @@ pub record Replied (rows : PolicyRows) (line : List ℕ) (old : Whole) (before :
   pub cause : has_failed (put_for old.state (use_of (heard line)) given.read) given ≡ true
       → Rose before.faults after.faults
 
--- so for a machine; a cursor moves once the reply is written
+-- A machine's reply to a line. A cursor moves once the reply is written.
 abbrev pub Replies : PolicyRows → List ℕ → Ends Machine → Ends Seen → Option Told → Type 0
 Replies rows line machine shelf told =
     Replied rows line (kept machine.old) shelf.old (reply_in told)
     (watched (whole_of machine.new.engine (left_by told machine.new.cursors)) machine.new.watches) shelf.new
 
--- so for a machine's parts, by a command or by a line that isn't one
+-- what a machine's parts do with a command, or with a line that isn't one
 abbrev pub Heeds : PolicyRows → Option Command → Ends Parts → Ends Seen → Told → Type 0
 Heeds rows command parts shelf told =
     Ran rows command (watched (whole_of parts.old.engine parts.old.cursors) parts.old.watches) shelf.old told.reply
@@ -51,7 +51,7 @@ pub record Stepped (rows : PolicyRows) (line : List ℕ) (old : Whole) (before :
       → Rose before.faults after.faults
   pub octets : has ≡ had ++ octets_of (listed reply)
 
--- so for what is kept, the directory and the octets before and after the call
+-- the step of a line, by what is kept, the directory and the octets before and after the call
 abbrev pub Runs : PolicyRows → List ℕ → Ends Whole → Ends Seen → Ends (List ℕ) → Type 0
 Runs rows line whole shelf out = Stepped rows line whole.old shelf.old out.old whole.new shelf.new out.new
 

@@ -92,7 +92,7 @@ pub record IsWithinMost (input : List ℕ) (left : Option (List ℕ)) : Type 0 w
   pub taken : IsTaken input octets left
   pub few : length octets ≤ 2 ^ 30
 
--- so if the source's octets are known
+-- at most 2 ^ 30 octets were taken, if the source's octets are known
 abbrev pub TakesAtMost : Option (List ℕ) → Option (List ℕ) → Type 0
 TakesAtMost None left = Unit {0}
 TakesAtMost (Some input) left = IsWithinMost input left

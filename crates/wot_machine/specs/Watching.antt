@@ -91,7 +91,7 @@ BeginsWatch old name view target wanted uid amount reply watches =
     (LeavesWatches (replies.WatchAmount name amount) (with_watch old name (opened view target wanted uid amount))
     reply watches)
 
--- so from an open view, with its amount
+-- the reply and the watches when a watch begins from an open view
 abbrev pub Opens : Whole → List ℕ → List ℕ → Fpr → ℕ → List ℕ → Option View → Reply → Watches → Type 0
 Opens s name view target wanted uid None reply watches = LeavesWatches replies.View s.watches reply watches
 Opens s name view target wanted uid (Some there) reply watches =

@@ -78,7 +78,7 @@ pub record AreNews (told lines : List Reply) : Type 0 where
   pub each : AllByRecursion (IsNews told) lines
   pub order : IsRising line_cmp lines
 
--- this holds of the watch lines after each line
+-- the watch lines after each line are news
 abbrev pub WatchLinesAreNews : PolicyRows → Type 0
 WatchLinesAreNews rows =
     (world : World) (lines : List (List ℕ)) (told : List Reply) (old : Scene) (line : List ℕ) (reply : Option Reply)

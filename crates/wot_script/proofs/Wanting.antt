@@ -450,7 +450,7 @@ module _ (size : ℕ) where
       behind_either (behind (codes "store ") line) store_of tail store_spelled (
       single_spelled line))))))))))))))
 
--- so if the command is known
+-- a command that was read can be printed
 pub spelled_at : (line : List ℕ) (command : Command) → command_of line ≡ Some command
     → HasSpelling command × IsWithin (length line) command
 spelled_at line command e =
