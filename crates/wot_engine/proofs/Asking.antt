@@ -1,4 +1,4 @@
--- How often a run asked the policy: for the lines that were given, one after another.
+-- How often a run asked the policy: for the lines that were read, one after another.
 use Rattle.std.proofs.Common.{◌≡◌, ◌≢◌, inl, inr, ℕ, List, [], ◌∷◌, ◌++◌, length, drop, Option, Some, None}
 use Rattle.std.proofs.Common.{Result, Ok, refl, sym, ap, subst, ◌∙◌, arith}
 use Rattle.std.proofs.Math.Seq.{drop-append_seam}
@@ -38,33 +38,33 @@ use Rattle.wot_engine.proofs.Turns.{turned, wrote}
 -- ---- one line
 
 module _ {F : Type 0} where
-  -- one that was looked at
+  -- a line that was read whole
   pub looked_at : {T E : Type 0} (r : Result T E) (line : Line) (text : List ℕ) (old new : State)
       (before after : Policy F) → line ≡ Text
       → LineAsks r (heard text) old new before after → LineAsks r (command_by line text) old new before after
   looked_at r line text old new before after is a =
       subst (λ (l : Line). LineAsks r (command_by l text) old new before after) (sym is) a
 
-  -- one that was too long
+  -- a line that was too long
   pub passed_over : {T E : Type 0} (r : Result T E) (line : Line) (text : List ℕ) (state : State) (policy : Policy F) →
       line ≡ Long → LineAsks r (command_by line text) state state policy policy
   passed_over r line text state policy is =
       subst (λ (l : Line). LineAsks r (command_by l text) state state policy policy) (sym is) refl
 
-  -- one for which no memory was found, or none behind it
+  -- a line for which memory ran out, or behind which it did
   pub may_ask : {T E : Type 0} (r : Result T E) (command : Option Command) (old new : State) (before after : Policy F)
       → LineAsks r command old new before after → MayAsk command before after
   may_ask r command old new before after a =
       (old, new, asks_as r failed (λ ok. absurd cc) command old new before after a)
 
-  -- one that was answered, whatever it was
+  -- a line that was answered
   pub asks_done : {T E : Type 0} (r : Result T E) (x : T) (command : Option Command) (old new : State)
       (before after : Policy F) → r ≡ Ok x → LineAsks r command old new before after →
       LineAsks done command old new before after
   asks_done r x command old new before after is a =
       asks_as r done (λ ok. ap is_ok is) command old new before after a
 
-  -- the watch lines behind it ask nothing
+  -- the watch lines after it ask nothing
   pub asks_behind : {T E : Type 0} (r : Result T E) (command : Option Command) (old : State) (mid new : Whole)
       (told : List Reply) (before after : Policy F) → Tells mid told new
       → LineAsks r command old mid.state before after → LineAsks r command old new.state before after
@@ -94,7 +94,7 @@ module _ {F : Type 0} where
 -- ---- where a run stands
 
 module _ {F : Type 0} (rows : PolicyRows) (start : Policy F) (origin : Option World) where
-  -- the policy was asked for the lines given
+  -- the policy was asked for the lines that were read
   pub record IsAsked (world : World) (input held : List ℕ) (taken : ℕ) (left : Option (List ℕ)) (shelf : Option World)
       (state : Whole) (policy : Policy F) : Type 0 where
     pub written : Option (List ℕ)
@@ -120,7 +120,7 @@ module _ {F : Type 0} (rows : PolicyRows) (start : Policy F) (origin : Option Wo
             (sym s.1) none);
       })
 
-  -- a line was given and answered
+  -- a line was read and answered
   pub HasAsked-line : (left0 written0 : Option (List ℕ)) (old : ReaderState) (left : Option (List ℕ))
       (shelf : Option World) (state : Whole) (policy : Policy F) (new : ReaderState) (left' : Option (List ℕ))
       (shelf' : Option World) (state' : Whole) (policy' : Policy F) (line : Line) (octets : List ℕ)
@@ -188,7 +188,8 @@ module _ {F : Type 0} (rows : PolicyRows) (start : Policy F) (origin : Option Wo
   ]
 
   not_zero : (status : ℕ) → IsEither 4 5 status → status ≡ 0 → ⊥
-  not_zero status is zero = elim is [ inl e ↦ absurd (omega (arith, e, zero)) | inr e ↦ absurd (omega (arith, e, zero)) ]
+  not_zero status is zero =
+      elim is [ inl e ↦ absurd (omega (arith, e, zero)) | inr e ↦ absurd (omega (arith, e, zero)) ]
 
   first_alone : (status : ℕ) (world : World) (input : List ℕ) (left : Option (List ℕ)) (after : Policy F) →
       IsEither 4 5 status → AsksFirst rows world (lines_of input) start after →
@@ -208,7 +209,7 @@ module _ {F : Type 0} (rows : PolicyRows) (start : Policy F) (origin : Option Wo
       all_weaker left0 written0 origin _ _ (λ input before world uncalled a. first_alone status world input left' policy
       is (first_of world input held taken left shelf state policy policy a (nothing_next _ policy))) h
 
-  -- the line that was given is the next one
+  -- the line that was read is the next one
   next_is : (world : World) (input held : List ℕ) (taken : ℕ) (left : Option (List ℕ)) (shelf : Option World)
       (state : Whole) (policy after : Policy F) (held' : List ℕ) (taken' : ℕ) (left' : Option (List ℕ))
       (line : List ℕ) (command : Option Command) → (a : IsAsked world input held taken left shelf state policy)
@@ -238,7 +239,7 @@ module _ {F : Type 0} (rows : PolicyRows) (start : Policy F) (origin : Option Wo
       (heard_long g'.0 g'.1) may
   next_of world input old left shelf state policy after new left' End a g some may = absurd (some refl)
 
-  -- for want of memory for the line that was given
+  -- memory ran out for the line that was read
   pub asks_cut : (status : ℕ) (left0 written0 : Option (List ℕ)) (old : ReaderState) (left : Option (List ℕ))
       (shelf : Option World) (state : Whole) (policy after : Policy F) (new : ReaderState) (left' : Option (List ℕ))
       (line : Line)
@@ -266,7 +267,7 @@ module _ {F : Type 0} (rows : PolicyRows) (start : Policy F) (origin : Option Wo
         first = first_of world input old.held old.taken left shelf state policy policy a (nothing_next _ policy);
       }) h
 
-  -- where no more was read
+  -- after a failed read, or after 2 ^ 30 octets
   pub asks_stop : (status : ℕ) (left0 written0 : Option (List ℕ)) (held : List ℕ) (taken : ℕ)
       (left : Option (List ℕ)) (shelf : Option World) (state : Whole) (policy : Policy F) (left' : Option (List ℕ))
       (taken' : ℕ)
@@ -290,9 +291,7 @@ module _ {F : Type 0} (rows : PolicyRows) (start : Policy F) (origin : Option Wo
         first = first_of world input held taken left shelf state policy policy a (nothing_next _ policy);
       }) h
 
-  -- ---- in other words
-
-  -- before the first line, of what the reader and the machine keep
+  -- before the first line
   pub asks_nothing : (left written : Option (List ℕ)) (lines : ReaderState) (machine : Machine)
       → lines ≡ unread → machine.engine ≡ empty standard_limits → machine.cursors ≡ [] → machine.watches ≡ []
       → HasAsked left written lines.held lines.taken left origin (kept machine) start

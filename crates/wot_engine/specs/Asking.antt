@@ -1,4 +1,4 @@
--- How often a run asks the policy: in each line as often as the clause of one line says, and never between lines.
+-- How often a run asks the policy: in each line as often as the clause on one line says, and never between lines.
 use Rattle.std.specs.Prelude.{◌≡◌, ◌⊎◌, ℕ, List, [], ◌∷◌, take, drop, Option, None, Result, Ok, Err}
 use Rattle.wot_io.specs.Input.{lines_of, whole_lines_of}
 use Rattle.wot_io.specs.declared.lines.Line.{Line}
@@ -20,11 +20,12 @@ use Rattle.wot_engine.specs.Told.{IsEither, Octets, OnContents}
 
 -- ---- lines that were answered
 
--- a line for which memory was found
+-- the result of a line that was answered
 abbrev pub done : Result (Unit {0}) (Unit {0})
 done = Ok tt
 
--- The line has its step. The policy is asked once for each sound signature that an import or a load adds, and else not.
+-- The line has its step. The policy is asked once for each well-formed signature that the line adds if it is an import
+-- or a load, and otherwise not at all.
 pub record AsksOnce {F : Type 0} (rows : PolicyRows) (line : List ℕ) (old : Scene) (before : Policy F) (new : Scene)
     (after : Policy F) : Type 0 where
   pub reply : Option Reply
@@ -32,7 +33,7 @@ pub record AsksOnce {F : Type 0} (rows : PolicyRows) (line : List ℕ) (old : Sc
   pub step : Step rows old line reply told new
   pub asked : LineAsks done (heard line) old.whole.state new.whole.state before after
 
--- It does, and what follows holds of what it leaves.
+-- The line does so, and Follows holds of the scene and the policy after it.
 pub record AsksBefore {F : Type 0} (rows : PolicyRows) (line : List ℕ) (old : Scene) (before : Policy F)
     (Follows : Scene → Policy F → Type 0) : Type 0 where
   pub mid : Scene
@@ -40,46 +41,47 @@ pub record AsksBefore {F : Type 0} (rows : PolicyRows) (line : List ℕ) (old : 
   pub once : AsksOnce rows line old before mid between
   pub follows : Follows mid between
 
--- The lines, one after another, lead from old to new. The policy is asked in each of them so, and between them not.
+-- The lines, one after another, lead from old to new. Each of them asks the policy as AsksOnce says, and nothing else
+-- asks it.
 abbrev pub AsksInTurn : {F : Type 0} → PolicyRows → List (List ℕ) → Scene → Policy F → Scene → Policy F → Type 0
 AsksInTurn rows [] old before new after = (new ≡ old) × (after ≡ before)
 AsksInTurn rows (line ∷ lines) old before new after =
     AsksBefore rows line old before (λ mid between. AsksInTurn rows lines mid between new after)
 
--- That is so of these lines from the start on, with a shelf of this world.
+-- These lines do so from the start on, with a directory of this world.
 pub record AsksFor {F : Type 0} (rows : PolicyRows) (world : World) (lines : List (List ℕ)) (before after : Policy F)
     : Type 0 where
   pub last : Scene
   pub in_turn : AsksInTurn rows lines (opening world) before last after
 
--- ---- a line for which no memory was found
+-- ---- a line for which memory ran out
 
 abbrev pub failed : Result (Unit {0}) (Unit {0})
 failed = Err tt
 
--- An import or a load may have asked the policy before memory was wanting, and no other line asks it.
+-- An import or a load may have asked the policy before memory ran out. No other line asks it.
 abbrev pub MayAsk : {F : Type 0} → Option Command → Policy F → Policy F → Type 0
 MayAsk command before after = (old : State) × (new : State) × LineAsks failed command old new before after
 
--- The same of the next one of these lines, if it was begun.
+-- the next of these lines may have done so
 abbrev pub MayAskNext : {F : Type 0} → List (List ℕ) → Policy F → Policy F → Type 0
 MayAskNext [] before after = after ≡ before
 MayAskNext (line ∷ lines) before after = (after ≡ before) ⊎ MayAsk (heard line) before after
 
--- the command of a line that the reader gave; one that was too long has none
+-- the command of a line that was read; a line that was too long has none
 abbrev pub command_by : Line → List ℕ → Option Command
 command_by Text text = heard text
 command_by Long text = None
 command_by End text = None
 
--- What a line that the reader gave asks, of what the machine keeps and of the policy, before and behind it.
+-- What a line that was read asks, with what the machine keeps and the policy before and after it.
 abbrev pub ReadAsks : {T E F : Type 0} → Result T E → Line → List ℕ → Ends Whole → Ends (Policy F) → Type 0
 ReadAsks result line text machine policy =
     LineAsks result (command_by line text) machine.old.state machine.new.state policy.old policy.new
 
 -- ---- runs
 
--- The policy was asked for some first ones of these lines. The next one may have asked it before memory was wanting.
+-- The first of these lines, up to some line, asked the policy. The next one may have asked it before memory ran out.
 pub record AsksFirst {F : Type 0} (rows : PolicyRows) (world : World) (lines : List (List ℕ)) (before after : Policy F)
     : Type 0 where
   pub count : ℕ
@@ -87,7 +89,7 @@ pub record AsksFirst {F : Type 0} (rows : PolicyRows) (world : World) (lines : L
   pub asked : AsksFor rows world (take count lines) before between
   pub next : MayAskNext (drop count lines) between after
 
--- The policy was asked for all whole lines of the octets taken. Where nothing is left, a last line without a line feed
+-- All whole lines of the octets that were taken asked the policy. If nothing is left, a last line without a line feed
 -- may count as whole.
 pub record AsksTaken {F : Type 0} (rows : PolicyRows) (world : World) (input : List ℕ) (left : Option (List ℕ))
     (before after : Policy F) : Type 0 where
@@ -96,15 +98,15 @@ pub record AsksTaken {F : Type 0} (rows : PolicyRows) (world : World) (input : L
   pub asked : AsksFor rows world (whole_lines_of octets) before after
       ⊎ ((taken.rest ≡ []) × AsksFor rows world (lines_of octets) before after)
 
--- With status 0 the policy was asked for all lines of the input, with 3 and 6 for all whole lines that were taken, and
--- whatever the status for some first lines.
+-- With status 0 all lines of the input asked the policy, with 3 and 6 all whole lines that were taken, and with any
+-- status some first lines.
 pub record AsksBy {F : Type 0} (status : ℕ) (rows : PolicyRows) (world : World) (input : List ℕ)
     (left : Option (List ℕ)) (before after : Policy F) : Type 0 where
   pub all : status ≡ 0 → AsksFor rows world (lines_of input) before after
   pub taken : IsEither 3 6 status → AsksTaken rows world input left before after
   pub first : AsksFirst rows world (lines_of input) before after
 
--- The same where input, output and shelf tell their contents.
+-- That is so if the contents of input, output and directory are known.
 abbrev pub RunAsks : {F : Type 0} → ℕ → Octets → Octets → Ends (Option World) → Ends (Policy F) → Type 0
 RunAsks status input output shelf policy = OnContents input output shelf (λ octets before world.
     AsksBy status (rows_of policy.old) world octets input.new policy.old policy.new)
