@@ -17,6 +17,7 @@ mod Storing
 pub mod Giving
 pub mod Putting
 mod Refusing
+mod Faults
 pub mod Running
 mod Keeping
 pub mod Making

@@ -12,10 +12,11 @@ ghost use Rattle.wot_machine.specs.Made.{PieceMakes};
 ghost use Rattle.wot_machine.specs.Whole.{whole_of};
 
 use crate::bindings::bind_lines;
+use crate::refusal::{Refused, reply_to};
 use crate::told::{Moved, Told, alone};
 use std::alloc::Global;
-use wot_cache::{AskFault, Engine, Parts};
-use wot_cursor::{Age, BeginFault, Cursor, Cursors, Stamps, age};
+use wot_cache::{Engine, Parts};
+use wot_cursor::{Age, Cursor, Cursors, Stamps, age};
 use wot_explain::laws::list_is_one;
 use wot_explain::{Bind, list_after};
 use wot_script::{BindLines, Reply};
@@ -46,8 +47,7 @@ pub fn over(
     let view = view.duplicate(alloc)?;
     match cursors.begin(name, view, wanted, stamps) {
         Ok(()) => Ok(alone(Reply::Done)),
-        Err(BeginFault::Full) => Ok(alone(Reply::FullCursors)),
-        Err(BeginFault::Memory) => Err(Memory),
+        Err(fault) => Ok(alone(reply_to(Refused::from(fault))?)),
     }
 }
 
@@ -118,8 +118,7 @@ fn give(
     list_is_one();
     match engine.parts(cursor.view(), steps) {
         Ok(parts) => piece(alloc, &parts, cursor, name, count),
-        Err(AskFault::View) => Ok(alone(Reply::View)),
-        Err(AskFault::Memory) => Err(Memory),
+        Err(fault) => Ok(alone(reply_to(Refused::from(fault))?)),
     }
 }
 

@@ -21,7 +21,7 @@ use std::alloc::Global;
 use wot_cache::Engine;
 use wot_cert::laws::marks_weigh_nothing;
 use wot_cert::{Cert, MergeFault};
-use wot_certd::{Given, Shelf, ShelfFault};
+use wot_certd::{Given, Shelf};
 use wot_keyring::{Refusal, read_entry};
 use wot_script::Reply;
 use wot_types::{Fpr, Limit, Limits, Memory, Name};
@@ -76,8 +76,7 @@ fn store_kept<D: Shelf>(
             Err(Unwritten::Told(reply)) => Ok(reply),
             Err(Unwritten::Memory) => Err(Memory),
         },
-        Err(ShelfFault::Failed) => Ok(Reply::Shelf),
-        Err(ShelfFault::Memory) => Err(Memory),
+        Err(fault) => reply_to(Refused::from(fault)),
     }
 }
 
@@ -90,8 +89,7 @@ fn put<D: Shelf>(name: &Name, octets: &[u8], shelf: &mut D) -> Result<Reply, Mem
 {
     match shelf.replace(name, octets) {
         Ok(()) => Ok(Reply::Stored(octets.len() as u64)),
-        Err(ShelfFault::Failed) => Ok(Reply::Shelf),
-        Err(ShelfFault::Memory) => Err(Memory),
+        Err(fault) => reply_to(Refused::from(fault)),
     }
 }
 

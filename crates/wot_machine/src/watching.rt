@@ -14,12 +14,13 @@ ghost use Rattle.wot_machine.specs.Watching.{AreLines, BeginsWatch, HasAmount, I
 ghost use Rattle.wot_machine.specs.Watching.{OpensOver, Watching, told_all, told_by};
 ghost use Rattle.wot_machine.specs.Whole.{Whole, watched};
 
+use crate::refusal::{Refused, reply_to};
 use std::alloc::Global;
 use wot_cache::laws::{kept_on_is_order, rests_on};
 use wot_cache::{AskFault, Basis, Engine};
 use wot_script::Reply;
 use wot_types::{Fpr, Memory, Steps, UserId, ViewName};
-use wot_watch::{PutFault, Watch, Watches};
+use wot_watch::{Watch, Watches};
 
 /// `watch W on V FPR N UID`.
 pub fn on(
@@ -43,8 +44,7 @@ pub fn on(
 {
     match engine.ask(view, target, wanted, uid.octets(), steps) {
         Ok(answer) => begin(alloc, watches, name, view, target, wanted, uid, answer.sum),
-        Err(AskFault::View) => Ok(Reply::View),
-        Err(AskFault::Memory) => Err(Memory),
+        Err(fault) => reply_to(Refused::from(fault)),
     }
 }
 
@@ -70,8 +70,7 @@ fn begin(
     let uid = UserId::new(alloc, uid.octets())?;
     match watches.put(key, Watch::new(view, *target, wanted, uid, amount)) {
         Ok(()) => Ok(Reply::WatchAmount(told, amount)),
-        Err(PutFault::Full) => Ok(Reply::FullWatches),
-        Err(PutFault::Memory) => Err(Memory),
+        Err(fault) => reply_to(Refused::from(fault)),
     }
 }
 
