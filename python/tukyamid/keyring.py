@@ -8,14 +8,15 @@
 from __future__ import annotations
 
 import os
-from collections.abc import Callable, Iterable, Mapping, Sequence
-from typing import TYPE_CHECKING, Protocol
 
+from .bare import TYPE_CHECKING, Protocol
 from .certificates import CERTIFICATIONS, Certificate, Signature, key_id, read_certificate
 from .refusals import RefusedAbsent, RefusedView
 
 # What starts programs and reads files is imported when it is needed: a service that runs needs none of it.
 if TYPE_CHECKING:
+    from collections.abc import Callable, Iterable, Mapping, Sequence
+
     from .client.connection import Connection
     from .client.listing import Listing
     from .replies import Answer, Binding, Explanation

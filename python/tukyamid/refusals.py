@@ -3,7 +3,12 @@
 A refused line changed nothing, and the connection can be used on.
 """
 
-from collections.abc import Sequence
+from __future__ import annotations
+
+from .bare import TYPE_CHECKING
+
+if TYPE_CHECKING:
+    from collections.abc import Sequence
 
 
 class TukyamidError(Exception):

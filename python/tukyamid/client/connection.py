@@ -2,20 +2,25 @@
 
 from __future__ import annotations
 
-import io
-import threading
 from abc import abstractmethod
-from collections.abc import Iterable, Iterator
-from typing import BinaryIO, Self
 
-from ..reading import ListingHead, Reader, drive
+from ..bare import TYPE_CHECKING, RLock
+from ..reading import ListingHead, drive
 from ..refusals import ProtocolError, Refused, TukyamidError
 from ..replies import Gone, Reply, Watched
 from ..spelling import has_reply
 from .calls import Calls
-from .conversation import PROBE, Conversation, Progress, no_progress
+from .conversation import PROBE, Conversation, no_progress
 from .listing import Listing
 from .wire import Wire
+
+if TYPE_CHECKING:
+    import io
+    from collections.abc import Iterable, Iterator
+    from typing import BinaryIO, Self
+
+    from ..reading import Reader
+    from .conversation import Progress
 
 
 class Connection(Calls):
@@ -23,7 +28,7 @@ class Connection(Calls):
 
     def __init__(self, reader: io.BufferedReader, writer: io.BufferedWriter) -> None:
         self._wire = Wire(reader, writer, self._meet_end)
-        self._lock = threading.RLock()
+        self._lock = RLock()
         self._conversation = Conversation()
         self._open_listing: Listing[object] | None = None
         self._in_exchange = False

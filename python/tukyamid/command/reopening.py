@@ -4,19 +4,21 @@ from __future__ import annotations
 
 import os
 import time
-from collections.abc import Callable
-from typing import TYPE_CHECKING
 
+from ..bare import TYPE_CHECKING
 from ..client import Client
 from ..keyring import Keyring
 from ..refusals import ServiceMissing, TukyamidError
 from ..served import served_keyring
 from .held import find_record, held_file, keep_record
-from .parser import Given
 from .served import answering
-from .sources import Source, Stamp
+from .sources import Stamp
 
 if TYPE_CHECKING:
+    from collections.abc import Callable
+
+    from .given import Given
+    from .sources import Source
     from ..store import Entry
 
 

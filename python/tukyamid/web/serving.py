@@ -4,7 +4,7 @@ from collections.abc import Callable
 from typing import NamedTuple
 
 from ..command.inputs import Inputs, Tell
-from ..command.parser import Given
+from ..command.given import Given
 from ..command.runtime import runtime_file
 from ..command.sources import sources_of
 

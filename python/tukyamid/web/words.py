@@ -6,9 +6,10 @@ from collections.abc import Sequence
 from contextlib import ExitStack
 
 from ..command.failures import REACHED, NoAnswer, WrongWords
+from ..command.given import Given
 from ..command.inputs import Inputs
 from ..command.output import tell, write
-from ..command.parser import Given, Help, Parser, add_inputs, typed
+from ..command.parser import Help, Parser, add_inputs, typed
 from ..command.roots import Chosen, Roots
 from ..command.values import read_time
 from ..served import served_keyring
