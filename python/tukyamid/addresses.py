@@ -2,6 +2,8 @@
 
 import re
 
+from .libraries import find_libraries
+
 _ADDRESS = re.compile(r"<([^<>\s]+@[^<>\s]+)>$|^([^<>\s]+@[^<>\s]+)$")
 
 
@@ -28,6 +30,7 @@ def canonical(address: str) -> str:
 
 
 def _ascii(domain: str) -> str:
+    find_libraries()
     import idna  # Its tables take longer to load than all else here, and few domains need them.
     try:
         return idna.encode(domain, uts46=True).decode("ascii")

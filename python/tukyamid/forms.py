@@ -47,8 +47,11 @@ class _Form:
     def fields(self, line: str) -> list[str] | None:
         """The fields of a line; None if it has another form."""
         words = line.split(" ", self.count - 1)
-        if len(words) != self.count or not all(fits(word) for fits, word in zip(self.fits, words)):
+        if len(words) != self.count:
             return None
+        for fits, word in zip(self.fits, words):
+            if not fits(word):
+                return None
         return [words[place] for place in self.places]
 
 

@@ -22,6 +22,7 @@ if TYPE_CHECKING:
     from .replies import Answer, Binding, Explanation
     from .store import Entry, Held, Store
 
+VIEW = "client"
 Bindings = list[tuple[str, bytes]]
 
 
@@ -148,7 +149,7 @@ class Keyring:
         newest = max(own, key=Signature.newness, default=None)
         return (False, 0) if newest is None else (newest.said.primary, newest.said.made)
 
-    def view(self, time: int, roots: Mapping[str, int], name: str = "client") -> View:
+    def view(self, time: int, roots: Mapping[str, int], name: str = VIEW) -> View:
         """Opens a view: the time in seconds since 1970, and the amount of each root. It takes the place of an earlier
         one of its name, so use several names (the engine has 16 views) to ask from several by turns."""
         try:

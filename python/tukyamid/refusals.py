@@ -170,6 +170,8 @@ _FAULTS: dict[str, type[Refused]] = {
 
 def read_refusal(reply: str) -> Refused | None:
     """The refusal that a reply's line spells, or None if it is no refusal."""
+    if not reply.startswith(("refused", "fault")):
+        return None
     words = reply.split(" ")
     if reply in _FAULTS:
         return _FAULTS[reply](reply, [])

@@ -13,6 +13,7 @@ UserId = str | bytes | bytearray | memoryview
 
 _PLAIN = frozenset(range(0x20, 0x7F)) - {0x5C}
 _DIGITS, _LETTERS = "0123456789", "abcdefghijklmnopqrstuvwxyz"
+_HEXADECIMAL = _DIGITS + "abcdef"
 _EITHER_CASE = b"0123456789abcdefABCDEF"
 
 
@@ -24,16 +25,16 @@ def has_reply(line: bytes) -> bool:
 
 def is_hexadecimal(text: str) -> bool:
     """Whether there is nothing but hexadecimal digits in lower case."""
-    return not text.strip("0123456789abcdef")
+    return not text.strip(_HEXADECIMAL)
 
 
 def is_fingerprint(text: str) -> bool:
-    return len(text) in (40, 64) and is_hexadecimal(text)
+    return len(text) in (40, 64) and not text.strip(_HEXADECIMAL)
 
 
 def is_number(text: str) -> bool:
     """Whether it is the number of a signature."""
-    return len(text) == 64 and is_hexadecimal(text)
+    return len(text) == 64 and not text.strip(_HEXADECIMAL)
 
 
 def is_view_name(text: str) -> bool:

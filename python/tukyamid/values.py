@@ -5,7 +5,7 @@ They are no dataclasses, and no named tuples: importing those modules takes long
 
 from __future__ import annotations
 
-from .bare import TYPE_CHECKING, ClassVar
+from .bare import TYPE_CHECKING
 
 if TYPE_CHECKING:
     from typing import Self
@@ -22,11 +22,10 @@ class Value:
     (True, False, Point(x=1, y=2))
     """
     __slots__: tuple[str, ...] = ()
-    _names: ClassVar[tuple[str, ...]] = ()
 
-    def __init_subclass__(cls) -> None:
-        super().__init_subclass__()
-        cls._names = tuple(name for kind in reversed(cls.__mro__) for name in kind.__dict__.get("__slots__", ()))
+    @property
+    def _names(self) -> tuple[str, ...]:
+        return tuple(name for kind in reversed(type(self).__mro__) for name in kind.__dict__.get("__slots__", ()))
 
     def but(self, **changed: object) -> Self:
         """A value with other fields than these.

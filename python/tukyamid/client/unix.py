@@ -14,6 +14,8 @@ from .service_calls import ServiceCalls
 from .wire import PIECE
 
 if TYPE_CHECKING:
+    from collections.abc import Iterable
+
     from _typeshed import ReadableBuffer, WriteableBuffer
 
 class ServiceSilent(ServiceEnded):
@@ -86,13 +88,14 @@ def connect(path: str | os.PathLike[str], timeout: float | None = None) -> Clien
     return Client(connected)
 
 
-def connect_in_time(path: str | os.PathLike[str], patience: float) -> Client:
+def connect_in_time(path: str | os.PathLike[str], patience: float, ahead: Iterable[bytes] = ()) -> Client:
     """Connects as `connect` does, and raises ServiceSilent if the service doesn't answer at all within `patience`
-    seconds. Later calls wait for as long as they take."""
+    seconds. Later calls wait for as long as they take. The lines `ahead` are sent at once, for calls that follow."""
     client = connect(path)
     connected = client._socket
     connected.settimeout(patience)
     try:
+        client.send_ahead([PROBE, *ahead])
         client.send_line(PROBE)
     except RefusedLine:
         pass

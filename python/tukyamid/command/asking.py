@@ -7,6 +7,7 @@ import time
 from ..assessment import Report
 from ..bare import TYPE_CHECKING
 from . import questions
+from .ahead import lines_ahead
 from .inputs import Inputs
 from .roots import Roots
 
@@ -38,7 +39,7 @@ def answer(given: Given, show: Callable[[Report], str], tell: Tell) -> tuple[str
     it."""
     ask = questions.read(given)
     at = int(time.time()) if given.time is None else given.time
-    with Inputs(given, tell) as inputs:
+    with Inputs(given, tell, lines_ahead(given, at)) as inputs:
         keyring = inputs.keyring
         roots = Roots(given, inputs).find(at)
         found = ask(keyring.view(at, roots.amounts))

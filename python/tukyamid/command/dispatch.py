@@ -2,6 +2,8 @@
 
 from __future__ import annotations
 
+import gc
+
 from ..bare import TYPE_CHECKING
 from . import quick
 from .failures import NOT_REACHED, REACHED, WrongWords
@@ -20,6 +22,7 @@ def run(words: list[str]) -> int:
     command = _command(words[0]) if words else None
     if command is not None:
         return command(words[1:])
+    gc.disable()  # A question ends before there is anything to collect, and looking for it takes time.
     given = quick.read(words) or _parsed(words)
     if given.help:
         from . import parser

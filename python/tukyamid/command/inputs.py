@@ -9,7 +9,7 @@ from .failures import WrongWords
 from .sources import sources_of
 
 if TYPE_CHECKING:
-    from collections.abc import Callable
+    from collections.abc import Callable, Sequence
     from contextlib import ExitStack
 
     from ..store import Store
@@ -20,10 +20,11 @@ if TYPE_CHECKING:
 
 
 class Inputs:
-    """What the words name as inputs, and the keyring of all of it, as long as it is open."""
+    """What the words name as inputs, and the keyring of all of it, as long as it is open. A service is sent the lines
+    `ahead` at once, for the calls that follow."""
 
-    def __init__(self, given: Given, tell: Tell) -> None:
-        self._given, self._tell = given, tell
+    def __init__(self, given: Given, tell: Tell, ahead: Sequence[bytes] = ()) -> None:
+        self._given, self._tell, self._ahead = given, tell, ahead
         self._files: ExitStack | None = None
         self._paths: list[str] | None = None
         self.keyring: Keyring
@@ -54,12 +55,12 @@ class Inputs:
         if not sources:
             self._refuse_words_of_inputs()
             from .served import of_service
-            return of_service()
+            return of_service(self._ahead)
         is_alone = self._given.no_service or self._given.no_cache or self._given.anew or self._given.engine
         if is_alone:
             return self._by_an_engine(sources)
         from .reopening import Reopening
-        reopening = Reopening(self._given, sources, lambda: self.as_paths(sources))
+        reopening = Reopening(self._given, sources, lambda: self.as_paths(sources), self._ahead)
         return reopening.served() or reopening.begin_after(self._by_an_engine(sources))
 
     def _refuse_words_of_inputs(self) -> None:

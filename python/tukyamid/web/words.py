@@ -12,6 +12,7 @@ from ..command.output import tell, write
 from ..command.parser import Help, Parser, add_inputs, typed
 from ..command.roots import Chosen, Roots
 from ..command.values import read_time
+from ..libraries import find_libraries
 from ..served import served_keyring
 from .desk import Desk
 from .files import read_files
@@ -41,6 +42,7 @@ def run(words: Sequence[str]) -> int:
 
 def _serve(given: Wanted) -> None:
     """Serves the page until the command is interrupted."""
+    find_libraries()
     try:
         from .calls import Calls
         from .server import Server
