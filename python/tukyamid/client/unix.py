@@ -95,7 +95,7 @@ def connect_in_time(path: str | os.PathLike[str], patience: float, ahead: Iterab
     connected = client._socket
     connected.settimeout(patience)
     try:
-        client.send_ahead([PROBE, *ahead])
+        client._send_ahead([PROBE, *ahead])
         client.send_line(PROBE)
     except RefusedLine:
         pass
