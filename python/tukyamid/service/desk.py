@@ -4,18 +4,18 @@ larger is held in slices from then on."""
 from __future__ import annotations
 
 import asyncio
-from collections.abc import Callable, Collection, Sequence
+from collections.abc import Callable, Sequence
 from dataclasses import replace
 from functools import partial
 from typing import Protocol, TypeVar
 
-from tukyamid.certificates import KEY, SIGNATURE, packets
-
 from .access import Access
 from .cursors import Cursors
 from .database import Actor, Database, DatabaseFault, Finder, Snapshot
+from .growth import growth_of, measured, sum_of
 from .hub import Hub
 from .journal import Done
+from .kinds import OF_THE_WHOLE
 from .outbox import Outbox, Pieces
 from .parts import MOST, HasParts, Sizes
 from .reading import brought
@@ -27,6 +27,7 @@ from .views import Views
 from .watches import Watches
 
 _R = TypeVar("_R")
+LOADED_AT_ONCE = 2 << 20  # Octets of certificates: an engine loads them in less than a tenth of a second.
 
 
 class Sitting(Protocol):
@@ -50,6 +51,7 @@ class Desk:
         self._most = Sizes(min(budget, MOST.certificates), MOST.octets, MOST.signatures, MOST.verdicts)
         self._most_engines = most_engines
         self._held: Hub | Sliced | None = None
+        self.early: Sliced | None = None
         self._bound = Sizes(0, 0, 0, 0)
         self._later: list[Callable[[], None]] = []
         self._task: asyncio.Task[None] | None = None
@@ -93,17 +95,42 @@ class Desk:
         return self._most.certificates
 
     async def start(self) -> None:
-        """Starts the first engine; OSError, ValueError or DatabaseFault where it can't take the database."""
-        sizes = await self._measured()
+        """Starts the first engine; OSError, ValueError or DatabaseFault where it can't take the database. If there is
+        much to load, questions are answered from slices until `load` is over."""
+        sizes = await measured(self.database, self._most)
         self._bound = sizes or self._bound
-        held: Hub | Sliced = Hub(self._program, self._most_engines, self.database, self._access) \
-            if sizes is None or sizes.fits(self._most) else self._sliced()
-        self._held = held
-        await held.start()
+        if sizes is not None and not sizes.fits(self._most):
+            self._held = sliced = self._sliced()
+            await sliced.start()
+            return
+        self._held = hub = Hub(self._program, self._most_engines, self.database, self._access)
+        await hub.begin()
+        if sizes is None or sizes.octets <= LOADED_AT_ONCE:
+            await hub.load()
+            return
+        early = self._sliced()
+        await early.start()
+        self.early = early
+
+    async def load(self) -> None:
+        """Waits until the first engine has taken all of the database; the errors are those of `start`."""
+        if self.early is None or not isinstance(self.held, Hub):
+            return
+        await self.held.load()
+        self.is_turning = True  # Until all that was asked early is answered, no change may be made.
+        await self.early.close()
+        self.early = None
+        self._turned()
+
+    def takes(self, line: bytes) -> bool:
+        """Whether this line may begin now."""
+        return not self.is_turning and (self.early is None or line.partition(b" ")[0] not in OF_THE_WHOLE)
 
     async def close(self) -> None:
         if self._task is not None:
             await self._task
+        if self.early is not None:
+            await self.early.close()
         if self._held is not None:
             await self._held.close()
         self._access.close()
@@ -133,7 +160,7 @@ class Desk:
     def change(self, line: bytes, actor: Actor, done: Done, begun: Begun = lambda: None) -> None:
         """Has a change made; `done` gets its reply once it is committed, and `begun` is called when it has its place in
         the order of lines."""
-        if self.is_turning:
+        if self.is_turning or self.early is not None:
             self._later.append(partial(self.change, line, actor, done, begun))
         elif isinstance(self.held, Sliced):
             begun()
@@ -142,7 +169,7 @@ class Desk:
             self._change_whole(self.held, line, actor, done, begun)
 
     def _change_whole(self, hub: Hub, line: bytes, actor: Actor, done: Done, begun: Begun) -> None:
-        bound = _sum(self._bound, growth_of(line))
+        bound = sum_of(self._bound, growth_of(line))
         if bound.fits(self._most) or hub.fault or not isinstance(self.database, HasParts):
             self._bound = bound
             hub.change(line, actor, done, begun)
@@ -156,15 +183,19 @@ class Desk:
         sliced from now on."""
         await hub.settle()
         try:
-            sizes = await self._measured(brought(line))
+            sizes = await measured(self.database, self._most, brought(line))
             if sizes is not None:
-                self._bound = _sum(sizes, replace(growth_of(line), certificates=0))
+                self._bound = sum_of(sizes, replace(growth_of(line), certificates=0))
                 if not self._bound.fits(self._most):
                     await self._slice(hub)
         except (DatabaseFault, OSError) as fault:
             self.tell(str(fault))
-        self.is_turning = False
         self.held.change(line, actor, done)
+        self._turned()
+
+    def _turned(self) -> None:
+        """Lines are taken again, first those that came meanwhile."""
+        self.is_turning = False
         later, self._later = self._later, []
         for call in later:
             call()
@@ -184,26 +215,12 @@ class Desk:
         assert isinstance(self.database, HasParts)
         return Sliced(self._program, self._access, self.database, self._most.certificates)
 
-    async def _measured(self, fprs: Collection[bytes] = ()) -> Sizes | None:
-        """How large the keyring is, with as many certificates as it has when these have come; None if the database
-        can't be read in parts, and so not sliced."""
-        database = self.database
-        if not isinstance(database, HasParts):
-            return None
-        parts = await asyncio.to_thread(database.parts)
-        try:
-            sizes = await asyncio.to_thread(parts.sizes, self._most.certificates)
-            new = await asyncio.to_thread(lambda: sum(not parts.has(fpr) for fpr in fprs))
-            return replace(sizes, certificates=sizes.certificates + new)
-        finally:
-            await asyncio.to_thread(parts.close)
-
     def ask(self, line: bytes, done: Done) -> None:
         """Asks what is no view's, and changes nothing."""
-        if self.is_turning:
+        if not self.takes(line):
             self._later.append(partial(self.ask, line, done))
         else:
-            self.held.ask(line, done)
+            (self.early or self.held).ask(line, done)
 
     async def pending(self) -> int | None:
         """How many signatures of a sliced keyring have no verdict, well-formed or not; None if engines hold all."""
@@ -217,32 +234,10 @@ class Desk:
 
     def snapshot(self, done: Callable[[Snapshot | None], None], begun: Begun = lambda: None) -> None:
         """Asks for a snapshot of the keyring behind the changes so far; `begun` as with a change."""
-        if self.is_turning:
+        if self.is_turning or self.early is not None:
             self._later.append(partial(self.snapshot, done, begun))
         elif isinstance(self.held, Sliced):
             begun()
             self.held.snapshot(done)
         else:
             self.held.snapshot(done, begun)
-
-
-def growth_of(line: bytes) -> Sizes:
-    """How much larger a line makes the keyring at most."""
-    if line.startswith(b"verdict "):
-        return Sizes(0, 0, 0, 1)
-    if not line.startswith(b"import "):
-        return Sizes(0, 0, 0, 0)
-    keys = signatures = 0
-    try:
-        octets = bytes.fromhex(line[7:].decode())
-        for kind, _ in packets(octets):
-            keys += kind == KEY
-            signatures += kind == SIGNATURE
-    except (ValueError, IndexError):
-        return Sizes(0, 0, 0, 0)  # The engine refuses such a line.
-    return Sizes(keys, len(octets), signatures, 0)
-
-
-def _sum(one: Sizes, other: Sizes) -> Sizes:
-    return Sizes(one.certificates + other.certificates, one.octets + other.octets,
-                 one.signatures + other.signatures, one.verdicts + other.verdicts)
