@@ -67,8 +67,8 @@ class Connection(Calls):
             return reply
 
     def _send_ahead(self, lines: Iterable[bytes]) -> None:
-        """Sends a few lines before the calls that they are of, so that not each of these waits for a reply. A call whose
-        line is one of them returns the reply as it was then; each must have one. There must be no watch."""
+        """Sends a few lines before the calls that they are of, so that not each of these waits for a reply. A call
+        whose line is one of them returns the reply as it was then; each must have one. There must be no watch."""
         with self._lock:
             self._refuse_watches()
             self._begin()

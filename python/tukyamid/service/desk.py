@@ -104,10 +104,10 @@ class Desk:
             await sliced.start()
             return
         self._held = hub = Hub(self._program, self._most_engines, self.database, self._access)
-        await hub.begin()
         if sizes is None or sizes.octets <= LOADED_AT_ONCE:
-            await hub.load()
+            await hub.start()
             return
+        await hub.begin()
         early = self._sliced()
         await early.start()
         self.early = early

@@ -58,6 +58,11 @@ class Hub:
     def pids(self) -> list[int]:
         return [engine.pid for engine in self.engines if engine.pid is not None]
 
+    async def start(self) -> None:
+        """Starts the first engine, and waits until it has taken the whole database; the errors are those of `begin`."""
+        await self.begin()
+        await self.load()
+
     async def begin(self) -> None:
         """Starts the first engine, and waits until it takes the database; OSError, ValueError or DatabaseFault where it
         can't."""

@@ -18,8 +18,8 @@ from tukyamid.refusals import RefusedView
 
 # Each takes longer to import than a module of the command, and most of them import others.
 HEAVY = {"argparse", "asyncio", "collections", "contextlib", "dataclasses", "datetime", "enum", "functools", "gettext",
-         "hashlib", "importlib", "inspect", "json", "locale", "logging", "pathlib", "re", "selectors", "shutil", "signal",
-         "site", "socket", "ssl", "subprocess", "tempfile", "threading", "typing"}
+         "hashlib", "importlib", "inspect", "json", "locale", "logging", "pathlib", "re", "selectors", "shutil",
+         "signal", "site", "socket", "ssl", "subprocess", "tempfile", "threading", "typing"}
 TELLS_MODULES = """
 import os, sys
 sys.path.insert(0, sys.argv.pop(1))
@@ -142,7 +142,8 @@ class Questions(test_service.Services):
         for words, status in ((["authenticate", carol, PEOPLE["Carol"]], 0), (["identify", carol], 0),
                               (["lookup", PEOPLE["Carol"]], 0), (["list"], 0), (["list", "--paths", "carol"], 0),
                               (["explain", carol, PEOPLE["Carol"]], 0), (["list", "--format=colons"], 0)):
-            done = run(["/usr/bin/python3", "-IS", "-c", TELLS_MODULES, CLIENT, self.root, *words], env=self.environment)
+            started = ["/usr/bin/python3", "-IS", "-c", TELLS_MODULES, CLIENT]
+            done = run([*started, self.root, *words], env=self.environment)
             self.assertEqual(done.returncode, status, done.stderr)
             self.assertEqual(HEAVY & set(done.stderr.decode().split(" ")), set(), words)
 

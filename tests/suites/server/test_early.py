@@ -4,7 +4,6 @@ lines wait for it."""
 import os
 import signal
 import subprocess
-import sys
 import tempfile
 import time
 import unittest
@@ -95,9 +94,10 @@ class Early(unittest.TestCase):
     def test_other_lines_wait(self):
         self.start()
         front = [b"view p time 5000", b"view p root %s 120" % self.world.fprs[0]]
-        others = [b"list p 40", b"absence p %s 500 %s" % (self.world.fprs[3], self.world.user_ids[3]), b"keys", b"pending",
-                  b"drop " + self.world.fprs[4], b"watch w on p %s 120 %s" % (self.world.fprs[5], self.world.user_ids[5]),
-                  b"cursor c over p 40", b"dump", b"check p %s - - %s" % (self.world.fprs[6], self.world.user_ids[6])]
+        fpr, user_id = self.world.fprs[3], self.world.user_ids[3]
+        others = [b"list p 40", b"absence p %s 500 %s" % (fpr, user_id), b"keys", b"pending", b"drop " + fpr,
+                  b"watch w on p %s 120 %s" % (fpr, user_id), b"cursor c over p 40", b"dump",
+                  b"check p %s - - %s" % (fpr, user_id)]
         for line in others:
             with Client(self.socket) as client:
                 self.heard(client, front)
@@ -107,7 +107,8 @@ class Early(unittest.TestCase):
     def test_what_waited_is_answered_behind_what_was_asked(self):
         self.start()
         with Client(self.socket) as client, Client(self.socket) as other:
-            lines = [*self.questions(), b"list p 40", b"keys", b"drop " + self.world.fprs[4], *self.questions(), b"keys"]
+            drop = b"drop " + self.world.fprs[4]
+            lines = [*self.questions(), b"list p 40", b"keys", drop, *self.questions(), b"keys"]
             client.send(*lines)
             self.heard(other, self.questions())
             self.go()
@@ -125,7 +126,7 @@ class Early(unittest.TestCase):
     def test_an_engine_that_cannot_load_it(self):
         """The service says so, and ends, also if somebody was answered before."""
         engine = self.folder / "engine"
-        engine.write_text(f"#!/bin/sh\nread -r line; printf 'ok\\n'; exec {sys.executable} -c 'print(\"refused full\")'\n")
+        engine.write_text("#!/bin/sh\nread -r line; printf 'ok\\n'; sleep 1; printf 'refused full\\n'\n")
         engine.chmod(0o755)
         served = self.start(engine)
         said = served.stderr.read().decode()
