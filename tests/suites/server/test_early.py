@@ -10,6 +10,7 @@ import unittest
 from pathlib import Path
 
 from outside import HERE, PATIENCE, PROGRAM, PYTHON, ROOT, SERVER, Client, alone, needs_engine
+from tukyamid.service.starting import is_served
 from world import World
 
 SERVE = """
@@ -43,7 +44,7 @@ class Early(unittest.TestCase):
         self.addCleanup(served.wait)
         self.addCleanup(served.kill)
         end = time.monotonic() + PATIENCE
-        while not self.socket.exists():
+        while not is_served(self.socket):
             self.assertTrue(served.poll() is None and time.monotonic() < end)
             time.sleep(0.01)
         return served
