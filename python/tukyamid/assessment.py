@@ -39,7 +39,7 @@ class Other(NamedTuple):
 
 class Assessment(NamedTuple):
     """An answer with what is said about it. `word` is the target's, `ok` if it is in order. `expired` says which other
-    programs take the key as expired, and `strict` that the answer then isn't reached. `brief` is for long lists:
+    programs treat the key as expired, and `strict` that the answer then isn't reached. `brief` is for long lists:
     neither paths nor other certifications were asked for."""
     fpr: str
     user_id: bytes
@@ -83,7 +83,7 @@ class Report(NamedTuple):
 
 
 def elsewhere(view: View, fpr: str) -> Expired | None:
-    """Which other programs take a key as expired at the view's time."""
+    """Which other programs treat a key as expired at the view's time."""
     certificate = view.keyring.certificate(fpr)
     if certificate is None:
         return None

@@ -115,7 +115,7 @@ def _add_answers(made: Parser) -> None:
     add_time_and_amount(group)
     group.add_argument("--email", action="store_true", help="USERID is an e-mail address, in upper or lower case")
     group.add_argument("--strict", action="store_true",
-                       help="a key that gpg or Sequoia takes as expired isn't reached")
+                       help="a key that gpg or Sequoia treats as expired counts as not reached")
     group.add_argument("--paths", action="store_true", help="list: show the paths too")
     group.add_argument("--format", choices=FORMS, default="tree", help=f"how the answer is shown: {', '.join(FORMS)}",
                        metavar="FORM")

@@ -90,7 +90,7 @@ def _status(client: Client, words: list[str]) -> list[str]:
 
 
 def _count_expired(keyring: Keyring) -> int:
-    """How many keys gpg or Sequoia take as expired, though the engine doesn't."""
+    """How many keys gpg or Sequoia treat as expired, though the engine doesn't."""
     view = keyring.view(int(time.time()), {}, "status")
     found = 0
     for key in list(keyring.engine.keys()):
