@@ -193,7 +193,7 @@ class Questions(Asking):
         """Of a revoked key, and of one that has expired, no certification is said to be held back by its issuer."""
         (erin,) = self.answer("explain", self.fpr["Erin"], PEOPLE["Erin"])[1]["bindings"]
         meanings = {one["meaning"] for one in erin["others"] if one["word"] == "edge"}
-        self.assertEqual(meanings, {"counts, but no path may end here: the key is revoked, for all times"})
+        self.assertEqual(meanings, {"counts, but no path may end here: the key is revoked, with effect at all times"})
 
     def test_beside_sq_wot(self):
         """Both find the same at 120 and at 40, at the current time: another program says what is expected."""

@@ -72,7 +72,7 @@ class Asked(InBrowser):
         self.browser.wait_text(".verdict", "0 of 120: no path leads here from your roots.")
         self.assertFalse(self.browser.element("#picture").is_displayed())
         self.browser.wait_text("#standpoint", "Seen from Alice <alice@example.net> (120), as of 2025-12-01.")
-        self.browser.wait_text("#others", "the issuer's key is revoked, for all times")
+        self.browser.wait_text("#others", "the issuer's key is revoked, with effect at all times")
 
     def test_the_time_is_moved(self):
         self.open("Carol", CAROL)
@@ -80,7 +80,7 @@ class Asked(InBrowser):
         self.browser.wait_text(".verdict", "60 of 120, by one path")
         self.browser.wait_text("#changes", "From 2025-12-01 to 2025-02-15: amount 120 → 60")
         self.browser.wait_text("#changes", "The certification by Bob <bob@example.org> before: is on a path. "
-                               "After: it was made later.")
+                               "After: it wasn't created yet.")
         self.browser.click("#later")
         self.browser.wait_text(".verdict", "120 of 120")
         self.browser.wait_text("#as-of", "2025-03-01 00:00:00 UTC")
