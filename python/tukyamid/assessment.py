@@ -195,7 +195,7 @@ class _WhyUnused:
         if self._reached:
             return "counts: the wanted amount was reached without it"
         if issuer is not None and (issuer in self._view.roots or self._is_known(issuer)):
-            return ("counts, but its issuer isn't trusted as far as this: a depth, a scope or what is left of an "
+            return ("counts, but its issuer isn't trusted this far: a depth, a scope or what is left of an "
                     "amount doesn't allow it")
         return "counts, but no path from a root goes through its issuer"
 

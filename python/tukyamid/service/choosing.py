@@ -44,7 +44,7 @@ class Chosen:
                 raise DatabaseFault(f"{copy}: {wrong[0]}")
             with contextlib.closing(source.parts()) as parts:
                 if not parts.sizes(MOST.certificates).fits(MOST):
-                    raise DatabaseFault(f"{copy}: the keyring is larger than an engine, and so than a shared database")
+                    raise DatabaseFault(f"{copy}: the keyring is larger than an engine, so it can't be shared")
             with contextlib.closing(source.snapshot()) as snapshot, self.open() as database:
                 database.fill(snapshot.lines(), f"restore {copy}", Actor(os.getuid(), os.getpid()))
         return None

@@ -146,7 +146,7 @@ class Engine:
         self._failures += 1
         self._home.tell(f"an engine ended with status {status}; another takes its place")
         if self._failures >= _TRIES:
-            self._fail(OSError(f"the engine's program ends at once, with status {status}"))
+            self._fail(OSError(f"the engine's program ends immediately, with status {status}"))
             self._suspect_first()
         if self._failures > 1:
             with contextlib.suppress(TimeoutError):

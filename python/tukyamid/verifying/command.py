@@ -63,16 +63,16 @@ def add_arguments(made: Parser) -> None:
     """The options that no other question has."""
     group = made.add_argument_group("what is verified")
     group.add_argument("--for", dest="whom", metavar="WHOM", action="append", default=[], type=typed(Whom.read),
-                       help="who should have signed; if it is given several times, any of them is enough")
+                       help="who should have signed; if given several times, any of them is enough")
     group.add_argument("--threshold", metavar="N", type=typed(read_threshold), default=1,
-                       help="how many signers are needed, by default 1; two keys of one certificate are one signer")
+                       help="how many signers are needed (1); two keys of one certificate are one signer")
     group.add_argument("--when", choices=[str(one) for one in When], default=str(When.BOTH),
                        help="when the signer has to be WHOM: at the time of signing, now, or both (the default)")
     add_time_and_amount(group)
     group.add_argument("--format", choices=FORMS, default="tree", metavar="FORM",
                        help=f"how the answer is shown: {', '.join(FORMS)}")
     group.add_argument("--output", metavar="FILE",
-                       help="once it is verified, write what a signed message or text says to FILE; - is standard "
+                       help="write the content of a signed message or text to FILE, once it is verified; - is standard "
                             "output")
 
 

@@ -115,7 +115,7 @@ class Words(Asking):
         self.assertEqual((done.returncode, done.stdout), (2, b""))
         self.assertEqual(done.stderr.decode().splitlines(), [
             "tukyamid: a question is missing",
-            "usage: tukyamid [option..] QUESTION WORD.. (tukyamid --help says more)"])
+            "usage: tukyamid [option..] QUESTION ARGUMENT.. (see tukyamid --help)"])
 
     def test_version_and_help(self):
         done = run([COMMAND, "--version", "--verifier", TRUSTING])

@@ -1,4 +1,4 @@
-"""The page in a real browser: it is asked, the time is moved, roots are changed, and keys are taken out of account."""
+"""The page in a real browser: it is asked, the time is moved, roots are changed, and keys are left out."""
 
 import json
 from urllib.parse import quote_plus
@@ -126,8 +126,8 @@ class Asked(InBrowser):
         self.browser.click("button[aria-label='Without Bob <bob@example.org>']")
         self.browser.wait_text("#if-answer", "Without Bob <bob@example.org>, 60. With everything, 120.")
         self.browser.wait_text(".verdict", "60 of 120, by one path")
-        self.browser.wait_text("#answer", "With everything taken into account it is 120.")
-        self.browser.click("#if button[aria-label^='Take Bob']")
+        self.browser.wait_text("#answer", "With everything included it is 120.")
+        self.browser.click("#if button[aria-label^='Include Bob']")
         self.browser.wait_text(".verdict", "120 of 120, by two paths")
         self.browser.click("#steps button[aria-label^='Without this certification by Alice']")
         self.browser.wait_text(".verdict", "120 of 120, by one path")
