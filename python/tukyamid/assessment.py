@@ -191,7 +191,7 @@ class _WhyUnused:
         if self._word is not TargetWord.OK:
             return f"counts, but no path may end here: {self._word.meaning}"
         if issuer == self._target:
-            return "counts: the key's own, which ends only paths of introducers for the key itself"
+            return "counts: the key's own, which only extends paths that lead to this key"
         if self._reached:
             return "counts: the wanted amount was reached without it"
         if issuer is not None and (issuer in self._view.roots or self._is_known(issuer)):

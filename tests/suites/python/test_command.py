@@ -170,7 +170,7 @@ class Questions(Asking):
     def test_the_tree(self):
         shown = self.ask("authenticate", self.fpr["Dave"], PEOPLE["Dave"]).stdout.decode()
         lines = [line.strip(" │├└─") for line in shown.splitlines()]
-        for line in ("[✗] Dave <dave@example.net>", "amount 60 of 120 (50 %): not reached",
+        for line in ("[✗] Dave <dave@example.net>", "amount 60 of 120 (50%): not reached",
                      "path 1: amount 60, 2 steps",
                      f"{self.fpr['Alice']} Alice <alice@example.net> (root, amount 120)",
                      "certified with amount 60, depth 1, made 2025-02-02",

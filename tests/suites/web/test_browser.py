@@ -54,7 +54,7 @@ class Asked(InBrowser):
         self.assertEqual(len(labels), 3)
         self.assertIn(r"amount 60 of 120depth 1, made 2025-02-01for <[^>]+[@.]example\.org>$", labels)
         self.assertIn("amount 60 of 60depth 1, made 2025-02-02", labels)
-        self.browser.wait_text("#others", "the key's own, which ends only paths of introducers for the key itself")
+        self.browser.wait_text("#others", "the key's own, which only extends paths that lead to this key")
 
     def short(self, name):
         return f"{self.fpr[name][:8]}…{self.fpr[name][-8:]}"

@@ -85,7 +85,7 @@ export function showOthers(element, reply) {
 }
 
 function groupOf(group, isOpen) {
-  const meaning = group.word === "edge" ? "it counts, but no path needs it or may use it" : group.meaning;
+  const meaning = group.word === "edge" ? "it counts, but no path needs it or can use it" : group.meaning;
   const list = make("ul", { class: "others" });
   const box = make("details", { class: "group" },
     make("summary", {}, make("span", { class: "tally" }, group.count.toLocaleString("en")), " ",
