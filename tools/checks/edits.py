@@ -56,7 +56,7 @@ def edits(tree: Tree) -> Iterator[Finding]:
     for path in tree.ending(".edit"):
         crate = crate_of(path)
         if not crate:
-            yield Finding(path, 1, "nothing reads an edit here", "move it to tests/edits/CRATE")
+            yield Finding(path, 1, "edits in this folder are never tried", "move it to tests/edits/CRATE")
             continue
         _, wrong = applied(tree.text(path), tree.root / "crates" / crate)
         if wrong:
