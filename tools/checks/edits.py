@@ -38,7 +38,7 @@ def applied(edit: str, crate: Path) -> tuple[dict[str, str], str]:
             return texts, f"there is no file {file}"
         before = texts.get(file) or (crate / file).read_text(encoding="utf-8")
         if before.count(old) != 1:
-            return texts, f"its old text stands {before.count(old)} times in {file}"
+            return texts, f"its old text occurs {before.count(old)} times in {file}"
         texts[file] = before.replace(old, new)
     return texts, wrong
 
