@@ -75,7 +75,7 @@ def _others(report: Report, one: Assessment) -> list[str]:
         return lines + _hang([_other(report, other) for other in one.others])
     alike = Counter((other.word, other.meaning) for other in one.others)
     said = [[f"{times} {word}: {meaning}"] for (word, meaning), times in alike.most_common()]
-    return lines + _hang([*said, ["the question `explain` shows each"]])
+    return lines + _hang([*said, ["use `explain` to see each of them"]])
 
 
 def _other(report: Report, other: Other) -> list[str]:

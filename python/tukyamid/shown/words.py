@@ -44,7 +44,7 @@ def scopes(certification: Certification) -> list[str]:
 def result(one: Assessment) -> str:
     if one.reached:
         return "reached"
-    return "not reached, since --strict is given" if one.amount >= one.wanted else "not reached"
+    return "not reached, because of --strict" if one.amount >= one.wanted else "not reached"
 
 
 def no_path(one: Assessment) -> str | None:

@@ -146,7 +146,7 @@ class Ended(unittest.TestCase):
             self.assertFalse(is_reached)
             self.assertFalse(json.loads(shown["json"])["bindings"][0]["reached"])
             self.assertIn(":120:no:ok\n", shown["colons"])
-        self.assertIn("not reached, since --strict is given", shown["tree"])
+        self.assertIn("not reached, because of --strict", shown["tree"])
         done = run([COMMAND, *self.words("--strict", "identify", key.fpr)])
         self.assertEqual((done.returncode, done.stderr), (1, b""))
 
