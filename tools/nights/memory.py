@@ -1,4 +1,4 @@
-"""Each request for memory of random scripts is refused in turn: status 5 behind whole replies, or the whole transcript.
+"""Each request for memory of random scripts is refused in turn: status 5 after whole replies, or the whole transcript.
 
 The suite `memory` does the same over scripts of its own; its library that refuses stands between the program and the C
 library.

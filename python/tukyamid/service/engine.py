@@ -222,7 +222,7 @@ class Engine:
                 self.ready.set_result(None)
 
     def _take_told(self, reply: bytes) -> None:
-        """A watch line, behind the reply to anybody's line."""
+        """A watch line, after the reply to anybody's line."""
         name = reply.split(b" ")[1]
         watch = self._standing.watches[name]
         if reply.endswith(b" gone\n"):
