@@ -145,7 +145,7 @@ class Calls(Served):
         asked = self.subject("Carol", CAROL, without=self.without("Bob"))
         status, _, octets = self.page.send("proof", json.dumps(asked).encode())
         self.assertEqual(status, 400)
-        self.assertIn("put back", json.loads(octets)["error"])
+        self.assertIn("left out first", json.loads(octets)["error"])
 
     def test_a_key_that_is_not_there(self):
         asked = {**self.subject("Carol", CAROL), "fingerprint": "aa" * 20}

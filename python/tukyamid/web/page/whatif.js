@@ -105,5 +105,5 @@ const calledOf = (one) => (one.key ? nameOf(one.key) : one.name);
 function leftOut(one) {
   return make("li", {}, name(calledOf(one)), " ", make("button", {
     type: "button", class: "small", "aria-label": `Include ${calledOf(one)} again`,
-    onclick: () => change({ without: state.without.filter((other) => other !== one) }) }, "put back"));
+    onclick: () => change({ without: state.without.filter((other) => other !== one) }) }, "include"));
 }
