@@ -106,7 +106,7 @@ cert-same : (key : List ℕ) (a b : List Signature) (u v w x y z : List Componen
     → cert-with key a u w y ≡ cert-with key b v x z
 cert-same key a b u v w x y z e f g h = λ i. cert-with key (e i) (f i) (g i) (h i)
 
--- what the packets behind a key draft, with the key, is the certificate
+-- what the packets after a key draft, with the key, is the certificate
 pub completed-is : (key : List ℕ) (packets : List Spelled)
     → completed key (sketched packets) ≡ certificate_with key (cut_at begins_component packets)
 completed-is key packets =

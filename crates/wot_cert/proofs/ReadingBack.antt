@@ -181,7 +181,7 @@ faultless at (x ∷ xs) h = rw (h.0.fine x.1 at) (faultless (at + length (writte
 pub no-fault : (c : Certificate) → IsCertificate c → first_fault (placed 0 (cert_packets c)) ≡ None
 no-fault c h = faultless (0 + length (written 6 c.key)) (behind_key c) (all-behind c h)
 
--- ---- they are one key and what is behind it
+-- ---- they are one key and what follows it
 
 no-key : (at : ℕ) (xs : List Plain) → AllByRecursion IsBehind xs → cut_at is_key (placed at xs) ≡ (placed at xs, [])
 no-key at [] h = refl
