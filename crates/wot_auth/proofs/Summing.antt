@@ -37,7 +37,8 @@ long_but_last (p ∷ x ∷ ps) m n rest =
     let ih = long_but_last (x ∷ ps) m n rest in
     omega (arith, a, b, ih)
 
-module _ (q : Question) (one : (used : Use) (a b : Path) → IsNextPath q used a → IsNextPath q used b → a ≡ b) (wanted : ℕ) where
+module _ (q : Question) (one : (used : Use) (a b : Path) → IsNextPath q used a → IsNextPath q used b → a ≡ b)
+    (wanted : ℕ) where
   abbrev Ends : List Path → Type 0
   Ends paths = (wanted ≤ amount_of paths) ⊎ IsSpent q (use_of paths)
 

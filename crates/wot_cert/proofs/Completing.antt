@@ -120,7 +120,8 @@ completed-is key packets =
 
 -- ---- short bodies stay short
 
-module _ {A : Type 0} (R : A → A → Ordering) (join : A → A → A) (P : A → Type 0) (joins : (x y : A) → P x → P y → P (join x y)) where
+module _ {A : Type 0} (R : A → A → Ordering) (join : A → A → A) (P : A → Type 0)
+    (joins : (x y : A) → P x → P y → P (join x y)) where
   all-placed : (o : Ordering) (x y : A) (ys rest : List A) → P x → P y → AllByRecursion P ys → AllByRecursion P rest
       → AllByRecursion P (placed o join x y ys rest)
   all-placed Less x y ys rest p q a b = (p, (q, a))

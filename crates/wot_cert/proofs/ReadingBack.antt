@@ -108,7 +108,8 @@ sigs-behind key kind component (s ∷ sigs) h = (
   sigs-behind key kind component sigs h.1,
 )
 
-module _ (type : ℕ) (other : is_key type ≡ false) (fine : (body : List ℕ) (at : ℕ) → fault_at true (record { kind = type; body = body; at = at }) ≡ None) (few : type < 64) where
+module _ (type : ℕ) (other : is_key type ≡ false) (fine : (body : List ℕ) (at : ℕ)
+    → fault_at true (record { kind = type; body = body; at = at }) ≡ None) (few : type < 64) where
   parts-behind : (key : List ℕ) (kind : ℕ) (ps : List Component) → AllByRecursion (IsPartOf key kind) ps
       → AllByRecursion IsBehind (parts_packets type ps)
   parts-behind key kind [] h = tt

@@ -18,7 +18,8 @@ use Rattle.wot_search.proofs.Order.{not_lt-Less, less_not}
 use Rattle.wot_search.proofs.Suffixes.{links}
 use Rattle.wot_search.proofs.Keeping.{entry_is}
 
-module _ (quest : Quest) (good : IsRecord quest.question.told) (found : Found) (step : Step) (rest : List Step) (kept : Kept quest found rest) (serves : Serves quest step rest) where
+module _ (quest : Quest) (good : IsRecord quest.question.told) (found : Found) (step : Step) (rest : List Step)
+    (kept : Kept quest found rest) (serves : Serves quest step rest) where
   -- the better one is as good as the other
   better_good : (goal : Goal) (x : Step) (xs : List Step) → Kept quest found (x ∷ xs) → x.issuer ≡ step.issuer
       → length xs ≡ length rest

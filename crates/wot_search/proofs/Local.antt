@@ -31,7 +31,8 @@ twin (x ∷ xs) (z ∷ ys) y e (inl f) =
 twin (x ∷ xs) (z ∷ ys) y e (inr h) =
     let e' : map scoped_edge xs ≡ map scoped_edge ys = cc in let t = twin xs ys y e' h in (t.0, inr t.1, t.2, t.3)
 
-module _ (reach : Fpr → ℕ) (all : (fpr : Fpr) → reach fpr ≡ 255) (q other : Question) (used : Use) (n : ℕ) (set : List Fpr) (a : Agree q other set) (k : IsLooked (widest_quest reach q used) n (Has set)) where
+module _ (reach : Fpr → ℕ) (all : (fpr : Fpr) → reach fpr ≡ 255) (q other : Question) (used : Use) (n : ℕ)
+    (set : List Fpr) (a : Agree q other set) (k : IsLooked (widest_quest reach q used) n (Has set)) where
   start_same : (rest : List Step) → start q.target rest ≡ start other.target rest
   start_same [] = a.target
   start_same (step ∷ rest) = refl

@@ -121,7 +121,8 @@ module _ (reach : Fpr → ℕ) (q : Question) (used : Use) where
 
   -- ---- if all that was found has this width, a search for this amount finds the same
 
-  module _ (amount : ℕ) (pos : 1 ≤ amount) (found : Found) (each : (fpr : Fpr) (node : Node) → found fpr ≡ Some node → amount ≤ node.width) where
+  module _ (amount : ℕ) (pos : 1 ≤ amount) (found : Found)
+      (each : (fpr : Fpr) (node : Node) → found fpr ≡ Some node → amount ≤ node.width) where
     abbrev more : Quest
     more = least_quest reach q used amount
 
