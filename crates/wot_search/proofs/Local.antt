@@ -117,7 +117,7 @@ module _ (reach : Fpr → ℕ) (all : (fpr : Fpr) → reach fpr ≡ 255) (q othe
         before,
       )
 
-  -- where a suffix begins the roots have the same amounts
+  -- at the start of a suffix both questions have the same root amount
   pub root_same : (steps : List Step) → 1 ≤ length steps → length steps ≤ n → Suffix (widest_quest reach q used) steps
       → root_amount q.roots (start q.target steps) ≡ root_amount other.roots (start other.target steps)
   root_same [] some le t = absurd (omega arith)

@@ -244,7 +244,7 @@ module _ (quest : Quest) (good : IsRecord quest.question.told) (small : IsSmall 
             ]
       ]
 
-  -- Where no root was chosen, none is there either.
+  -- If no root was chosen, there is none.
   pub picked_none : IsLayer quest found size layer → IsUnrooted quest found size → IsPicked quest found layer None
       → IsUnrooted quest found (suc size)
   picked_none is unrooted c = λ steps k some lt le. elim (cases_lt (length steps) size) [
