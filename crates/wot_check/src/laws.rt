@@ -9,6 +9,7 @@ ghost use Rattle.wot_edge.specs.Roots.{IsRoots};
 ghost use Rattle.wot_check.specs.declared.checking.Checked.{Checked};
 ghost use Rattle.wot_check.specs.Absence.{Accepts, AcceptsLeast, AreOne, AreSpent, HasAnswer, IsLeastTable};
 ghost use Rattle.wot_check.specs.Claim.{Claim};
+ghost use Rattle.wot_check.specs.Leading.{DoChecksAgree, DoPathsLead, DoTablesAgree, IsLeadingShared};
 ghost use Rattle.wot_check.specs.Table.{IsTable, Labels};
 
 use wot_edge::laws::paths_fit;
@@ -47,4 +48,18 @@ pub fn answers_are_few()
 pub fn accepted_paths_leave_nothing()
     ensures spent { (q : Question) (claims : List Claim) (table : Labels) → IsRecord q.told → Accepts q claims table
         → AreSpent q claims }
+{}
+
+/// The least table rests on what leads to the target, step by step: questions that agree on that, and on the target,
+/// have the same one. So do their valid paths, whose issuers all lead to the target.
+pub fn tables_rest_on_what_leads()
+    ensures within { DoPathsLead }
+    ensures shared { IsLeadingShared }
+    ensures tables { DoTablesAgree }
+{}
+
+/// A check rests on who certified the target, on the claimed issuers, on what has a label and on its introducers:
+/// questions that agree on these, and on the target, have the same result.
+pub fn checks_rest_on_what_they_name()
+    ensures { DoChecksAgree }
 {}
