@@ -11,7 +11,7 @@ use Rattle.wot_edge.specs.Record.{Has}
 use Rattle.wot_edge.specs.Roots.{root_amount}
 use Rattle.wot_edge.specs.Path.{Chain, IsNext, IsNextPath, IsOpen, IsSpent, IsValid, Precedes, Question, Stands, Use}
 use Rattle.wot_edge.specs.Path.{path_amount, start, use_of}
-use Rattle.wot_auth.specs.Slices.{AgreeWithin, AnswerAlike, IsSliceOf, ShareSlice, StayWithin}
+use Rattle.wot_auth.specs.Slices.{AgreeWithin, AnswerAlike, IsSliceOf, ShareSlice}
 
 -- ---- within a slice
 

@@ -6,8 +6,8 @@ use Rattle.wot_types.specs.declared.fpr.Fpr.{Fpr}
 use Rattle.wot_edge.specs.declared.edge.EdgeFacts.{EdgeFacts}
 use Rattle.wot_edge.specs.declared.path.Step.{Step}
 use Rattle.wot_edge.specs.Agree.{Agree, scoped_edge}
-use Rattle.wot_edge.specs.Path.{Chain, IsValid, Question, Reaches, Stands, Use, least_left, path_amount, root_left, start}
-use Rattle.wot_edge.specs.Path.{step_of}
+use Rattle.wot_edge.specs.Path.{Chain, IsValid, Question, Reaches, Stands, Use, least_left, path_amount, root_left}
+use Rattle.wot_edge.specs.Path.{start, step_of}
 use Rattle.wot_edge.specs.Record.{Has, Row, entry_at, rows_into}
 use Rattle.wot_edge.specs.Roots.{root_amount}
 

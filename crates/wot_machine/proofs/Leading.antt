@@ -1,8 +1,7 @@
 -- A proof of absence and a check have the same reply in states that hold the same at what these rest on.
-use Rattle.std.proofs.Common.{◌≡◌, ◌⊎◌, inl, inr, ℕ, Bool, true, false, List, [], ◌∷◌, map, Option, Some, None, refl}
-use Rattle.std.proofs.Common.{cond, sym, ap, subst, ◌∙◌}
+use Rattle.std.proofs.Common.{◌≡◌, inl, inr, ℕ, Bool, true, false, List, [], ◌∷◌, map, Option, Some, None, refl}
+use Rattle.std.proofs.Common.{cond, sym, subst}
 use Rattle.std.specs.Prelude.{nat_le}
-use Rattle.std.specs.Map.{lookup}
 use Rattle.wot_types.specs.declared.fpr.Fpr.{Fpr}
 use Rattle.wot_types.specs.Fpr.{same_fpr}
 use Rattle.wot_types.specs.FprLaws.{same_fpr-true}
@@ -30,7 +29,7 @@ use Rattle.wot_check.specs.Leading.{DoChecksAgree, DoPathsLead, DoTablesAgree, H
 use Rattle.wot_check.specs.Leading.{HasIntroducersOf, IsLeadingShared, ShareLeading}
 use Rattle.wot_check.specs.Table.{label_at}
 use Rattle.wot_keyring.specs.Dump.{judged_by}
-use Rattle.wot_keyring.specs.Keyring.{Certificates, is_fpr}
+use Rattle.wot_keyring.specs.Keyring.{Certificates}
 use Rattle.wot_network.specs.Certified.{HasCertifiers, HasIntroducers, LeadsTo, RestsOnCertifications, RestsOnTrust}
 use Rattle.wot_network.specs.Local.{IsLocal}
 use Rattle.wot_network.specs.Told.{AreOwn, record_of}
@@ -180,8 +179,8 @@ module _ (edges : EdgeLaws) (rows : PolicyRows) (one other : State) (marks : Are
     checks_there law spelled reply (checked, is, e) = (
       checked,
       (law q there (map claim_in claimed.paths) (table_in claimed.labels) set
-      (spelled_table claimed.paths claimed.labels spelled) (record { looks = looks_of; agree = agree })
-      checked).0 is,
+          (spelled_table claimed.paths claimed.labels spelled) (record { looks = looks_of; agree = agree })
+          checked).0 is,
       e,
     )
 
