@@ -49,6 +49,6 @@ pub record AgreeWithin (q other : Question) (set : List Fpr) : Type 0 where
   pub second : StayWithin other set
   pub agree : Agree q other (q.target ∷ set)
 
--- Whatever the set is, that is enough.
+-- Such questions have the same valid paths, next paths and answers.
 abbrev pub DoPathsAnswer : Type 0
 DoPathsAnswer = (q other : Question) (set : List Fpr) → AgreeWithin q other set → AnswerAlike q other

@@ -10,8 +10,8 @@ pub fn answers_rest_on_slices()
     ensures alike { DoSlicesAnswer }
 {}
 
-/// An answer rests on what its question's valid paths go through: two questions that agree on a set within which the
-/// valid paths of both stay, and on the target, have the same valid paths, next paths and answers.
+/// An answer depends only on the target and on what valid paths go through: questions that agree on the target and on a
+/// set within which the valid paths of both stay have the same valid paths, next paths and answers.
 pub fn answers_rest_on_paths()
     ensures { DoPathsAnswer }
 {}

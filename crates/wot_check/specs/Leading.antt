@@ -1,5 +1,5 @@
--- On what `absence` and `check` rest: the part of a network that leads to a target, step by step, and the part that a
--- check looks at. wot_machine turns both into certificates that a database can find.
+-- The parts of a network that determine proofs of absence and their checks: what leads to the target step by step, and
+-- what a check looks at. wot_machine turns both into certificates that a database can find.
 use Rattle.std.specs.Prelude.{◌≡◌, ◌≤◌, ◌↔◌, ℕ, List, ◌∷◌, Some}
 use Rattle.wot_types.specs.declared.fpr.Fpr.{Fpr}
 use Rattle.wot_edge.specs.declared.path.Step.{Step}
@@ -12,39 +12,39 @@ use Rattle.wot_check.specs.Absence.{IsChecked, IsLeastTable}
 use Rattle.wot_check.specs.Claim.{Claim}
 use Rattle.wot_check.specs.Table.{IsTable, Labels, label_at}
 
--- The issuer of each edge into the target is a member.
+-- The set has the issuer of each edge into the target.
 abbrev pub HasCertifiersOf : Question → List Fpr → Type 0
 HasCertifiersOf q set = (row : Row) → Has (rows_into q.told q.target) row → Has set row.edge.issuer
 
--- The issuer of each edge into a fingerprint with a depth of at least 1 is a member.
+-- The set has the issuer of each edge into a fingerprint whose depth is at least 1.
 abbrev pub HasIntroducersOf : Question → List Fpr → Fpr → Type 0
 HasIntroducersOf q set at =
     (row : Row) → Has (rows_into q.told at) row → 1 ≤ row.edge.depth → Has set row.edge.issuer
 
 -- ---- `absence`
 
--- The set has whatever leads to the target: who certified it, and step by step who certified a member with a depth of
--- at least 1.
+-- The set has all that leads to the target: every key that certified it and, with each member, every key that
+-- certified the member with a depth of at least 1.
 pub record LeadsToTarget (q : Question) (set : List Fpr) : Type 0 where
   pub last : HasCertifiersOf q set
   pub before : (at : Fpr) → Has set at → HasIntroducersOf q set at
 
--- Two questions agree on what leads to the target of the first, and on the target.
+-- Two questions agree on the target and on all that leads to it in the first.
 pub record ShareLeading (q other : Question) (set : List Fpr) : Type 0 where
   pub leads : LeadsToTarget q set
   pub agree : Agree q other (q.target ∷ set)
 
--- Each issuer on a valid path leads to the target.
+-- The set has each issuer on a valid path.
 abbrev pub DoPathsLead : Type 0
 DoPathsLead =
     (q : Question) (set : List Fpr) → LeadsToTarget q set
     → (steps : List Step) → IsValid q steps → (step : Step) → Has steps step → Has set step.issuer
 
--- What leads to the target of the one leads to that of the other.
+-- It also has all that leads to the target in the second.
 abbrev pub IsLeadingShared : Type 0
 IsLeadingShared = (q other : Question) (set : List Fpr) → ShareLeading q other set → LeadsToTarget other set
 
--- They have the same least table, whatever is used.
+-- Whatever earlier paths use, both have the same least table.
 abbrev pub DoTablesAgree : Type 0
 DoTablesAgree =
     (q other : Question) (set : List Fpr) → ShareLeading q other set
@@ -52,19 +52,19 @@ DoTablesAgree =
 
 -- ---- `check`
 
--- The issuers that a claim names are members.
+-- The set has the issuers that a claim names.
 abbrev pub HasClaimed : List Fpr → Claim → Type 0
 HasClaimed set claim = (step : ClaimedStep) → Has claim.steps step → Has set step.issuer
 
--- The set has whatever a check of the claims and the table looks at: who certified the target, the claimed issuers,
--- each fingerprint with a label, and who certified that with a depth of at least 1.
+-- The set has all that a check of the claims and the table looks at: every key that certified the target, the claimed
+-- issuers, each fingerprint with a label, and every key that certified one of these with a depth of at least 1.
 pub record HasChecked (q : Question) (claims : List Claim) (table : Labels) (set : List Fpr) : Type 0 where
   pub last : HasCertifiersOf q set
   pub claimed : (claim : Claim) → Has claims claim → HasClaimed set claim
   pub labelled : (at : Fpr) (label : ℕ) → label_at table at ≡ Some label → Has set at
   pub before : (at : Fpr) (label : ℕ) → label_at table at ≡ Some label → HasIntroducersOf q set at
 
--- Two questions agree on what a check of the first looks at, and on the target.
+-- Two questions agree on the target and on what a check looks at in the first.
 pub record ShareChecked (q other : Question) (claims : List Claim) (table : Labels) (set : List Fpr) : Type 0 where
   pub looks : HasChecked q claims table set
   pub agree : Agree q other (q.target ∷ set)

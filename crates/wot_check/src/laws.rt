@@ -50,16 +50,16 @@ pub fn accepted_paths_leave_nothing()
         → AreSpent q claims }
 {}
 
-/// The least table rests on what leads to the target, step by step: questions that agree on that, and on the target,
-/// have the same one. So do their valid paths, whose issuers all lead to the target.
+/// The least table depends only on the target and on all that leads to it: questions that agree on these have the same
+/// table. All issuers on valid paths are among these.
 pub fn tables_rest_on_what_leads()
     ensures within { DoPathsLead }
     ensures shared { IsLeadingShared }
     ensures tables { DoTablesAgree }
 {}
 
-/// A check rests on who certified the target, on the claimed issuers, on what has a label and on its introducers:
-/// questions that agree on these, and on the target, have the same result.
+/// The result of a check depends only on the target, the keys that certified it, the claimed issuers, the fingerprints
+/// with a label, and their introducers: questions that agree on these have the same result.
 pub fn checks_rest_on_what_they_name()
     ensures { DoChecksAgree }
 {}

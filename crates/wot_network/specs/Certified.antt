@@ -58,19 +58,19 @@ pub record IsSlice (certs : Certificates) (verdicts : Entries) (amounts : List (
 
 -- ---- back from a target
 
--- Whoever certified this one is in the set.
+-- The set has every key that certified this one.
 abbrev pub HasCertifiers : Certificates → Entries → List Fpr → Fpr → Type 0
 HasCertifiers certs verdicts set fpr =
     (issuer : Fpr) (c : Certificate) → lookup (is_fpr fpr) certs ≡ Some c → IsCertified verdicts issuer c
     → Has set issuer
 
--- Whoever certified this one with a depth of at least 1 is in the set.
+-- The set has every key that certified this one with a depth of at least 1.
 abbrev pub HasIntroducers : Certificates → Entries → List Fpr → Fpr → Type 0
 HasIntroducers certs verdicts set fpr =
     (issuer : Fpr) (c : Certificate) → lookup (is_fpr fpr) certs ≡ Some c → IsTrusted verdicts issuer c → Has set issuer
 
--- The set has whatever leads to the target: who certified it, and step by step who certified a member with a depth of
--- at least 1.
+-- The set has all that leads to the target: every key that certified it and, with each member, every key that
+-- certified the member with a depth of at least 1.
 pub record LeadsTo (certs : Certificates) (verdicts : Entries) (target : Fpr) (set : List Fpr) : Type 0 where
   pub last : HasCertifiers certs verdicts set target
   pub before : (fpr : Fpr) → Has set fpr → HasIntroducers certs verdicts set fpr
