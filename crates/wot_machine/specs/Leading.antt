@@ -24,8 +24,8 @@ HoldAlikeOn target set one other = (fpr : Fpr) → Has (target ∷ set) fpr → 
 
 -- ---- `absence`
 
--- Two states are alike for proofs of absence about a target from the named view: the view has the same time and roots in
--- both or is open in neither, and both hold the same at the target and at all that leads to it. Everything else may
+-- Two states are alike for proofs of absence about a target from the named view: the view has the same time and roots
+-- in both or is open in neither, and both hold the same at the target and at all that leads to it. Everything else may
 -- differ, even a root's certificate.
 pub record AreAlikeBefore (name : List ℕ) (target : Fpr) (one other : State) : Type 0 where
   pub view : view_at one.views name ≡ view_at other.views name
@@ -39,8 +39,8 @@ pub record IsAbsenceLine (name : List ℕ) (target : Fpr) (line : List ℕ) : Ty
   pub uid : List ℕ
   pub read : command_of line ≡ Some (Absence name target wanted uid)
 
--- The reply to `absence` depends only on what leads to the target: whatever histories lead to two states that are alike,
--- each such line gets the same reply in both.
+-- The reply to `absence` depends only on what leads to the target: whatever histories lead to two states that are
+-- alike, each such line gets the same reply in both.
 abbrev pub DoAbsencesRestOnLeading : PolicyRows → Type 0
 DoAbsencesRestOnLeading rows =
     (name : List ℕ) (target : Fpr) (one other : Whole) → IsReached rows one → IsReached rows other
@@ -62,9 +62,9 @@ pub record HasLookedAt (held : Held) (target : Fpr) (claimed : Claimed) (set : L
   pub labelled : (label : LabelLine) → Has claimed.labels label → Has set label.0
   pub before : (label : LabelLine) → Has claimed.labels label → HasIntroducers held.certs held.verdicts set label.0
 
--- Two states are alike for checks of a claim about a target from the named view: the view has the same time and roots in
--- both or is open in neither, and both hold the same at the target and at all that the check looks at. Everything else
--- may differ.
+-- Two states are alike for checks of a claim about a target from the named view: the view has the same time and roots
+-- in both or is open in neither, and both hold the same at the target and at all that the check looks at. Everything
+-- else may differ.
 pub record AreAlikeForClaim (name : List ℕ) (target : Fpr) (claimed : Claimed) (one other : State) : Type 0 where
   pub view : view_at one.views name ≡ view_at other.views name
   pub set : List Fpr
