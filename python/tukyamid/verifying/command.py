@@ -21,13 +21,13 @@ VERIFIED, NOT_VERIFIED = 0, 1
 FORMS = {"tree": shown.for_people, "json": shown.for_programs}
 HELP = """usage: tukyamid verify FILE [SIGNATURE] --for WHOM [option..]
 
-Is this file signed by WHOM? The verifier checks the signatures on FILE: those in SIGNATURE, or those of FILE itself, a
-signed message or a text with a cleartext signature. Then the engine answers whether their signers are WHOM, at the
-time of signing and now.
+Is this file signed by WHOM? The verifier checks the signatures on FILE. They are in SIGNATURE, or in FILE itself if
+that is a signed message or a text with a cleartext signature. Then the engine answers whether their signers are WHOM,
+at the time of signing and now.
 
-WHOM is an address (carol@example.org), a domain (@example.org), or a user ID as it stands."""
-EPILOG = """exit status: 0 enough signers signed, and are WHOM; 1 not so, and the answer says what failed; 2 the words
-are wrong; 3 there is no answer, and standard error says why; 130 it was interrupted.
+WHOM is an address (carol@example.org), a domain (@example.org), or a whole user ID."""
+EPILOG = """exit status: 0 enough signers signed, and are WHOM; 1 otherwise, and the answer says what failed; 2 the
+arguments are wrong; 3 there is no answer, and standard error says why; 130 it was interrupted.
 """
 
 
