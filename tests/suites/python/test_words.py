@@ -93,7 +93,8 @@ class Words(Asking):
         carol = self.fpr["Carol"]
         for said, words in [
             ("authenticate takes: KEY USERID", ["authenticate", carol]),
-            ("neither a fingerprint", ["authenticate", "carol", "Carol"]), ("unknown question 'nonsense'", ["nonsense"]),
+            ("neither a fingerprint", ["authenticate", "carol", "Carol"]),
+            ("unknown question 'nonsense'", ["nonsense"]),
             ("a question is missing", []), ("identify takes: KEY", ["identify"]),
             (r"list takes: \[PATTERN\]", ["list", "a", "b"]), ("path takes: KEY.. USERID", ["path", carol]),
             ("isn't a time: write a date as", ["--time", "yesterday", "list"]),
