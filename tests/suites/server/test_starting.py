@@ -140,7 +140,7 @@ class Starting(unittest.TestCase):
         command = self.begin(TUKYAMID_ENGINE="/bin/false")
         _, said = command.communicate(timeout=PATIENCE)
         self.assertEqual(command.returncode, 1)
-        self.assertIn("ServiceFailed: the engine's program ends at once", said)
+        self.assertIn("ServiceFailed: the engine's program ends immediately", said)
         self.assertFalse(self.socket.exists())
 
 
