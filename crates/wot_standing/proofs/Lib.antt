@@ -2,3 +2,4 @@ pub mod Revoking
 pub mod SpanLaw
 pub mod Certifying
 pub mod Counting
+pub mod Naming
