@@ -3,3 +3,4 @@ pub mod SpanLaw
 pub mod Certifying
 pub mod Counting
 pub mod Naming
+pub mod Whose

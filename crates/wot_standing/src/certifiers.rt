@@ -1,16 +1,19 @@
 //! The newest valid certification of every issuer on a user ID, found in one walk over its signatures.
 //!
 //! It stands on `latest`, `newest` and `kinds`, and on `specs/Certifiers.antt`. `wot_live` makes one edge of each.
-ghost use Rattle.std.specs.Prelude.{◌≡◌, ◌<◌, ◌^◌, length, Some, OnOk, IfOk, if◌then◌else◌};
+ghost use Rattle.std.specs.Prelude.{◌≡◌, ◌<◌, ◌^◌, length, true, Some, OnOk, IfOk, if◌then◌else◌};
 ghost use Rattle.std.specs.List.{slice_get};
-ghost use Rattle.std.specs.Option.{option_copied};
+ghost use Rattle.std.specs.Option.{option_and_then, option_copied};
 ghost use Rattle.wot_types.specs.declared.fpr.Fpr.{Fpr as TheFpr};
+ghost use Rattle.wot_cert.specs.Certificate.{said_by};
+ghost use Rattle.wot_cert.specs.Issuer.{issuer_of as issuer_in};
 ghost use Rattle.wot_cert.specs.Ranked.{higher_of};
 ghost use Rattle.wot_cert.specs.Time.{newness};
 ghost use Rattle.wot_standing.specs.declared.kinds.Binding.TheVariants.{Certification};
 ghost use Rattle.wot_standing.specs.Certifiers.{certifier_of, kept_for, number_for, revoker_of};
 ghost use Rattle.wot_standing.specs.Valid.{newest_valid};
-ghost use Rattle.wot_standing.specs.Certifiers.{KeepsLatest, KeepsNewest, KeepsNumber, TakesLatest, TakesNewest};
+ghost use Rattle.wot_standing.specs.Certifiers.{KeepsLatest, KeepsNewest, KeepsNumber, StandsAt};
+ghost use Rattle.wot_standing.specs.Certifiers.{TakesLatest, TakesNewest};
 
 use crate::kinds::{CERTIFICATION_REVOCATION, has_kind, is_certification, is_live, made};
 use crate::latest::later;
@@ -57,6 +60,37 @@ impl Certifiers {
         ensures place { result ≡ number_for self.now issuer.now }
     {
         number(&self.places, issuer)
+    }
+
+    /// By whom the signature at this place on the user ID counts. If it names an issuer and is kept for that one, it's
+    /// that one's, and no verdict has to be looked up.
+    pub fn issuer(&self, sig: &Sig, at: u32, verdicts: &Verdicts) -> Option<Fpr>
+        requires stands { StandsAt verdicts.now self.now at sig.now }
+        ensures issuer { result ≡ issuer_in verdicts.now sig.now }
+    {
+        let Some(named) = named_issuer(sig) else {
+            return issuer_of(sig, verdicts);
+        };
+        if is_kept(&self.places, &named, at) {
+            return Some(named);
+        }
+        issuer_of(sig, verdicts)
+    }
+}
+
+fn named_issuer(sig: &Sig) -> Option<Fpr>
+    ensures { result ≡ option_and_then (λ f. f.issuer) (said_by sig.now) }
+{
+    sig.facts()?.issuer
+}
+
+/// Whether this place is kept for an issuer.
+fn is_kept(places: &Numbers, issuer: &Fpr, at: u32) -> bool
+    ensures { result ≡ true → number_for places.now.entries issuer.now ≡ Some at }
+{
+    match number(places, issuer) {
+        Some(place) => place == at,
+        None => false,
     }
 }
 
