@@ -1,4 +1,4 @@
--- The lines of a dump, answered from the start on.
+-- The lines of a dump, answered by a fresh machine.
 use Rattle.std.proofs.Common.{◌≡◌, ℕ, suc, Bool, true, false, List, [], ◌∷◌, length, map, Option, Some, None, Result}
 use Rattle.std.proofs.Common.{Ok, Err, refl, sym, ap, ◌∙◌, subst, append_assoc}
 use Rattle.std.specs.Prelude.{if◌then◌else◌, IsSomeAnd}
@@ -121,7 +121,7 @@ accepted rows (CursorClose cursor) s new e = absurd (cc e)
 accepted rows (WatchOn watch view fpr wanted uid) s new e = absurd (cc e)
 accepted rows (WatchOff watch) s new e = absurd (cc e)
 
--- nor does it call the shelf
+-- it doesn't use the certificate directory
 uncalled : (rows : PolicyRows) (command : Command) (s new : State) → after rows standard_limits command s ≡ Some new →
     use_of (Some command) ≡ unused
 uncalled rows (Load name) s new e = absurd (cc e)
@@ -149,7 +149,7 @@ uncalled rows (CursorClose cursor) s new e = refl
 uncalled rows (WatchOn watch view fpr wanted uid) s new e = refl
 uncalled rows (WatchOff watch) s new e = refl
 
--- nor is it one of a cursor
+-- it isn't a command of a cursor
 unpaced : (rows : PolicyRows) (command : Command) (s new : State) → after rows standard_limits command s ≡ Some new →
     is_pacing command ≡ false
 unpaced rows (Import octets) s new e = refl
@@ -177,7 +177,7 @@ unpaced rows (CursorClose cursor) s new e = absurd (cc e)
 unpaced rows (WatchOn watch view fpr wanted uid) s new e = refl
 unpaced rows (WatchOff watch) s new e = refl
 
--- nor is it one of a watch
+-- it isn't a command of a watch
 unwatched : (rows : PolicyRows) (command : Command) (s new : State) → after rows standard_limits command s ≡ Some new →
     is_watching command ≡ false
 unwatched rows (Import octets) s new e = refl
@@ -218,9 +218,9 @@ cut_lines (c ∷ commands) lines =
     ∙ lines_of-feed (spelling c) (lines_of commands) lines.0.no_feed
     ∙ ap (λ (rest : List (List ℕ)). spelling c ∷ rest) (cut_lines commands lines.1)
 
--- ---- all that is kept
+-- ---- everything that is kept
 
--- After that command all that is kept has this state, and the same cursors and watches.
+-- after this command the machine has this state, and the same cursors and watches
 record Leads (rows : PolicyRows) (old : Whole) (c : Command) (reply : Reply) (new : State) : Type 0 where
   whole : Whole
   state : whole.state ≡ new
@@ -248,7 +248,7 @@ leads rows old c reply new plain still does =
       };
     }
 
--- the step of a command's line, over a shelf of any world
+-- the step of a command's line, in any world
 stepped : (rows : PolicyRows) (c : Command) (s new : Whole) (reply : Reply) → IsLine c → use_of (Some c) ≡ unused →
     Obeys rows s c unserved reply new → new.watches ≡ [] → (world : World)
     → Step rows (over s world) (spelling c) (Some reply) [] (over new world)

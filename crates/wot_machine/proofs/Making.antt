@@ -1,4 +1,4 @@
--- What a line makes, whatever comes of it: the bounds stand as soon as the view was refreshed.
+-- The edges that a line makes, whatever its result: the bounds hold once the view was refreshed.
 use Rattle.std.proofs.Common.{◌≡◌, inl, inr, ℕ, ◌≤◌, List, length, true, false, Option, Some, None, Result, Ok, Err}
 use Rattle.std.proofs.Common.{OnOk, refl, sym, ap, subst, ◌∙◌}
 use Rattle.std.specs.Prelude.{IfSome, is_ok}
@@ -31,7 +31,7 @@ stays old new same = record {
   turns = ap (λ (e : Engine). e.turns) same;
 }
 
--- ---- what was made for one result was made for another, which is Ok at most where that one is
+-- ---- bounds for one result hold for another that is Ok only if the first one is
 
 module _ {A B T E : Type 0} (r : Result A B) (s : Result T E) (less : is_ok s ≡ true → is_ok r ≡ true) where
   on_less : (P : Type 0) → OnOk r P → OnOk s P
@@ -138,7 +138,7 @@ module _ {A B T E : Type 0} (r : Result A B) (s : Result T E) (less : is_ok s �
   line_makes_as (Some (CursorNext cursor count)) cursors old new before after m =
       piece_makes_as (cursor_at cursors cursor) old new before after m
 
--- ---- a command that isn't of a cursor
+-- ---- commands that aren't of cursors
 
 plain_makes : {T E : Type 0} (r : Result T E) (command : Command) (cursors : Cursors) (old new : Engine)
     (before after : ℕ) → is_pacing command ≡ false
@@ -176,7 +176,7 @@ line_makes_plain r s command cursors old new before after ok plain m =
     line_makes_as r s (λ done. sym ok ∙ done) (Some command) cursors old new before after
     (plain_makes r command cursors old new before after plain m)
 
--- where the view isn't open nothing is made, whatever is answered
+-- nothing is made if the view isn't open, whatever the reply
 pub refreshed_unopened : {A B T E : Type 0} (r : Result A B) (s : Result T E) (name : List ℕ) (old new : Engine)
     (before after : ℕ)
     → view_at old.views name ≡ None → IsRefreshed r name old new before after → IsRefreshed s name old new before after

@@ -58,11 +58,11 @@ use Rattle.wot_machine.proofs.Watched.{paced_unwatched, plain_watching, state_wa
 use Rattle.wot_machine.proofs.Watched.{watching_one, watching_plain, watching_some}
 use Rattle.wot_machine.proofs.Wholes.{counted_one, counted_some, turned_one, turned_some, whole_same}
 
--- At most one reply and one state.
+-- at most one reply and state
 abbrev pub IsOne : (R M : Type 0) → (R → M → Type 0) → Type 0
 IsOne R M P = (r s : R) (m n : M) → P r m → P s n → (r ≡ s) × (m ≡ n)
 
--- Some reply and state.
+-- some reply and state
 abbrev pub IsSome : (R M : Type 0) → (R → M → Type 0) → Type 0
 IsSome R M P = (r : R) × (m : M) × P r m
 
@@ -99,7 +99,7 @@ MatchBool-some : (b : Bool) (P Q : Option Reply → Whole → Type 0) → IsSome
 MatchBool-some true P Q p q = p
 MatchBool-some false P Q p q = q
 
--- ---- states that can be
+-- ---- well-formed states
 
 pub LineStep-stays : (rows : PolicyRows) (old : Whole) (line : List ℕ) (given : Served) (reply : Option Reply)
     (new : Whole) → IsState old.state → LineStep rows old line given reply new → IsState new.state
@@ -277,7 +277,7 @@ module _
     lawful_state : Lawful
     lawful_state s t u can = lawful s.held.certs s.held.verdicts t u can
 
-    -- by what is one of the reply, the state, the cursors and the watches
+    -- from the uniqueness of the reply, the state, the cursors and the watches
     whole_one : (old : Whole) (command : Command) (given : Served) (r s : Reply) (m n : Whole) →
         Obeys rows old command given r m → Obeys rows old command given s n
         → (r ≡ s) × (m.state ≡ n.state) × (m.cursors ≡ n.cursors) × (m.watches ≡ n.watches) → (r ≡ s) × (m ≡ n)

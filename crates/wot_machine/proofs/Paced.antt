@@ -1,4 +1,4 @@
--- The commands of cursors: what they reply has words, and there is one reply.
+-- The commands of cursors: their replies are printable, and each has only one.
 use Rattle.std.proofs.Common.{◌≡◌, ℕ, ◌-◌, ◌≤◌, ◌==◌, Bool, true, false, List, [], ◌∷◌, length, Option, Some, None}
 use Rattle.std.proofs.Common.{refl, sym, ap, subst, ◌∙◌, arith}
 use Rattle.std.specs.Prelude.{MatchBool, is_some}
@@ -39,9 +39,9 @@ use Rattle.wot_machine.specs.Entry.{unused, use_of}
 use Rattle.wot_machine.specs.Served.{Served}
 use Rattle.wot_machine.specs.Whole.{IsTurnedBy, Whole, watched}
 
--- ---- commands that aren't of cursors
+-- ---- other commands
 
--- What holds of each command of a cursor.
+-- a claim that holds of each command of a cursor
 pub paced_cases : (P : Command → Type 0) → ((name view : List ℕ) (wanted : ℕ) → P (CursorOver name view wanted))
     → ((name : List ℕ) (count : ℕ) → P (CursorNext name count)) → ((name : List ℕ) → P (CursorClose name))
     → (command : Command) → is_pacing command ≡ true → P command
@@ -70,7 +70,7 @@ paced_cases P over next close Dump e = absurd (cc e)
 paced_cases P over next close (WatchOn watch view target wanted uid) e = absurd (cc e)
 paced_cases P over next close (WatchOff watch) e = absurd (cc e)
 
--- the other commands leave the cursors
+-- other commands don't change the cursors
 plain_is : (s : Whole) (command : Command) (reply : Reply) (cursors : Cursors) → is_pacing command ≡ false →
     Paces s command reply cursors ≡ (cursors ≡ s.cursors)
 plain_is s (Import octets) reply cursors e = refl
@@ -106,7 +106,7 @@ pub plain_paces : (s : Whole) (command : Command) (reply : Reply) (cursors : Cur
     Paces s command reply cursors → cursors ≡ s.cursors
 plain_paces s command reply cursors e p = subst (λ (P : Type 0). P) (plain_is s command reply cursors e) p
 
--- ---- watches don't matter to them
+-- ---- watches don't matter to cursors
 
 begins_watched : (s : Whole) (watches : Watches) (name view : List ℕ) (wanted : ℕ) (o : Option View) (reply : Reply)
     (cursors : Cursors) → Begins s name view wanted o reply cursors
@@ -144,7 +144,7 @@ paces_watched s watches command reply cursors e =
     (λ name view wanted. begins_watched s watches name view wanted (view_at s.state.views view) reply cursors)
     (λ name count. goes_watched s watches (cursor_at s.cursors name) name count reply cursors) (λ name p. p) command e
 
--- ---- they leave the state, the turns and the shelf
+-- ---- commands of cursors don't change the state, the turns and the certificate directory
 
 pub state_paced : (rows : PolicyRows) (old : State) (command : Command) (given : Served) (reply : Reply) →
     is_pacing command ≡ true → Does rows old command given reply old
@@ -169,7 +169,7 @@ uncalled_paced command e =
     paced_cases (λ (c : Command). use_of (Some c) ≡ unused) (λ name view wanted. refl) (λ name count. refl)
     (λ name. refl) command e
 
--- ---- words
+-- ---- printable replies
 
 left_worded : (told reply : Reply) (left cursors : Cursors) → HasWords told → Leaves told left reply cursors →
     HasWords reply
@@ -371,7 +371,7 @@ last_is : (bind : Bind) (binds : List Bind) (last : Bind) → slice_get (bind �
 last_is bind [] last e = ap place_of (same_Some bind last e)
 last_is bind (next ∷ binds) last e = last_is next binds last e
 
--- the place of the last binding is where the cursor goes
+-- the cursor moves to the place of the last binding
 pub behind_last : (cursors : Cursors) (name : List ℕ) (binds : List Bind) (last : Bind) →
     slice_get binds (length binds - 1) ≡ Some last
     → with_place cursors name (place_of last) ≡ behind cursors name binds

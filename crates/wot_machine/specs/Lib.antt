@@ -29,3 +29,4 @@ pub mod Joined
 pub mod Worth
 pub mod Settled
 pub mod Slices
+pub mod Leading

@@ -16,7 +16,7 @@ returns-in-Store-clause-untouched g c =
     c.store.ensures.untouched (none_kept (cert_in (state_of c.args.engine.now).held c.in-Store.fpr) c.in-Store.fpr
     none))
 
--- ---- for want of memory
+-- ---- out of memory
 
 pub returns-in-Load-clause-entries : goal.returns-in-Load-clause-entries
 returns-in-Load-clause-entries g c = rw c.in-Load.is c.load.ensures.entries
