@@ -488,7 +488,8 @@ impl Keyring {
         ensures sorted { AreSortedByNumber self.now.verdicts }
     {
         let count = self.verdicts.len() as u64;
-        self.verdicts.get(number).is_none() && self.limits.verdicts <= count
+        // The number is looked up only if the limit is reached.
+        self.limits.verdicts <= count && self.verdicts.get(number).is_none()
     }
 
     /// Counts a change of the verdict on a number.
