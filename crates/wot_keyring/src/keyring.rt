@@ -468,8 +468,8 @@ impl Keyring {
         }
     }
 
-    /// The valid signatures without a verdict, of all types and in all places, by certificate and then in the order in
-    /// which `export` writes them.
+    /// The well-formed signatures without a verdict, of all types and in all places, by certificate and then in the
+    /// order in which `export` writes them.
     pub fn pending(&self, alloc: Global) -> Result<Vec<Pending>, Memory>
         ensures pending { IfOk result (λ list. list.items ≡ pending_in (held_of self.now)) }
     {
