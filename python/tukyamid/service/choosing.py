@@ -43,7 +43,7 @@ class Chosen:
             if wrong:
                 raise DatabaseFault(f"{copy}: {wrong[0]}")
             with contextlib.closing(source.parts()) as parts:
-                if not parts.sizes(MOST.certificates).fits(MOST):
+                if not parts.sizes().fits(MOST):
                     raise DatabaseFault(f"{copy}: the keyring is larger than an engine, and so than a shared database")
             with contextlib.closing(source.snapshot()) as snapshot, self.open() as database:
                 database.fill(snapshot.lines(), f"restore {copy}", Actor(os.getuid(), os.getpid()))

@@ -192,7 +192,7 @@ class Desk:
             return None
         parts = await asyncio.to_thread(database.parts)
         try:
-            sizes = await asyncio.to_thread(parts.sizes, self._most.certificates)
+            sizes = await asyncio.to_thread(parts.sizes)
             new = await asyncio.to_thread(lambda: sum(not parts.has(fpr) for fpr in fprs))
             return replace(sizes, certificates=sizes.certificates + new)
         finally:

@@ -35,8 +35,7 @@ class Parts(Protocol):
     """Reads what has been committed, or what was when it was opened. One thread uses it at a time. Who certified whom
     looks at good verdicts and depths alone: times, policy and revocations are the engine's matter."""
 
-    def sizes(self, most: int) -> Sizes:
-        """With more than `most` certificates, only these are counted, and only up to one more."""
+    def sizes(self) -> Sizes: ...
 
     def count(self) -> int:
         """How many certificates there are."""

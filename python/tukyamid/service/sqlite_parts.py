@@ -6,44 +6,49 @@ from pathlib import Path
 
 from .database import DatabaseFault
 from .parts import Part, Sizes
+from .writing import OF_NUMBER
 
+_OWN = "(SELECT id FROM keys WHERE fingerprint = ?)"
 # UNION meets no key twice, and rows come as they are found: so a limit ends the search.
-_ONWARD = """
-WITH RECURSIVE slice (fpr) AS (
-    SELECT ? UNION
-    SELECT certificates.fingerprint FROM slice
-    JOIN certifications INDEXED BY trust_by_issuer
-        ON certifications.issuer = slice.fpr AND certifications.depth > 0
-    JOIN certificates ON certificates.id = certifications.target)
-SELECT fpr FROM slice LIMIT ?"""
-_BACKWARD = """
-WITH RECURSIVE leading (id, fpr) AS (
-    SELECT kept.id, kept.fingerprint FROM certificates AS own
-    JOIN certifications ON certifications.target = own.id
-    JOIN certificates AS kept ON kept.fingerprint = certifications.issuer
-    WHERE own.fingerprint = ? UNION
-    SELECT kept.id, kept.fingerprint FROM leading
-    JOIN certifications INDEXED BY trust_by_target
-        ON certifications.target = leading.id AND certifications.depth > 0
-    JOIN certificates AS kept ON kept.fingerprint = certifications.issuer)
-SELECT fpr FROM leading LIMIT ?"""
-_ISSUERS = """
-SELECT kept.fingerprint FROM certificates AS own JOIN certifications ON certifications.target = own.id
-JOIN certificates AS kept ON kept.fingerprint = certifications.issuer WHERE own.fingerprint = ? LIMIT ?"""
-_CERTIFIED = """
-SELECT fingerprint FROM certifications JOIN certificates ON certificates.id = certifications.target
-WHERE certifications.issuer = ?"""
+_ONWARD = f"""
+WITH RECURSIVE slice (id) AS (
+    SELECT id FROM keys WHERE fingerprint = ? UNION
+    SELECT verdicts.certificate FROM slice
+    JOIN verdicts INDEXED BY trust_by_issuer
+        ON verdicts.issuer = slice.id AND verdicts.issuer > 0 AND verdicts.depth > 0
+    JOIN certificates ON certificates.id = verdicts.certificate)
+SELECT fingerprint FROM slice JOIN keys USING (id) LIMIT ?"""
+_BACKWARD = f"""
+WITH RECURSIVE leading (id) AS (
+    SELECT certificates.id FROM verdicts JOIN certificates ON certificates.id = verdicts.issuer
+    WHERE verdicts.certificate = {_OWN} UNION
+    SELECT certificates.id FROM leading
+    JOIN verdicts INDEXED BY trust_by_target
+        ON verdicts.certificate = leading.id AND verdicts.issuer > 0 AND verdicts.depth > 0
+    JOIN certificates ON certificates.id = verdicts.issuer)
+SELECT fingerprint FROM leading JOIN keys USING (id) LIMIT ?"""
+_ISSUERS = f"""
+SELECT DISTINCT fingerprint FROM verdicts JOIN certificates ON certificates.id = issuer JOIN keys ON keys.id = issuer
+WHERE certificate = {_OWN} LIMIT ?"""
+_CERTIFIED = f"""
+SELECT DISTINCT fingerprint FROM verdicts JOIN keys ON keys.id = certificate WHERE issuer = {_OWN} AND issuer > 0"""
+_INTRODUCERS = f"""
+SELECT DISTINCT fingerprint FROM verdicts INDEXED BY trust_by_target JOIN keys ON keys.id = issuer
+WHERE certificate = {_OWN} AND issuer > 0 AND depth > 0"""
 _KEYS = """
 SELECT fingerprint, (SELECT count(*) FROM user_ids WHERE user_ids.certificate = certificates.id),
     (SELECT count(*) FROM verdicts WHERE verdicts.certificate = certificates.id)
-FROM certificates ORDER BY fingerprint"""
-_CERTIFICATE_OF = """
-SELECT fingerprint FROM verdicts JOIN certificates ON certificates.id = verdicts.certificate
-WHERE verdicts.number = ?"""
+FROM certificates JOIN keys USING (id) ORDER BY fingerprint"""
+_CERTIFICATE_OF = f"SELECT fingerprint FROM verdicts JOIN keys ON keys.id = certificate WHERE {OF_NUMBER}"
+_VERDICT = f"SELECT fingerprint FROM verdicts JOIN keys ON keys.id = issuer WHERE {OF_NUMBER}"
+_VERDICTS = "SELECT number, fingerprint FROM verdicts JOIN keys ON keys.id = issuer WHERE certificate = ?"
 _UNJUDGED = """
-SELECT fingerprint FROM certificates
-WHERE id IN (SELECT certificate FROM verdicts WHERE issuer IS NULL AND certificate IS NOT NULL) ORDER BY fingerprint"""
-_PENDING = "SELECT count(*) FROM verdicts WHERE issuer IS NULL AND certificate IS NOT NULL"
+SELECT fingerprint FROM keys WHERE id IN (SELECT certificate FROM verdicts INDEXED BY unjudged_by_certificate
+    WHERE issuer IS NULL AND certificate IS NOT NULL) ORDER BY fingerprint"""
+_OCTETS = "SELECT id, octets FROM certificates JOIN keys USING (id) WHERE fingerprint = ?"
+_HAS = "SELECT 1 FROM certificates JOIN keys USING (id) WHERE fingerprint = ?"
+_USER_IDS = f"SELECT user_id FROM user_ids WHERE certificate = {_OWN} ORDER BY user_id"
+_SIZES = "SELECT certificates, octets, signatures, verdicts FROM counts"
 
 
 class SqliteParts:
@@ -73,41 +78,36 @@ class SqliteParts:
             assert isinstance(fpr, bytes)
             yield fpr
 
-    def sizes(self, most: int) -> Sizes:
-        certificates = self._one("SELECT count(*) FROM (SELECT 1 FROM certificates LIMIT ?)", most + 1)
-        if certificates > most:
-            return Sizes(certificates, 0, 0, 0)
-        return Sizes(certificates, self._one("SELECT coalesce(sum(length(octets)), 0) FROM certificates"),
-                     self._one("SELECT count(*) FROM verdicts WHERE certificate IS NOT NULL"),
-                     self._one("SELECT count(*) FROM verdicts WHERE issuer IS NOT NULL"))
+    def sizes(self) -> Sizes:
+        certificates, octets, signatures, verdicts = next(self._rows(_SIZES))
+        assert isinstance(certificates, int) and isinstance(octets, int)
+        assert isinstance(signatures, int) and isinstance(verdicts, int)
+        return Sizes(certificates, octets, signatures, verdicts)
 
     def count(self) -> int:
-        return self._one("SELECT count(*) FROM certificates")
+        return self._one("SELECT certificates FROM counts")
 
     def part(self, fpr: bytes) -> Part | None:
-        row = next(self._rows("SELECT id, octets FROM certificates WHERE fingerprint = ?", fpr), None)
+        row = next(self._rows(_OCTETS, fpr), None)
         if row is None:
             return None
         place, octets = row
-        verdicts = self._rows("SELECT number, issuer FROM verdicts WHERE certificate = ? AND issuer IS NOT NULL", place)
         assert isinstance(octets, bytes)
-        return Part(fpr, octets, tuple((number, issuer) for number, issuer in verdicts
+        return Part(fpr, octets, tuple((number, issuer) for number, issuer in self._rows(_VERDICTS, place)
                                        if isinstance(number, bytes) and isinstance(issuer, bytes)))
 
     def has(self, fpr: bytes) -> bool:
-        return next(self._rows("SELECT 1 FROM certificates WHERE fingerprint = ?", fpr), None) is not None
+        return next(self._rows(_HAS, fpr), None) is not None
 
     def slice_of(self, roots: Collection[bytes], most: int) -> set[bytes]:
         found: set[bytes] = set()
         for root in roots:
             if root not in found and len(found) <= most:
-                found.update(self._fprs(_ONWARD, root, most + 1))
+                found.update((root, *self._fprs(_ONWARD, root, most + 1)))
         return found
 
     def introducers(self, fpr: bytes) -> frozenset[bytes]:
-        return frozenset(self._fprs(
-            "SELECT issuer FROM certifications JOIN certificates ON certificates.id = certifications.target "
-            "WHERE certificates.fingerprint = ? AND certifications.depth > 0", fpr))
+        return frozenset(self._fprs(_INTRODUCERS, fpr))
 
     def issuers(self, fpr: bytes, most: int) -> set[bytes]:
         return set(self._fprs(_ISSUERS, fpr, most + 1))
@@ -119,20 +119,19 @@ class SqliteParts:
         return sorted({fpr for member in members for fpr in self._fprs(_CERTIFIED, member)})
 
     def user_ids(self, fpr: bytes) -> list[bytes]:
-        return list(self._fprs("SELECT user_id FROM user_ids WHERE certificate = "
-                               "(SELECT id FROM certificates WHERE fingerprint = ?) ORDER BY user_id", fpr))
+        return list(self._fprs(_USER_IDS, fpr))
 
     def verdict(self, number: bytes) -> bytes | None:
-        return next(self._fprs("SELECT issuer FROM verdicts WHERE number = ? AND issuer IS NOT NULL", number), None)
+        return next(self._fprs(_VERDICT, number, number), None)
 
     def certificate_of(self, number: bytes) -> bytes | None:
-        return next(self._fprs(_CERTIFICATE_OF, number), None)
+        return next(self._fprs(_CERTIFICATE_OF, number, number), None)
 
     def unjudged(self) -> Iterator[bytes]:
         return self._fprs(_UNJUDGED)
 
     def pending(self) -> int:
-        return self._one(_PENDING)
+        return self._one("SELECT pending FROM counts")
 
     def keys(self) -> Iterator[tuple[bytes, int, int]]:
         for fpr, user_ids, signatures in self._rows(_KEYS):

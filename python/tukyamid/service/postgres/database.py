@@ -10,9 +10,9 @@ from pathlib import Path
 import psycopg
 from psycopg.pq import TransactionStatus
 
+from ..checking import EVERY_CERTIFICATE, compare
 from ..database import Actor, Change, DatabaseFault, News, Place, Snapshot, Source, Uncertain
 from ..sqlite import Sqlite
-from ..writing import EVERY_CERTIFICATE, compare
 from . import tables
 from .connecting import Servers, Statements, Wire, faults, text_of
 from .following import PLACE, PostgresFollower
@@ -134,7 +134,7 @@ class Postgres:
         statements = Statements(self._wire.connection)
         writing, now = SharedWriting(statements, self._machine), int(statements.row(_NOW)[0])
         numbers = [writing.make(change, now) for change in changes]
-        writing.refresh_certifications()
+        writing.count()
         self._commit(writing)
         return numbers
 
@@ -162,8 +162,6 @@ class Postgres:
         statements, place = self._begin()
         if self.place not in (place, _UNREAD):
             raise DatabaseFault(f"{self.name}: another service has changed it meanwhile; try again")
-        for table in ("certifications", "verdicts", "user_ids", "certificates"):
-            statements.execute(f"DELETE FROM {table}")
         writing = SharedWriting(statements, self._machine)
         number = writing.fill(lines, Change(what, actor, ()), int(statements.row(_NOW)[0]))
         self._commit(writing)
