@@ -147,8 +147,8 @@ class Sqlite:
         return SqliteFinder(connect(self.path), self.path)
 
     @faults
-    def parts(self, is_frozen: bool = False) -> SqliteParts:
-        return SqliteParts(connect(self.path), self.path, is_frozen)
+    def parts(self) -> SqliteParts:
+        return SqliteParts(connect, self.path)
 
     @faults
     def put_source(self, source: Source) -> None:

@@ -1,23 +1,11 @@
 """What is found in PostgreSQL, what is wrong there, and its copies and scripts."""
 
-import contextlib
 import tempfile
 from pathlib import Path
 
 from alone_cluster import OneServer
 from outside import Client
 from talking import dump_of, listed, log_of, told, wait_until_same
-from tukyamid.service.database import Actor
-from tukyamid.service.sqlite import Sqlite
-
-MOST_CERTIFICATES = 65_536
-
-
-def certificate(place):
-    """A line that imports a key, without anything else."""
-    key = b"\x04" + place.to_bytes(4, "big") + b"\x16\0\1\1"
-    return b"import " + (b"\xc6" + bytes([len(key)]) + key).hex().encode()
-
 
 class Commands(OneServer):
     def test_through_copies_and_scripts(self):
@@ -40,17 +28,6 @@ class Commands(OneServer):
                 self.assertEqual((folder / "out").read_bytes().splitlines(), told(lines))
         self.assertEqual(log_of(server)[0].split(b" on ")[0][:8], b"restore ")
 
-    def test_a_copy_larger_than_an_engine(self):
-        """A file may hold it in slices; a shared database may not hold it at all."""
-        self.assertEqual(self.command("check", "--database", self.url), (0, ""))
-        with tempfile.TemporaryDirectory() as name:
-            copy = Path(name) / "copy.db"
-            with contextlib.closing(Sqlite(copy)) as database:
-                database.fill(map(certificate, range(MOST_CERTIFICATES + 1)), "test", Actor(0, 0))
-            status, said = self.command("restore", "--database", self.url, copy)
-        self.assertEqual((status, "larger than an engine" in said, said.count("\n")), (1, True, 0), said)
-        self.assertEqual(self.cluster.query("SELECT count(*) FROM certificates", self.name), [(0,)])
-
     def test_what_is_found(self):
         server = self.serve()
         with Client(server.path) as client:
@@ -68,9 +45,9 @@ class Commands(OneServer):
         with Client(self.serve().path) as client:
             for line in self.world.lines():
                 client.tell(line)
-        self.cluster.query("UPDATE certifications SET depth = depth + 1", self.name)
+        self.cluster.query("UPDATE counts SET pending = pending + 1", self.name)
         status, said = self.command("check", "--database", self.url)
-        self.assertEqual((status, "the certifications aren't those" in said), (1, True), said)
+        self.assertEqual((status, "the counts aren't those" in said), (1, True), said)
 
     def test_odd_user_ids(self):
         """A long one, and one with octets that are no text."""
