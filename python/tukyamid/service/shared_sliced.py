@@ -133,7 +133,8 @@ class SharedSliced(Sliced):
     async def _is_mended(self) -> bool:
         try:
             await self._renew()
-        except DatabaseFault:
+        except DatabaseFault as fault:
+            self.access.tell(str(fault))
             return False
         return True
 

@@ -29,10 +29,8 @@ class Earlier:
         self.user_ids += [(place, user_id, address) for user_id, address in one.user_ids.items()]
         self.verdicts.update((number, (number, place, depth, None)) for number, depth in one.signatures.items())
 
-    def statements(self):
+    def statements(self, overriding=""):
         """What puts the rows into these tables, with the values of each."""
-        return (("INSERT INTO certificates VALUES (?, ?, ?, ?, ?)", self.certificates),
-                ("INSERT INTO user_ids VALUES (?, ?, ?)", self.user_ids),
-                ("INSERT INTO verdicts VALUES (?, ?, ?, ?)", list(self.verdicts.values())),
-                ("INSERT INTO certifications VALUES (?, ?, ?)", self.certifications),
-                ("INSERT INTO changes (number, time, uid, pid, what) VALUES (?, ?, ?, ?, ?)", [(1, 5, 0, 0, "filled")]))
+        for table in ("certificates", "user_ids", "verdicts", "certifications"):
+            rows = [*self.verdicts.values()] if table == "verdicts" else getattr(self, table)
+            yield f"INSERT INTO {table} {overriding} VALUES ({', '.join('?' * len(rows[0]))})", rows

@@ -217,6 +217,7 @@ class Versions(InAFolder):
                 raw.executescript(migration)
             for statement, values in Earlier(lines).statements():
                 raw.executemany(statement, values)
+            raw.execute("INSERT INTO changes VALUES (1, 5, 0, 0, 'filled')")
             raw.execute(f"PRAGMA user_version = {version}")
             raw.execute("PRAGMA application_id = 0x54756B79")
 
