@@ -4,6 +4,7 @@ larger is held in slices from then on."""
 from __future__ import annotations
 
 import asyncio
+import contextlib
 from collections.abc import Callable, Collection, Sequence
 from dataclasses import replace
 from functools import partial
@@ -13,12 +14,14 @@ from tukyamid.certificates import KEY, SIGNATURE, packets
 
 from .access import Access
 from .cursors import Cursors
-from .database import Actor, Database, DatabaseFault, Finder, Snapshot
+from .database import Actor, Database, DatabaseFault, Finder, News, Shared, Snapshot
 from .hub import Hub
 from .journal import Done
 from .outbox import Outbox, Pieces
-from .parts import MOST, HasParts, Sizes
+from .parts import MOST, HasParts, SharedInParts, SharedParts, Sizes
 from .reading import brought
+from .shared_hub import SharedHub
+from .shared_sliced import SharedSliced
 from .sliced import Sliced
 from .sliced_cursors import SlicedCursors
 from .sliced_watches import SlicedWatches
@@ -27,6 +30,8 @@ from .views import Views
 from .watches import Watches
 
 _R = TypeVar("_R")
+_PAUSE = 1.0
+_PATIENCE = 30.0
 
 
 class Sitting(Protocol):
@@ -70,13 +75,13 @@ class Desk:
 
     @property
     def count(self) -> int | None:
-        """The number of the last change that all engines have; None of a sliced keyring."""
-        return self.held.count if isinstance(self.held, Hub) else None
+        """The number of the last change that all engines have; None of a sliced keyring that nobody else changes."""
+        return self.held.count if isinstance(self.held, Hub | SharedSliced) else None
 
     @property
     def age(self) -> float:
         """For how many seconds changes of other services may have been missed."""
-        return self.held.age if isinstance(self.held, Hub) else 0.0
+        return self.held.age if isinstance(self.held, SharedHub | SharedSliced) else 0.0
 
     @property
     def pids(self) -> list[int]:
@@ -96,14 +101,14 @@ class Desk:
         """Starts the first engine; OSError, ValueError or DatabaseFault where it can't take the database."""
         sizes = await self._measured()
         self._bound = sizes or self._bound
-        held: Hub | Sliced = Hub(self._program, self._most_engines, self.database, self._access) \
-            if sizes is None or sizes.fits(self._most) else self._sliced()
+        held: Hub | Sliced = self._whole() if sizes is None or sizes.fits(self._most) else self._sliced()
         self._held = held
         await held.start()
 
     async def close(self) -> None:
         if self._task is not None:
-            await self._task
+            with contextlib.suppress(asyncio.TimeoutError):
+                await asyncio.wait_for(self._task, _PATIENCE)
         if self._held is not None:
             await self._held.close()
         self._access.close()
@@ -111,8 +116,16 @@ class Desk:
     def tell(self, text: str) -> None:
         self._access.tell(text)
 
-    def note(self, session: int, line: bytes) -> None:
+    def note_change(self, session: int, line: bytes) -> None:
+        """Writes down a change when it has begun."""
         self._access.note(session, line)
+
+    def note(self, session: int, line: bytes) -> None:
+        """Writes down any other line when it is handed in."""
+        if isinstance(self.held, SharedSliced) and self._access.notes:
+            self.held.note(session, line)
+        else:
+            self._access.note(session, line)
 
     async def write(self, call: Callable[[], _R]) -> _R:
         return await self._access.write(call)
@@ -136,8 +149,7 @@ class Desk:
         if self.is_turning:
             self._later.append(partial(self.change, line, actor, done, begun))
         elif isinstance(self.held, Sliced):
-            begun()
-            self.held.change(line, actor, done)
+            self.held.change(line, actor, done, begun)
         else:
             self._change_whole(self.held, line, actor, done, begun)
 
@@ -148,10 +160,38 @@ class Desk:
             hub.change(line, actor, done, begun)
             return
         self.is_turning = True
-        begun()
-        self._task = asyncio.get_running_loop().create_task(self._turn(hub, line, actor, done))
+        self._task = asyncio.get_running_loop().create_task(self._turn(
+            hub, line, lambda: self.held.change(line, actor, done, begun)))
 
-    async def _turn(self, hub: Hub, line: bytes, actor: Actor, done: Done) -> None:
+    async def _fits(self, news: News) -> bool:
+        """Whether engines that hold everything have room for what other services have changed. If they haven't, the
+        keyring is sliced from now on."""
+        hub = self.held
+        assert isinstance(hub, SharedHub)
+        bound = self._bound
+        for _, line in news.lines or ():
+            bound = _sum(bound, growth_of(line))
+        if news.lines is None or not bound.fits(self._most):
+            bound = await self._measured() or bound
+        if bound.fits(self._most):
+            self._bound = bound
+            return True
+        self.is_turning = True
+        self._task = asyncio.get_running_loop().create_task(self._turn_at_once(hub))
+        return False
+
+    async def _turn_at_once(self, hub: SharedHub) -> None:
+        await hub.settle()
+        waiting = hub.waiting()
+        while self.held is hub:
+            try:
+                await self._slice(hub)
+            except (DatabaseFault, OSError) as fault:
+                self.tell(str(fault))
+                await asyncio.sleep(_PAUSE)
+        self._resume([partial(self.change, one.line, one.actor, one.done, one.begun) for one in waiting])
+
+    async def _turn(self, hub: Hub, line: bytes, change: Callable[[], None]) -> None:
         """Measures the keyring when all that came before is done. If what comes may be too much for an engine, it is
         sliced from now on."""
         await hub.settle()
@@ -163,9 +203,11 @@ class Desk:
                     await self._slice(hub)
         except (DatabaseFault, OSError) as fault:
             self.tell(str(fault))
+        self._resume([change])
+
+    def _resume(self, first: list[Callable[[], None]]) -> None:
         self.is_turning = False
-        self.held.change(line, actor, done)
-        later, self._later = self._later, []
+        later, self._later = [*first, *self._later], []
         for call in later:
             call()
         for sitting in list(self.sitting):
@@ -180,7 +222,14 @@ class Desk:
         await hub.close()
         self.tell("the keyring is now larger than an engine, and is held in slices")
 
+    def _whole(self) -> Hub:
+        if isinstance(self.database, Shared):
+            return SharedHub(self._program, self._most_engines, self.database, self._access, self._fits)
+        return Hub(self._program, self._most_engines, self.database, self._access)
+
     def _sliced(self) -> Sliced:
+        if isinstance(self.database, SharedInParts):
+            return SharedSliced(self._program, self._access, self.database, self._most.certificates)
         assert isinstance(self.database, HasParts)
         return Sliced(self._program, self._access, self.database, self._most.certificates)
 
@@ -192,7 +241,9 @@ class Desk:
             return None
         parts = await asyncio.to_thread(database.parts)
         try:
-            sizes = await asyncio.to_thread(parts.sizes, self._most.certificates)
+            if isinstance(parts, SharedParts):
+                await asyncio.to_thread(parts.renew)
+            sizes = await asyncio.to_thread(parts.sizes)
             new = await asyncio.to_thread(lambda: sum(not parts.has(fpr) for fpr in fprs))
             return replace(sizes, certificates=sizes.certificates + new)
         finally:

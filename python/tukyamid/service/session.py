@@ -192,7 +192,7 @@ class Session(asyncio.Protocol):
     def _begun(self, line: bytes) -> None:
         """A change has its place in the order, and so lines behind it may."""
         self._waiting_changes -= 1
-        self.hub.note(self.number, line)
+        self.hub.note_change(self.number, line)
         self._begin_lines()
 
     def _answered(self, slot: Slot, reply: bytes | Pieces | None, count: int) -> None:

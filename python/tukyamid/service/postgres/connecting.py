@@ -140,9 +140,11 @@ class Statements:
         rows: Rows = self.connection.execute(_spelled(statement), _kept(values))
         return rows
 
-    def executemany(self, statement: str, values: Iterable[Sequence[Any]], /) -> None:
-        with self.connection.cursor() as cursor:
-            cursor.executemany(_spelled(statement), map(_kept, values))
+    def executemany(self, statement: str, values: Iterable[Sequence[Any]], /) -> Rows:
+        cursor = self.connection.cursor()
+        cursor.executemany(_spelled(statement), map(_kept, values))
+        rows: Rows = cursor
+        return rows
 
     def rows(self, statement: str, *values: object) -> list[tuple[Any, ...]]:
         rows: list[tuple[Any, ...]] = self.connection.execute(_spelled(statement), _kept(values)).fetchall()
