@@ -44,3 +44,4 @@ pub mod Judging
 mod GoingOn
 mod Slices
 mod Explained
+mod Fit
