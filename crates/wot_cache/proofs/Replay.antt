@@ -1,4 +1,4 @@
--- The commands of a dump, run in a fresh engine, give the state that was dumped.
+-- The commands of a dump restore the dumped state in a fresh engine.
 use Rattle.std.proofs.Common.{◌≡◌, ℕ, ◌<◌, ◌≤◌, ◌==◌, Bool, false, List, [], ◌∷◌, ◌++◌, length, map, Option, Some, None}
 use Rattle.std.proofs.Common.{refl, sym, ap, ◌∙◌, subst, arith, append_assoc, append-nil, length-append}
 use Rattle.std.specs.Prelude.{◌&&◌, nat_lt, nat_le, is_none, if◌then◌else◌, IsSomeAnd}
@@ -36,9 +36,9 @@ use Rattle.wot_cache.specs.Dump.{AreSortedByName, CarriesOver, HaveRoots, IsRest
 use Rattle.wot_cache.specs.Dump.{unless_refused, view_commands}
 use Rattle.wot_keyring.specs.Behind.{AreBelow, all_at, below_next, last_found, last_set, none_before, put_behind}
 
--- ---- what the keyring's commands do
+-- ---- the keyring's commands
 
--- this held, and these views
+-- a state from what is held and views
 abbrev over : Views → Held → State
 over views held = record { held = held; views = views }
 
@@ -106,7 +106,7 @@ names_total = nat_list_cmp_total
 fprs_total : IsTotalOrder fpr_cmp
 fprs_total = fpr_total
 
--- the state with these views
+-- the state with its views replaced
 abbrev with_views : State → Views → State
 with_views s views = record s { views = views }
 
@@ -114,7 +114,7 @@ timed_new : (views : Views) (name : List ℕ) (t : ℕ) (o : Option View) → o 
     → timed views name t o ≡ insert_entry view_name_cmp views name (record { time = t; roots = [] })
 timed_new views name t o h = ap (timed views name t) h
 
--- a view behind all others is opened
+-- opening a view whose name follows all others
 opened : (rows : PolicyRows) (l : Limits) (s : State) (prefix : Views) (name : List ℕ) (t : ℕ) →
     AreBelow view_name_cmp name prefix → length prefix < l.views
     → after rows l (Time name t) (with_views s prefix) ≡ Some
@@ -129,7 +129,7 @@ opened rows l s prefix name t below room =
     (none_before view_name_cmp names_total prefix name below)
     ∙ put_behind view_name_cmp names_total prefix name new below)
 
--- a root behind all others is set in the last view
+-- setting a root whose fingerprint follows all others, in the last view
 rooted_next : (rows : PolicyRows) (l : Limits) (s : State) (prefix : Views) (name : List ℕ) (t : ℕ)
     (roots : List (Fpr × ℕ)) (fpr : Fpr) (amount : ℕ)
     → AreBelow view_name_cmp name prefix → AreBelow fpr_cmp fpr roots → 0 < amount → length roots < l.roots
@@ -168,7 +168,7 @@ rooted_next rows l s prefix name t roots fpr amount below lower some room =
     ap (λ f. unless_refused f (rooting name fpr amount (with_views s views))) sound
     ∙ ap (λ (vs : Views). Some (with_views s vs)) changed
 
--- the last view, with these roots
+-- the state whose last view has these roots
 abbrev with_last : State → Views → List ℕ → ℕ → List (Fpr × ℕ) → Option State
 with_last s prefix name t roots = Some (with_views s (prefix ++ (name, record { time = t; roots = roots }) ∷ []))
 
@@ -223,7 +223,7 @@ views_made rows l s all within roots order prefix (e ∷ rest) parts =
     (all_at (λ (e : List ℕ × View). length e.1.roots ≤ l.roots) prefix e rest (subst Few (sym parts) within.few_roots)))
     ∙ views_made rows l s all within roots order (prefix ++ e ∷ []) rest (append_assoc prefix (e ∷ []) rest ∙ parts)
 
--- ---- all of them
+-- ---- all commands
 
 carried : (rows : PolicyRows) (s new : State) (o : Option State) → o ≡ Some new → CarriesOver rows s new →
     IsSomeAnd o (CarriesOver rows s)

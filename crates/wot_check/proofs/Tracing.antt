@@ -40,7 +40,7 @@ named_edge item row e = (ap (λ (x : ClaimedStep). x.issuer) (sym e), ap (λ (x 
 pub edge_named : (item : ClaimedStep) (edge : EdgeFacts) → IsNamed item edge → item ≡ claimed_step (step_of edge)
 edge_named item edge n = λ i. record { issuer = sym n.0 i; place = sym n.1 i }
 
--- these steps were found, and the items are still to be gone through
+-- these steps were found, and the items are still to be processed
 pub record Traced (q : Question) (used : Use) (items : List ClaimedStep) (steps : List Step)
     (rest : List ClaimedStep) : Type 0 where
   pub goes : (more : List Step) → Traces q used rest more → Traces q used items (steps ++ more)

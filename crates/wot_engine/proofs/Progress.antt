@@ -1,4 +1,4 @@
--- Where a run stands between two lines.
+-- How far a run has come between two lines.
 use Rattle.std.proofs.Common.{◌≡◌, ◌⊎◌, inl, inr, ℕ, ◌+◌, ◌<◌, ◌≤◌, ◌^◌, List, [], ◌∷◌, ◌++◌, length, take, drop}
 use Rattle.std.proofs.Common.{Option, Some, None, refl, sym, ap, subst, ◌∙◌, append_assoc, arith, length-append}
 use Rattle.std.proofs.lemmas.List.{append-nil, take_at, take-append-le, append_cancel_left}
@@ -29,12 +29,12 @@ joined before some others =
     (sym (flat_map-append reply_text some others))
 
 module _ (rows : PolicyRows) (origin : Option World) (world : World) where
-  -- whatever follows these octets, these are the lines in front
+  -- these are the first lines, whatever follows the octets
   pub record IsPrefix (gone : List ℕ) (done : List (List ℕ)) : Type 0 where
     pub lines : (x : List ℕ) → lines_of (gone ++ x) ≡ done ++ lines_of x
     pub whole : (x : List ℕ) → whole_lines_of (gone ++ x) ≡ done ++ whole_lines_of x
 
-  -- the lines were given, and their replies were written
+  -- these lines were read, and their replies were written
   pub record Stands (input before held : List ℕ) (taken : ℕ) (left written : Option (List ℕ)) (shelf : Option World)
       (state : Whole) : Type 0 where
     pub gone : List ℕ
@@ -106,7 +106,7 @@ module _ (rows : PolicyRows) (origin : Option World) (world : World) where
   nil-both [] ys e = (refl, e)
   nil-both (x ∷ xs) ys e = absurd cc
 
-  -- more octets were taken, and are held
+  -- more octets were read, and are buffered
   pub took_on : (input before held : List ℕ) (taken : ℕ) (left written : Option (List ℕ)) (shelf : Option World)
       (state : Whole) (left' : Option (List ℕ)) (taken' : ℕ) → Stands input before held taken left written shelf state →
       (t : Took left taken left' taken')
@@ -140,7 +140,7 @@ module _ (rows : PolicyRows) (origin : Option World) (world : World) where
         ];
       }
 
-  -- the line that is given is the next of all
+  -- the line just read is the next one of all
   pub comes_next : (input before held : List ℕ) (taken : ℕ) (left written : Option (List ℕ)) (shelf : Option World)
       (state : Whole) (held' : List ℕ) (taken' : ℕ) (left' : Option (List ℕ)) (line : List ℕ)
       → (s : Stands input before held taken left written shelf state) →
@@ -164,7 +164,7 @@ module _ (rows : PolicyRows) (origin : Option World) (world : World) where
         ]
       ]
 
-  -- one line on
+  -- one line further
   pub goes_on : (input before held : List ℕ) (taken : ℕ) (left written : Option (List ℕ)) (shelf : Option World)
       (state : Whole) (held' : List ℕ) (taken' : ℕ) (left' written' : Option (List ℕ)) (shelf' : Option World)
       (state' : Whole) (line : List ℕ) (reply : Option Reply) (told : List Reply)
@@ -224,7 +224,7 @@ module _ (rows : PolicyRows) (origin : Option World) (world : World) where
       regroup : (gone line x : List ℕ) → gone ++ (line ++ 10 ∷ x) ≡ (gone ++ (line ++ 10 ∷ [])) ++ x
       regroup gone line x = simp append_assoc
 
-  -- the lines given are first ones of all
+  -- the lines read so far are the first ones of all
   pub begins : (input before held : List ℕ) (taken : ℕ) (left written : Option (List ℕ)) (shelf : Option World)
       (state : Whole) → (s : Stands input before held taken left written shelf state) →
       (more : List (List ℕ)) × (lines_of input ≡ s.done ++ more)
@@ -237,7 +237,7 @@ module _ (rows : PolicyRows) (origin : Option World) (world : World) where
   take-prefix : (lines done more : List (List ℕ)) → lines ≡ done ++ more → take (length done) lines ≡ done
   take-prefix lines done more e = ap (take (length done)) e ∙ take_at done more (length done) refl
 
-  -- the lines given are answered, and each reply is whole
+  -- the lines read so far are answered, and each reply is complete
   pub at_first : (input before held : List ℕ) (taken : ℕ) (left written : Option (List ℕ)) (shelf : Option World)
       (state : Whole) (source : Option (List ℕ)) (shelf' : Option World)
       → (s : Stands input before held taken left written shelf state) →
@@ -255,7 +255,7 @@ module _ (rows : PolicyRows) (origin : Option World) (world : World) where
         left = puts;
       }
 
-  -- The replies to the lines given, and to all others.
+  -- the replies to the lines read so far are a prefix of all replies
   told_all : OneOutcome rows → (lines done more : List (List ℕ)) (replies : List Reply) (last : Scene) →
       lines ≡ done ++ more → Run rows (opening world) done replies last →
       (others : List Reply) × RepliesTo rows world lines (replies ++ others)
@@ -269,7 +269,7 @@ module _ (rows : PolicyRows) (origin : Option World) (world : World) where
         },
       )
 
-  -- all of the replies so far, and nothing else
+  -- exactly the replies so far
   pub so_far : OneOutcome rows → (input before held : List ℕ) (taken : ℕ) (left written : Option (List ℕ))
       (shelf : Option World) (state : Whole) → Stands input before held taken left written shelf state →
       Begun rows world (lines_of input) before written
@@ -317,7 +317,7 @@ module _ (rows : PolicyRows) (origin : Option World) (world : World) where
       let whole : lines_of input ≡ s.done = done_all input before held taken left written shelf state s e f in
       record { replies = s.replies; told = record { last = over state s.now; run = rw whole s.run }; left = s.is_now }
 
-  -- the octets taken that are in no line given have no line feed
+  -- the octets that were read but are in no line yet have no line feed
   pub at_stop : (input before held : List ℕ) (taken : ℕ) (left written : Option (List ℕ)) (shelf : Option World)
       (state : Whole) (left' : Option (List ℕ)) (taken' : ℕ) →
       (s : Stands input before held taken left written shelf state) → StopsOf held s.rest taken left' taken'
@@ -443,9 +443,9 @@ module _ (rows : PolicyRows) (origin : Option World) (world : World) where
           ∙ take-append-add replies (reply ++ octets_of others) n
           ∙ ap (λ (x : List ℕ). replies ++ x) (take-append-le n reply (octets_of others) le)
 
-  -- ---- what the next line puts
+  -- ---- what the next line writes to the certificate directory
 
-  -- nothing is put
+  -- nothing is written
   pub puts_nothing : (shelf : Option World) (now : World) (state : Whole) (lines : List (List ℕ)) →
       IsNow origin shelf now
       → MayPutNext (over state now) lines origin shelf
@@ -456,7 +456,7 @@ module _ (rows : PolicyRows) (origin : Option World) (world : World) where
       by (Some o) [] is = is
       by (Some o) (line ∷ ls) is = inl is
 
-  -- no memory was found for it
+  -- memory ran out for the line
   pub puts_next : (shelf shelf' : Option World) (now : World) (state : Whole) (line : List ℕ) (lines : List (List ℕ))
       (use_ : Use) → use_of (heard line) ≡ use_
       → IsNow origin shelf now → MayPut state.state use_ shelf shelf' →
@@ -470,7 +470,7 @@ module _ (rows : PolicyRows) (origin : Option World) (world : World) where
           subst (λ (w : Option World). MayPut state.state use_ w shelf') is m in
           inr (subst (λ (u : Use). MayPutIn state.state u now shelf') (sym e) there)
 
-  -- What the line that was taken last may have put, and that it is the last one.
+  -- What the last line read may have written to the directory, and that it was the last one read.
   pub record IsCutShort (unanswered : List (List ℕ)) (last : Scene) (held' : List ℕ) (left' : Option (List ℕ))
       (shelf' : Option World) : Type 0 where
     pub puts : MayPutNext last unanswered origin shelf'
@@ -502,7 +502,7 @@ module _ (rows : PolicyRows) (origin : Option World) (world : World) where
         };
       }
 
-  -- ---- where the run stands, whatever was written last
+  -- ---- how far the run has come, whatever was written last
 
   pub reaches : (input before held : List ℕ) (taken : ℕ) (left : Option (List ℕ)) (shelf : Option World) (state : Whole)
       (replies reply : List ℕ) (n : ℕ) (written : Option (List ℕ)) (shelf' : Option World)
@@ -532,7 +532,7 @@ module _ (rows : PolicyRows) (origin : Option World) (world : World) where
       some-same : (x y : List ℕ) → Some x ≡ Some y → x ≡ y
       some-same x y e = cc
 
-  -- where all replies are whole
+  -- if all replies are complete
   pub reaches_whole : (input before : List ℕ) (source written : Option (List ℕ)) (shelf' : Option World) →
       ReachedWhole rows world input before source written origin shelf'
       → Reached rows world (lines_of input) before written origin shelf'

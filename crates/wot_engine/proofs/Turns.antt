@@ -1,4 +1,4 @@
--- The turns of a run, where input, output and shelf are told.
+-- One line of a run after another, if input, output and certificate directory are known.
 use Rattle.std.proofs.Common.{◌≡◌, ◌≢◌, inl, inr, ℕ, ◌+◌, ◌<◌, ◌^◌, List, [], ◌++◌, length, take, drop, Option, Some}
 use Rattle.std.proofs.Common.{refl, sym, ap, subst, ◌∙◌, append_assoc, arith, length-append}
 use Rattle.std.proofs.lemmas.List.{append_cancel_left, append_cancel_right, length-take}
@@ -42,7 +42,7 @@ module _ (rows : PolicyRows) where
   Stood-init left written origin = all_told left written origin _ (λ input before world e f is. starts rows origin world
       input before left written origin e f is)
 
-  -- a line was given, and its reply is there
+  -- a line was read, and its reply is in the buffer
   pub record Turned (origin : Option World) (world : World) (input before : List ℕ) (held' : List ℕ) (taken' : ℕ)
       (left' written : Option (List ℕ)) (octets : List ℕ) (shelf' : Option World) (state' : Whole) : Type 0 where
     pub held : List ℕ
@@ -60,7 +60,7 @@ module _ (rows : PolicyRows) where
     pub step : Step rows (over state stands.now) line reply told (over state' next)
     pub octets_are : octets ≡ octets_of (listed reply ++ told)
 
-  -- the line is known, and what it was given
+  -- the line that was read, and what it was answered
   turned_by : (origin : Option World) (world : World) (input before : List ℕ) (old : ReaderState)
       (left written : Option (List ℕ)) (shelf : Option World) (state : Whole) (new : ReaderState)
       (left' : Option (List ℕ)) (shelf' : Option World) (state' : Whole) (line : List ℕ) (use_ : Use) (what : Served)
@@ -135,7 +135,7 @@ module _ (rows : PolicyRows) where
       all_weaker left0 written0 origin _ _ (λ input before world uncalled s. so_far rows origin world law input before
       held taken left written shelf state s) s
 
-  -- the line that was given last had no reply
+  -- the last line that was read got no reply
   pub cut_by : (origin : Option World) (world : World) (input before : List ℕ) (old : ReaderState)
       (left written : Option (List ℕ)) (shelf : Option World) (state : Whole) (new : ReaderState)
       (left' : Option (List ℕ)) (shelf' : Option World) (line : Line)
@@ -236,7 +236,7 @@ module _ (rows : PolicyRows) where
         length-take n reply,
       ))
 
-  -- where a reply was cut, not all of them were written
+  -- if a reply was cut short, not all replies were written
   pub cut_most : OneOutcome rows → (origin : Option World) (world : World) (input before held : List ℕ) (taken : ℕ)
       (left : Option (List ℕ)) (shelf : Option World) (state : Whole) (replies reply : List ℕ) (n : ℕ)
       (written : Option (List ℕ))
@@ -280,7 +280,7 @@ module _ (rows : PolicyRows) where
         | inr ended ↦ absurd (omega (arith, ended.0, size))
       ]
 
-  -- when 2 ^ 30 octets were taken
+  -- when 2 ^ 30 octets were read
   most_size : (origin : Option World) (world : World) (input before held : List ℕ) (taken : ℕ)
       (left written : Option (List ℕ)) (shelf : Option World) (state : Whole) (rest : List ℕ)
       (left' written' : Option (List ℕ)) (taken' : ℕ)
@@ -330,7 +330,7 @@ module _ (rows : PolicyRows) where
         lt,
       ))) s
 
-  -- where nothing was taken, whatever was written
+  -- if nothing was read, whatever was written
   pub Most-untouched : (left0 written0 : Option (List ℕ)) (origin : Option World) (written : Option (List ℕ)) →
       AllTold left0 written0 origin (λ input before world. AnsweredMost rows world input before left0 written → ⊥)
   Most-untouched left0 written0 origin written =
@@ -338,7 +338,7 @@ module _ (rows : PolicyRows) where
       let same : input ≡ a.taken.rest = some-is input a.taken.rest (sym e ∙ a.taken.left_is) in
       absurd (omega (arith, a.size, ap length same, ap length a.taken.input_is, length-append a.octets a.taken.rest)))
 
-  -- where nothing was taken and nothing written
+  -- if nothing was read and nothing written
   pub Begun-nothing : OneOutcome rows → (left0 written0 : Option (List ℕ)) (origin : Option World) →
       AllTold left0 written0 origin (λ input before world. Begun rows world (lines_of input) before written0)
   Begun-nothing law left0 written0 origin = Begun-here law left0 written0 origin [] 0 left0 written0 origin beginning

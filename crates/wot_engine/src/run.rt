@@ -1,7 +1,7 @@
 //! A run: the lines of a source are answered by one machine, and their replies are written to a sink.
 //!
-//! It stands on the reader of lines of `wot_io` and on `Machine::line` and `Machine::tell`. Replies are held back until
-//! more would be read. `run_words` hands its clauses on (`specs/Told.antt`, `specs/Ended.antt`).
+//! It stands on the reader of lines of `wot_io` and on `Machine::line` and `Machine::tell`. Replies are buffered until
+//! more input would be read. `run_words` hands its clauses on (`specs/Told.antt`, `specs/Ended.antt`).
 ghost use Rattle.std.specs.Prelude.{◌≡◌, ◌≢◌, ◌<◌, ◌≤◌, ◌+◌, ◌-◌, ◌^◌, [], length};
 ghost use Rattle.std.specs.Prelude.{IfSome, OnErr, OnOk, IsErrOf, vec_items};
 ghost use Rattle.wot_types.specs.Limits.{standard_limits};
@@ -40,9 +40,9 @@ pub enum Stop {
     Read,
     /// The sink failed.
     Write,
-    /// No memory was found.
+    /// Out of memory.
     Memory,
-    /// 2^30 octets were taken, and the end had not come.
+    /// 2^30 octets were taken, and the input had not ended.
     TooMuch,
 }
 
@@ -62,10 +62,10 @@ impl From<Failed> for Stop {
     }
 }
 
-/// So many octets of replies are held back at most, but for the last reply.
+/// The buffer is written once it has this many octets. Only the last reply may go beyond.
 const MOST_HELD: usize = 65_536;
 
-/// Appends the reply to a line that was given. After `Memory` what is held is as before.
+/// Appends the reply to a line to the buffer. After `Memory` the buffer is unchanged.
 fn say<D: Shelf, F: Fn(Ask) -> bool>(
     machine: &mut Machine,
     line: Line,
@@ -97,8 +97,7 @@ fn say<D: Shelf, F: Fn(Ask) -> bool>(
     }
 }
 
-/// Holds back the reply to a line that was given, and the watch lines behind it. After `Memory` what is held is as
-/// before.
+/// Appends the reply to a line and the watch lines after it to the buffer. After `Memory` the buffer is unchanged.
 fn reply_to<D: Shelf, F: Fn(Ask) -> bool>(
     machine: &mut Machine,
     line: Line,
@@ -132,7 +131,7 @@ fn reply_to<D: Shelf, F: Fn(Ask) -> bool>(
     Ok(())
 }
 
-/// Writes what is held back, unless a further line is at hand, for which nothing has to be read, and little is held.
+/// Writes the buffer, unless it is short and the next line is available without reading.
 fn flush<K: Sink>(lines: &Lines, output: &mut K, out: &mut Vec<u8>) -> Result<(), Failed>
     ensures moves { OnOk result (Moves (K.written output.old) out.old.items (K.written output.new) out.new.items) }
     ensures none { OnOk result (HasNoFeed lines.now.held → out.new.items ≡ []) }
@@ -150,8 +149,8 @@ fn flush<K: Sink>(lines: &Lines, output: &mut K, out: &mut Vec<u8>) -> Result<()
     Ok(())
 }
 
-/// Answers the lines of an input. The replies to all whole lines that are at hand are written together, before more is
-/// read. Where no memory is found for a line, the replies to those before it are written.
+/// Answers the lines of an input. The replies to all complete lines that are available are written together, before
+/// more is read. If memory runs out for a line, the replies to the lines before it are written.
 pub fn run<S: Source, K: Sink, D: Shelf, F: Fn(Ask) -> bool>(
     alloc: Global,
     input: &mut S,
@@ -200,7 +199,7 @@ pub fn run<S: Source, K: Sink, D: Shelf, F: Fn(Ask) -> bool>(
     )
 }
 
-/// The same by a reader that has read nothing, a machine that was told no line, and a list that holds nothing.
+/// Answers the lines of an input, starting with a fresh reader, a fresh machine and an empty buffer.
 #[tactic(auto, using(crate::proofs::Rules::turning))]
 fn answer_lines<S: Source, K: Sink, D: Shelf, F: Fn(Ask) -> bool>(
     lines: &mut Lines,

@@ -1,4 +1,4 @@
--- An answer depends on certificates, verdicts and the asking view alone.
+-- An answer depends only on certificates, verdicts and the asking view.
 use Rattle.std.proofs.Common.{◌≡◌, inl, ℕ, Bool, true, false, List, [], ◌∷◌, length, map, Option, Some, None, refl, sym}
 use Rattle.std.proofs.Common.{ap, subst, ◌∙◌}
 use Rattle.std.specs.Prelude.{MatchBool, nat_lt}
@@ -43,7 +43,7 @@ use Rattle.wot_machine.specs.Transcript.{Run}
 -- ---- marks
 
 module _ (rows : PolicyRows) (forgets : (c : Certificate) → judged rows (unmarked c) ≡ judged rows c) where
-  -- Judging looks at no mark.
+  -- judging ignores earlier marks
   anew_bare : (certs : Certificates) → map (judged_anew rows) (bare certs) ≡ map (judged_anew rows) certs
   anew_bare [] = refl
   anew_bare (e ∷ es) =
@@ -51,7 +51,7 @@ module _ (rows : PolicyRows) (forgets : (c : Certificate) → judged rows (unmar
       ap (λ (x : Fpr × Certificate). x ∷ map (judged_anew rows) (bare es)) (ap Entry (forgets e.1))
       ∙ ap (λ (xs : Certificates). judged_anew rows e ∷ xs) (anew_bare es)
 
-  -- Where each mark is the one that the rows give, equal certificates but for marks are equal.
+  -- certificates with the marks that the rows give are equal if they are equal apart from marks
   pub same_certs : (one other : State) → judged_by rows one.held ≡ one.held → judged_by rows other.held ≡ other.held →
       bare one.held.certs ≡ bare other.held.certs
       → one.held.certs ≡ other.held.certs
@@ -60,13 +60,13 @@ module _ (rows : PolicyRows) (forgets : (c : Certificate) → judged rows (unmar
       let second : map (judged_anew rows) other.held.certs ≡ other.held.certs = ap (λ (h : Held). h.certs) q in
       sym first ∙ sym (anew_bare one.held.certs) ∙ ap (map (judged_anew rows)) e ∙ anew_bare other.held.certs ∙ second
 
--- ---- one question in two states
+-- ---- a question in two states
 
--- the state of these certificates and verdicts alone
+-- the state with these certificates and verdicts and no views
 abbrev held_alone : Certificates → verdicts.Entries → State
 held_alone certs entries = record { held = record { certs = certs; verdicts = entries }; views = [] }
 
--- What is so by certificates, verdicts and the asking view is so in both states.
+-- a fact about certificates, verdicts and the asking view holds in both states
 alike : (P : State → Option View → Type 0) (one other : State) (name : List ℕ) → one.held.certs ≡ other.held.certs →
     one.held.verdicts ≡ other.held.verdicts
     → view_at one.views name ≡ view_at other.views name → P (held_alone one.held.certs one.held.verdicts)
@@ -77,7 +77,7 @@ alike P one other name c v w asks =
     (subst (λ (entries : verdicts.Entries). P (held_alone other.held.certs entries) (view_at one.views name)) v
     (subst (λ (certs : Certificates). P (held_alone certs one.held.verdicts) (view_at one.views name)) c asks))
 
--- The views are no part of what decides a reply but the one that asks.
+-- Of the views, only the asking one matters to the reply.
 question_alike : (one other : State) (name : List ℕ) (question : ViewQuestion) (reply : Reply) →
     one.held.certs ≡ other.held.certs → one.held.verdicts ≡ other.held.verdicts
     → view_at one.views name ≡ view_at other.views name
@@ -110,7 +110,7 @@ does_alike rows one other name (OfState (kinds.Shelf call)) given told reply new
 does_alike rows one other name (OfCursor cursor command) given told reply new c v w a does = absurd a
 does_alike rows one other name (OfWatch watch command) given told reply new c v w a does = absurd a
 
--- Such a command leaves turns, cursors and watches.
+-- a question changes no turns, cursors or watches
 asking : (name : List ℕ) (class : Class) (s : Whole) (reply : Reply) → AsksFrom name class
     → IsTurnedBy class s.state.views s.turns s.state.views s.turns × Paces s class reply s.cursors × Watching s
     class reply s.watches
@@ -122,7 +122,7 @@ asking name (OfState (kinds.Shelf call)) s reply a = absurd a
 asking name (OfCursor cursor command) s reply a = absurd a
 asking name (OfWatch watch command) s reply a = absurd a
 
--- A step of a question in the one state is one in the other, where what the command does is.
+-- a step of a question in one state is a step in the other, if the command has the same outcome
 pub step_as : (rows : PolicyRows) (one other : Whole) (name line : List ℕ) (given told : Served) (reply : Option Reply)
     (new : Whole) (ask : IsAsk name line)
     → ((r : Reply) (s : State) → Does rows one.state (class_of ask.command) given r s →
@@ -176,7 +176,7 @@ step_alike rows one other name line given told reply new c v w ask step =
     step_as rows one other name line given told reply new ask
     (λ r s does. does_alike rows one.state other.state name (class_of ask.command) given told r s c v w ask.asks does) step
 
--- What is reached can be.
+-- reached states are reachable
 pub reached_can_be : (rows : PolicyRows) (world : World) (lines : List (List ℕ)) (replies : List Reply) (s : Scene) →
     Run rows (opening world) lines replies s → AreNamed s.whole.state.held.certs
 reached_can_be rows world lines replies s run = run_stays rows AreNamed (named_all rows) named_without lines

@@ -1,4 +1,4 @@
--- The lines of a dump, answered from the start on.
+-- The lines of a dump, answered by a fresh machine.
 use Rattle.std.proofs.Common.{◌≡◌, ℕ, suc, Bool, true, false, List, [], ◌∷◌, length, map, Option, Some, None, Result}
 use Rattle.std.proofs.Common.{Ok, Err, refl, sym, ap, ◌∙◌, subst, append_assoc}
 use Rattle.std.specs.Prelude.{if◌then◌else◌, IsSomeAnd}
@@ -137,9 +137,9 @@ cut_lines (c ∷ commands) lines =
     ∙ lines_of-feed (spelling c) (lines_of commands) lines.0.no_feed
     ∙ ap (λ (rest : List (List ℕ)). spelling c ∷ rest) (cut_lines commands lines.1)
 
--- ---- all that is kept
+-- ---- everything that is kept
 
--- After that command all that is kept has this state, and the same cursors and watches.
+-- after this command the machine has this state, and the same cursors and watches
 record Leads (rows : PolicyRows) (old : Whole) (class : Class) (reply : Reply) (new : State) : Type 0 where
   whole : Whole
   state : whole.state ≡ new
@@ -168,7 +168,7 @@ leads rows old (OfState command) reply new own does =
 leads rows old (OfCursor name command) reply new own does = absurd (cc own)
 leads rows old (OfWatch name command) reply new own does = absurd (cc own)
 
--- the step of a command's line, over a shelf of any world
+-- the step of a command's line, in any world
 stepped : (rows : PolicyRows) (c : Command) (s new : Whole) (reply : Reply) → IsLine c →
     use_by (class_of c) ≡ unused → Obeys rows s (class_of c) unserved reply new → new.watches ≡ [] → (world : World)
     → Step rows (over s world) (spelling c) (Some reply) [] (over new world)

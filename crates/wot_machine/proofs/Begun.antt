@@ -1,4 +1,4 @@
--- A cursor that began in a reached state: what it gives is of the list there.
+-- What a cursor returns is from the list in the reached state in which it began.
 use Rattle.std.proofs.Common.{◌≡◌, ℕ, ◌≤◌, Bool, true, false, List, [], ◌++◌, length, map, Option, Some, None, refl}
 use Rattle.std.proofs.Common.{sym, ap, subst, ◌∙◌}
 use Rattle.std.specs.Prelude.{MatchBool}
@@ -59,9 +59,9 @@ reached_sound rows =
     (does_views rows old.state command answer reply new.state o.does) o.turned s)
     (λ s watches sound. sound)
 
--- ---- the line that began it
+-- ---- the line with which it began
 
--- From an seen view it began.
+-- it began from an open view
 record BeganFrom (s : Whole) (name view : List ℕ) (wanted : ℕ) (cursors : Cursors) : Type 0 where
   shown : View
   seen : view_at s.state.views view ≡ Some shown
@@ -96,7 +96,7 @@ module _
     (name view : List ℕ) (wanted : ℕ) (was : Scene) (exchanges : List Exchange) (last : Scene)
     (since : Since rows name view wanted was exchanges last)
   where
-    -- the list at the beginning, and where the cursor stands now
+    -- the list at the beginning, and the cursor's current place
     record Found : Type 0 where
       shown : View
       all : List Bind

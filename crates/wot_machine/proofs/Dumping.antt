@@ -23,6 +23,6 @@ on_dump line command P e p d =
     let same : command ≡ Dump = same_Some command Dump (read_so line (Some command) e d) in
     subst (λ (c : Command). OnDump (class_of c) P) same p
 
--- it has a reading
+-- it is read as some command
 pub dump_is_read : (line : List ℕ) (P : Type 0) → command_of line ≡ None → IsDump line → P
 dump_is_read line P e d = let none : None ≡ Some Dump = read_so line None e d in absurd (cc none)

@@ -1,4 +1,4 @@
--- An explanation has the same reply in states that hold the same certificate and the same issuers.
+-- An explanation has the same reply in states that hold the same certificate and the same issuers of its signatures.
 use Rattle.std.proofs.Common.{◌≡◌, ℕ, List, Option, Some, None, refl, ap, ◌∙◌}
 use Rattle.wot_types.specs.declared.fpr.Fpr.{Fpr}
 use Rattle.wot_types.specs.PlainLaws.{all_then}

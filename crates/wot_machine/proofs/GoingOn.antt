@@ -1,4 +1,4 @@
--- Machines that hold the same reply the same to each line, but to the commands of cursors and of watches.
+-- Machines with the same state have the same replies, except to commands of cursors and watches.
 use Rattle.std.proofs.Common.{◌≡◌, ℕ, Bool, true, false, List, [], ◌∷◌, length, Option, Some, None, refl, sym, ap}
 use Rattle.std.proofs.Common.{subst, ◌∙◌}
 use Rattle.std.specs.Prelude.{MatchBool, nat_lt}
@@ -34,7 +34,7 @@ module _
     → IsOne Reply State (DoesTo rows s command given))
     (stays : LeadToStates rows)
   where
-    -- what two machines say and keep in a line
+    -- the outcomes of a line in two machines
     abbrev AreSame : Option Command → Option Reply → Option Reply → State → State → Type 0
     AreSame command r s m n = (is_of_state command ≡ true → r ≡ s) × (m ≡ n)
 
@@ -104,7 +104,7 @@ module _
         long true f p q = same_refused a b replies.Long (heard line) r s m n e p q
         long false f p q = silent f (is_silent line) refl p q
 
-    -- ---- over the shelf
+    -- ---- with the certificate directory
 
     same_step : (a b : Scene) (line : List ℕ) (r s : Option Reply) (told others : List Reply) (m n : Scene) →
         IsState a.whole.state

@@ -1,4 +1,4 @@
--- What a line does, by the command that it is heard as.
+-- What a line does, by the command that it is read as.
 use Rattle.std.proofs.Common.{◌≡◌, ℕ, Bool, true, false, List, [], ◌∷◌, length, Option, Some, None, sym, subst}
 use Rattle.std.specs.Prelude.{MatchBool, if◌then◌else◌, nat_lt}
 use Rattle.wot_policy.specs.declared.rows.PolicyRows.{PolicyRows}
@@ -18,7 +18,7 @@ use Rattle.wot_machine.specs.Transcript.{Run}
 use Rattle.wot_machine.specs.Watching.{told_all}
 use Rattle.wot_machine.specs.Whole.{Whole, watched}
 
--- A line that is heard as no command leaves all; another has a reply, and does what its command does.
+-- A line that isn't a command changes nothing. Any other line has a reply and does what its command does.
 abbrev pub Hears : PolicyRows → Whole → Option Command → Served → Option Reply → Whole → Type 0
 Hears rows old None given reply new = new ≡ old
 Hears rows old (Some command) given reply new = HasReply (Obeys rows old (class_of command) given) reply new
@@ -64,7 +64,7 @@ heard_reads line command = long (nat_lt longest (length line))
     long true e = absurd (cc e)
     long false e = silent (is_silent line) e
 
--- What every command that is answered keeps, each line keeps, and so each run.
+-- What every command preserves, every line preserves, and so every run.
 module _
     (rows : PolicyRows) (P : Whole → Type 0)
     (kept : (old : Whole) (class : Class) (given : Served) (reply : Reply) (new : Whole) →
@@ -79,7 +79,7 @@ module _
         by (Some command) None g = absurd g
         by (Some command) (Some r) g = kept old (class_of command) given r new g p
 
-    -- the watch lines behind a reply tell watches alone
+    -- watch lines change only the watches
     pub run_keeps : ((s : Whole) (watches : Watches) → P s → P (watched s watches)) →
         (lines : List (List ℕ)) (old : Scene)
         (told : List Reply) (new : Scene) → Run rows old lines told new → P old.whole → P new.whole
@@ -89,7 +89,7 @@ module _
         run_keeps still lines r.2 r.3 new r.5
         (subst P (sym r.4.tells.left) (still r.4.mid (told_all r.4.mid.watches r.1) mid))
 
--- What holds of the replies to lines that are too long or aren't read, and of each reply to a command, holds of each
+-- What holds of the replies to lines that are too long or no commands, and of every reply to a command, holds of every
 -- reply.
 pub told_by : (rows : PolicyRows) (D : Reply → Type 0) → D replies.Long → D replies.Line
     → (old : Whole) (line : List ℕ) (given : Served) (reply : Reply) (new : Whole)

@@ -1,4 +1,4 @@
--- A cursor since its beginning: what it rests on, and how far it has come.
+-- A cursor since it began: what it depends on, and how far it has come.
 use Rattle.std.proofs.Common.{◌≡◌, ◌≢◌, ◌⊎◌, inl, inr, ℕ, ◌<◌, ◌≤◌, ◌==◌, Bool, true, false, List, [], ◌∷◌, ◌++◌}
 use Rattle.std.proofs.Common.{length, map, Option, Some, None, refl, sym, ap, subst, ◌∙◌, arith, append_assoc}
 use Rattle.std.proofs.Common.{append-nil}
@@ -57,9 +57,9 @@ use Rattle.wot_machine.proofs.Behind.{HasCome, next_piece, place_behind}
 use Rattle.wot_machine.proofs.Rising.{bind_cmp}
 use Rattle.wot_machine.proofs.Viewed.{AreViewsInOrder, IsShown, does_views, order_by, same_name, shown_by, turns_more}
 
--- ---- what a listing rests on
+-- ---- what a list depends on
 
--- What is held is as it was, and so is the count of changes; or there were changes.
+-- either what is held and the count of changes are unchanged, or the count rose
 abbrev pub IsHeld : Whole → Whole → Type 0
 IsHeld was now = ((now.state.held ≡ was.state.held) × (now.changes ≡ was.changes)) ⊎ (was.changes < now.changes)
 
@@ -84,7 +84,7 @@ later_itself view was order = record {
       inl (refl, refl);
 }
 
--- Watches are nothing to it.
+-- watches don't matter to it
 later_watched : (view : List ℕ) (was now : Whole) (watches : Watches) → IsLater view was now
     → IsLater view was (watched now watches)
 later_watched view was now watches l = record { order = l.order; turns = l.turns; held = l.held; shown = l.shown }
@@ -234,7 +234,7 @@ module _ (name view : List ℕ) (wanted : ℕ) (was : Whole) (shown : View) (all
   abbrev at_place : Option Place → Cursor
   at_place place = record { view = view; wanted = wanted; stamps = stamps_in was view; place = place }
 
-  -- The cursor is there, and has come so far.
+  -- the cursor exists, and has come this far
   pub record HasCursor (cursors : Cursors) (given : List Given) : Type 0 where
     pub place : Option Place
     pub there : cursor_at cursors name ≡ Some (at_place place)
@@ -252,14 +252,14 @@ module _ (name view : List ℕ) (wanted : ℕ) (was : Whole) (shown : View) (all
   more_of cursors given more e h =
       subst (HasCursor cursors) (sym (ap (λ (gs : List Given). given ++ gs) e ∙ append-nil given)) h
 
-  -- ---- a piece of the cursor
+  -- ---- a piece of this cursor
 
   module _ (now : Whole) (count : ℕ) (reply : Reply) (cursors : Cursors) (given : List Given)
       (later : IsLater view was now) (h : HasCursor now.cursors given) where
     abbrev Goal : Type 0
     Goal = HasCursor cursors (given ++ given_by count (Some reply)) × IsNext was now view count reply
 
-    -- it doesn't move where this was replied
+    -- it doesn't move after this reply
     unmoved : (told : Reply) → given_by count (Some told) ≡ [] → IsNext was now view count told
         → Leaves told now.cursors reply cursors → Goal
     unmoved told none next l = (
@@ -443,7 +443,7 @@ module _ (name view : List ℕ) (wanted : ℕ) (was : Whole) (shown : View) (all
       pub later : IsLater view was now
       pub cursor : HasCursor now.cursors given
 
-    -- nor are the watch lines behind a reply
+    -- watch lines don't matter to it
     pub stands_told : (now : Whole) (told : List Reply) (new : Whole) (given : List Given) → Tells now told new
         → Stands now given → Stands new given
     stands_told now told new given t s =

@@ -1,4 +1,4 @@
--- How often the policy was asked: for what was added, and not at all where nothing was.
+-- How often the policy was asked: for what was added, and not at all if nothing was.
 use Rattle.std.proofs.Common.{◌≡◌, ◌≢◌, ℕ, ◌+◌, ◌-◌, ◌≤◌, ◌^◌, true, false, List, length, Option, Some, None, Result}
 use Rattle.std.proofs.Common.{Ok, Err, OnOk, refl, sym, ap, subst, ◌∙◌, arith}
 use Rattle.std.specs.Prelude.{IfOk, is_ok, max, min}
@@ -45,7 +45,7 @@ never refusals.Clash rows k octets n other a = a
 never (refusals.Full limit) rows k octets n other a = a
 never refusals.Memory rows k octets n other a = absurd (other refl)
 
--- what holds in any case
+-- what always holds, holds on success
 pub always : {T E : Type 0} (r : Result T E) (P : Type 0) → P → OnOk r P
 always (Ok x) P p = p
 always (Err e) P p = tt
@@ -61,7 +61,7 @@ module _ {F : Type 0} where
   pub not_asked : (p : Policy F) → p ≡ asked_more 0 p
   not_asked p = ap (λ (n : ℕ). record p { asked = n }) (none_more p.asked)
 
-  -- what was added was asked for
+  -- what was added was asked about
   pub asked_new : {T E : Type 0} (x : T) (rows : PolicyRows) (old new : Engine) (octets : List ℕ) (counts : Imported)
       (before after : Policy F)
       → AsksFor (Ok counts) rows old.keyring octets (λ k. after ≡ asked_more k before)
@@ -77,7 +77,7 @@ module _ {F : Type 0} where
   pub asked_still : {T E : Type 0} (r : Result T E) (s : State) (p : Policy F) → AsksForNew r s s p p
   asked_still r s p = record { times = 0; asked = not_asked p; exact = always r _ (nothing_new s) }
 
-  -- what was refused added nothing
+  -- a refused line added nothing
   pub asked_refused : (r : Result Reply Memory) (rows : PolicyRows) (old new : Engine) (octets : List ℕ)
       (told : Refusal) (before after : Policy F)
       → AsksFor (Err told) rows old.keyring octets (λ k. after ≡ asked_more k before) → new ≡ old
@@ -95,7 +95,7 @@ module _ {F : Type 0} where
           ∙ ap (λ (e : Engine). sound_in (state_of e) - sound_in (state_of old)) (sym same)
       by (Err e) is = tt
 
-  -- ---- the same for another result, which is Ok at most where that one is
+  -- ---- so for another result that is Ok only if the first one is
 
   module _ {A B T E : Type 0} (r : Result A B) (s : Result T E) (less : is_ok s ≡ true → is_ok r ≡ true) where
     new_as : (old new : State) (before after : Policy F) → AsksForNew r old new before after →
@@ -144,13 +144,13 @@ module _ {F : Type 0} where
   asks_nothing r (OfCursor name command) s p = refl
   asks_nothing r (OfWatch name command) s p = refl
 
-  -- a line that nothing was done for
+  -- a line that did nothing
   pub asks_not : {T E : Type 0} (r : Result T E) (command : Option Command) (s : State) (p : Policy F) →
       LineAsks r command s s p p
   asks_not r None s p = refl
   asks_not r (Some command) s p = asks_nothing r (class_of command) s p
 
-  -- the line that was looked at
+  -- the line was read as a command
   pub asks_heard : {T E : Type 0} (s : Result T E) (line : List ℕ) (old new : State) (before after : Policy F) →
       length line ≤ longest
       → is_silent line ≡ false → LineAsks s (command_of line) old new before after →

@@ -1,4 +1,4 @@
--- What a line makes, whatever comes of it: the bounds stand as soon as the view was refreshed.
+-- The edges that a line makes, whatever its result: the bounds hold once the view was refreshed.
 use Rattle.std.proofs.Common.{◌≡◌, inl, inr, ℕ, ◌≤◌, List, length, true, false, Option, Some, None, Result, Ok, Err}
 use Rattle.std.proofs.Common.{OnOk, refl, sym, ap, subst, ◌∙◌}
 use Rattle.std.specs.Prelude.{IfSome, is_ok}
@@ -37,7 +37,7 @@ stays old new same = record {
   turns = ap (λ (e : Engine). e.turns) same;
 }
 
--- ---- what was made for one result was made for another, which is Ok at most where that one is
+-- ---- bounds for one result hold for another that is Ok only if the first one is
 
 module _ {A B T E : Type 0} (r : Result A B) (s : Result T E) (less : is_ok s ≡ true → is_ok r ≡ true) where
   on_less : (P : Type 0) → OnOk r P → OnOk s P
@@ -115,7 +115,7 @@ module _ {A B T E : Type 0} (r : Result A B) (s : Result T E) (less : is_ok s �
   line_makes_as (Some command) cursors old new before after m =
       makes_as (class_of command) cursors old new before after m
 
--- where the view isn't open nothing is made, whatever is answered
+-- nothing is made if the view isn't open, whatever the reply
 pub refreshed_unopened : {A B T E : Type 0} (r : Result A B) (s : Result T E) (name : List ℕ) (old new : Engine)
     (before after : ℕ)
     → view_at old.views name ≡ None → IsRefreshed r name old new before after → IsRefreshed s name old new before after

@@ -56,11 +56,11 @@ use Rattle.wot_machine.proofs.Stays.{step_stays}
 use Rattle.wot_machine.proofs.Watched.{watching_one, watching_some}
 use Rattle.wot_machine.proofs.Wholes.{counted_one, counted_some, turned_one, turned_some, whole_same}
 
--- At most one reply and one state.
+-- at most one reply and state
 abbrev pub IsOne : (R M : Type 0) → (R → M → Type 0) → Type 0
 IsOne R M P = (r s : R) (m n : M) → P r m → P s n → (r ≡ s) × (m ≡ n)
 
--- Some reply and state.
+-- some reply and state
 abbrev pub IsSome : (R M : Type 0) → (R → M → Type 0) → Type 0
 IsSome R M P = (r : R) × (m : M) × P r m
 
@@ -97,7 +97,7 @@ MatchBool-some : (b : Bool) (P Q : Option Reply → Whole → Type 0) → IsSome
 MatchBool-some true P Q p q = p
 MatchBool-some false P Q p q = q
 
--- ---- states that can be
+-- ---- reachable states
 
 pub LineStep-stays : (rows : PolicyRows) (old : Whole) (line : List ℕ) (given : Served) (reply : Option Reply)
     (new : Whole) → IsState old.state → LineStep rows old line given reply new → IsState new.state
@@ -245,7 +245,7 @@ module _
     lawful_state : Lawful
     lawful_state s t u can = lawful s.held.certs s.held.verdicts t u can
 
-    -- by what is one of the reply, the state, the cursors and the watches
+    -- from the uniqueness of the reply, the state, the cursors and the watches
     whole_one : (old : Whole) (class : Class) (given : Served) (r s : Reply) (m n : Whole) →
         Obeys rows old class given r m → Obeys rows old class given s n
         → (r ≡ s) × (m.state ≡ n.state) × (m.cursors ≡ n.cursors) × (m.watches ≡ n.watches) → (r ≡ s) × (m ≡ n)

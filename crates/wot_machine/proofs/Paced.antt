@@ -1,4 +1,4 @@
--- The commands of cursors: what they reply has words, and there is one reply.
+-- The commands of cursors: their replies are printable, and each has only one.
 use Rattle.std.proofs.Common.{◌≡◌, ℕ, ◌-◌, ◌≤◌, ◌==◌, Bool, true, false, List, [], ◌∷◌, length, Option, Some, None}
 use Rattle.std.proofs.Common.{refl, sym, ap, subst, ◌∙◌, arith}
 use Rattle.std.specs.Prelude.{MatchBool, is_some}
@@ -38,9 +38,9 @@ use Rattle.wot_machine.specs.Entry.{unused, use_by}
 use Rattle.wot_machine.specs.Served.{Served}
 use Rattle.wot_machine.specs.Whole.{IsTurnedBy, Whole, watched}
 
--- ---- commands that aren't of cursors
+-- ---- other commands
 
--- What holds of each class of a cursor.
+-- a claim that holds of each command of a cursor
 pub paced_cases : (P : Class → Type 0)
     → ((name view : List ℕ) (wanted : ℕ) → P (OfCursor name (paces.Over view wanted)))
     → ((name : List ℕ) (count : ℕ) → P (OfCursor name (paces.Next count)))
@@ -67,7 +67,7 @@ pub plain_paces : (s : Whole) (class : Class) (reply : Reply) (cursors : Cursors
     Paces s class reply cursors → cursors ≡ s.cursors
 plain_paces s class reply cursors e p = subst (λ (P : Type 0). P) (plain_is s class reply cursors e) p
 
--- ---- watches don't matter to them
+-- ---- watches don't matter to cursors
 
 begins_watched : (s : Whole) (watches : Watches) (name view : List ℕ) (wanted : ℕ) (o : Option View) (reply : Reply)
     (cursors : Cursors) → Begins s name view wanted o reply cursors
@@ -105,7 +105,7 @@ paces_watched s watches class reply cursors e =
     (λ name view wanted. begins_watched s watches name view wanted (view_at s.state.views view) reply cursors)
     (λ name count. goes_watched s watches (cursor_at s.cursors name) name count reply cursors) (λ name p. p) class e
 
--- ---- they leave the state, the turns and the shelf
+-- ---- commands of cursors don't change the state, the turns and the certificate directory
 
 pub state_paced : (rows : PolicyRows) (old : State) (class : Class) (given : Served) (reply : Reply) →
     is_pacing class ≡ true → Does rows old class given reply old
@@ -130,7 +130,7 @@ uncalled_paced class e =
     paced_cases (λ (c : Class). use_by c ≡ unused) (λ name view wanted. refl) (λ name count. refl)
     (λ name. refl) class e
 
--- ---- words
+-- ---- printable replies
 
 left_worded : (told reply : Reply) (left cursors : Cursors) → HasWords told → Leaves told left reply cursors →
     HasWords reply
@@ -332,7 +332,7 @@ last_is : (bind : Bind) (binds : List Bind) (last : Bind) → slice_get (bind �
 last_is bind [] last e = ap place_of (same_Some bind last e)
 last_is bind (next ∷ binds) last e = last_is next binds last e
 
--- the place of the last binding is where the cursor goes
+-- the cursor moves to the place of the last binding
 pub behind_last : (cursors : Cursors) (name : List ℕ) (binds : List Bind) (last : Bind) →
     slice_get binds (length binds - 1) ≡ Some last
     → with_place cursors name (place_of last) ≡ behind cursors name binds

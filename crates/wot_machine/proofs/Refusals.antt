@@ -1,4 +1,4 @@
--- A line that is refused leaves the state.
+-- A refused line doesn't change the state.
 use Rattle.std.proofs.Common.{◌≡◌, ◌∙◌, inl, inr, ℕ, ◌==◌, [], Bool, true, false, cond, List, length, Option, Some}
 use Rattle.std.proofs.Common.{None, Result, Ok, Err, refl, sym, ap}
 use Rattle.std.specs.Prelude.{MatchBool, nat_lt, is_some}
@@ -52,7 +52,7 @@ use Rattle.wot_machine.proofs.Watched.{plain_watching, watching_left}
 use Rattle.wot_machine.proofs.Wholes.{turned_still, whole_same}
 use Rattle.wot_machine.specs.Served.{Served}
 
--- an outcome that leaves this state where it is refused
+-- an outcome that leaves this state if it is a refusal
 abbrev Leaves : State → Outcome → Type 0
 Leaves s outcome = is_refused outcome.reply ≡ true → outcome.state ≡ s
 
@@ -85,7 +85,7 @@ set_verdict_leaves s number v =
     (done (with_held s (verdict_set number v s.held)))
     (λ _. refl) (done_leaves s (with_held s (verdict_set number v s.held)))
 
--- what gives such an outcome leaves the state where it is refused
+-- such an outcome leaves the state if the line is refused
 given : (s : State) (outcome : Outcome) (r : Reply) (m : State) → Leaves s outcome → Gives outcome r m →
     is_refused r ≡ true → m ≡ s
 given s outcome r m leaves g e = g.1 ∙ leaves (ap is_refused (sym g.0) ∙ e)
@@ -193,7 +193,7 @@ paces_left s class reply cursors e =
     (λ name count. goes_left (cursor_at s.cursors name) s name count reply cursors)
     (λ name. ends_left s name reply cursors) class e
 
--- ---- all of it
+-- ---- everything that is kept
 
 uncounted : (s m : Whole) → m.state ≡ s.state → IsCounted s m → m.changes ≡ s.changes
 uncounted s m same (inl p) = p.1

@@ -1,4 +1,4 @@
--- Commands that were run, and the lines that hold them.
+-- Commands that were run, and the lines that contain them.
 use Rattle.std.proofs.Common.{◌≡◌, ℕ, ◌+◌, ◌<◌, ◌≤◌, Bool, true, false, List, ◌++◌, Option, Some, None, Result, Ok, Err}
 use Rattle.std.proofs.Common.{OnErr, length, refl, sym, ap, subst, ◌∙◌, inl, arith}
 use Rattle.std.specs.Prelude.{IfOk, IfSome, OnOk, is_ok, is_some, if◌then◌else◌, nat_le}
@@ -56,7 +56,7 @@ use Rattle.wot_machine.proofs.Watched.{watching_plain}
 use Rattle.wot_machine.proofs.Stepping.{heard_long, heard_silent, one_reply, passed_over, too_long}
 use Rattle.wot_machine.proofs.Wholes.{counted_by, same_few, turned_few, turned_still}
 
--- ---- commands that leave the shelf alone
+-- ---- commands that don't use the certificate directory
 
 idle : (old : State) (world : Option World) → IsServed old unused world unserved world
 idle old world = record { asked = refl; world = refl }
@@ -91,7 +91,7 @@ uncalled r rows command old seen new none does = if_ok r _ _ (λ reply d. record
   cause = λ f. absurd (never_failed old (use_by (OfState command)) none f);
 }) does
 
--- a class that leaves the shelf alone, by all that is kept
+-- a command that doesn't use the directory, in terms of everything that is kept
 pub ran_alone : (rows : PolicyRows) (class : Class) (old : Whole) (seen : Seen) (reply : Reply) (new : Whole) →
     use_by class ≡ unused
     → Obeys rows old class unserved reply new → RanClass rows class old seen reply new seen
@@ -102,7 +102,7 @@ ran_alone rows class old seen reply new none obeys = record {
   cause = λ f. absurd (never_failed old.state (use_by class) none f);
 }
 
--- a class of a cursor, by all that is kept
+-- a command of a cursor
 pub paced_ran : {E : Type 0} (r : Result Told E) (rows : PolicyRows) (class : Class) (old new : Engine)
     (before after : Cursors) (watches : Watches) (seen : Seen)
     → is_pacing class ≡ true → StaysButMarks old new →
@@ -124,7 +124,7 @@ paced_ran (Ok told) rows class old new before after watches seen pacing stays pa
           (paced_unwatched class pacing);
     })
 
--- a class of a watch, by all that is kept
+-- a command of a watch
 watched_ran : (rows : PolicyRows) (class : Class) (old new : Engine) (cursors : Cursors) (before after : Watches)
     (seen : Seen) (reply : Reply) → is_watching class ≡ true
     → StaysButMarks old new → Watching (watched (whole_of old cursors) before) class reply after
@@ -142,7 +142,7 @@ watched_ran rows class old new cursors before after seen reply watching stays pu
       watching = puts;
     })
 
--- the same of what is told by a reply
+-- a command of a watch, with a reply by itself
 pub watched_told : {E : Type 0} (r : Result Reply E) (t : Result Told E) (rows : PolicyRows) (class : Class)
     (old new : Engine) (cursors : Cursors) (before after : Watches)
     (seen : Seen) → IfOk r (λ reply. t ≡ Ok (record { reply = reply; moved = None })) → is_ok t ≡ is_ok r →
@@ -159,7 +159,7 @@ watched_told (Ok reply) t rows class old new cursors before after seen is ok wat
     (watched (whole_of new (settled told.moved cursors)) after) seen))
     (sym is) (watched_ran rows class old new cursors before after seen reply watching stays puts)
 
--- the same of a reply that moves no cursor
+-- a command of a watch whose reply moves no cursor
 pub watched_alone : (told : Told) (rows : PolicyRows) (class : Class) (engine : Engine) (cursors : Cursors)
     (before after : Watches) (seen : Seen) (reply : Reply)
     → told.reply ≡ reply → told.moved ≡ None → is_watching class ≡ true → StaysButMarks engine engine →
@@ -172,7 +172,7 @@ watched_alone told rows class engine cursors before after seen reply is none wat
     (sym none) (watched_ran rows class engine engine cursors before after seen told.reply watching stays
     (subst (λ (r : Reply). Watching (watched (whole_of engine cursors) before) class r after) (sym is) puts))
 
--- what is done to the state, with all that is kept
+-- a change of the state, in terms of everything that is kept
 pub ran_plain : {E : Type 0} (r : Result Reply E) (rows : PolicyRows) (command : StateCommand) (old new : Engine)
     (before after : Seen) (cursors : Cursors) (watches : Watches)
     → IsOneChange old.keyring new.keyring →
@@ -213,7 +213,7 @@ module _ {E : Type 0} where
       (watched (whole_of old cursors) watches) before told.reply
       (watched (whole_of new (settled told.moved cursors)) watches) after)) (sym is) ran
 
--- what holds of a reply, and of its being there, holds of what is told by it
+-- what holds of a result and of its success holds of the reply with its cursor
 pub told_as : {E : Type 0} (r : Result Reply E) (t : Result Told E) (P : Reply → Type 0) →
     IfOk r (λ reply. t ≡ Ok (record { reply = reply; moved = None })) → is_ok t ≡ is_ok r
     → IfOk r P → IfOk t (λ (told : Told). P told.reply)
@@ -277,12 +277,12 @@ still_turns (Err e) class old new turned kept same = kept.turns
 
 -- ---- entries
 
--- What a read gave, with what a replace behind it would have given, where that is told.
+-- the answer to a read, and what a replace after it would return, if the world is known
 abbrev pub read_alone : Option World → Answer → Served
 read_alone None answer = record { read = answer; fails = false }
 read_alone (Some w) answer = record { read = answer; fails = fails_next (called w) }
 
--- where the answer is known by a fact on it
+-- a property that determines the answer
 pub told_so : (world : Option World) (name : Name) (given : Answer) (P : Answer → Type 0) →
     ((a : Answer) → P a → given ≡ a)
     → IfSome world (λ (w : World). P (read_answer w name)) → IfSome world (λ (w : World). given ≡ read_answer w name)
@@ -306,7 +306,7 @@ read_is : (world : Option World) (answer : Answer) → (read_alone world answer)
 read_is None answer = refl
 read_is (Some w) answer = refl
 
--- an entry was read, and united or not
+-- an entry was read, and merged or not
 pub ran_load : (rows : PolicyRows) (name : Name) (old : State) (before after : Option World) (faults later : ℕ)
     (reply : Reply) (new : State) (answer : Answer)
     → Gives (load rows old name answer) reply new → IfSome before (λ (w : World). answer ≡ read_answer w name) →
@@ -325,7 +325,7 @@ ran_load rows name old before after faults later reply new answer gives told bec
 
 -- ---- storing
 
--- the certificate isn't kept
+-- the certificate doesn't exist
 pub ran_absent : (rows : PolicyRows) (fpr : Fpr) (old : State) (seen : Seen) → cert_in old.held fpr ≡ None →
     Did rows (kinds.Shelf (calls.Store fpr)) old seen replies.Absent old seen
 ran_absent rows fpr old seen none =
@@ -346,7 +346,7 @@ pub none_kept : (o : Option Certificate) (fpr : Fpr) → (if is_some o then Some
 none_kept None fpr e = refl
 none_kept (Some c) fpr e = absurd (cc e)
 
--- it is kept
+-- the certificate exists
 pub ran_stored : (rows : PolicyRows) (fpr : Fpr) (kept : Certificate) (old : State) (before : Seen) (reply : Reply)
     (after : Seen) → cert_in old.held fpr ≡ Some kept
     → Stores fpr kept before reply after → Did rows (kinds.Shelf (calls.Store fpr)) old before reply old after
@@ -371,7 +371,7 @@ rose_later low mid high le less rose h = by (nat_le last_count mid) refl
     by true e = let most : last_count ≤ mid = leb-true last_count mid e in omega (arith, most)
     by false e = let risen : mid < high = rose (leb-false last_count mid e) in omega (arith, risen)
 
--- something was put
+-- something was written
 pub stores_put : (fpr : Fpr) (kept : Certificate) (answer : Answer) (octets : List ℕ) (before mid : Option World)
     (low high : ℕ) (reply : Reply) (after : Seen)
     → writing fpr kept answer ≡ Ok octets → IfSome before (λ (w : World). answer ≡ read_answer w (Cert fpr)) →
@@ -406,7 +406,7 @@ stores_put fpr kept answer octets (Some w) mid low high reply after is told beco
       cause = subst Failed (sym is) (λ f. rose_later low high after.faults le less (p.cause f));
     }
 
--- nothing was put
+-- nothing was written
 pub stores_told : (fpr : Fpr) (kept : Certificate) (answer : Answer) (before after : Option World) (low high : ℕ)
     (reply : Reply)
     → writing fpr kept answer ≡ Err reply → IfSome before (λ (w : World). answer ≡ read_answer w (Cert fpr)) →
@@ -427,7 +427,7 @@ stores_told fpr kept answer before after low high reply is told becomes cause =
       cause = subst Failed (sym is') (subst (λ (a : Answer). is_fault a ≡ true → Rose low high) e cause);
     }
 
--- what was given is the answer
+-- the answer that was returned
 pub given_is : (given : Given) (a : Answer) → given_as.Gives given a → answer_of given ≡ a
 given_is (Bytes bytes) a g = sym g
 given_is Absent a g = sym g
@@ -456,7 +456,7 @@ replied rows line old before new after reply given use_ e step served cause =
       cause = subst Cause (sym e) cause;
     }
 
--- a line that leaves the shelf alone
+-- a line that doesn't use the directory
 pub replied_alone : (rows : PolicyRows) (line : List ℕ) (old : Whole) (seen : Seen) (new : Whole)
     (reply : Option Reply) → use_of (heard line) ≡ unused
     → LineStep rows old line unserved reply new → Replied rows line old seen reply new seen
@@ -464,7 +464,7 @@ replied_alone rows line old seen new reply e step =
     replied rows line old seen new seen reply unserved unused e step (idle old.state seen.world)
     (λ f. absurd (never_failed old.state unused refl f))
 
--- a line that was too long
+-- a line that is too long
 pub replied_long : (rows : PolicyRows) (line : List ℕ) (engine : Engine) (cursors : Cursors) (watches : Watches)
     (seen : Seen) (told : Told) → longest < length line
     → told.reply ≡ replies.Long → told.moved ≡ None
@@ -478,7 +478,7 @@ replied_long rows line engine cursors watches seen told long r m =
     (replied_alone rows line whole seen whole (Some replies.Long) (ap use_of (heard_long line long))
     (too_long rows whole line unserved long)))
 
--- a line that is passed over
+-- a silent line
 pub replied_silent : (rows : PolicyRows) (line : List ℕ) (old : Whole) (seen : Seen) → length line ≤ longest →
     is_silent line ≡ true
     → Replied rows line old seen None old seen
@@ -486,7 +486,7 @@ replied_silent rows line old seen short silent =
     replied_alone rows line old seen old None (ap use_of (heard_silent line silent))
     (passed_over rows old line unserved short silent)
 
--- The octets of the reply were appended, where there is memory.
+-- the octets of the reply were appended, unless memory ran out
 pub stepped : {T E : Type 0} (r : Result T E) (rows : PolicyRows) (line : List ℕ) (old : Whole) (before : Seen)
     (new : Whole) (after : Seen) (had mid has : List ℕ) (reply : Reply)
     → Replied rows line old before (Some reply) new after → mid ≡ had → OnOk r (has ≡ mid ++ reply_text reply) →
@@ -501,7 +501,7 @@ stepped (Ok a) rows line old before new after had mid has reply p same f = recor
 }
 stepped (Err x) rows line old before new after had mid has reply p same f = tt
 
--- A line that is passed over appends nothing.
+-- a silent line appends nothing
 pub passed : (rows : PolicyRows) (line : List ℕ) (old : Whole) (before : Seen) (new : Whole) (after : Seen)
     (had has : List ℕ) → Replied rows line old before None new after
     → has ≡ had → Stepped rows line old before had new after has
@@ -514,7 +514,7 @@ passed rows line old before new after had has p same = record {
   octets = same ∙ sym (append-nil had);
 }
 
--- A reply that was told, and the cursor that moved then.
+-- a reply was written, and then the cursor moved
 module _ {T E : Type 0} where
   pub told_step : (r : Result T E) (rows : PolicyRows) (line : List ℕ) (old : Whole) (before : Seen) (mid : Engine)
       (at : Cursors) (watches : Watches) (new : Engine)
@@ -530,7 +530,7 @@ module _ {T E : Type 0} where
       (subst (λ (x : Whole). Replied rows line old before (Some told.reply) x after)
       (λ i. watched (whole_of (sym e i) (sym s i)) (sym w i)) p) same f
 
--- the same of the reply alone
+-- a reply that moves no cursor was written
 pub told_settled : (rows : PolicyRows) (line : List ℕ) (old : Whole) (before : Seen) (mid : Engine) (at : Cursors)
     (watches : Watches) (new : Engine) (cursors : Cursors)
     (left : Watches) (after : Seen) (told : Told) (reply : Reply) (moved : Option Moved) → told.reply ≡ reply →
@@ -546,7 +546,7 @@ told_settled rows line old before mid at watches new cursors left after told rep
 
 -- ---- watch lines
 
--- The watch lines were told.
+-- the watch lines were reported
 pub tells_of : (engine new : Engine) (cursors after : Cursors) (watches left : Watches) (lines : List Reply) →
     state_of new ≡ state_of engine
     → new.keyring.changes ≡ engine.keyring.changes → new.turns ≡ engine.turns → after ≡ cursors →
@@ -557,7 +557,7 @@ tells_of engine new cursors after watches left lines state changes turns same ar
   left = λ i. record { state = state i; changes = changes i; turns = turns i; cursors = same i; watches = told i };
 }
 
--- The watch lines were appended and told, where there is memory.
+-- the watch lines were appended and reported, unless memory ran out
 pub tells_behind : {T E : Type 0} (r : Result T E) (engine new : Engine) (cursors after : Cursors)
     (watches left : Watches) (lines : List Reply) (had has : List ℕ)
     → state_of new ≡ state_of engine → new.keyring.changes ≡ engine.keyring.changes → new.turns ≡ engine.turns →

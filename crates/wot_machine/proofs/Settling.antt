@@ -1,5 +1,4 @@
--- Watches that are settled stay so, line by line, and behind a line that leaves their basis undisturbed nothing is
--- told.
+-- Settled watches stay settled from line to line, and no watch line follows a line that leaves their basis undisturbed.
 use Rattle.std.proofs.Common.{◌≡◌, ◌≢◌, ◌⊎◌, inl, inr, ℕ, ◌≤◌, Bool, true, false, List, [], ◌∷◌, ◌++◌, Option, Some}
 use Rattle.std.proofs.Common.{None}
 use Rattle.std.proofs.Common.{refl, sym, ap, subst, ◌∙◌, arith}
@@ -42,7 +41,7 @@ use Rattle.wot_machine.proofs.Viewed.{does_views}
 use Rattle.wot_machine.proofs.Watched.{amount_has, plain_watching, watched_cases}
 use Rattle.wot_machine.proofs.Wholes.{turned_still}
 
--- ---- what is settled stays so
+-- ---- what is settled stays settled
 
 pub all_later : RestsOnLater → (old new : Engine) (basis : Basis) (watches : Watches) → IsKeptOn old new
     → AllSettled old basis watches → AllSettled new basis watches
@@ -53,7 +52,7 @@ all_later later old new basis watches on =
       rests = λ some. later old new basis watch.view watch.target watch.wanted watch.uid watch.told on (s.rests some);
     }) watches
 
--- on a basis that was moved on
+-- what is settled is settled on a basis that was moved forward
 pub all_carried : (engine : Engine) (old new : Basis) (watches : Watches) → bases.CarriesOn engine old new
     → AllSettled engine old watches → AllSettled engine new watches
 all_carried engine old new watches carries =
@@ -61,9 +60,9 @@ all_carried engine old new watches carries =
     (λ watch s. record { none = s.none; rests = λ some later on calm. s.rests some later on (carries later on calm) })
     watches
 
--- ---- nothing is told
+-- ---- nothing is reported
 
--- the question of a watch, from the view that is found
+-- a watch's question, from the view that is found
 abbrev OfQ : Engine → Option View → Watch → Type 0
 OfQ engine None watch = Unit {0}
 OfQ engine (Some view) watch =
@@ -89,7 +88,7 @@ quiet_by name told = by (told == told) refl
     by true e = refl
     by false e = absurd (eqb-false told told e refl)
 
--- Where nothing that they rest on was altered, and their views are open, no watch has a line.
+-- If nothing that they depend on was altered and their views are open, no watch has a line.
 pub nothing_told : (engine : Engine) (basis : Basis) (watches : Watches) → IsKeptOn engine engine
     → IsUndisturbed engine basis → AllSettled engine basis watches → AreOpen engine watches
     → AreLines (state_of engine) watches []
@@ -116,7 +115,7 @@ nothing_told engine basis (x ∷ xs) on calm all seen = (
 
 -- ---- a line
 
--- A reply that isn't the amount of a watch leaves the watches, or takes one away.
+-- a reply that isn't a watch's amount leaves the watches, or removes one
 abbrev LeavesOrTakes : Watches → Watches → Type 0
 LeavesOrTakes old new = (new ≡ old) ⊎ ((name : List ℕ) × (new ≡ without_watch old name))
 
@@ -164,9 +163,9 @@ all_left engine basis old new (inl same) all = subst (AllSettled engine basis) (
 all_left engine basis old new (inr took) all =
     subst (AllSettled engine basis) (sym took.1) (all_without (IsSettled engine basis) (is_name took.0) old all)
 
--- ---- an engine goes on
+-- ---- how an engine develops
 
--- A change after which no fewer certificates are kept takes none out.
+-- a change that doesn't reduce the number of certificates removes none
 abbrev pub ChangedOn : Type 0
 ChangedOn = (old new : Keyring) → IsOneChange old new → length old.certs ≤ length new.certs → IsKeyringOn old new
 
@@ -175,7 +174,7 @@ views_still old new before after same turns =
     let count = ap (λ (t : Turns). t.count) turns in
     record { counted = omega (arith, count); each = λ e name. inl (ap (λ (vs : Views). view_at vs name) same) }
 
--- The counts tell a change.
+-- one of the counts shows a change
 abbrev pub IsCountedOn : Whole → Whole → Type 0
 IsCountedOn old new = (new.changes ≢ old.changes) ⊎ (new.turns.count ≢ old.turns.count)
 
@@ -244,7 +243,7 @@ module _ (rows : PolicyRows) (on : TurnGoesOn) where
       views_still old.state.views new.state.views old.turns new.turns
       (does_views rows old.state (OfWatch name command) given reply new.state d) turned
 
-  -- What a line left, by its reply and the counts, goes on from what was there.
+  -- the state after a line develops from the one before, by its reply and the counts
   pub obeys_on : (old new : Whole) (class : Class) (given : Served) (reply : Reply)
       → Obeys rows old class given reply new → (reply ≡ replies.Done → IsCountedOn old new)
       → AreViewsOn old.state.views old.turns new.state.views new.turns
@@ -265,7 +264,7 @@ module _ (rows : PolicyRows) (on : TurnGoesOn) where
       plain
       g.watching
 
-  -- The line that was answered, and what was settled before it.
+  -- a line was answered, with what was settled before it
   pub settled_behind : RestsOnLater → ChangedOn → (old new : Engine) (cursors after : Cursors) (watches left : Watches)
       (command : Option Command) (given : Served) (reply : Reply) (basis : Option Basis)
       → Answers rows (watched (whole_of old cursors) watches) command given reply (watched (whole_of new after) left)
@@ -285,7 +284,7 @@ module _ (rows : PolicyRows) (on : TurnGoesOn) where
       all_left new basis watches left (answers_leaves was now command given reply a plain)
       (all_later later old new basis watches goes s)
 
-  -- The same, by the counts that were taken before it, of a basis that was kept or not.
+  -- a line was answered, by the counts before it, for a basis that was kept or dropped
   pub settled_told : RestsOnLater → ChangedOn → (old new : Engine) (cursors after : Cursors) (watches left : Watches)
       (command : Option Command) (given : Served) (reply : Reply) (found taken : Option Basis)
       (certificates changes turns : ℕ)
@@ -307,7 +306,7 @@ module _ (rows : PolicyRows) (on : TurnGoesOn) where
       (subst (λ n. (new.keyring.changes ≢ n) ⊎ (new.turns.count ≢ turns)) were (tells done)))
       plain (subst (AreSettled old watches) same s)
 
--- ---- what a question tells
+-- ---- the amount of a question
 
 pub sum_has : (s : State) (o : Option View) (target : Fpr) (wanted : ℕ) (uid : List ℕ) (sum : ℕ) → 1 ≤ wanted
     → is_some o ≡ true → IfSome o (λ (v : View). bases.HasAmount wanted sum (question_in s v target uid))
@@ -316,9 +315,9 @@ sum_has s None target wanted uid sum some seen is = absurd (cc seen)
 sum_has s (Some view) target wanted uid sum some seen is =
     amount_has s (Some view) target wanted uid is.0 sum some refl is.1 is.2
 
--- ---- the loop that gathers watch lines
+-- ---- the loop that collects watch lines
 
--- seen from the engine as it was before marks were made
+-- a watch that is settled after marks were made was settled before
 pub settled_before : RestsOnLater → (old new : Engine) (basis : Basis) (watch : Watch) → IsKeptOn new old →
     IsSettled new basis watch
     → IsSettled old basis watch
@@ -330,7 +329,7 @@ settled_before later old new basis watch on s = record {
 pub stays_back : (old new : Engine) → StaysButMarks old new → StaysButMarks new old
 stays_back old new stays = record { keyring = sym stays.keyring; views = sym stays.views; turns = sym stays.turns }
 
--- The counts of a basis that has grown are those that it had.
+-- a basis that grew has the same counts
 pub present_grown : (engine : Engine) (old new : Basis) → HasGrown old new → bases.IsPresent engine old →
     bases.IsPresent engine new
 present_grown engine old new more p = record { changes = more.changes ∙ p.changes; turns = more.turns ∙ p.turns }
@@ -346,7 +345,7 @@ grown_further old mid new a b = record {
 pub grown_not : (basis : Basis) → HasGrown basis basis
 grown_not basis = record { changes = refl; turns = refl; fprs = λ fpr e. e; whole = λ e. e }
 
--- Whatever more rests on the basis: where the rest is settled on it, and there is no line, all are.
+-- However much the basis grows: if the remaining watches are settled on it and there is no line, all are settled.
 abbrev pub SettlesSoFar : Engine → Basis → Watches → Watches → List Reply → Type 0
 SettlesSoFar engine basis all rest lines =
     lines ≡ [] → (more : Basis) → HasGrown basis more → AllSettled engine more rest → AllSettled engine more all
@@ -366,7 +365,7 @@ settles_still grown engine old new all rest name watch lines f g s none more h o
       others,
     )
 
--- a watch with one
+-- a watch with a line
 pub settles_not : (engine : Engine) (basis : Basis) (all rest : Watches) (said : Reply) (lines : List Reply)
     → SettlesSoFar engine basis all rest (lines ++ said ∷ [])
 settles_not engine basis all rest said [] none = absurd (cc none)
@@ -380,7 +379,7 @@ settles_all engine basis all rest lines f end none =
 
 -- ---- telling
 
--- Where no watch has a line nothing is told.
+-- if no watch has a line, nothing is reported
 pub tells_nothing : (whole : Whole) (had : List ℕ) → AreLines whole.state whole.watches [] →
     TellsBehind whole had whole had
 tells_nothing whole had none = record {

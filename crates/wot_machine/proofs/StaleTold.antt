@@ -1,6 +1,5 @@
--- Where a reply says that something is stale, its two numbers differ; and only commands of watches are replied the
--- amount
--- of a watch.
+-- If a reply says that something is stale, its two numbers differ; and only commands of watches reply with a watch's
+-- amount.
 use Rattle.std.proofs.Common.{◌≡◌, ℕ, Bool, true, false, cond, List, [], Option, Some, None, Result, Ok, Err, refl, sym}
 use Rattle.std.proofs.Common.{subst}
 use Rattle.std.specs.Prelude.{IfErr, MatchBool, ◌==◌, is_some, nat_le}

@@ -46,7 +46,7 @@ use Rattle.wot_machine.specs.Served.{Served}
 use Rattle.wot_machine.specs.Whole.{Whole}
 use Rattle.wot_machine.specs.Transcript.{Run}
 
--- what is true of all entries is true of those that are left
+-- what holds of all entries holds of those that are left
 pub all_without : (Q : Fpr × Certificate → Type 0) (test : Fpr → Bool) (certs : Certificates) → AllByRecursion Q certs →
     AllByRecursion Q (remove_entry test certs)
 all_without Q test [] all = tt

@@ -1,4 +1,4 @@
--- What lines do to views and their turns: a view that isn't as it was has a later turn, or isn't open.
+-- What lines do to views and their turns: a changed view has a later turn, or isn't open.
 use Rattle.std.proofs.Common.{◌≡◌, ◌⊎◌, inl, inr, ℕ, ◌+◌, ◌<◌, ◌≤◌, Bool, true, false, cond, List, [], Option, Some}
 use Rattle.std.proofs.Common.{None, refl, sym, ap, subst, ◌∙◌, arith, Result, Ok, Err}
 use Rattle.std.specs.Prelude.{is_some}
@@ -59,7 +59,7 @@ same_name name other e = (bytes_eq-Decides name other).0 (sym (is_eq-slice_cmp n
 abbrev pub AreViewsInOrder : Views → Type 0
 AreViewsInOrder views = AreInOrder view_name_cmp views
 
--- At most this view is another.
+-- at most this view changed
 pub record IsOneView (name : List ℕ) (old new : Views) : Type 0 where
   pub order : AreViewsInOrder old → AreViewsInOrder new
   pub others : (other : List ℕ) → is_name name other ≡ false → view_at new other ≡ view_at old other
@@ -121,7 +121,7 @@ close_view name s = by (is_some (view_at s.views name))
     by true = (drop_view name s.views, λ r. inr (gone_without view_name_cmp nat_list_cmp_total name s.views r))
     by false = (no_view name s.views, λ r. inl refl)
 
--- the other commands leave the views
+-- other commands don't change the views
 abbrev Keeps : State → Outcome → Type 0
 Keeps s outcome = outcome.state.views ≡ s.views
 
@@ -244,9 +244,9 @@ turns_more (Turning.closing name) old before new after p = by_more (without_turn
     (omega arith) p
 turns_more Turning.leaving old before new after p = let same = ap (λ (t : Turns). t.count) p in omega (arith, same)
 
--- ---- a view since some state
+-- ---- a view since an earlier state
 
--- The view is as it was, with its turn; or it isn't open; or its turn came later.
+-- the view and its turn are unchanged, or it isn't open, or its turn is later
 abbrev pub IsShown : List ℕ → Views → Turns → Views → Turns → Type 0
 IsShown view was since now turns =
     ((view_at now view ≡ view_at was view) × (turn_at turns view ≡ turn_at since view))
@@ -306,7 +306,7 @@ module _ (view : List ℕ) (was : Views) (since : Turns) where
           shown_same old before new after (v.0.others view e) (by_others (without_turn name before) name view old before
           new after (other_gone name view before e) t) s
 
--- ---- views and turns that are reached
+-- ---- reachable views and turns
 
 pub record AreSound (views : Views) (turns : Turns) : Type 0 where
   pub order : AreViewsInOrder views

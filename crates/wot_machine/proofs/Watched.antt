@@ -1,4 +1,4 @@
--- The commands of watches and the watch lines: what they reply has words, and there is one reply.
+-- The commands of watches, and the watch lines: their replies are printable, and each has only one.
 use Rattle.std.proofs.Common.{◌≡◌, inl, inr, ℕ, ◌≤◌, ◌==◌, Bool, true, false, List, [], ◌∷◌, ◌++◌, Option, Some, None}
 use Rattle.std.proofs.Common.{refl, sym, ap, subst, ◌∙◌, append_assoc, arith, length}
 use Rattle.std.specs.Prelude.{IfSome, MatchBool, if◌then◌else◌, is_some}
@@ -41,9 +41,9 @@ use Rattle.wot_machine.specs.Watching.{Opens, TakesOff, Tells, Watching, is_watc
 use Rattle.wot_machine.specs.Watching.{told_by, with_line}
 use Rattle.wot_machine.specs.Whole.{IsTurnedBy, Whole}
 
--- ---- commands that aren't of watches
+-- ---- other commands
 
--- What holds of each class of a watch.
+-- a claim that holds of each command of a watch
 pub watched_cases : (P : Class → Type 0) → ((name view : List ℕ) (target : Fpr) (wanted : ℕ) (uid : List ℕ) →
     P (OfWatch name (commands.On view target wanted uid)))
     → ((name : List ℕ) → P (OfWatch name commands.Off)) → (class : Class) → is_watching class ≡ true → P class
@@ -67,9 +67,9 @@ pub plain_watching : (s : Whole) (class : Class) (reply : Reply) (watches : Watc
     Watching s class reply watches → watches ≡ s.watches
 plain_watching s class reply watches e p = subst (λ (P : Type 0). P) (unwatched_is s class reply watches e) p
 
--- ---- they leave the state, the cursors, the turns and the shelf
+-- ---- commands of watches don't change the state, the cursors, the turns and the certificate directory
 
--- A class of a cursor is none of a watch, and the other way round.
+-- no command is both of a cursor and of a watch
 pub watched_unpaced : (class : Class) → is_watching class ≡ true → is_pacing class ≡ false
 watched_unpaced class e = watched_cases (λ (c : Class). is_pacing c ≡ false) (λ name view target wanted uid. refl)
     (λ name. refl) class e
@@ -105,7 +105,7 @@ uncalled_watched class e =
     watched_cases (λ (c : Class). use_by c ≡ unused) (λ name view target wanted uid. refl) (λ name. refl)
     class e
 
--- ---- words
+-- ---- printable replies
 
 left_worded : (told reply : Reply) (left watches : Watches) → HasWords told → LeavesWatches told left reply watches →
     HasWords reply
@@ -144,7 +144,7 @@ pub line_worded : (line : Reply) → IsWatchLine line → HasWords line
 line_worded said (inl is) = subst HasWords (sym is.2) tt
 line_worded said (inr is) = subst HasWords (sym is.1) tt
 
--- ---- a refusal leaves the watches
+-- ---- a refusal doesn't change the watches
 
 refused_not : (told reply : Reply) (P : Type 0) → reply ≡ told → is_refused told ≡ false → is_refused reply ≡ true → P
 refused_not told reply P e not is = let never : false ≡ true = sym not ∙ sym (ap is_refused e) ∙ is in absurd cc
@@ -278,14 +278,14 @@ Tells-some some old =
     let lines = lines_some some old.state old.watches in
     (lines.0, record old { watches = told_all old.watches lines.0 }, record { lines_are = lines.1; left = refl })
 
--- nothing is told where nothing is watched
+-- nothing is reported if there are no watches
 pub tells_nothing : (old : Whole) → old.watches ≡ [] → Tells old [] old
 tells_nothing old none = record {
   lines_are = subst (λ (ws : Watches). AreLines old.state ws []) (sym none) refl;
   left = refl;
 }
 
--- each is a watch line
+-- each of them is a watch line
 line_is : (name : List ℕ) (told : ℕ) (amount : Option ℕ) → IfSome (line_by name told amount) IsWatchLine
 line_is name told None = inr (name, refl)
 line_is name told (Some amount) = by (amount == told)
@@ -385,9 +385,9 @@ watching_some some s class e =
     (λ name view target wanted uid. opens_some some s name view target wanted uid (view_at s.state.views view))
     (λ name. off_some s name) class e
 
--- ---- the loop that gathers watch lines
+-- ---- the loop that collects watch lines
 
--- Whatever the lines of the rest are, behind these they are the lines of all.
+-- whatever the lines of the remaining watches are, these followed by them are the lines of all
 abbrev pub AreSoFar : State → Watches → Watches → List Reply → Type 0
 AreSoFar s all rest lines = (others : List Reply) → AreLines s rest others → AreLines s all (lines ++ others)
 
@@ -397,7 +397,7 @@ pub so_far_still : (s : State) (all rest : Watches) (name : List ℕ) (watch : W
     → IsLine s name watch None → AreSoFar s all rest lines
 so_far_still s all rest name watch lines f is others p = f others (None, others, is, p, refl)
 
--- a watch with one
+-- a watch with a line
 pub so_far_line : (s : State) (all rest : Watches) (name : List ℕ) (watch : Watch) (line : Reply) (lines : List Reply) →
     AreSoFar s all ((name, watch) ∷ rest) lines
     → IsLine s name watch (Some line) → AreSoFar s all rest (lines ++ line ∷ [])
@@ -405,20 +405,20 @@ so_far_line s all rest name watch line lines f is others p =
     subst (λ (ls : List Reply). AreLines s all ls) (sym (append_assoc lines (line ∷ []) others))
     (f (line ∷ others) (Some line, others, is, p, refl))
 
--- the end
+-- at the end
 pub so_far_all : (s : State) (all rest : Watches) (lines : List Reply) → AreSoFar s all rest lines → rest ≡ [] →
     AreLines s all lines
 so_far_all s all rest lines f none =
     subst (λ (ls : List Reply). AreLines s all ls) (append-nil lines)
     (f [] (subst (λ (ws : Watches). AreLines s ws []) (sym none) refl))
 
--- one more
+-- one more line
 pub all_more : (P : Reply → Type 0) (lines : List Reply) (line : Reply) → AllByRecursion P lines → P line
     → AllByRecursion P (lines ++ line ∷ [])
 all_more P [] said all p = (p, tt)
 all_more P (first ∷ lines) said all p = (all.0, all_more P lines said all.1 p)
 
--- a line that is there is a watch line
+-- a collected line is a watch line
 pub line_is_watch : (s : State) (name : List ℕ) (watch : Watch) (line : Reply) → IsLine s name watch (Some line) →
     IsWatchLine line
 line_is_watch s name watch line is = by (line_by name watch.told is.0) is.2 (line_is name watch.told is.0)
@@ -427,7 +427,7 @@ line_is_watch s name watch line is = by (line_by name watch.told is.0) is.2 (lin
     by None e w = absurd (cc e)
     by (Some other) e w = let same : line ≡ other = same_Some line other e in subst IsWatchLine (sym same) w
 
--- ---- what a question tells a watch
+-- ---- the amount of a question
 
 pub amount_has : (s : State) (o : Option View) (target : Fpr) (wanted : ℕ) (uid : List ℕ) (paths : List Path)
     (sum : ℕ) → 1 ≤ wanted → is_some o ≡ true
@@ -444,7 +444,7 @@ amount_has s (Some view) target wanted uid paths sum some seen answer is = (sum,
 
 -- ---- loops over watch lines
 
--- the first of what is left
+-- the first of the remaining lines
 pub first_is : (P : Reply → Type 0) (line : Reply) (rest others : List Reply) → rest ≡ line ∷ others →
     AllByRecursion P rest → P line × AllByRecursion P others
 first_is P said rest others e all = subst (AllByRecursion P) e all
@@ -462,7 +462,7 @@ pub text_all : (text : List ℕ) (rest all : List Reply) → length rest ≡ 0 �
 text_all text rest all none so = sym (append-nil text) ∙ ap (λ (ls : List Reply). text ++ octets_of ls)
     (sym (nil_from_length rest none)) ∙ so
 
--- the watches once they are told
+-- the watches after they are reported
 pub told_on : (now next first : Watches) (line : Reply) (rest others all : List Reply) →
     told_all now rest ≡ told_all first all → rest ≡ line ∷ others
     → next ≡ told_by now line → told_all next others ≡ told_all first all
@@ -492,7 +492,7 @@ begins_full old name view target wanted uid amount watches full w =
     (LeavesWatches (replies.WatchAmount name amount) (with_watch old name (opened view target wanted uid amount))
     replies.FullWatches watches)) (sym full) (refl, w)
 
--- where the question was answered
+-- if the question was answered
 pub opens_answered : (s : Whole) (name view : List ℕ) (target : Fpr) (wanted : ℕ) (uid : List ℕ) (o : Option View)
     (paths : List Path) (sum : ℕ) (reply : Reply) (watches : Watches)
     → 1 ≤ wanted → is_some o ≡ true → IfSome o (λ there. IsAnswer (question_in s.state there target uid) wanted paths) →
@@ -509,7 +509,7 @@ opens_answered s name view target wanted uid (Some there) paths sum reply watche
     by true e = let none : wanted ≡ 0 = eqb-true wanted 0 e in absurd (omega (arith, none, some))
     by false e = (paths, answer, is)
 
--- where the view isn't open
+-- if the view isn't open
 pub opens_unopened : (s : Whole) (name view : List ℕ) (target : Fpr) (wanted : ℕ) (uid : List ℕ) (o : Option View) →
     o ≡ None
     → Opens s name view target wanted uid o replies.View s.watches

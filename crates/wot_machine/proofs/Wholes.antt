@@ -1,4 +1,4 @@
--- What is counted at a step, and that there is one count.
+-- The counts after a step, and that they are unique.
 use Rattle.std.proofs.Common.{◌≡◌, ◌≢◌, inl, inr, ℕ, ◌+◌, ◌≤◌, List, refl, sym, ap, ◌∙◌, arith}
 use Rattle.std.specs.Prelude.{◌⊎◌}
 use Rattle.wot_keyring.specs.Held.{Held}
@@ -21,7 +21,7 @@ counted_one old m n same (inr a) (inr b) = a.1 ∙ sym b.1
 counted_one old m n same (inl a) (inr b) = absurd (b.0 (sym same ∙ a.0))
 counted_one old m n same (inr a) (inl b) = absurd (a.0 (same ∙ b.0))
 
--- the count after a step that leads to this
+-- there is a count after a step to this
 pub counted_some : (old : Whole) (new : Held)
     → (n : ℕ) × (((new ≡ old.state.held) × (n ≡ old.changes)) ⊎ ((new ≢ old.state.held) × (n ≡ old.changes + 1)))
 counted_some old new = by (held new old.state.held)
@@ -31,7 +31,7 @@ counted_some old new = by (held new old.state.held)
     by (inl same) = (old.changes, inl (same, refl))
     by (inr other) = (old.changes + 1, inr (other, refl))
 
--- as the keyring counts
+-- by the keyring's own count
 pub counted_by : (old new : Engine) (cursors after : Cursors) → IsOneChange old.keyring new.keyring →
     IsCounted (whole_of old cursors) (whole_of new after)
 counted_by old new cursors after (inl same) = inl (
@@ -94,12 +94,12 @@ turns_still (Turning.closing view) old new before after same p = by_still (witho
     after same p
 turns_still Turning.leaving old new before after same p = p
 
--- where the views stay the turns stay
+-- if the views don't change, the turns don't
 pub turned_still : (class : Class) (old new : Views) (before after : Turns) → new ≡ old →
     IsTurnedBy class old before new after → after ≡ before
 turned_still class old new before after same p = turns_still (turning_of class) old new before after same p
 
--- there is one turn more at most
+-- at most one more turn
 by_few : (altered : Turns) (name : List ℕ) (old new : Views) (before after : Turns) → altered.count ≤ before.count + 1 →
     AreTurnsBy altered name old before new after
     → after.count ≤ before.count + 1
@@ -122,7 +122,7 @@ pub turned_few : (class : Class) (old new : Views) (before after : Turns) →
     IsTurnedBy class old before new after → after.count ≤ before.count + 1
 turned_few class old new before after p = turns_few (turning_of class) old new before after p
 
--- ---- all of it
+-- ---- everything that is kept
 
 pub whole_same : (m n : Whole) → m.state ≡ n.state → m.changes ≡ n.changes → m.turns ≡ n.turns → m.cursors ≡ n.cursors →
     m.watches ≡ n.watches → m ≡ n

@@ -78,7 +78,7 @@ use Rattle.wot_machine.proofs.Absences.{tells_worded, verdicts_worded}
 
 -- ---- explanations
 
--- the first word that applies is one of the table, or 0
+-- the first word that applies is from the table, or 0
 first_below : (n : ℕ) (words : List Word) → 0 < n → AllByRecursion (λ (word : Word). word.0 < n) words →
     first_word words < n
 first_below n [] zero all = zero

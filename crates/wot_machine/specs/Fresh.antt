@@ -22,7 +22,7 @@ use Rattle.wot_machine.specs.Whole.{Whole}
 abbrev pub IsDump : List ℕ → Type 0
 IsDump line = line ≡ codes "dump"
 
--- That is so where the command is `dump`.
+-- P holds if the command is `dump`
 abbrev pub OnDump : Class → Type 0 → Type 0
 OnDump (OfState (kinds.Read reads.Dump)) P = P
 OnDump _ P = Unit {0}
@@ -31,9 +31,9 @@ OnDump _ P = Unit {0}
 abbrev pub dumped : State → List (List ℕ)
 dumped s = inputs.lines_of (lines_of (commands_of s))
 
--- The lines of a dump of this state, answered from the start on, lead to a state with all that a dump carries over, its
--- signatures judged by the rows, and to no cursor. Each line has a reply, and none is a refusal. The shelf may be any,
--- and no line reads it.
+-- The lines of a dump of this state, answered by a fresh machine, restore everything that a dump carries over, with
+-- signatures judged by the policy rows, and no cursor. Each line has a reply and none is a refusal. No line uses the
+-- certificate directory.
 pub record IsMadeAnew (rows : PolicyRows) (s : State) : Type 0 where
   pub replies : List Reply
   pub new : Whole
@@ -44,7 +44,7 @@ pub record IsMadeAnew (rows : PolicyRows) (s : State) : Type 0 where
   pub each : length replies ≡ length (dumped s)
   pub well : AllByRecursion (λ reply. is_refusal reply ≡ false) replies
 
--- What `Engine::dump` promises of an engine with the standard limits makes its state anew.
+-- For an engine with the standard limits, the contract of `Engine::dump` implies that its lines restore its state.
 abbrev pub DumpMakesAnew : PolicyRows → Engine → Type 0
 DumpMakesAnew rows engine =
     engine.keyring.limits ≡ standard_limits → IsRestored rows engine → AreLines (commands_of (state_of engine))

@@ -1,4 +1,4 @@
--- What a line does: one step of the plain machine.
+-- What a line does: one step of the abstract machine.
 use Rattle.std.specs.Prelude.{◌≡◌, ℕ, nat_lt, List, length, Option, Some, None, MatchBool}
 use Rattle.wot_types.specs.declared.name.Name.{Name}
 use Rattle.wot_policy.specs.declared.rows.PolicyRows.{PolicyRows}
@@ -22,17 +22,17 @@ use Rattle.wot_machine.specs.Pacing.{Paces}
 use Rattle.wot_machine.specs.Watching.{Watching}
 use Rattle.wot_machine.specs.Whole.{IsCounted, IsTurnedBy, Whole}
 
--- This is the reply, and this is the state.
+-- the reply and the new state of this outcome
 abbrev pub Gives : Outcome → Reply → State → Type 0
 Gives outcome reply new = (reply ≡ outcome.reply) × (new ≡ outcome.state)
 
--- An entry of these octets is loaded, with this reply: so the state was before and behind it.
+-- loading an entry with these octets has this reply, and changes the state so
 abbrev pub Loads : PolicyRows → Ends State → Name → List ℕ → Reply → Type 0
 Loads rows state name octets reply = Gives (load rows state.old name (Answer.entry octets)) reply state.new
 
--- What a command does to the state, by its class: from old to new, with this reply. What the shelf gives in this line
--- matters for its calls alone. The commands of cursors and of watches leave the state, and have their replies by
--- `Paces` and by `Watching`.
+-- What a command does to the state, and its reply, by its class. What the certificate directory returns matters only
+-- for `load` and `store`. Commands of cursors and watches don't change the state; `Paces` and `Watching` say what they
+-- reply.
 abbrev pub DoesTo : PolicyRows → State → StateCommand → Served → Reply → State → Type 0
 DoesTo rows old (kinds.Change change) given reply new = Gives (change_of rows old change) reply new
 DoesTo rows old (kinds.View view change) given reply new = Gives (view_change_of old view change) reply new
@@ -55,22 +55,22 @@ pub record Obeys (rows : PolicyRows) (old : Whole) (class : Class) (given : Serv
   pub paces : Paces old class reply new.cursors
   pub watching : Watching old class reply new.watches
 
--- This is the reply, and nothing changes.
+-- this reply, and nothing changes
 abbrev pub Stays : Whole → Reply → Reply → Whole → Type 0
 Stays old told reply new = (reply ≡ told) × (new ≡ old)
 
--- What a line does that is neither too long nor silent.
+-- what a line does that is neither too long nor silent
 abbrev pub Answers : PolicyRows → Whole → Option Command → Served → Reply → Whole → Type 0
 Answers rows old None given reply new = Stays old replies.Line reply new
 Answers rows old (Some command) given reply new = Obeys rows old (class_of command) given reply new
 
--- There is such a reply.
+-- there is a reply, and P holds of it
 abbrev pub HasReply : (Reply → Whole → Type 0) → Option Reply → Whole → Type 0
 HasReply P None new = ⊥
 HasReply P (Some reply) new = P reply new
 
--- What a line does, in which the shelf gives this: from old to new, with this reply; a silent line has none. The rows
--- are those of the policy.
+-- What a line does, from old to new, with its reply; a silent line has none. `given` is what the certificate directory
+-- returns, and `rows` are those of the policy.
 abbrev pub LineStep : PolicyRows → Whole → List ℕ → Served → Option Reply → Whole → Type 0
 LineStep rows old line given reply new =
     MatchBool (nat_lt longest (length line)) (HasReply (Stays old replies.Long) reply new)

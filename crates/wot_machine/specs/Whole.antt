@@ -1,4 +1,4 @@
--- All that is kept between two lines: the state, how often it changed, how far listings have come, and what is watched.
+-- Everything that lasts from one line to the next: the state, the count of its changes, cursors and watches.
 use Rattle.std.specs.Prelude.{◌≡◌, ◌≢◌, ◌⊎◌, ◌+◌, ℕ, List, []}
 use Rattle.wot_cache.specs.State.{Engine, State, start, state_of}
 use Rattle.wot_cache.specs.Turns.{IsOneClosing, IsOneTurn, Turns, no_turns}
@@ -19,11 +19,11 @@ pub record Whole : Type 0 where
   pub cursors : Cursors
   pub watches : Watches
 
--- what is kept before the first line
+-- before the first line
 abbrev pub beginning : Whole
 beginning = record { state = start; changes = 0; turns = no_turns; cursors = []; watches = [] }
 
--- what is kept where this is the engine, these are the cursors, and nothing is watched
+-- with this engine, these cursors, and no watches
 abbrev pub whole_of : Engine → Cursors → Whole
 whole_of engine cursors = record {
   state = state_of engine;
@@ -33,17 +33,17 @@ whole_of engine cursors = record {
   watches = [];
 }
 
--- the same with these watches
+-- with the watches replaced
 abbrev pub watched : Whole → Watches → Whole
 watched s watches = record s { watches = watches }
 
--- What is held is as it was, and so is the count of changes; or it isn't, and that is one change.
+-- What is held and the count of changes are unchanged; or what is held changed, and the count rose by one.
 abbrev pub IsCounted : Whole → Whole → Type 0
 IsCounted old new =
     ((new.state.held ≡ old.state.held) × (new.changes ≡ old.changes))
     ⊎ ((new.state.held ≢ old.state.held) × (new.changes ≡ old.changes + 1))
 
--- What a command is to the turns of views: it changes or opens this one, it closes this one, or it is nothing to them.
+-- What a command does to the turns of views: it opens or changes a view, closes one, or does nothing to them.
 pub data Turning : Type 0 where
   turning : List ℕ → Turning
   closing : List ℕ → Turning
@@ -58,7 +58,7 @@ abbrev pub turning_of : Class → Turning
 turning_of (OfState (kinds.View view change)) = turning_in view change
 turning_of _ = leaving
 
--- What it does to them, by what it did to that view.
+-- how it changes them, by what it did to the view
 abbrev pub AreTurned : Turning → Views → Turns → Views → Turns → Type 0
 AreTurned (turning view) old before new after = IsOneTurn view old before new after
 AreTurned (closing view) old before new after = IsOneClosing view old before new after

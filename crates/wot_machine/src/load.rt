@@ -23,7 +23,7 @@ use wot_policy::{Ask, Policy};
 use wot_script::Reply;
 use wot_types::{Memory, Name};
 
-/// Reads an entry of the shelf, and unites its one certificate with what is held.
+/// Reads an entry of the certificate directory, and merges its one certificate with what is held.
 pub fn load<D: Shelf, F: Fn(Ask) -> bool>(
     engine: &mut Engine,
     name: &Name,
@@ -58,7 +58,7 @@ pub fn load<D: Shelf, F: Fn(Ask) -> bool>(
     }
 }
 
-/// Unites the one certificate of an entry's octets with what is held.
+/// Merges the one certificate of an entry's octets with what is held.
 fn enter<F: Fn(Ask) -> bool>(
     engine: &mut Engine,
     name: &Name,

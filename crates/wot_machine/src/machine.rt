@@ -1,9 +1,7 @@
-//! The machine between two lines, and what one line does: it is read as a command, the command is run over the engine
-//! and the shelf, its reply is printed, and the watch lines are told behind it.
-//!
-//! It stands on the functions of the commands beside it, one file each. What a command comes to is defined in
-//! `specs/Outcome.antt` and `specs/LineStep.antt`; a new command has its arm where its class is, in `state`, `pacing`
-//! or `watching`.
+//! The machine between two lines, and what one line does: it is read as a command, the command is run on the engine and
+//! the certificate directory, its reply is printed, and the watch lines are printed after it.
+//! A function for each command is in the files next to this one. `specs/Outcome.antt` and `specs/LineStep.antt` define
+//! the outcome of each command. A new command gets its arm with its class, in `state`, `pacing` or `watching`.
 ghost use Rattle.std.specs.Prelude.{◌≡◌, ◌≤◌, ◌<◌, ◌+◌, ◌-◌, ◌^◌, [], ◌++◌};
 ghost use Rattle.std.specs.Prelude.{length, vec_items, vec_len, vec_capacity};
 ghost use Rattle.std.specs.Prelude.{Some, None, false, true, IfOk, IfSome, IsOk, OnOk, OnErr};
@@ -49,14 +47,14 @@ use wot_script::{LineFault, Reply, print_reply, read_line};
 use wot_types::{Limits, Memory, Steps};
 use wot_watch::Watches;
 
-/// The most octets of a line, without its line feed.
+/// The most octets in a line, without its line feed.
 const LONGEST: usize = 16_777_216;
 
-/// The room that a reply of one line needs at most.
+/// The most octets that a reply of one line needs.
 const ROOM: usize = 128;
 
-/// The machine between two lines: one engine, with the standard limits, over which the lines of all clients go, and
-/// their cursors.
+/// The machine between two lines: one engine with the standard limits, which all clients share, and their cursors and
+/// watches.
 #[derive(Drop)]
 pub struct Machine {
     alloc: Global,
@@ -64,7 +62,7 @@ pub struct Machine {
     cursors: Cursors,
     watches: Watches,
     steps: Steps,
-    // What the amounts last told rest on, where that is known.
+    // What the last reported amounts depend on, if that is known.
     basis: Option<Basis>,
 }
 
@@ -82,7 +80,7 @@ impl Model for Machine {
 }
 
 impl Machine {
-    /// A machine that keeps nothing yet.
+    /// An empty machine.
     pub fn new(alloc: Global) -> Machine
         ensures start { result.engine ≡ empty standard_limits }
         ensures cursors { result.cursors ≡ [] }
@@ -99,17 +97,17 @@ impl Machine {
         }
     }
 
-    /// How many edges were made for all questions so far. The count stands still at `u64::MAX`.
+    /// The number of edges made for all questions so far. The count stays at `u64::MAX` when it gets there.
     pub fn made(&self) -> u64
         ensures made { result ≡ self.now.made }
     {
         self.steps.made
     }
 
-    /// One line, without its line feed; its reply is appended. After `Memory` `out` is as before, and so is the machine
-    /// but for marks and the count of edges made. Room for 128 octets is taken in `out` before anything changes. A
-    /// `load` line calls the shelf once, and a `store` line twice at most; no other calls it. After `Memory` an entry
-    /// that a `store` line puts may stand there already.
+    /// Runs one line, without its line feed, and appends its reply. After `Memory`, `out` is unchanged, and so is the
+    /// machine except for marks and the count of made edges; an entry that a `store` line writes may be there already.
+    /// Room for 128 octets is reserved in `out` before anything changes. A `load` line makes one call to the
+    /// certificate directory, a `store` line at most two, and any other line none.
     #[tactic(auto, using(crate::proofs::Unchanged::unchanged))]
     pub fn line<D: Shelf, F: Fn(Ask) -> bool>(
         &mut self,
@@ -129,23 +127,23 @@ impl Machine {
         ensures entries { OnErr result (MayPut (state_of self.old.engine) (use_of (heard line.now))
             (D.world shelf.old) (D.world shelf.new)) }
         ensures later { D.faults shelf.old ≤ D.faults shelf.new }
-        // The lines that the reply to `dump` holds make the state anew in a fresh machine, by whatever rows it judges.
+        // The lines of a reply to `dump` restore the state in a fresh machine, whatever its policy rows are.
         ensures anew { OnOk result
             (IsDump line.now → (rows : PolicyRows) → IsMadeAnew rows (state_of self.old.engine)) }
-        // A line of the reply to `explain` says `edge` exactly for each usable edge, by the definition of edges alone.
+        // A line of a reply to `explain` says `edge` exactly for each usable edge, by the definition of edges alone.
         ensures edges { OnOk result (LineMarks self.old.engine (heard line.now)) }
         ensures kept { OnErr result (StaysKept self.old self.new × (out.new.items ≡ out.old.items)) }
         ensures room { OnOk result (is_silent line.now ≡ false → vec_len out.old + 128 ≤ vec_capacity out.new) }
-        // A line that leaves the state, as one that is silent or refused, or asks or lists, leaves stamps and counts
-        // too.
+        // A line that doesn't change the state (it is silent or refused, or it asks or lists) doesn't change stamps and
+        // counts.
         ensures unchanged { state_of self.new.engine ≡ state_of self.old.engine →
             StaysButMarks self.old.engine self.new.engine }
-        // A question makes edges of what is stale for its view, and each other line makes none.
+        // A question makes edges for the certificates that are stale in its view. Any other line makes none.
         ensures makes { LineMakes result (heard line.now) self.old.cursors self.old.engine self.new.engine
             self.old.made self.new.made }
         ensures counted { IsOneChange self.old.engine.keyring self.new.engine.keyring }
         ensures turned { self.new.engine.turns.count ≤ self.old.engine.turns.count + 1 }
-        // The policy is asked once for each sound signature that an import or a load adds, and in no other line.
+        // The policy is asked once for each valid signature that an import or a load adds, and in no other line.
         ensures asked { LineAsks result (heard line.now) (state_of self.old.engine) (state_of self.new.engine)
             policy.old policy.new }
         ensures judged { IsJudgedBy (rows_of policy.old) self.new.engine.keyring }
@@ -159,8 +157,9 @@ impl Machine {
         }
     }
 
-    /// The reply to a line, without its line feed; none to one that is passed over. After `Memory` the machine is as
-    /// before but for marks and the count of edges made. A cursor moves once its piece was told ([`Machine::settle`]).
+    /// The reply to a line, without its line feed; None if the line is silent. After `Memory` the machine is unchanged
+    /// except for marks and the count of made edges. A cursor moves only once its piece is written
+    /// ([`Machine::settle`]).
     #[tactic(auto, using(crate::proofs::Unchanged::unchanged))]
     pub fn reply<D: Shelf, F: Fn(Ask) -> bool>(
         &mut self,
@@ -223,7 +222,7 @@ impl Machine {
         Ok(Some(told))
     }
 
-    /// Appends a reply, and moves the cursor of which it is a piece. After `Memory` all is as before.
+    /// Appends a reply, and moves the cursor if the reply is its piece. After `Memory` nothing changed.
     fn put(&mut self, told: Told, out: &mut Vec<u8>) -> Result<(), Memory>
         requires words { HasWords told.reply }
         ensures appended { OnOk result (out.new.items ≡ out.old.items ++ reply_text told.reply) }
@@ -241,7 +240,7 @@ impl Machine {
         Ok(())
     }
 
-    /// Moves the cursor that gave a piece which was told.
+    /// Moves the cursor whose piece was written.
     pub fn settle(&mut self, moved: Option<Moved>)
         ensures settled { self.new.cursors ≡ settled moved self.old.cursors }
         ensures engine { self.new.engine ≡ self.old.engine }
@@ -251,13 +250,13 @@ impl Machine {
         settle(moved, &mut self.cursors);
     }
 
-    /// Appends the watch lines of what is kept, by name of watch: one for each watch whose amount isn't the one last
-    /// told, and one for each whose view isn't open. They are told then, and the latter watches are taken away. After
-    /// `Memory` `out` is as before, and so is the machine but for marks and the count of edges made.
+    /// Appends the watch lines, by name of watch: one for each watch whose amount isn't the last one reported, and one
+    /// for each whose view isn't open. They count as reported then, and the latter watches are removed. After `Memory`,
+    /// `out` is unchanged, and so is the machine except for marks and the count of made edges.
     pub fn tell(&mut self, out: &mut Vec<u8>) -> Result<(), Memory>
         ensures tells { OnOk result (TellsBehind (kept self.old) out.old.items (kept self.new) out.new.items) }
         ensures kept { OnErr result (StaysKept self.old self.new × (out.new.items ≡ out.old.items)) }
-        // Nothing is made where the amounts are known, or each watch makes what a question from its view makes.
+        // Nothing is made if the amounts are known. Otherwise each watch makes what a question from its view makes.
         ensures makes { TellingMakes result self.old.watches self.old.engine self.new.engine
             self.old.made self.new.made }
         ensures stays { StaysButMarks self.old.engine self.new.engine }
@@ -273,7 +272,7 @@ impl Machine {
         Ok(())
     }
 
-    /// Whether no watch has a line, where that is known without asking anything.
+    /// Whether it is known, without asking anything, that no watch has a line.
     fn is_settled(&mut self) -> bool
         ensures settled { result ≡ true → AreLines (state_of self.old.engine) self.old.watches [] }
         ensures same { self.new ≡ self.old }
@@ -281,7 +280,7 @@ impl Machine {
         are_settled(&self.engine, &self.watches, &mut self.basis)
     }
 
-    /// The watch lines, none of which is told yet.
+    /// The watch lines. None of them counts as reported yet.
     pub fn watch_lines(&mut self) -> Result<Vec<Reply>, Memory>
         ensures lines { IfOk result (λ lines. AreLines (state_of self.old.engine) self.old.watches lines.items) }
         ensures each { IfOk result (λ lines. AllByRecursion IsWatchLine lines.items) }
@@ -308,7 +307,7 @@ impl Machine {
         Ok(lines)
     }
 
-    /// These watch lines were told.
+    /// Marks these watch lines as reported.
     pub fn told(&mut self, lines: &[Reply])
         ensures told { self.new.watches ≡ told_all self.old.watches lines.now }
         ensures engine { self.new.engine ≡ self.old.engine }
@@ -323,7 +322,7 @@ impl Machine {
     }
 }
 
-/// What an engine counts, by which it is seen whether a line may have closed a view or taken a certificate out.
+/// The engine's counts, which show whether a line may have closed a view or removed a certificate.
 #[derive(Clone, Copy)]
 struct Counts {
     certificates: usize,
@@ -345,7 +344,7 @@ impl Counts {
     }
 }
 
-/// The basis, where what was settled before a line still is.
+/// The basis, if what was settled before a line still is.
 fn kept_on(basis: Option<Basis>, engine: &Engine, before: Counts, reply: &Reply) -> Option<Basis>
     ensures same { IfSome result (λ kept. basis ≡ Some kept) }
     ensures more { IfSome result (λ _. before.certificates ≤ length engine.now.keyring.certs) }
@@ -359,8 +358,8 @@ fn kept_on(basis: Option<Basis>, engine: &Engine, before: Counts, reply: &Reply)
     None
 }
 
-/// Whether what was settled before a line still is, by its reply: no certificate is gone, no watch began, and no view
-/// was closed, since a line that closes one is replied `ok` and counts nothing.
+/// Whether what was settled before a line still is, by its reply: no certificate was removed, no watch began, and no
+/// view was closed. A line that closes a view has the reply `ok` and raises no count.
 fn goes_on(engine: &Engine, before: Counts, reply: &Reply) -> bool
     ensures more { result ≡ true → before.certificates ≤ length engine.now.keyring.certs }
     ensures none { result ≡ true → IsNoAmount reply.now }
@@ -402,7 +401,8 @@ fn test_silent(line: &[u8]) -> bool
     }
 }
 
-/// Does what a line asks for. A reply that may be long comes with no change but that a cursor moves once it was told.
+/// Does what a line asks for. A command whose reply may be long changes nothing, except that a cursor moves once the
+/// reply is written.
 fn answer<D: Shelf, F: Fn(Ask) -> bool>(
     alloc: Global,
     engine: &mut Engine,

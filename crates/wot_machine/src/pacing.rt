@@ -122,7 +122,7 @@ pub fn next(
     }
 }
 
-/// The next piece of a cursor whose list is the one of its beginning.
+/// The next piece of a cursor that isn't stale.
 fn give(
     alloc: Global,
     engine: &mut Engine,
@@ -137,7 +137,7 @@ fn give(
     ensures stays { StaysButMarks engine.old engine.new }
     ensures makes { PieceMakes result (Some cursor.now) engine.old engine.new steps.old.made steps.new.made }
 {
-    // No line begins a cursor that wants nothing.
+    // No command begins a cursor that wants nothing.
     if cursor.wanted() == 0 {
         return Ok(alone(Reply::Piece(0, BindLines::new(alloc))));
     }
@@ -149,7 +149,7 @@ fn give(
     }
 }
 
-/// The piece over the parts that are seen from the cursor's view.
+/// The piece over the parts of the cursor's view.
 fn piece(
     alloc: Global,
     parts: &Parts<'_>,
@@ -178,7 +178,7 @@ fn piece(
     Ok(Told { reply, moved })
 }
 
-/// Where the cursor stands once these bindings were told.
+/// The place of the cursor once these bindings are written.
 fn moved_behind(alloc: Global, name: &ViewName, binds: &[Bind]) -> Result<Option<Moved>, Memory>
     ensures moved { IfOk result (λ moved. (cursors : TheCursors) →
         settled moved cursors ≡ behind cursors name.now binds.now) }

@@ -9,7 +9,7 @@ use wot_keyring::Pending;
 use wot_script::{Hint, PendingLine, PendingLines, Reply};
 use wot_types::{Fpr, Memory};
 
-/// A line for each sound signature without a verdict.
+/// The reply to `pending`: a line for each valid signature without a verdict.
 pub fn pending(alloc: Global, engine: &Engine) -> Result<Reply, Memory>
     ensures pending { IfOk result (λ reply. reply ≡ (pending_of (state_of engine.now)).reply) }
 {

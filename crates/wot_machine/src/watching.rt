@@ -76,7 +76,7 @@ pub fn on(
     }
 }
 
-/// Begins a watch whose opening amount this is, or begins it anew.
+/// Begins a watch with this first amount, or restarts it.
 fn begin(
     alloc: Global,
     watches: &mut Watches,
@@ -115,7 +115,8 @@ pub fn off(watches: &mut Watches, name: &ViewName) -> Reply
     Reply::Done
 }
 
-/// The watch lines, by name of watch, none of which is told yet. Where there is none, all amounts rest on the basis.
+/// The watch lines, by name of watch, none of which counts as reported yet. If there are none, all amounts depend on
+/// the basis.
 pub fn watch_lines(
     alloc: Global,
     engine: &mut Engine,
@@ -143,7 +144,7 @@ pub fn watch_lines(
     Ok(lines)
 }
 
-/// The line of a watch; none where its amount is the one last told.
+/// The line of a watch; None if its amount is the last one reported.
 fn watch_line(
     alloc: Global,
     engine: &mut Engine,
@@ -181,8 +182,7 @@ fn watch_line(
     }
 }
 
-/// The amount of the answer to a question of a view, which rests on the basis from then on; none where the view isn't
-/// open.
+/// The amount of the answer to a question from a view, on which the basis then depends; None if the view isn't open.
 fn amount_of(
     engine: &mut Engine,
     steps: &mut Steps,
@@ -205,7 +205,7 @@ fn amount_of(
     ensures stays { StaysButMarks engine.old engine.new }
     ensures never_less { steps.old.made ≤ steps.new.made }
 {
-    // No line begins a watch that wants nothing.
+    // No command begins a watch that wants nothing.
     if wanted == 0 {
         return match engine.time(view) {
             Some(_) => Ok(Some(0)),
@@ -219,8 +219,8 @@ fn amount_of(
     }
 }
 
-/// Whether no watch has a line, where that is known without asking anything: nothing was altered that the basis rests
-/// on, and the views are open.
+/// Whether it is known, without asking anything, that no watch has a line: nothing that the basis depends on was
+/// altered, and all views are open.
 pub fn are_settled(engine: &Engine, watches: &Watches, basis: &mut Option<Basis>) -> bool
     requires settled { AreSettled engine.now watches.now basis.old }
     ensures quiet { result ≡ true → AreLines (state_of engine.now) watches.now [] }
@@ -246,7 +246,7 @@ fn all_open(engine: &Engine, watches: &Watches) -> bool
     true
 }
 
-/// These watch lines were told. Takes no memory.
+/// Marks these watch lines as reported. Takes no memory.
 pub fn tell_all(watches: &mut Watches, lines: &[Reply])
     ensures told { watches.new ≡ told_all watches.old lines.now }
 {
@@ -257,7 +257,7 @@ pub fn tell_all(watches: &mut Watches, lines: &[Reply])
     }
 }
 
-/// This watch line was told.
+/// Marks this watch line as reported.
 fn tell_one(watches: &mut Watches, line: &Reply)
     ensures told { watches.new ≡ told_by watches.old line.now }
 {

@@ -1,7 +1,6 @@
 //! The newest valid certification of every issuer on a user ID, found in one walk over its signatures.
 //!
 //! It stands on `latest`, `newest` and `kinds`, and on `specs/Certifiers.antt`. `wot_live` makes one edge of each.
-// The newest certifications of all issuers on a user ID, in one walk.
 ghost use Rattle.std.specs.Prelude.{◌≡◌, ◌<◌, ◌^◌, length, Some, OnOk, IfOk, if◌then◌else◌};
 ghost use Rattle.std.specs.List.{slice_get};
 ghost use Rattle.std.specs.Option.{option_copied};

@@ -28,7 +28,8 @@ returns-in-Ok-clause-anew g c =
 
 pub returns-in-Err-Line-clause-anew : goal.returns-in-Err-Line-clause-anew
 returns-in-Err-Line-clause-anew g c =
-    dump_is_read c.args.line.now ((rows : PolicyRows) → IsMadeAnew rows (state_of c.args.engine.now)) ((rw c.in-Err-Line.field-0-is at c.in-Err-Line.ensures.line) refl)
+    dump_is_read c.args.line.now ((rows : PolicyRows) → IsMadeAnew rows (state_of c.args.engine.now))
+    ((rw c.in-Err-Line.field-0-is at c.in-Err-Line.ensures.line) refl)
 
 pub returns-in-Ok-clause-ran : goal.returns-in-Ok-clause-ran
 returns-in-Ok-clause-ran g c = rw c.in-Ok.ensures.read (rw c.sort.ensures.class at c.act.ensures.ran)
@@ -38,8 +39,10 @@ returns-in-Ok-clause-untouched g c = rw c.in-Ok.ensures.read (rw c.sort.ensures.
 
 pub returns-in-Err-Line-clause-ran : goal.returns-in-Err-Line-clause-ran
 returns-in-Err-Line-clause-ran g c =
-    ran_told_line c.alone.result (rows_of c.args.policy.now) (command_of c.args.line.now) c.args.engine.now c.args.cursors.now c.args.watches.now
-    (record { world = g.D.Shelf.world c.args.shelf.now; faults = g.D.Shelf.faults c.args.shelf.now }) c.alone.ensures.reply c.alone.ensures.moved
+    ran_told_line c.alone.result (rows_of c.args.policy.now) (command_of c.args.line.now) c.args.engine.now
+    c.args.cursors.now c.args.watches.now
+    (record { world = g.D.Shelf.world c.args.shelf.now; faults = g.D.Shelf.faults c.args.shelf.now })
+    c.alone.ensures.reply c.alone.ensures.moved
     ((rw c.in-Err-Line.field-0-is at c.in-Err-Line.ensures.line) refl)
 
 pub returns-in-Ok-clause-entries : goal.returns-in-Ok-clause-entries
@@ -53,10 +56,12 @@ pub returns-in-Ok-clause-asked : goal.returns-in-Ok-clause-asked
 returns-in-Ok-clause-asked g c = rw c.in-Ok.ensures.read (rw c.sort.ensures.class at c.act.ensures.asked)
 
 pub returns-in-Err-Line-clause-asked : goal.returns-in-Err-Line-clause-asked
-returns-in-Err-Line-clause-asked g c = asks_not _ (command_of c.args.line.now) (state_of c.args.engine.now) c.args.policy.now
+returns-in-Err-Line-clause-asked g c = asks_not _ (command_of c.args.line.now) (state_of c.args.engine.now)
+    c.args.policy.now
 
 pub returns-in-Err-Memory-clause-asked : goal.returns-in-Err-Memory-clause-asked
-returns-in-Err-Memory-clause-asked g c = asks_not _ (command_of c.args.line.now) (state_of c.args.engine.now) c.args.policy.now
+returns-in-Err-Memory-clause-asked g c = asks_not _ (command_of c.args.line.now) (state_of c.args.engine.now)
+    c.args.policy.now
 
 pub returns-in-Ok-clause-edges : goal.returns-in-Ok-clause-edges
 returns-in-Ok-clause-edges g c = rw c.in-Ok.ensures.read (rw c.sort.ensures.class at c.act.ensures.edges)
