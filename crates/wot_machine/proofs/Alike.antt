@@ -19,7 +19,7 @@ use Rattle.wot_certd.specs.World.{World}
 use Rattle.wot_cache.specs.State.{State}
 use Rattle.wot_cache.specs.Views.{view_at}
 use Rattle.wot_machine.specs.declared.class.Class.{Class}
-use Rattle.wot_machine.specs.declared.class.Class.TheVariants.{State as OfState, Cursor as OfCursor, Watch as OfWatch}
+use Rattle.wot_machine.specs.declared.class.Class.TheVariants.{State as OfState}
 use Rattle.wot_machine.specs.declared.class.StateCommand.TheVariants as kinds
 use Rattle.wot_machine.specs.declared.class.ViewQuestion.{ViewQuestion}
 use Rattle.wot_machine.specs.declared.class.ViewQuestion.TheVariants as questions
@@ -103,24 +103,14 @@ does_alike rows one other name (OfState (kinds.Question view question)) given to
     let W : view_at one.views view ≡ view_at other.views view =
     subst (λ (n : List ℕ). view_at one.views n ≡ view_at other.views n) (sym a) w in
     (question_alike one other view question reply c v W does.0, refl)
-does_alike rows one other name (OfState (kinds.Change change)) given told reply new c v w a does = absurd a
-does_alike rows one other name (OfState (kinds.View view change)) given told reply new c v w a does = absurd a
-does_alike rows one other name (OfState (kinds.Read what)) given told reply new c v w a does = absurd a
-does_alike rows one other name (OfState (kinds.Shelf call)) given told reply new c v w a does = absurd a
-does_alike rows one other name (OfCursor cursor command) given told reply new c v w a does = absurd a
-does_alike rows one other name (OfWatch watch command) given told reply new c v w a does = absurd a
+does_alike rows one other name class given told reply new c v w a does = absurd a
 
 -- a question changes no turns, cursors or watches
 asking : (name : List ℕ) (class : Class) (s : Whole) (reply : Reply) → AsksFrom name class
     → IsTurnedBy class s.state.views s.turns s.state.views s.turns × Paces s class reply s.cursors × Watching s
     class reply s.watches
 asking name (OfState (kinds.Question view question)) s reply a = (refl, refl, refl)
-asking name (OfState (kinds.Change change)) s reply a = absurd a
-asking name (OfState (kinds.View view change)) s reply a = absurd a
-asking name (OfState (kinds.Read what)) s reply a = absurd a
-asking name (OfState (kinds.Shelf call)) s reply a = absurd a
-asking name (OfCursor cursor command) s reply a = absurd a
-asking name (OfWatch watch command) s reply a = absurd a
+asking name class s reply a = absurd a
 
 -- a step of a question in one state is a step in the other, if the command has the same outcome
 pub step_as : (rows : PolicyRows) (one other : Whole) (name line : List ℕ) (given told : Served) (reply : Option Reply)

@@ -1,5 +1,4 @@
 -- What a line is read as is fit, in whatever class it is.
-use Rattle.std.proofs.Common.{ℕ, ◌≤◌}
 use Rattle.wot_script.specs.declared.command.Command.{Command}
 use Rattle.wot_script.specs.declared.command.Command.TheVariants as commands
 use Rattle.wot_script.specs.Spelling.{HasSpelling}

@@ -16,8 +16,7 @@ use Rattle.wot_script.specs.declared.reply.Reply.{Reply}
 use Rattle.wot_script.specs.Grammar.{command_of}
 use Rattle.wot_cache.specs.State.{Engine, IsStateAfter, State, state_of}
 use Rattle.wot_machine.specs.declared.class.Class.{Class}
-use Rattle.wot_machine.specs.declared.class.Class.TheVariants.{State as OfState, Cursor as OfCursor, Watch as OfWatch}
-use Rattle.wot_machine.specs.declared.class.StateCommand.{StateCommand}
+use Rattle.wot_machine.specs.declared.class.Class.TheVariants.{State as OfState}
 use Rattle.wot_machine.specs.declared.class.StateCommand.TheVariants as kinds
 use Rattle.wot_machine.specs.declared.class.Change.{Change}
 use Rattle.wot_machine.specs.declared.class.Change.TheVariants as changes
@@ -105,9 +104,7 @@ module _ {F : Type 0} where
     change_asks_as : (change : Change) (old new : State) (before after : Policy F) →
         ChangeAsks r change old new before after → ChangeAsks s change old new before after
     change_asks_as (changes.Import octets) old new before after a = new_as old new before after a
-    change_asks_as (changes.Remove fpr) old new before after a = a
-    change_asks_as (changes.Judge number verdict) old new before after a = a
-    change_asks_as (changes.Unjudge number) old new before after a = a
+    change_asks_as change old new before after a = a
 
     call_asks_as : (call : ShelfCall) (old new : State) (before after : Policy F) →
         CallAsks r call old new before after → CallAsks s call old new before after
@@ -118,11 +115,7 @@ module _ {F : Type 0} where
         AsksBy r class old new before after → AsksBy s class old new before after
     asks_by_as (OfState (kinds.Change change)) old new before after a = change_asks_as change old new before after a
     asks_by_as (OfState (kinds.Shelf call)) old new before after a = call_asks_as call old new before after a
-    asks_by_as (OfState (kinds.View view change)) old new before after a = a
-    asks_by_as (OfState (kinds.Question view question)) old new before after a = a
-    asks_by_as (OfState (kinds.Read what)) old new before after a = a
-    asks_by_as (OfCursor name command) old new before after a = a
-    asks_by_as (OfWatch name command) old new before after a = a
+    asks_by_as class old new before after a = a
 
     pub asks_as : (command : Option Command) (old new : State) (before after : Policy F) →
         LineAsks r command old new before after
@@ -133,16 +126,8 @@ module _ {F : Type 0} where
   -- a command that nothing was done for
   pub asks_nothing : {T E : Type 0} (r : Result T E) (class : Class) (s : State) (p : Policy F) → AsksBy r class s s p p
   asks_nothing r (OfState (kinds.Change (changes.Import octets))) s p = asked_still r s p
-  asks_nothing r (OfState (kinds.Change (changes.Remove fpr))) s p = refl
-  asks_nothing r (OfState (kinds.Change (changes.Judge number verdict))) s p = refl
-  asks_nothing r (OfState (kinds.Change (changes.Unjudge number))) s p = refl
   asks_nothing r (OfState (kinds.Shelf (calls.Load name))) s p = asked_still r s p
-  asks_nothing r (OfState (kinds.Shelf (calls.Store fpr))) s p = refl
-  asks_nothing r (OfState (kinds.View view change)) s p = refl
-  asks_nothing r (OfState (kinds.Question view question)) s p = refl
-  asks_nothing r (OfState (kinds.Read what)) s p = refl
-  asks_nothing r (OfCursor name command) s p = refl
-  asks_nothing r (OfWatch name command) s p = refl
+  asks_nothing r class s p = refl
 
   -- a line that did nothing
   pub asks_not : {T E : Type 0} (r : Result T E) (command : Option Command) (s : State) (p : Policy F) →

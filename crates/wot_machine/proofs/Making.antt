@@ -1,6 +1,6 @@
 -- The edges that a line makes, whatever its result: the bounds hold once the view was refreshed.
 use Rattle.std.proofs.Common.{◌≡◌, inl, inr, ℕ, ◌≤◌, List, length, true, false, Option, Some, None, Result, Ok, Err}
-use Rattle.std.proofs.Common.{OnOk, refl, sym, ap, subst, ◌∙◌}
+use Rattle.std.proofs.Common.{OnOk, refl, sym, ap, subst}
 use Rattle.std.specs.Prelude.{IfSome, is_ok}
 use Rattle.wot_keyring.specs.Held.{held_of}
 use Rattle.wot_keyring.specs.Keyring.{Keyring}

@@ -28,7 +28,6 @@ use Rattle.wot_explain.specs.Piece.{piece_of}
 use Rattle.wot_policy.specs.declared.rows.PolicyRows.{PolicyRows}
 use Rattle.wot_machine.specs.declared.class.Class.{Class}
 use Rattle.wot_machine.specs.declared.class.Class.TheVariants.{State as OfState, Cursor as OfCursor, Watch as OfWatch}
-use Rattle.wot_machine.specs.declared.class.CursorCommand.{CursorCommand}
 use Rattle.wot_machine.specs.declared.class.CursorCommand.TheVariants as paces
 use Rattle.wot_machine.specs.LineStep.{Does}
 use Rattle.wot_machine.specs.Listing.{AreBindings}

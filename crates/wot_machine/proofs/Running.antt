@@ -24,10 +24,9 @@ use Rattle.wot_certd.specs.World.{Answer, World, after_replace, called, fails_ne
 use Rattle.wot_cache.specs.State.{Engine, State, StaysButMarks, state_of}
 use Rattle.wot_keyring.specs.Keyring.{Keyring}
 use Rattle.wot_machine.specs.declared.class.Class.{Class}
-use Rattle.wot_machine.specs.declared.class.Class.TheVariants.{State as OfState, Cursor as OfCursor, Watch as OfWatch}
+use Rattle.wot_machine.specs.declared.class.Class.TheVariants.{State as OfState}
 use Rattle.wot_machine.specs.declared.class.StateCommand.{StateCommand}
 use Rattle.wot_machine.specs.declared.class.StateCommand.TheVariants as kinds
-use Rattle.wot_machine.specs.declared.class.ShelfCall.{ShelfCall}
 use Rattle.wot_machine.specs.declared.class.ShelfCall.TheVariants as calls
 use Rattle.wot_machine.specs.declared.told.Moved.{Moved}
 use Rattle.wot_machine.specs.declared.told.Told.{Told}

@@ -22,7 +22,7 @@ use Rattle.wot_cache.specs.Turns.{AreTurnsBy, Turns, without_turn}
 use Rattle.wot_cache.specs.Views.{Views, view_at}
 use Rattle.wot_watch.specs.Watches.{Watch, Watches, is_full, is_name, watch_at, with_watch, without_watch}
 use Rattle.wot_machine.specs.declared.class.Class.{Class}
-use Rattle.wot_machine.specs.declared.class.Class.TheVariants.{State as OfState, Cursor as OfCursor, Watch as OfWatch}
+use Rattle.wot_machine.specs.declared.class.Class.TheVariants.{State as OfState}
 use Rattle.wot_machine.specs.declared.class.StateCommand.TheVariants as kinds
 use Rattle.wot_machine.specs.declared.class.ViewChange.{ViewChange}
 use Rattle.wot_machine.specs.declared.class.ViewChange.TheVariants as turns
@@ -224,24 +224,9 @@ module _ (rows : PolicyRows) (on : TurnGoesOn) where
       → (reply ≡ replies.Done → IsCountedOn old new) → AreViewsOn old.state.views old.turns new.state.views new.turns
   does_on old new (OfState (kinds.View view change)) given reply d counted turned tells =
       view_on old new view change reply d counted turned tells
-  does_on old new (OfState (kinds.Change change)) given reply d counted turned tells =
+  does_on old new class given reply d counted turned tells =
       views_still old.state.views new.state.views old.turns new.turns
-      (does_views rows old.state (OfState (kinds.Change change)) given reply new.state d) turned
-  does_on old new (OfState (kinds.Question view question)) given reply d counted turned tells =
-      views_still old.state.views new.state.views old.turns new.turns
-      (does_views rows old.state (OfState (kinds.Question view question)) given reply new.state d) turned
-  does_on old new (OfState (kinds.Read what)) given reply d counted turned tells =
-      views_still old.state.views new.state.views old.turns new.turns
-      (does_views rows old.state (OfState (kinds.Read what)) given reply new.state d) turned
-  does_on old new (OfState (kinds.Shelf call)) given reply d counted turned tells =
-      views_still old.state.views new.state.views old.turns new.turns
-      (does_views rows old.state (OfState (kinds.Shelf call)) given reply new.state d) turned
-  does_on old new (OfCursor name command) given reply d counted turned tells =
-      views_still old.state.views new.state.views old.turns new.turns
-      (does_views rows old.state (OfCursor name command) given reply new.state d) turned
-  does_on old new (OfWatch name command) given reply d counted turned tells =
-      views_still old.state.views new.state.views old.turns new.turns
-      (does_views rows old.state (OfWatch name command) given reply new.state d) turned
+      (does_views rows old.state class given reply new.state d) turned
 
   -- the state after a line develops from the one before, by its reply and the counts
   pub obeys_on : (old new : Whole) (class : Class) (given : Served) (reply : Reply)

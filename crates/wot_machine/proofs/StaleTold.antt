@@ -7,11 +7,9 @@ use Rattle.wot_types.specs.declared.fpr.Fpr.{Fpr}
 use Rattle.wot_types.specs.declared.limits.Limit.TheVariants as words
 use Rattle.wot_types.specs.declared.name.Name.{Name}
 use Rattle.wot_types.specs.declared.name.Name.TheVariants as names
-use Rattle.wot_types.specs.declared.number.SigNumber.{SigNumber}
 use Rattle.wot_types.specs.Limits.{standard_limits}
 use Rattle.wot_policy.specs.declared.rows.PolicyRows.{PolicyRows}
 use Rattle.wot_verdict.specs.Verdicts.{verdict_at}
-use Rattle.wot_verdict.specs.declared.verdict.Verdict.{Verdict}
 use Rattle.wot_edge.specs.Answer.{amount_of}
 use Rattle.wot_edge.specs.Path.{Question}
 use Rattle.wot_edge.specs.declared.path.Path.{Path}

@@ -28,7 +28,6 @@ use Rattle.wot_cache.specs.Views.{Views, view_at}
 use Rattle.wot_watch.specs.Watches.{Watch, Watches, is_full, watch_at, with_watch, without_watch}
 use Rattle.wot_machine.specs.declared.class.Class.{Class}
 use Rattle.wot_machine.specs.declared.class.Class.TheVariants.{State as OfState, Cursor as OfCursor, Watch as OfWatch}
-use Rattle.wot_machine.specs.declared.class.WatchCommand.{WatchCommand}
 use Rattle.wot_machine.specs.declared.class.WatchCommand.TheVariants as commands
 use Rattle.wot_machine.specs.Entry.{unused, use_by}
 use Rattle.wot_machine.specs.Law.{is_refused}

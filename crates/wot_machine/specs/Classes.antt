@@ -1,6 +1,6 @@
 -- Commands by what they may do. What a command of a class comes to stands here, a row for each; all that is said of a
 -- class as a whole stands elsewhere, and a further command of it changes nothing there.
-use Rattle.std.specs.Prelude.{◌≡◌, ◌≤◌, ◌<◌, ◌*◌, ◌^◌, ℕ, List, length, Option}
+use Rattle.std.specs.Prelude.{◌≡◌, ◌≤◌, ◌<◌, ◌*◌, ℕ, List, length, Option}
 use Rattle.wot_policy.specs.declared.rows.PolicyRows.{PolicyRows}
 use Rattle.wot_verdict.specs.declared.verdict.Verdict.TheVariants as verdicts
 use Rattle.wot_script.specs.Claims.{IsClaimSpelled}
@@ -11,7 +11,6 @@ use Rattle.wot_cache.specs.declared.view.View.{View}
 use Rattle.wot_cache.specs.State.{State}
 use Rattle.wot_machine.specs.declared.class.Class.{Class}
 use Rattle.wot_machine.specs.declared.class.Class.TheVariants.{State as OfState, Cursor, Watch}
-use Rattle.wot_machine.specs.declared.class.StateCommand.{StateCommand}
 use Rattle.wot_machine.specs.declared.class.StateCommand.TheVariants as kinds
 use Rattle.wot_machine.specs.declared.class.Change.{Change}
 use Rattle.wot_machine.specs.declared.class.Change.TheVariants as changes

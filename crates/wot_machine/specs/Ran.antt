@@ -1,9 +1,10 @@
 -- The outcome of a command that uses a certificate directory.
-use Rattle.std.specs.Prelude.{◌≡◌, ℕ, true, Option, Some}
+use Rattle.std.specs.Prelude.{◌≡◌, ℕ, true, Option}
 use denote.MutBor.{MutBor}
 use denote.Triple.Both.{Both}
 use Rattle.wot_io.specs.Counts.{Rose}
 use Rattle.wot_types.specs.declared.fpr.Fpr.{Fpr}
+use Rattle.wot_types.specs.declared.name.Name.{Name}
 use Rattle.wot_policy.specs.declared.rows.PolicyRows.{PolicyRows}
 use Rattle.wot_script.specs.declared.command.Command.{Command}
 use Rattle.wot_machine.specs.declared.class.Class.{Class}
@@ -58,6 +59,10 @@ Did rows command old before reply new after =
 -- what a command does, by the state and the directory before and after it
 abbrev pub Acts : PolicyRows → StateCommand → Ends State → Ends Seen → Reply → Type 0
 Acts rows command state shelf reply = Did rows command state.old shelf.old reply state.new shelf.new
+
+-- the certificate of this entry is loaded or not
+abbrev pub LoadsBy : PolicyRows → Name → Ends State → Ends Seen → Reply → Type 0
+LoadsBy rows name state shelf reply = Acts rows (kinds.Shelf (calls.Load name)) state shelf reply
 
 -- The certificate of this fingerprint was stored or not. The state stays.
 abbrev pub StoresBy : PolicyRows → Fpr → State → Ends Seen → Reply → Type 0

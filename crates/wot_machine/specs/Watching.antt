@@ -127,8 +127,12 @@ abbrev pub Watching : Whole → Class → Reply → Watches → Type 0
 Watching s (OfWatch name command) reply watches = SetsWatch s name command reply watches
 Watching s _ reply watches = watches ≡ s.watches
 
--- what the beginning of a watch replies over an engine, and the watches after it, whatever the cursors are
+-- what a command of a watch does over an engine, whatever the cursors are
+abbrev pub SetsOver : Engine → Watches → List ℕ → WatchCommand → Reply → Watches → Type 0
+SetsOver engine old name command reply watches =
+    (cursors : Cursors) → SetsWatch (watched (whole_of engine cursors) old) name command reply watches
+
+-- what the beginning of a watch does over an engine
 abbrev pub OpensOver : Engine → Watches → List ℕ → List ℕ → Fpr → ℕ → List ℕ → Reply → Watches → Type 0
 OpensOver engine old name view target wanted uid reply watches =
-    (cursors : Cursors)
-    → SetsWatch (watched (whole_of engine cursors) old) name (commands.On view target wanted uid) reply watches
+    SetsOver engine old name (commands.On view target wanted uid) reply watches

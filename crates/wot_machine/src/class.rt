@@ -127,8 +127,14 @@ pub fn sort(command: Command) -> Class
     match command {
         Command::Import(octets) => Class::State(StateCommand::Change(Change::Import(octets))),
         Command::Remove(fpr) => Class::State(StateCommand::Change(Change::Remove(fpr))),
-        Command::Good(number, fpr) => Class::State(StateCommand::Change(Change::Judge(number, Verdict::Good(fpr)))),
-        Command::Bad(number) => Class::State(StateCommand::Change(Change::Judge(number, Verdict::Bad))),
+        Command::Good(number, fpr) => Class::State(StateCommand::Change(Change::Judge(
+            number,
+            Verdict::Good(fpr),
+        ))),
+        Command::Bad(number) => Class::State(StateCommand::Change(Change::Judge(
+            number,
+            Verdict::Bad,
+        ))),
         Command::Unjudge(number) => Class::State(StateCommand::Change(Change::Unjudge(number))),
         Command::Time(view, t) => Class::State(StateCommand::View(view, ViewChange::Time(t))),
         Command::Root(view, fpr, amount) => {
@@ -138,13 +144,22 @@ pub fn sort(command: Command) -> Class
         Command::Ask(view, target, wanted, uid) => {
             Class::State(StateCommand::Question(view, ViewQuestion::Ask(target, wanted, uid)))
         }
-        Command::List(view, wanted) => Class::State(StateCommand::Question(view, ViewQuestion::List(wanted))),
-        Command::Explain(view, fpr, uid) => Class::State(StateCommand::Question(view, ViewQuestion::Explain(fpr, uid))),
+        Command::List(view, wanted) => Class::State(StateCommand::Question(
+            view,
+            ViewQuestion::List(wanted),
+        )),
+        Command::Explain(view, fpr, uid) => Class::State(StateCommand::Question(
+            view,
+            ViewQuestion::Explain(fpr, uid),
+        )),
         Command::Absence(view, target, wanted, uid) => {
             Class::State(StateCommand::Question(view, ViewQuestion::Absence(target, wanted, uid)))
         }
         Command::Check(view, target, claims, labels, uid) => {
-            Class::State(StateCommand::Question(view, ViewQuestion::Check(target, claims, labels, uid)))
+            Class::State(StateCommand::Question(
+                view,
+                ViewQuestion::Check(target, claims, labels, uid),
+            ))
         }
         Command::Pending => Class::State(StateCommand::Read(Read::Pending)),
         Command::Keys => Class::State(StateCommand::Read(Read::Keys)),

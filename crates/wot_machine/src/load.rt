@@ -7,13 +7,11 @@ ghost use Rattle.wot_keyring.specs.Kept.{IsJudgedBy};
 ghost use Rattle.wot_keyring.specs.Import.{IsOneChange};
 ghost use Rattle.wot_script.specs.Replies.{is_short};
 ghost use Rattle.wot_cache.specs.State.{state_of};
-ghost use Rattle.wot_machine.specs.declared.class.ShelfCall.TheVariants as calls;
-ghost use Rattle.wot_machine.specs.declared.class.StateCommand.TheVariants as kinds;
 ghost use Rattle.wot_machine.specs.Asked.{AsksForNew};
 ghost use Rattle.wot_machine.specs.Both.{ends};
 ghost use Rattle.wot_machine.specs.Entry.{MayPutTo, loads};
 ghost use Rattle.wot_machine.specs.LineStep.{Loads};
-ghost use Rattle.wot_machine.specs.Ran.{Acts, seen};
+ghost use Rattle.wot_machine.specs.Ran.{LoadsBy, seen};
 
 use crate::refusal::{Refused, reply_to};
 use wot_cache::Engine;
@@ -34,7 +32,7 @@ pub fn load<D: Shelf, F: Fn(Ask) -> bool>(
     requires countable { engine.old.keyring.changes < 2 ^ 64 - 1 }
     requires judged { IsJudgedBy (rows_of policy.old) engine.old.keyring }
     requires faithful { IsFaithful F.Fn policy.old }
-    ensures did { IfOk result (Acts (rows_of policy.old) (kinds.Shelf (calls.Load name.now))
+    ensures did { IfOk result (LoadsBy (rows_of policy.old) name.now
         (ends state_of engine) (ends (seen D.world D.faults) shelf)) }
     ensures entries { OnErr result (MayPutTo (state_of engine.old) (loads name.now) (ends D.world shelf)) }
     ensures later { D.faults shelf.old ≤ D.faults shelf.new }

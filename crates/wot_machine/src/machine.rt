@@ -445,7 +445,14 @@ fn answer<D: Shelf, F: Fn(Ask) -> bool>(
 {
     match read_line(alloc, line) {
         Ok(command) => act(
-            alloc, engine, cursors, watches, steps, sort(command), shelf, policy,
+            alloc,
+            engine,
+            cursors,
+            watches,
+            steps,
+            sort(command),
+            shelf,
+            policy,
         ),
         Err(LineFault::Line) => Ok(alone(Reply::Line)),
         Err(LineFault::Memory) => Err(Memory),

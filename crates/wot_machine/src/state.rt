@@ -14,7 +14,8 @@ ghost use Rattle.wot_machine.specs.declared.class.Class.TheVariants.{State as Of
 ghost use Rattle.wot_machine.specs.declared.class.StateCommand.TheVariants as kinds;
 ghost use Rattle.wot_machine.specs.Asked.{AsksBy, CallAsks, ChangeAsks};
 ghost use Rattle.wot_machine.specs.Both.{ends};
-ghost use Rattle.wot_machine.specs.Classes.{AnswersQuestion, IsFit, IsSmall, IsWanted, change_of, reading, view_change_of};
+ghost use Rattle.wot_machine.specs.Classes.{AnswersQuestion, IsFit, IsSmall, IsWanted};
+ghost use Rattle.wot_machine.specs.Classes.{change_of, reading, view_change_of};
 ghost use Rattle.wot_machine.specs.EdgeLines.{CommandMarks, QuestionMarks};
 ghost use Rattle.wot_machine.specs.Entry.{MayPutTo, entry_for, use_by, use_in};
 ghost use Rattle.wot_machine.specs.Fresh.{IsMadeAnew, OnDump};

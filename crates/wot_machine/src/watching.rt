@@ -7,14 +7,13 @@ ghost use Rattle.wot_cache.specs.Basis.{HasGrown, IsPresent, RestsOn};
 ghost use Rattle.wot_cache.specs.Marks.{IsRefreshed};
 ghost use Rattle.wot_cache.specs.State.{StaysButMarks, state_of};
 ghost use Rattle.wot_cache.specs.Views.{view_at};
-ghost use Rattle.wot_cursor.specs.Cursors.{Cursors as TheCursors};
 ghost use Rattle.wot_machine.specs.declared.class.WatchCommand.TheVariants as commands;
 ghost use Rattle.wot_machine.specs.Classes.{IsWatched};
 ghost use Rattle.wot_machine.specs.Made.{WatchMakes, WatchMakesMarks, WatchesMake};
 ghost use Rattle.wot_machine.specs.Settled.{AllSettled, AreOpen, AreSettled, IsSettled};
 ghost use Rattle.wot_machine.specs.Watching.{AreLines, BeginsWatch, HasAmount, IsLine, IsWatchLine};
-ghost use Rattle.wot_machine.specs.Watching.{OpensOver, SetsWatch, told_all, told_by};
-ghost use Rattle.wot_machine.specs.Whole.{Whole, watched, whole_of};
+ghost use Rattle.wot_machine.specs.Watching.{OpensOver, SetsOver, SetsWatch, told_all, told_by};
+ghost use Rattle.wot_machine.specs.Whole.{Whole, watched};
 
 use crate::class::WatchCommand;
 use std::alloc::Global;
@@ -34,8 +33,8 @@ pub fn watch(
     command: &WatchCommand,
 ) -> Result<Reply, Memory>
     requires wanted { IsWatched command.now }
-    ensures sets { IfOk result (λ reply. (cursors : TheCursors) → SetsWatch
-        (watched (whole_of engine.old cursors) watches.old) name.now command.now reply watches.new) }
+    ensures sets { IfOk result (λ reply.
+        SetsOver engine.old watches.old name.now command.now reply watches.new) }
     ensures stays { StaysButMarks engine.old engine.new }
     ensures makes { WatchMakesMarks result command.now engine.old engine.new steps.old.made steps.new.made }
     ensures short { IfOk result (λ reply. is_short reply ≡ true) }
