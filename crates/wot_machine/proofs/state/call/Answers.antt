@@ -16,7 +16,7 @@ returns-in-Store-clause-did g c = rw c.in-Store.is (c.store.ensures.did (rows_of
 pub returns-in-Store-clause-untouched : goal.returns-in-Store-clause-untouched
 returns-in-Store-clause-untouched g c =
     rw c.in-Store.is (λ none.
-    c.store.ensures.untouched (none_kept (cert_in (state_of c.args.engine.now).held c.in-Store.fpr.now) c.in-Store.fpr.now
+    c.store.ensures.untouched (none_kept (cert_in (state_of c.args.engine.now).held c.in-Store.fpr) c.in-Store.fpr
     none))
 
 pub returns-in-Store-clause-entries : goal.returns-in-Store-clause-entries

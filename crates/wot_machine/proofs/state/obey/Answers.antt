@@ -15,7 +15,7 @@ use Rattle.wot_machine.proofs.state.obey.Goals as goal
 pub returns-in-Change-clause-did : goal.returns-in-Change-clause-did
 returns-in-Change-clause-did g c =
     rw c.in-Change.is
-    (uncalled c.change.result (rows_of c.args.policy.now) (kinds.Change c.in-Change.what.now) (state_of c.args.engine.now)
+    (uncalled c.change.result (rows_of c.args.policy.now) (kinds.Change c.in-Change.what) (state_of c.args.engine.now)
     (record { world = g.D.Shelf.world c.args.shelf.now; faults = g.D.Shelf.faults c.args.shelf.now })
     (state_of c.change.new.engine) refl c.change.ensures.gives)
 
@@ -31,7 +31,7 @@ returns-in-Change-clause-asked g c = rw c.in-Change.is c.change.ensures.asked
 pub returns-in-View-clause-did : goal.returns-in-View-clause-did
 returns-in-View-clause-did g c =
     rw c.in-View.is
-    (uncalled c.change_view.result (rows_of c.args.policy.now) (kinds.View c.in-View.view.now c.in-View.what.now)
+    (uncalled c.change_view.result (rows_of c.args.policy.now) (kinds.View c.in-View.view c.in-View.what)
     (state_of c.args.engine.now)
     (record { world = g.D.Shelf.world c.args.shelf.now; faults = g.D.Shelf.faults c.args.shelf.now })
     (state_of c.change_view.new.engine) refl c.change_view.ensures.gives)
@@ -51,7 +51,7 @@ returns-in-View-clause-turned g c = rw c.in-View.is (always c.change_view.result
 pub returns-in-Question-clause-did : goal.returns-in-Question-clause-did
 returns-in-Question-clause-did g c =
     rw c.in-Question.is
-    (uncalled c.answer.result (rows_of c.args.policy.now) (kinds.Question c.in-Question.view.now c.in-Question.what.now)
+    (uncalled c.answer.result (rows_of c.args.policy.now) (kinds.Question c.in-Question.view c.in-Question.what)
     (state_of c.args.engine.now)
     (record { world = g.D.Shelf.world c.args.shelf.now; faults = g.D.Shelf.faults c.args.shelf.now })
     (state_of c.answer.new.engine) refl
@@ -74,7 +74,7 @@ returns-in-Question-clause-makes g c = rw c.in-Question.is c.answer.ensures.refr
 pub returns-in-Read-clause-did : goal.returns-in-Read-clause-did
 returns-in-Read-clause-did g c =
     rw c.in-Read.is
-    (uncalled c.read.result (rows_of c.args.policy.now) (kinds.Read c.in-Read.what.now) (state_of c.args.engine.now)
+    (uncalled c.read.result (rows_of c.args.policy.now) (kinds.Read c.in-Read.what) (state_of c.args.engine.now)
     (record { world = g.D.Shelf.world c.args.shelf.now; faults = g.D.Shelf.faults c.args.shelf.now })
     (state_of c.args.engine.now) refl (if_ok c.read.result _ _ (λ reply is. (is, refl)) c.read.ensures.reply))
 
