@@ -45,3 +45,4 @@ mod GoingOn
 mod Slices
 mod Explained
 mod Fit
+mod Leading

@@ -30,3 +30,4 @@ pub mod Joined
 pub mod Worth
 pub mod Settled
 pub mod Slices
+pub mod Leading

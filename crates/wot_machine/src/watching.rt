@@ -48,7 +48,8 @@ pub fn watch(
     }
 }
 
-/// `watch W on V FPR N UID`.
+/// `watch W on V FPR N UID`: begins or restarts a watch, with its current amount as the reply. Refused if the view
+/// isn't open, or if the number of watches is at its limit. After `Memory` the watches are unchanged.
 pub fn on(
     alloc: Global,
     engine: &mut Engine,
@@ -102,7 +103,7 @@ fn begin(
     }
 }
 
-/// `watch W off`. Takes no memory.
+/// `watch W off`: removes a watch, or replies that there is none of this name. Takes no memory.
 pub fn off(watches: &mut Watches, name: &ViewName) -> Reply
     ensures watching { (s : Whole) → SetsWatch (watched s watches.old) name.now commands.Off result watches.new }
     ensures short { is_short result ≡ true }

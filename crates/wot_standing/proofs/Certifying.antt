@@ -19,7 +19,8 @@ use Rattle.wot_standing.specs.Certifiers.{later_by, newer_by}
 
 -- ---- one issuer's value changes
 
-module _ {X : Type 0} (issuer : Fpr) (old : Fpr → X) (step : Fpr → X → X) (others : (q : Fpr) → same_fpr issuer q ≡ false → (x : X) → step q x ≡ x) where
+module _ {X : Type 0} (issuer : Fpr) (old : Fpr → X) (step : Fpr → X → X)
+    (others : (q : Fpr) → same_fpr issuer q ≡ false → (x : X) → step q x ≡ x) where
   pub changed : (new : Fpr → X) (w : X) → ((q : Fpr) → new q ≡ cond (same_fpr issuer q) w (old q))
       → w ≡ step issuer (old issuer) → (q : Fpr) → new q ≡ step q (old q)
   changed new w h e q = by (same_fpr issuer q) refl (h q)
