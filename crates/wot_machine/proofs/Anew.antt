@@ -90,13 +90,14 @@ judged_so s number verdict new e =
     chosen (is_over standard_limits s.held.verdicts number) (only s (replies.Full words.Verdicts)) s new
     (verdict_set number verdict s.held) e
 
--- A command that isn't refused does what the machine does. It calls no shelf, and is none of a cursor or a watch.
+-- A command of a dump that isn't refused does what the machine does. It doesn't call the certificate directory, and
+-- isn't about a cursor or a watch.
 record Accepts (rows : PolicyRows) (class : Class) (s new : State) : Type 0 where
   takes : Takes (Does rows s class unserved) new
   uncalled : use_by class ≡ unused
   own : is_own class ≡ true
 
--- The other commands are none of a dump.
+-- no other command is in a dump
 accepted : (rows : PolicyRows) (command : Command) (s new : State) → after rows standard_limits command s ≡ Some new →
     Accepts rows (class_of command) s new
 accepted rows (commands.Import octets) s new e =

@@ -1,4 +1,4 @@
--- What a line is read as is fit, in whatever class it is.
+-- Every command that is read from a line wants what it may want.
 use Rattle.wot_script.specs.declared.command.Command.{Command}
 use Rattle.wot_script.specs.declared.command.Command.TheVariants as commands
 use Rattle.wot_script.specs.Spelling.{HasSpelling}

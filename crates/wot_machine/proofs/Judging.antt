@@ -123,7 +123,7 @@ module _ {F : Type 0} where
     asks_as None old new before after a = a
     asks_as (Some command) old new before after a = asks_by_as (class_of command) old new before after a
 
-  -- a command that nothing was done for
+  -- a command that did nothing
   pub asks_nothing : {T E : Type 0} (r : Result T E) (class : Class) (s : State) (p : Policy F) → AsksBy r class s s p p
   asks_nothing r (OfState (kinds.Change (changes.Import octets))) s p = asked_still r s p
   asks_nothing r (OfState (kinds.Shelf (calls.Load name))) s p = asked_still r s p

@@ -169,7 +169,7 @@ call_keeps : (rows : PolicyRows) (s : State) (call : ShelfCall) (answer : Served
 call_keeps rows s (calls.Load name) answer = load_keeps rows s name answer.read
 call_keeps rows s (calls.Store fpr) answer = refl
 
--- a command of a view
+-- a change of a view
 pub changes_view : (s : State) (view : List ℕ) (change : ViewChange) (r : Reply) (m : State)
     → Gives (view_change_of s view change) r m → AreViewsBy (turning_in view change) s.views m.views
 changes_view s view (alterings.Time t) r m =

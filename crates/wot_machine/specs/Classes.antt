@@ -1,5 +1,5 @@
--- Commands by what they may do. What a command of a class comes to stands here, a row for each; all that is said of a
--- class as a whole stands elsewhere, and a further command of it changes nothing there.
+-- The class of each command, and what the commands of each class do. Other definitions, and almost all lemmas, speak of
+-- classes, and don't change if a command is added to a class.
 use Rattle.std.specs.Prelude.{◌≡◌, ◌≤◌, ◌<◌, ◌*◌, ℕ, List, length, Option}
 use Rattle.wot_policy.specs.declared.rows.PolicyRows.{PolicyRows}
 use Rattle.wot_verdict.specs.declared.verdict.Verdict.TheVariants as verdicts
@@ -76,22 +76,22 @@ class_of (commands.CursorClose name) = Cursor name paces.Close
 class_of (commands.WatchOn name view target wanted uid) = Watch name (watching.On view target wanted uid)
 class_of (commands.WatchOff name) = Watch name watching.Off
 
--- ---- what a command of a class comes to
+-- ---- what the commands of a class do
 
--- a change of what is held
+-- a change of certificates or verdicts: the reply, and the state after it
 abbrev pub change_of : PolicyRows → State → Change → Outcome
 change_of rows s (changes.Import octets) = import rows s octets
 change_of rows s (changes.Remove fpr) = remove s fpr
 change_of rows s (changes.Judge number verdict) = set_verdict s number verdict
 change_of rows s (changes.Unjudge number) = clear_verdict s number
 
--- a change of a view
+-- a change of a view: the reply, and the state after it
 abbrev pub view_change_of : State → List ℕ → ViewChange → Outcome
 view_change_of s view (turns.Time t) = time s view t
 view_change_of s view (turns.Root fpr amount) = root s view fpr amount
 view_change_of s view turns.Close = close s view
 
--- the reply to what is asked from a view, if it is open
+-- what the reply to a question is, from a view or if there is none
 abbrev pub AnswersQuestion : State → Option View → ViewQuestion → Reply → Type 0
 AnswersQuestion s view (questions.Ask target wanted uid) reply = Asks s view target wanted uid reply
 AnswersQuestion s view (questions.List wanted) reply = Lists s view wanted reply
@@ -99,21 +99,21 @@ AnswersQuestion s view (questions.Explain fpr uid) reply = reply ≡ explained_f
 AnswersQuestion s view (questions.Absence target wanted uid) reply = Misses s view target wanted uid reply
 AnswersQuestion s view (questions.Check target claims labels uid) reply = Checks s view target claims labels uid reply
 
--- what is read of a state
+-- the reply to a command that reads the state
 abbrev pub reading : State → Read → Reply
 reading s reads.Pending = (pending s).reply
 reading s reads.Keys = (keys s).reply
 reading s (reads.Export fpr) = (export s fpr).reply
 reading s reads.Dump = (dump s).reply
 
--- a call of the shelf, by what that gives
+-- a call of the certificate directory, by what that returns: the reply, and the state after it
 abbrev pub call_of : PolicyRows → State → ShelfCall → Served → Outcome
 call_of rows s (calls.Load name) given = load rows s name given.read
 call_of rows s (calls.Store fpr) given = store s fpr given
 
--- ---- what holds of each command that a line is read as
+-- ---- what holds of every command that is read from a line
 
--- What is asked for is at least 1, and the paths and the table of a claim have a spelling.
+-- An amount that is wanted is at least 1, and a claim has a spelling.
 abbrev pub IsWanted : ViewQuestion → Type 0
 IsWanted (questions.Ask target wanted uid) = 1 ≤ wanted
 IsWanted (questions.List wanted) = 1 ≤ wanted
@@ -130,7 +130,7 @@ IsFit (OfState (kinds.Question view question)) = IsWanted question
 IsFit (Watch name command) = IsWatched command
 IsFit _ = Unit {0}
 
--- It is no longer than a line may be.
+-- it isn't longer than a line can be
 abbrev pub IsSmall : Class → Type 0
 IsSmall (OfState (kinds.Change (changes.Import octets))) = 2 * length octets ≤ 16777216
 IsSmall (OfState (kinds.Question view (questions.Check target claims labels uid))) = length claims < 16777216

@@ -1,6 +1,6 @@
-//! Commands by what they may do: each command is sorted once, into a class whose type carries what holds of every
-//! command of it. `specs/Classes.antt` has the same table as a definition. A further command of a class is one more
-//! variant here and a row there; what is said of a class is not touched.
+//! Commands by what they may do. `sort` gives each command a class, and the types of the classes say what every command
+//! of a class can change. `specs/Classes.antt` defines the classes, and `state`, `pacing` and `watching` run them. A new
+//! command is a variant here, an arm of `sort` and a case of `class_of`.
 ghost use Rattle.std.specs.Prelude.{◌≡◌};
 ghost use Rattle.wot_script.specs.Spelling.{HasSpelling, IsWithin};
 ghost use Rattle.wot_machine.specs.Classes.{IsFit, IsSmall, class_of};
@@ -9,33 +9,33 @@ use wot_script::{ClaimLines, Command, LabelLines, Octets};
 use wot_types::{Fpr, Name, SigNumber, UserId, ViewName};
 use wot_verdict::Verdict;
 
-/// A command, by what it may do.
+/// A command, by what it can change.
 #[derive(Drop)]
 pub enum Class {
-    /// It leaves cursors and watches.
+    /// It doesn't change cursors or watches.
     State(StateCommand),
-    /// It is about the cursor of this name, and leaves the state and the watches.
+    /// It is about the cursor of this name. It doesn't change the state or the watches.
     Cursor(ViewName, CursorCommand),
-    /// It is about the watch of this name, and leaves the state and the cursors.
+    /// It is about the watch of this name. It doesn't change the state or the cursors.
     Watch(ViewName, WatchCommand),
 }
 
-/// A command that leaves cursors and watches.
+/// A command that doesn't change cursors or watches.
 #[derive(Drop)]
 pub enum StateCommand {
-    /// It changes what is held, and leaves the views.
+    /// It changes certificates or verdicts, and no view.
     Change(Change),
     /// It changes the view of this name.
     View(ViewName, ViewChange),
-    /// It asks from the view of this name, and leaves the state.
+    /// It asks something from the view of this name. It doesn't change the state.
     Question(ViewName, ViewQuestion),
-    /// It reads what is held, and leaves the state.
+    /// It reads the state, and doesn't change it.
     Read(Read),
-    /// It calls the shelf.
+    /// It calls the certificate directory.
     Shelf(ShelfCall),
 }
 
-/// A change of what is held.
+/// A change of certificates or verdicts.
 #[derive(Drop)]
 pub enum Change {
     /// `import HEX`.
@@ -59,7 +59,7 @@ pub enum ViewChange {
     Close,
 }
 
-/// What is asked from a view.
+/// A question that is asked from a view.
 #[derive(Drop)]
 pub enum ViewQuestion {
     /// `ask V FPR N UID`.
@@ -74,7 +74,7 @@ pub enum ViewQuestion {
     Check(Fpr, ClaimLines, LabelLines, UserId),
 }
 
-/// What is read of the state.
+/// A command that reads the state.
 #[derive(Drop)]
 pub enum Read {
     /// `pending`.
@@ -87,7 +87,7 @@ pub enum Read {
     Dump,
 }
 
-/// A call of the shelf.
+/// A call of the certificate directory.
 #[derive(Drop)]
 pub enum ShelfCall {
     /// `load NAME`.
@@ -96,7 +96,7 @@ pub enum ShelfCall {
     Store(Fpr),
 }
 
-/// What becomes of a cursor.
+/// A command about a cursor.
 #[derive(Drop)]
 pub enum CursorCommand {
     /// `cursor C over V N`.
@@ -107,7 +107,7 @@ pub enum CursorCommand {
     Close,
 }
 
-/// What becomes of a watch.
+/// A command about a watch.
 #[derive(Drop)]
 pub enum WatchCommand {
     /// `watch W on V FPR N UID`.
@@ -116,7 +116,7 @@ pub enum WatchCommand {
     Off,
 }
 
-/// Sorts a command.
+/// The class of a command.
 pub fn sort(command: Command) -> Class
     requires spelled { HasSpelling command }
     requires within { IsWithin 16777216 command }

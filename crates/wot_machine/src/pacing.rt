@@ -22,7 +22,7 @@ use wot_explain::{Bind, list_after};
 use wot_script::{BindLines, Reply};
 use wot_types::{Memory, Place, Steps, UserId, ViewName};
 
-/// What becomes of the cursor of this name. It moves once its piece was told.
+/// Runs a command about the cursor of this name. A cursor moves only once the reply is written.
 pub fn pace(
     alloc: Global,
     engine: &mut Engine,

@@ -1,5 +1,5 @@
-//! What the commands do that leave cursors and watches: a function for each class of them, with one `match` each. It
-//! stands on the functions of the commands, one file for each family. A further command of a class is one arm here.
+//! Runs the commands that don't change cursors or watches: one function for each class, which chooses the command's own
+//! function. Those are in the files next to this one. A new command of a class is one arm here.
 ghost use Rattle.std.specs.Prelude.{◌≡◌, ◌≤◌, ◌<◌, ◌-◌, ◌^◌, ℕ, None, false, true, IfOk, OnOk, OnErr};
 ghost use Rattle.wot_types.specs.Limits.{standard_limits};
 ghost use Rattle.wot_policy.specs.declared.rows.PolicyRows.{PolicyRows};
@@ -42,7 +42,8 @@ use wot_policy::{Ask, Policy};
 use wot_script::Reply;
 use wot_types::{Memory, Steps, ViewName};
 
-/// Runs a command that leaves cursors and watches.
+/// Runs a command that doesn't change cursors or watches. If it is refused, or after `Memory`, nothing changes but
+/// marks and the count of edges made.
 pub fn obey<D: Shelf, F: Fn(Ask) -> bool>(
     alloc: Global,
     engine: &mut Engine,
@@ -89,7 +90,7 @@ pub fn obey<D: Shelf, F: Fn(Ask) -> bool>(
     }
 }
 
-/// A change of what is held.
+/// Runs a change of certificates or verdicts. After `Memory` nothing has changed.
 fn change<F: Fn(Ask) -> bool>(
     engine: &mut Engine,
     what: &Change,
@@ -121,7 +122,7 @@ fn change<F: Fn(Ask) -> bool>(
     }
 }
 
-/// A change of a view.
+/// Runs a change of a view. After `Memory` nothing has changed.
 fn change_view(engine: &mut Engine, view: &ViewName, what: &ViewChange) -> Result<Reply, Memory>
     requires standard { engine.old.keyring.limits ≡ standard_limits }
     requires turnable { engine.old.turns.count < 2 ^ 64 - 1 }
@@ -141,7 +142,7 @@ fn change_view(engine: &mut Engine, view: &ViewName, what: &ViewChange) -> Resul
     }
 }
 
-/// The reply to what is asked from a view.
+/// Answers a question from a view.
 fn answer(
     alloc: Global,
     engine: &mut Engine,
@@ -182,7 +183,7 @@ fn answer(
     }
 }
 
-/// What is read of the state.
+/// Reads the state.
 fn read(alloc: Global, engine: &Engine, what: &Read) -> Result<Reply, Memory>
     requires standard { engine.now.keyring.limits ≡ standard_limits }
     ensures reply { IfOk result (λ reply. reply ≡ reading (state_of engine.now) what.now) }
@@ -197,7 +198,7 @@ fn read(alloc: Global, engine: &Engine, what: &Read) -> Result<Reply, Memory>
     }
 }
 
-/// A call of the shelf.
+/// Runs a call of the certificate directory. After `Memory` the engine is unchanged.
 fn call<D: Shelf, F: Fn(Ask) -> bool>(
     alloc: Global,
     engine: &mut Engine,

@@ -23,7 +23,7 @@ use wot_script::Reply;
 use wot_types::{Fpr, Memory, Steps, UserId, ViewName};
 use wot_watch::{PutFault, Watch, Watches};
 
-/// What becomes of the watch of this name.
+/// Runs a command about the watch of this name. After `Memory` the watches are unchanged.
 pub fn watch(
     alloc: Global,
     engine: &mut Engine,
