@@ -42,8 +42,8 @@ use wot_policy::{Ask, Policy};
 use wot_script::Reply;
 use wot_types::{Memory, Steps, ViewName};
 
-/// Runs a command that doesn't change cursors or watches. If it is refused, or after `Memory`, nothing changes but
-/// marks and the count of edges made.
+/// Runs a command that doesn't change cursors or watches. If the reply isn't short, and after `Memory`, nothing has
+/// changed but marks and the count of edges made.
 pub fn obey<D: Shelf, F: Fn(Ask) -> bool>(
     alloc: Global,
     engine: &mut Engine,
