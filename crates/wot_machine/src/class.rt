@@ -1,6 +1,6 @@
 //! Commands by what they may do. `sort` gives each command a class, and the types of the classes say what every command
-//! of a class can change. `specs/Classes.antt` defines the classes, and `state`, `pacing` and `watching` run them. A new
-//! command is a variant here, an arm of `sort` and a case of `class_of`.
+//! of a class can change. `specs/Classes.antt` defines the classes, and `state`, `pacing` and `watching` run them.
+//! A new command is a variant here, an arm of `sort` and a case of `class_of`.
 ghost use Rattle.std.specs.Prelude.{◌≡◌};
 ghost use Rattle.wot_script.specs.Spelling.{HasSpelling, IsWithin};
 ghost use Rattle.wot_machine.specs.Classes.{IsFit, IsSmall, class_of};
