@@ -37,7 +37,7 @@ use Rattle.wot_machine.specs.Watching.{AreLines, HasAmount, LeavesWatches, Opens
 use Rattle.wot_machine.specs.Watching.{line_by, opened}
 use Rattle.wot_machine.specs.Whole.{IsCounted, IsTurnedBy, Whole, watched, whole_of}
 use Rattle.wot_machine.proofs.Entries.{all_weaker, all_without}
-use Rattle.wot_machine.proofs.Viewed.{does_views}
+use Rattle.wot_machine.proofs.Viewed.{changes_view, does_views}
 use Rattle.wot_machine.proofs.Watched.{amount_has, plain_watching, watched_cases}
 use Rattle.wot_machine.proofs.Wholes.{turned_still}
 
