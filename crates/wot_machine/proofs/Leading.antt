@@ -38,6 +38,7 @@ use Rattle.wot_cache.specs.declared.view.View.{View}
 use Rattle.wot_cache.specs.Question.{question_in}
 use Rattle.wot_cache.specs.State.{State}
 use Rattle.wot_cache.specs.Views.{view_at}
+use Rattle.wot_machine.specs.Classes.{class_of}
 use Rattle.wot_machine.specs.Absent.{Checks, ChecksBy, Misses, MissesBy, TellsAbsence, claim_in, claimed_step, table_in}
 use Rattle.wot_machine.specs.Depends.{IsAsk}
 use Rattle.wot_machine.specs.Law.{OneOutcome}
@@ -202,8 +203,8 @@ module _ (edges : EdgeLaws) (rows : PolicyRows) (name : List ℕ) (target : Fpr)
   pub does_absence : LeadingLaws → AreAlikeBefore name target one other
       → (wanted : ℕ) (uid : List ℕ) (given told : Served)
       (reply : Reply) (new : State)
-      → Does rows one (Absence name target wanted uid) given reply new
-      → Does rows other (Absence name target wanted uid) told reply other
+      → Does rows one (class_of (Absence name target wanted uid)) given reply new
+      → Does rows other (class_of (Absence name target wanted uid)) told reply other
   does_absence laws a wanted uid given told reply new does = (misses_same laws a wanted uid reply does.0, refl)
 
   module _ (claimed : Claimed) where
@@ -223,8 +224,8 @@ module _ (edges : EdgeLaws) (rows : PolicyRows) (name : List ℕ) (target : Fpr)
 
     pub does_check : DoChecksAgree → AreAlikeForClaim name target claimed one other →
         IsClaimSpelled claimed.paths claimed.labels → (uid : List ℕ) (given told : Served) (reply : Reply) (new : State)
-        → Does rows one (Check name target claimed.paths claimed.labels uid) given reply new
-        → Does rows other (Check name target claimed.paths claimed.labels uid) told reply other
+        → Does rows one (class_of (Check name target claimed.paths claimed.labels uid)) given reply new
+        → Does rows other (class_of (Check name target claimed.paths claimed.labels uid)) told reply other
     does_check law a spelled uid given told reply new does = (checks_same law a spelled uid reply does.0, refl)
 
 -- ---- one line
@@ -232,8 +233,8 @@ module _ (edges : EdgeLaws) (rows : PolicyRows) (name : List ℕ) (target : Fpr)
 -- A well-formed state has one reply, so a question that is answered alike in both has the same reply.
 module _ (rows : PolicyRows) (law : OneOutcome rows) (name : List ℕ) (one other : Whole)
     (can : AreOwn other.state.held.certs) (line : List ℕ) (ask : IsAsk name line) (given told : Served) where
-  replied_as : ((r : Reply) (s : State) → Does rows one.state ask.command given r s →
-      Does rows other.state ask.command told r other.state)
+  replied_as : ((r : Reply) (s : State) → Does rows one.state (class_of ask.command) given r s →
+      Does rows other.state (class_of ask.command) told r other.state)
       → (reply second : Option Reply) (new third : Whole)
       → LineStep rows one line given reply new → LineStep rows other line told second third → reply ≡ second
   replied_as does reply second new third step last =

@@ -44,4 +44,5 @@ pub mod Judging
 mod GoingOn
 mod Slices
 mod Explained
+mod Fit
 mod Leading

@@ -1,6 +1,7 @@
 pub mod Both
 pub mod Lines
 pub mod Outcome
+pub mod Classes
 pub mod Refused
 pub mod Answer
 pub mod Listing

@@ -6,13 +6,12 @@ ghost use Rattle.wot_policy.specs.Kept.{IsFaithful, rows_of};
 ghost use Rattle.wot_keyring.specs.Kept.{IsJudgedBy};
 ghost use Rattle.wot_keyring.specs.Import.{IsOneChange};
 ghost use Rattle.wot_script.specs.Replies.{is_short};
-ghost use Rattle.wot_script.specs.declared.command.Command.TheVariants as commands;
 ghost use Rattle.wot_cache.specs.State.{state_of};
 ghost use Rattle.wot_machine.specs.Asked.{AsksForNew};
 ghost use Rattle.wot_machine.specs.Both.{ends};
 ghost use Rattle.wot_machine.specs.Entry.{MayPutTo, loads};
 ghost use Rattle.wot_machine.specs.LineStep.{Loads};
-ghost use Rattle.wot_machine.specs.Ran.{Acts, seen};
+ghost use Rattle.wot_machine.specs.Ran.{LoadsBy, seen};
 
 use crate::refusal::{Refused, reply_to};
 use wot_cache::Engine;
@@ -36,7 +35,7 @@ pub fn load<D: Shelf, F: Fn(Ask) -> bool>(
     requires countable { engine.old.keyring.changes < 2 ^ 64 - 1 }
     requires judged { IsJudgedBy (rows_of policy.old) engine.old.keyring }
     requires faithful { IsFaithful F.Fn policy.old }
-    ensures did { IfOk result (Acts (rows_of policy.old) (commands.Load name.now)
+    ensures did { IfOk result (LoadsBy (rows_of policy.old) name.now
         (ends state_of engine) (ends (seen D.world D.faults) shelf)) }
     ensures entries { OnErr result (MayPutTo (state_of engine.old) (loads name.now) (ends D.world shelf)) }
     ensures later { D.faults shelf.old ≤ D.faults shelf.new }
