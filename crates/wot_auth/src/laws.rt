@@ -2,9 +2,9 @@
 //! for an answer. They stand on `specs/Slices.antt`; `wot_machine` cites them.
 ghost use Rattle.wot_auth.specs.Slices.{AreWithinSlices, DoPathsAnswer, DoSlicesAnswer};
 
-/// An answer rests on a slice: the roots, whatever a member certified with a depth of at least 1, and the target. Each
-/// issuer on a valid path is a member, and two questions that agree on a slice of both have the same valid paths, next
-/// paths and answers.
+/// An answer depends on a slice: the roots, whatever a member certified with a depth of at least 1, and the target.
+/// Each issuer on a valid path is a member, and two questions that agree on a slice of both have the same valid paths,
+/// next paths and answers.
 pub fn answers_rest_on_slices()
     ensures within { AreWithinSlices }
     ensures alike { DoSlicesAnswer }

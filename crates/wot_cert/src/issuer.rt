@@ -45,7 +45,7 @@ fn counted(facts: Option<SigFacts>, admitted: bool, by: Option<Fpr>) -> Option<F
     }
 }
 
-/// The key whose signature this counts as: the signature can be parsed, is sound and admitted by the policy, its
+/// The key whose signature this counts as: the signature can be parsed, is well-formed and admitted by the policy, its
 /// verdict is good with that key, and its hashed issuer fingerprint is absent or that key's.
 pub fn issuer_of(sig: &Sig, verdicts: &Verdicts) -> Option<Fpr>
     ensures issuer { result ≡ issuer_in verdicts.now sig.now }

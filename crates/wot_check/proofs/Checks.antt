@@ -1,6 +1,6 @@
 -- A check has the same result for questions that agree on what it looks at.
-use Rattle.std.proofs.Common.{◌≡◌, ◌⊎◌, inl, inr, ℕ, ◌+◌, ◌<◌, ◌≤◌, ◌-◌, List, [], ◌∷◌, ◌++◌, map, Option, Some, None}
-use Rattle.std.proofs.Common.{Bool, true, false, refl, sym, ap, subst, ◌∙◌, arith}
+use Rattle.std.proofs.Common.{◌≡◌, inl, inr, ℕ, ◌+◌, ◌<◌, ◌≤◌, ◌-◌, List, [], ◌∷◌, ◌++◌, map, Option, Some}
+use Rattle.std.proofs.Common.{refl, sym, ap, subst, ◌∙◌, arith}
 use Rattle.wot_types.specs.declared.fpr.Fpr.{Fpr}
 use Rattle.wot_edge.specs.declared.edge.EdgeFacts.{EdgeFacts}
 use Rattle.wot_edge.specs.declared.path.Path.{Path}
@@ -8,14 +8,13 @@ use Rattle.wot_edge.specs.declared.path.Step.{Step}
 use Rattle.wot_edge.specs.Agree.{Agree}
 use Rattle.wot_edge.specs.AgreeLaws.{AreFrom, IsRowOf, agree_back, amount_same, edge_there, in_order_same, place_same}
 use Rattle.wot_edge.specs.AgreeLaws.{row_there, start_same, valid_there}
-use Rattle.wot_edge.specs.Path.{Question, Use, root_left, step_left, step_of, use_of}
+use Rattle.wot_edge.specs.Path.{Question, Use, step_left, step_of, use_of}
 use Rattle.wot_edge.specs.Record.{Has, Row, entry_at, rows_into}
 use Rattle.wot_check.specs.declared.checking.Checked.{Checked}
 use Rattle.wot_check.specs.declared.checking.Checked.TheVariants.{BadPaths, BadTable, Yes}
-use Rattle.wot_check.specs.declared.claimed.ClaimedStep.{ClaimedStep}
 use Rattle.wot_check.specs.Absence.{Carries, Closes, IsAbsence, IsChecked, MayPrecede, RootsSpent}
 use Rattle.wot_check.specs.Claim.{Claim, EachShows, Shows, claim_of, claimed_step}
-use Rattle.wot_check.specs.Leading.{HasChecked, HasIntroducersOf, ShareChecked}
+use Rattle.wot_check.specs.Leading.{HasIntroducersOf, ShareChecked}
 use Rattle.wot_check.specs.Table.{IsTable, IsWithin, Labels, label_at}
 use Rattle.wot_check.proofs.Entries.{label_small}
 

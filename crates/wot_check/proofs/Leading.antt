@@ -1,5 +1,5 @@
 -- What leads to a target carries the least table, and each valid path.
-use Rattle.std.proofs.Common.{◌≡◌, ◌⊎◌, inl, inr, ℕ, ◌<◌, ◌≤◌, Bool, true, false, List, [], ◌∷◌, length, Some, refl, sym}
+use Rattle.std.proofs.Common.{◌≡◌, inl, inr, ℕ, ◌≤◌, Bool, true, false, List, [], ◌∷◌, length, Some, refl, sym}
 use Rattle.std.proofs.Common.{subst, ◌∙◌, arith}
 use Rattle.wot_types.specs.declared.fpr.Fpr.{Fpr}
 use Rattle.wot_edge.specs.declared.path.Step.{Step}
@@ -8,7 +8,7 @@ use Rattle.wot_edge.specs.Path.{Chain, IsValid, Question, Stands, Use, start}
 use Rattle.wot_edge.specs.Record.{Has}
 use Rattle.wot_check.specs.Absence.{IsLeast, IsLeastTable, LeastBy, is_in_order}
 use Rattle.wot_check.specs.Growth.{IsLabel, IsSettled, Labelled}
-use Rattle.wot_check.specs.Leading.{HasChecked, LeadsToTarget, ShareChecked, ShareLeading}
+use Rattle.wot_check.specs.Leading.{HasChecked, LeadsToTarget, ShareLeading}
 use Rattle.wot_check.specs.Table.{IsTable, Labels, label_at}
 use Rattle.wot_check.proofs.Checks.{certifiers_back, closes_there, introducers_back, turned}
 use Rattle.wot_check.proofs.Layering.{labelled_trail, settled_least}

@@ -1,6 +1,6 @@
 -- Laws of agreement: if two questions agree on a set that has the target, they say the same of steps whose issuers are
 -- all in the set. For the proofs of all crates.
-use Rattle.std.proofs.Common.{◌≡◌, inl, inr, ℕ, ◌<◌, ◌-◌, Bool, List, [], ◌∷◌, length, map, Some, sym, ap, subst, ◌∙◌}
+use Rattle.std.proofs.Common.{◌≡◌, inl, inr, ℕ, ◌<◌, ◌-◌, Bool, List, [], ◌∷◌, map, Some, sym, ap, subst, ◌∙◌}
 use Rattle.std.proofs.Common.{refl, arith}
 use Rattle.wot_types.specs.declared.fpr.Fpr.{Fpr}
 use Rattle.wot_edge.specs.declared.edge.EdgeFacts.{EdgeFacts}

@@ -18,11 +18,12 @@ use Rattle.wot_machine.specs.Law.{OneOutcome}
 use Rattle.wot_machine.specs.Entry.{MayPut}
 use Rattle.wot_machine.specs.Transcript.{AllTold, AnsweredMost, Begun, octets_of}
 use Rattle.wot_machine.proofs.Giving.{all_told, all_weaker}
+use Rattle.wot_engine.specs.Asking.{command_by}
 use Rattle.wot_engine.specs.Held.{Moves, MovesOf}
 use Rattle.wot_engine.specs.Ended.{Reached, ReachedWhole}
 use Rattle.wot_engine.specs.Turn.{Replies, use_by}
 use Rattle.wot_engine.proofs.Progress.{Stands, puts_nothing, reaches, starts, takes_more, took_on}
-use Rattle.wot_engine.proofs.Turns.{First-here, Stood, Turned, cut_by, cut_most, turned, wrote}
+use Rattle.wot_engine.proofs.Turns.{First-here, Stood, cut_by, cut_most, turned, wrote}
 
 -- ---- the buffer
 
@@ -112,21 +113,19 @@ module _ (rows : PolicyRows) where
   Held-reply left0 written0 origin old left written out shelf state new left' shelf' state' line octets more h a r
       behind =
       all_weaker left0 written0 origin _ _ (λ input before world uncalled h.
-      let t : Turned rows origin world input before new.held new.taken left' (Some ((before ++ h.done) ++ out)) octets
-      shelf' state' =
-      turned rows origin world input before old left (Some ((before ++ h.done) ++ out)) shelf state new left' shelf'
-      state' line octets uncalled h.stands a r in
-      let now : (before ++ h.done) ++ out ≡ before ++ octets_of t.stands.replies = some_is ((before ++ h.done) ++ out)
-      (before ++ octets_of t.stands.replies) t.stands.written_is in
-      let same : (before ++ h.done) ++ more ≡ (before ++ octets_of t.stands.replies) ++ octets =
+      let t = turned rows origin world input before old left (Some ((before ++ h.done) ++ out)) shelf state new left'
+      shelf' state' line octets uncalled h.stands a r in
+      let now : (before ++ h.done) ++ out ≡ before ++ octets_of h.stands.replies = some_is ((before ++ h.done) ++ out)
+      (before ++ octets_of h.stands.replies) h.stands.written_is in
+      let same : (before ++ h.done) ++ more ≡ (before ++ octets_of h.stands.replies) ++ octets =
       ap (λ (x : List ℕ). (before ++ h.done) ++ x) behind ∙ sym (append_assoc (before ++ h.done) out octets)
       ∙ ap (λ (x : List ℕ). x ++ octets) now in
       record {
         done = h.done;
         written_is = h.written_is;
-        stands = wrote rows origin world input before new.held new.taken left' (Some ((before ++ h.done) ++ out)) octets
-            shelf' state' (Some ((before ++ h.done) ++ more)) t
-            (ap (λ (x : List ℕ). Some x) same);
+        stands = (wrote rows origin world input before old.held old.taken left (Some ((before ++ h.done) ++ out)) shelf
+            state (command_by line new.text) new.held new.taken left' octets shelf' state'
+            (Some ((before ++ h.done) ++ more)) h.stands t (ap (λ (x : List ℕ). Some x) same)).0;
       }) h
 
   -- the whole buffer was written

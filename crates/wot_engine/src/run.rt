@@ -13,10 +13,11 @@ ghost use Rattle.wot_io.specs.Input.{HasNoFeed};
 ghost use Rattle.wot_io.specs.Sink.{GainsPrefix};
 ghost use Rattle.wot_cache.specs.State.{empty, state_of};
 ghost use Rattle.wot_machine.specs.Machine.{kept};
-ghost use Rattle.wot_machine.specs.Both.{ends};
+ghost use Rattle.wot_machine.specs.Both.{ends, itself};
 ghost use Rattle.wot_machine.specs.Entry.{MayPutTo};
 ghost use Rattle.wot_machine.specs.Transcript.{HasMost, TakesAtMost};
-ghost use Rattle.wot_engine.specs.Ends.{IsMuchOrMemory};
+ghost use Rattle.wot_engine.specs.Asking.{MayAsk, ReadAsks, RunAsks, command_by, done};
+ghost use Rattle.wot_engine.specs.Ends.{IsMuchOrMemory, status_at};
 ghost use Rattle.wot_engine.specs.Ended.{TakesMost};
 ghost use Rattle.wot_engine.specs.Told.{MovesShelf, OnMost, ReachesSome, WritesAll, WritesMost, WritesPrefix};
 ghost use Rattle.wot_engine.specs.Told.{WritesSome, WritesTaken};
@@ -86,6 +87,7 @@ fn say<D: Shelf, F: Fn(Ask) -> bool>(
     ensures kept { OnErr result (out.new.items ≡ out.old.items) }
     ensures counted { machine.new.engine.keyring.changes ≤ machine.old.engine.keyring.changes + 1 }
     ensures turned { machine.new.engine.turns.count ≤ machine.old.engine.turns.count + 1 }
+    ensures asked { ReadAsks result line text.now (ends kept machine) (ends itself policy) }
     ensures judged { IsJudgedBy (rows_of policy.old) machine.new.engine.keyring }
     ensures faithful { IsFaithful F.Fn policy.new }
     ensures rows { rows_of policy.new ≡ rows_of policy.old }
@@ -118,6 +120,8 @@ fn reply_to<D: Shelf, F: Fn(Ask) -> bool>(
     ensures kept { OnErr result (out.new.items ≡ out.old.items) }
     ensures counted { machine.new.engine.keyring.changes ≤ machine.old.engine.keyring.changes + 1 }
     ensures turned { machine.new.engine.turns.count ≤ machine.old.engine.turns.count + 1 }
+    ensures asked { OnOk result (ReadAsks done line text.now (ends kept machine) (ends itself policy)) }
+    ensures may_ask { OnErr result (MayAsk (command_by line text.now) policy.old policy.new) }
     ensures judged { IsJudgedBy (rows_of policy.old) machine.new.engine.keyring }
     ensures faithful { IsFaithful F.Fn policy.new }
     ensures rows { rows_of policy.new ≡ rows_of policy.old }
@@ -181,6 +185,8 @@ pub fn run<S: Source, K: Sink, D: Shelf, F: Fn(Ask) -> bool>(
     ensures ended { OnOk result (IsAtEnd (S.left input.old) (S.left input.new)) }
     ensures took { IsErrOf result TooMuch → TakesMost (S.left input.old) (S.left input.new) }
     ensures at_most { TakesAtMost (S.left input.old) (S.left input.new) }
+    ensures asked { RunAsks (status_at result)
+        (ends S.left input) (ends K.written output) (ends D.world shelf) (ends itself policy) }
     ensures faithful { IsFaithful F.Fn policy.new }
     ensures rows { rows_of policy.new ≡ rows_of policy.old }
 {
@@ -238,6 +244,8 @@ fn answer_lines<S: Source, K: Sink, D: Shelf, F: Fn(Ask) -> bool>(
     ensures ended { OnOk result (IsAtEnd (S.left input.old) (S.left input.new)) }
     ensures took { IsErrOf result TooMuch → TakesMost (S.left input.old) (S.left input.new) }
     ensures at_most { TakesAtMost (S.left input.old) (S.left input.new) }
+    ensures asked { RunAsks (status_at result)
+        (ends S.left input) (ends K.written output) (ends D.world shelf) (ends itself policy) }
     ensures faithful { IsFaithful F.Fn policy.new }
     ensures rows { rows_of policy.new ≡ rows_of policy.old }
 {

@@ -5,8 +5,9 @@ ghost use Rattle.std.specs.Prelude.{◌≡◌, ◌⊎◌, ◌↔◌, map, string
 ghost use Rattle.wot_policy.specs.Kept.{IsFaithful, rows_of};
 ghost use Rattle.wot_io.specs.Counts.{Rose};
 ghost use Rattle.wot_io.specs.Filled.{IsAtEnd};
-ghost use Rattle.wot_machine.specs.Both.{ends};
+ghost use Rattle.wot_machine.specs.Both.{ends, itself};
 ghost use Rattle.wot_machine.specs.Transcript.{TakesAtMost};
+ghost use Rattle.wot_engine.specs.Asking.{RunAsks};
 ghost use Rattle.wot_engine.specs.Ends.{status_at};
 ghost use Rattle.wot_engine.specs.Forms.{IsForm};
 ghost use Rattle.wot_engine.specs.Generated.{BeginsSummary, WritesSummary};
@@ -30,7 +31,7 @@ use wot_policy::{Ask, Policy};
 ///
 /// Each reply is written completely before more is read. The replies to the lines that one read brought are written
 /// together. `shelf` is the certificate directory, from which `load` reads and to which `store` writes. The policy says
-/// which signatures are admitted, and is asked once for each valid signature that an import or a load adds.
+/// which signatures are admitted, and is asked once for each well-formed signature that an import or a load adds.
 ///
 /// `gen X N` uses neither the input nor the certificate directory. It makes a script from X and N, answers it with an
 /// empty directory in memory, and writes three lines about it. The status is 0, 4 or 5.
@@ -76,6 +77,12 @@ pub fn run_words<S: Source, K: Sink, D: Shelf, F: Fn(Ask) -> bool>(
     ensures at_most { TakesAtMost (S.left input.old) (S.left input.new) }
     ensures faithful { IsFaithful F.Fn policy.new }
     ensures rows { rows_of policy.new ≡ rows_of policy.old }
+
+    // The policy is asked once for each well-formed signature that an import or a load adds, and for nothing else. With
+    // status 0 this covers all lines, with 3 and 6 all complete lines that were taken, and with 4 and 5 the first lines
+    // up to some line.
+    ensures asked { AreOfRun words.now → RunAsks result
+        (ends S.left input) (ends K.written output) (ends D.world shelf) (ends itself policy) }
 
     // Whatever is known of the sink and the directory: with status 0 nothing is left in the source, and with status 6
     // it gave 2^30 octets.

@@ -204,7 +204,7 @@ step_alike rows one other name line given told reply new c v w ask step =
     step_as rows one other name line given told reply new ask
     (λ r s does. does_alike rows one.state other.state name ask.command given told r s c v w ask.asks does) step
 
--- reached states are reachable
+-- reached states are well-formed
 pub reached_can_be : (rows : PolicyRows) (world : World) (lines : List (List ℕ)) (replies : List Reply) (s : Scene) →
     Run rows (opening world) lines replies s → AreNamed s.whole.state.held.certs
 reached_can_be rows world lines replies s run = run_stays rows AreNamed (named_all rows) named_without lines

@@ -199,7 +199,8 @@ module _ (edges : EdgeLaws) (rows : PolicyRows) (name : List ℕ) (target : Fpr)
       by (Some view) m =
           misses_there edges rows one other marks view target uid a.set a.held laws a.leads wanted reply m
 
-  pub does_absence : LeadingLaws → AreAlikeBefore name target one other → (wanted : ℕ) (uid : List ℕ) (given told : Served)
+  pub does_absence : LeadingLaws → AreAlikeBefore name target one other
+      → (wanted : ℕ) (uid : List ℕ) (given told : Served)
       (reply : Reply) (new : State)
       → Does rows one (Absence name target wanted uid) given reply new
       → Does rows other (Absence name target wanted uid) told reply other
@@ -228,7 +229,7 @@ module _ (edges : EdgeLaws) (rows : PolicyRows) (name : List ℕ) (target : Fpr)
 
 -- ---- one line
 
--- The state that can be has one reply, so a question that is answered there as here has the same.
+-- A well-formed state has one reply, so a question that is answered alike in both has the same reply.
 module _ (rows : PolicyRows) (law : OneOutcome rows) (name : List ℕ) (one other : Whole)
     (can : AreOwn other.state.held.certs) (line : List ℕ) (ask : IsAsk name line) (given told : Served) where
   replied_as : ((r : Reply) (s : State) → Does rows one.state ask.command given r s →

@@ -99,7 +99,7 @@ MatchBool-some : (b : Bool) (P Q : Option Reply → Whole → Type 0) → IsSome
 MatchBool-some true P Q p q = p
 MatchBool-some false P Q p q = q
 
--- ---- reachable states
+-- ---- well-formed states
 
 pub LineStep-stays : (rows : PolicyRows) (old : Whole) (line : List ℕ) (given : Served) (reply : Option Reply)
     (new : Whole) → IsState old.state → LineStep rows old line given reply new → IsState new.state

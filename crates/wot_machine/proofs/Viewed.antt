@@ -307,7 +307,7 @@ module _ (view : List ℕ) (was : Views) (since : Turns) where
           shown_same old before new after (v.0.others view e) (by_others (without_turn name before) name view old before
           new after (other_gone name view before e) t) s
 
--- ---- reachable views and turns
+-- ---- well-formed views and turns
 
 pub record AreSound (views : Views) (turns : Turns) : Type 0 where
   pub order : AreViewsInOrder views

@@ -1,4 +1,4 @@
--- How often a line asks the policy: once for each valid signature that it adds. No reply depends on it.
+-- How often a line asks the policy: once for each well-formed signature that it adds. No reply depends on it.
 use Rattle.std.specs.Prelude.{◌≡◌, ℕ, ◌-◌, Option, Some, Result, OnOk}
 use Rattle.wot_cert.specs.Judged.{sound_of}
 use Rattle.wot_keyring.specs.Import.{weigh}
@@ -8,12 +8,12 @@ use Rattle.wot_script.specs.declared.command.Command.{Command}
 use Rattle.wot_script.specs.declared.command.Command.TheVariants.{Import, Load}
 use Rattle.wot_cache.specs.State.{State}
 
--- the number of valid signatures that are held
+-- the number of well-formed signatures that are held
 abbrev pub sound_in : State → ℕ
 sound_in s = weigh sound_of s.held.certs
 
--- The policy was asked once for each valid signature that was added. A refused line adds none. If memory ran out, the
--- policy may have been asked before that.
+-- The policy was asked once for each well-formed signature that was added. A refused line adds none. If memory ran out,
+-- the policy may have been asked before that.
 pub record AsksForNew {T E F : Type 0} (result : Result T E) (old new : State) (before after : Policy F) : Type 0 where
   pub times : ℕ
   pub asked : after ≡ asked_more times before

@@ -26,9 +26,9 @@ use wot_explain::laws::{explanations_rest_on_issuers, list_is_one};
 use wot_network::laws::{edges_rest_on_trust, record_is_lawful, records_agree};
 use wot_script::laws::lines_spell_commands;
 
-/// Whatever the certificate directory returns, each line has an outcome: a reply or none, and a new state. A reachable
-/// state has only one, which is reachable too, as the state before the first line is. So it is with the watch lines of
-/// a state.
+/// Whatever the certificate directory returns, each line has an outcome: a reply or none, and a new state. From a
+/// well-formed state, as the one before the first line is, there is only one, and the new state is well-formed too. The
+/// watch lines of a state exist too, and those of a well-formed state are unique.
 pub fn each_line_has_one_outcome()
     ensures some { (rows : PolicyRows) → HaveOutcomes rows }
     ensures one { (rows : PolicyRows) → HaveOneOutcome rows }

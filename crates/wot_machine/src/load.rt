@@ -22,7 +22,10 @@ use wot_policy::{Ask, Policy};
 use wot_script::Reply;
 use wot_types::{Memory, Name};
 
-/// Reads an entry of the certificate directory, and merges its one certificate with what is held.
+/// The reply to `load`: reads an entry of the certificate directory, and merges its one certificate with what is held.
+/// Refused if the directory fails, if the entry is absent or has more than 8,388,608 octets, or if `import` would
+/// refuse its octets or they aren't exactly the certificate of the entry's name. After `Memory` the engine is
+/// unchanged.
 pub fn load<D: Shelf, F: Fn(Ask) -> bool>(
     engine: &mut Engine,
     name: &Name,

@@ -155,7 +155,7 @@ impl Machine {
             self.old.made self.new.made }
         ensures counted { IsOneChange self.old.engine.keyring self.new.engine.keyring }
         ensures turned { self.new.engine.turns.count ≤ self.old.engine.turns.count + 1 }
-        // The policy is asked once for each valid signature that an import or a load adds, and in no other line.
+        // The policy is asked once for each well-formed signature that an import or a load adds, and in no other line.
         ensures asked { LineAsks result (heard line.now) (state_of self.old.engine) (state_of self.new.engine)
             policy.old policy.new }
         ensures judged { IsJudgedBy (rows_of policy.old) self.new.engine.keyring }

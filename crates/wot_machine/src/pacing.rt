@@ -21,7 +21,8 @@ use wot_explain::{Bind, list_after};
 use wot_script::{BindLines, Reply};
 use wot_types::{Memory, Place, Steps, UserId, ViewName};
 
-/// `cursor C over V N`.
+/// `cursor C over V N`: begins or restarts a cursor over the bindings that are authenticated to the amount N. Refused
+/// if the view isn't open, or if the number of cursors is at its limit. After `Memory` the cursors are unchanged.
 pub fn over(
     alloc: Global,
     engine: &Engine,
@@ -51,7 +52,7 @@ pub fn over(
     }
 }
 
-/// `cursor C close`. Takes no memory.
+/// `cursor C close`: removes a cursor, or replies that there is none of this name. Takes no memory.
 pub fn close(engine: &Engine, cursors: &mut Cursors, name: &ViewName) -> Told
     ensures ends { Paces (whole_of engine.now cursors.old) (CursorClose name.now)
         result.reply (settled result.moved cursors.new) }
@@ -65,7 +66,9 @@ pub fn close(engine: &Engine, cursors: &mut Cursors, name: &ViewName) -> Told
     alone(Reply::Done)
 }
 
-/// `cursor C next K`.
+/// `cursor C next K`: the cursor's next K bindings, or all that are left. Refused if there is no such cursor, if its
+/// view isn't open, or if the keyring or the view changed since it began. The cursor moves only once the reply is
+/// written.
 pub fn next(
     alloc: Global,
     engine: &mut Engine,

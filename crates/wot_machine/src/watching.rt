@@ -21,7 +21,8 @@ use wot_script::Reply;
 use wot_types::{Fpr, Memory, Steps, UserId, ViewName};
 use wot_watch::{PutFault, Watch, Watches};
 
-/// `watch W on V FPR N UID`.
+/// `watch W on V FPR N UID`: begins or restarts a watch, with its current amount as the reply. Refused if the view
+/// isn't open, or if the number of watches is at its limit. After `Memory` the watches are unchanged.
 pub fn on(
     alloc: Global,
     engine: &mut Engine,
@@ -75,7 +76,7 @@ fn begin(
     }
 }
 
-/// `watch W off`. Takes no memory.
+/// `watch W off`: removes a watch, or replies that there is none of this name. Takes no memory.
 pub fn off(watches: &mut Watches, name: &ViewName) -> Reply
     ensures watching { (s : Whole) → Watching (watched s watches.old) (WatchOff name.now) result watches.new }
     ensures short { is_short result ≡ true }

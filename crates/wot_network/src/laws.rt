@@ -52,8 +52,8 @@ pub fn edges_rest_on_trust()
     ensures trust { (certs : Certificates) (verdicts : Entries) (t : ℕ) (u : List ℕ) → RestsOnTrust certs verdicts t u }
 {}
 
-/// What verdicts give one certificate rests on the verdicts on its signatures alone: the standing of its key, and on each
-/// user ID what counts and what is revoked.
+/// What verdicts give one certificate depends on the verdicts on its signatures alone: the standing of its key, and on
+/// each user ID what counts and what is revoked.
 pub fn own_verdicts_decide()
     ensures standings { DecideStandings }
     ensures user_ids { DecideUserIds }

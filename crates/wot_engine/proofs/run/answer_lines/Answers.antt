@@ -1,5 +1,5 @@
-use Rattle.std.proofs.Common.{rules, ◌≡◌, ◌≢◌, ◌^◌, ◌<◌, inl, inr, ℕ, ◌++◌, List, Ok, refl, sym, arith, subst}
-use Rattle.std.proofs.Common.{◌∙◌}
+use Rattle.std.proofs.Common.{rules, ◌≡◌, ◌≢◌, ◌^◌, ◌<◌, inl, inr, ℕ, ◌++◌, List, Ok, refl, sym, ap, arith}
+use Rattle.std.proofs.Common.{subst, ◌∙◌}
 use Rattle.std.specs.Prelude.{IfSome}
 use Rattle.wot_io.specs.Counts.{Rose}
 use Rattle.wot_io.specs.Input.{lines_of}
@@ -8,13 +8,17 @@ use Rattle.wot_io.specs.declared.lines.Line.TheVariants.{End, Long, Text}
 use Rattle.wot_policy.specs.declared.rows.PolicyRows.{PolicyRows}
 use Rattle.wot_policy.specs.Kept.{rows_of}
 use Rattle.wot_keyring.specs.Kept.{IsJudgedBy}
+use Rattle.wot_machine.specs.Asked.{LineAsks}
 use Rattle.wot_machine.specs.Entry.{MayPut}
 use Rattle.wot_machine.specs.Machine.{kept}
 use Rattle.wot_machine.specs.Transcript.{AllTold, Begun}
 use Rattle.wot_machine.proofs.Giving.{told_always}
+use Rattle.wot_engine.specs.Asking.{MayAsk, command_by, done}
 use Rattle.wot_engine.specs.Ended.{Reached}
+use Rattle.wot_engine.specs.Ends.{status_at}
 use Rattle.wot_engine.specs.Turn.{use_by}
 use Rattle.wot_engine.specs.declared.run.Stop.TheVariants.{Memory, Read, TooMuch, Write}
+use Rattle.wot_engine.proofs.Asking.{HasAsked-line, asks_between, asks_cut, asks_end, asks_nothing, asks_stop}
 use Rattle.wot_engine.proofs.Held.{Held, Held-begun, Held-cut, Held-first, Held-most, Held-moves, Held-none}
 use Rattle.wot_engine.proofs.Held.{Held-reached, Held-reached_cut, Held-reached_next, Held-reply, Held-written}
 use Rattle.wot_engine.proofs.Held.{nothing_held}
@@ -434,6 +438,15 @@ lines-preserved g c =
           c.reply_to.ensures.judged;
       rows = c.reply_to.ensures.rows ∙ c.lines.invariant.rows;
       faithful = c.reply_to.ensures.faithful;
+      asked = HasAsked-line (rows_of c.args.policy.now) c.args.policy.now (g.D.Shelf.world c.args.shelf.now)
+          (g.S.Source.left c.args.input.now) (g.K.Sink.written c.args.output.now)
+          c.lines.lines (g.S.Source.left c.lines.input) (g.D.Shelf.world c.lines.shelf) (kept c.lines.machine)
+          c.lines.policy c.next.new.self (g.S.Source.left c.next.new.from)
+          (g.D.Shelf.world c.reply_to.new.shelf) (kept c.reply_to.new.machine) c.reply_to.new.policy c.in-Ok.line
+          replies.octets c.lines.invariant.asked c.in-Ok.ensures.ok replies.replies
+          (subst (λ (x : List ℕ). LineAsks done (command_by c.in-Ok.line x) (kept c.lines.machine).state
+          (kept c.reply_to.new.machine).state c.lines.policy c.reply_to.new.policy) c.text.ensures
+          c.in-Ok-reply_to.ensures.asked);
     }
 
 pub lines-smaller : goal.lines-smaller
@@ -693,4 +706,66 @@ lines-init g c = record {
   judged = judged (rows_of c.args.policy.now) c.args.machine.now.engine c.requires.engine;
   rows = refl;
   faithful = c.requires.faithful;
+  asked = asks_nothing (rows_of c.args.policy.now) c.args.policy.now (g.D.Shelf.world c.args.shelf.now)
+      (g.S.Source.left c.args.input.now) (g.K.Sink.written c.args.output.now)
+      c.args.lines.now c.args.machine.now c.requires.unread c.requires.engine c.requires.cursors c.requires.watches;
 }
+
+-- ---- how often the policy was asked
+
+pub returns-in_err-flush-clause-asked : goal.returns-in_err-flush-clause-asked
+returns-in_err-flush-clause-asked g c =
+    asks_between (rows_of c.args.policy.now) c.args.policy.now (g.D.Shelf.world c.args.shelf.now)
+    (status_at c.from_residual.result) (g.S.Source.left c.args.input.now) (g.K.Sink.written c.args.output.now)
+    c.lines.lines.held c.lines.lines.taken (g.S.Source.left c.lines.input) (g.D.Shelf.world c.lines.shelf)
+    (kept c.lines.machine) c.lines.policy (g.S.Source.left c.lines.input)
+    (inl (ap status_at (stopped c.from_residual.result Write c.from_residual.ensures.1))) c.lines.invariant.asked
+
+pub returns-in-Ok-End-clause-asked : goal.returns-in-Ok-End-clause-asked
+returns-in-Ok-End-clause-asked g c =
+    asks_end (rows_of c.args.policy.now) c.args.policy.now (g.D.Shelf.world c.args.shelf.now)
+    (g.S.Source.left c.args.input.now) (g.K.Sink.written c.args.output.now) c.lines.lines
+    (g.S.Source.left c.lines.input) (g.D.Shelf.world c.lines.shelf) (kept c.lines.machine) c.lines.policy
+    c.next.new.self (g.S.Source.left c.next.new.from)
+    c.lines.invariant.asked (rw c.in-Ok-End.field-0-is at c.in-Ok-End.ensures.ok)
+
+pub returns-in-Err-ReadFault-clause-asked : goal.returns-in-Err-ReadFault-clause-asked
+returns-in-Err-ReadFault-clause-asked g c =
+    asks_stop (rows_of c.args.policy.now) c.args.policy.now (g.D.Shelf.world c.args.shelf.now) 3
+    (g.S.Source.left c.args.input.now) (g.K.Sink.written c.args.output.now) c.lines.lines.held c.lines.lines.taken
+    (g.S.Source.left c.lines.input) (g.D.Shelf.world c.lines.shelf) (kept c.lines.machine) c.lines.policy
+    (g.S.Source.left c.next.new.from) c.next.new.self.taken
+    (inl refl) c.lines.invariant.asked (c.in-Err-ReadFault.ensures.stops c.lines.invariant.no_fault)
+
+pub returns-in-Err-TooMuch-clause-asked : goal.returns-in-Err-TooMuch-clause-asked
+returns-in-Err-TooMuch-clause-asked g c =
+    asks_stop (rows_of c.args.policy.now) c.args.policy.now (g.D.Shelf.world c.args.shelf.now) 6
+    (g.S.Source.left c.args.input.now) (g.K.Sink.written c.args.output.now) c.lines.lines.held c.lines.lines.taken
+    (g.S.Source.left c.lines.input) (g.D.Shelf.world c.lines.shelf) (kept c.lines.machine) c.lines.policy
+    (g.S.Source.left c.next.new.from) c.next.new.self.taken
+    (inr refl) c.lines.invariant.asked (c.in-Err-TooMuch.ensures.stops c.lines.invariant.no_fault)
+
+pub returns-in_err-write_all-clause-asked : goal.returns-in_err-write_all-clause-asked
+returns-in_err-write_all-clause-asked g c =
+    let some : c.in-Ok.line ≢ End = search rules in
+    asks_cut (rows_of c.args.policy.now) c.args.policy.now (g.D.Shelf.world c.args.shelf.now)
+    (status_at c.from_residual-in_err-write_all.result) (g.S.Source.left c.args.input.now)
+    (g.K.Sink.written c.args.output.now) c.lines.lines (g.S.Source.left c.lines.input) (g.D.Shelf.world c.lines.shelf)
+    (kept c.lines.machine) c.lines.policy c.reply_to.new.policy c.next.new.self (g.S.Source.left c.next.new.from)
+    c.in-Ok.line
+    (inl (ap status_at (stopped c.from_residual-in_err-write_all.result Write
+    c.from_residual-in_err-write_all.ensures.1)))
+    c.lines.invariant.asked c.in-Ok.ensures.ok some
+    (subst (λ (x : List ℕ). MayAsk (command_by c.in-Ok.line x) c.lines.policy c.reply_to.new.policy) c.text.ensures
+    c.in_default.ensures.may_ask)
+
+pub returns-in_default-clause-asked : goal.returns-in_default-clause-asked
+returns-in_default-clause-asked g c =
+    let some : c.in-Ok.line ≢ End = search rules in
+    asks_cut (rows_of c.args.policy.now) c.args.policy.now (g.D.Shelf.world c.args.shelf.now) 5
+    (g.S.Source.left c.args.input.now) (g.K.Sink.written c.args.output.now) c.lines.lines
+    (g.S.Source.left c.lines.input) (g.D.Shelf.world c.lines.shelf) (kept c.lines.machine) c.lines.policy
+    c.reply_to.new.policy c.next.new.self (g.S.Source.left c.next.new.from) c.in-Ok.line
+    (inr refl) c.lines.invariant.asked c.in-Ok.ensures.ok some
+    (subst (λ (x : List ℕ). MayAsk (command_by c.in-Ok.line x) c.lines.policy c.reply_to.new.policy) c.text.ensures
+    c.in_default.ensures.may_ask)

@@ -1,4 +1,4 @@
-use Rattle.std.proofs.Common.{ℕ, List, ◌++◌, Option, refl, ap, ◌∙◌}
+use Rattle.std.proofs.Common.{ℕ, List, ◌++◌, Option, Ok, refl, ap, ◌∙◌}
 use Rattle.wot_io.specs.declared.lines.Line.{Line}
 use Rattle.wot_policy.specs.declared.rows.PolicyRows.{PolicyRows}
 use Rattle.wot_policy.specs.Kept.{rows_of}
@@ -9,7 +9,9 @@ use Rattle.wot_machine.specs.Transcript.{listed, octets_of}
 use Rattle.wot_machine.specs.Whole.{Whole}
 use Rattle.wot_cache.specs.State.{state_of}
 use Rattle.wot_machine.proofs.Putting.{any_err, served_puts}
+use Rattle.wot_engine.specs.Asking.{command_by, done}
 use Rattle.wot_engine.specs.Turn.{RepliesBehind, SaidBehind, use_by}
+use Rattle.wot_engine.proofs.Asking.{asks_behind, asks_done, may_ask}
 use Rattle.wot_engine.proofs.Progress.{joined}
 use Rattle.wot_engine.proofs.run.reply_to.Goals as goal
 
@@ -50,3 +52,26 @@ returns-in-Err-clause-entries g c =
     served_puts (state_of c.args.machine.now.engine) (use_by c.args.line c.args.text.now)
     (g.D.Shelf.world c.args.shelf.now) said.given
     (g.D.Shelf.world c.say.new.shelf) said.served
+
+-- ---- the policy
+
+pub returns-clause-asked : goal.returns-clause-asked
+returns-clause-asked g c =
+    asks_behind done (command_by c.args.line c.args.text.now) (state_of c.args.machine.now.engine)
+    (kept c.say.new.machine) (kept c.tell.new.self)
+    c.in_default.ensures.tells.lines c.args.policy.now c.say.new.policy c.in_default.ensures.tells.tells
+    (asks_done (Ok tt) tt (command_by c.args.line c.args.text.now) (state_of c.args.machine.now.engine)
+    (state_of c.say.new.machine.engine)
+    c.args.policy.now c.say.new.policy refl c.in_ok-say.ensures.asked)
+
+pub returns-in_err-say-clause-may_ask : goal.returns-in_err-say-clause-may_ask
+returns-in_err-say-clause-may_ask g c =
+    any_err c.from_residual.result _
+    (may_ask c.say.result (command_by c.args.line c.args.text.now) (state_of c.args.machine.now.engine)
+    (state_of c.say.new.machine.engine) c.args.policy.now c.say.new.policy c.say.ensures.asked)
+
+pub returns-in-Err-clause-may_ask : goal.returns-in-Err-clause-may_ask
+returns-in-Err-clause-may_ask g c =
+    may_ask c.say.result (command_by c.args.line c.args.text.now) (state_of c.args.machine.now.engine)
+    (state_of c.say.new.machine.engine)
+    c.args.policy.now c.say.new.policy c.say.ensures.asked

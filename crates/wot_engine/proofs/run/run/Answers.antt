@@ -1,7 +1,10 @@
-use Rattle.std.proofs.Common.{inr, refl}
+use Rattle.std.proofs.Common.{inr, [], refl, ap}
 use Rattle.wot_policy.specs.Kept.{rows_of}
+use Rattle.wot_machine.specs.Whole.{beginning}
 use Rattle.wot_machine.proofs.Giving.{told_always}
+use Rattle.wot_engine.specs.Ends.{status_at}
 use Rattle.wot_engine.specs.declared.run.Stop.TheVariants.{Memory, Read, TooMuch, Write}
+use Rattle.wot_engine.proofs.Asking.{HasAsked-init, asks_between}
 use Rattle.wot_engine.proofs.Stops.{never, on_err, stopped}
 use Rattle.wot_engine.proofs.Taking.{takes_nothing}
 use Rattle.wot_engine.proofs.Turns.{Begun-nothing, First-nothing, Reached-nothing}
@@ -87,6 +90,16 @@ returns-in_err-lines-clause-faithful g c = c.requires.faithful
 pub returns-in_err-lines-clause-rows : goal.returns-in_err-lines-clause-rows
 returns-in_err-lines-clause-rows g c = refl
 
+pub returns-in_err-lines-clause-asked : goal.returns-in_err-lines-clause-asked
+returns-in_err-lines-clause-asked g c =
+    asks_between (rows_of c.args.policy.now) c.args.policy.now (g.D.Shelf.world c.args.shelf.now)
+    (status_at c.from_residual.result) (g.S.Source.left c.args.input.now) (g.K.Sink.written c.args.output.now) [] 0
+    (g.S.Source.left c.args.input.now) (g.D.Shelf.world c.args.shelf.now) beginning c.args.policy.now
+    (g.S.Source.left c.args.input.now)
+    (inr (ap status_at (stopped c.from_residual.result Memory c.from_residual.ensures.1)))
+    (HasAsked-init (rows_of c.args.policy.now) c.args.policy.now (g.D.Shelf.world c.args.shelf.now)
+    (g.S.Source.left c.args.input.now) (g.K.Sink.written c.args.output.now))
+
 -- ---- everything else follows from the contract of `answer_lines`
 
 pub returns-clause-whole : goal.returns-clause-whole
@@ -130,6 +143,9 @@ returns-clause-much g c = c.answer_lines.ensures.much
 
 pub returns-clause-at_most : goal.returns-clause-at_most
 returns-clause-at_most g c = c.answer_lines.ensures.at_most
+
+pub returns-clause-asked : goal.returns-clause-asked
+returns-clause-asked g c = c.answer_lines.ensures.asked
 
 pub returns-clause-faithful : goal.returns-clause-faithful
 returns-clause-faithful g c = c.answer_lines.ensures.faithful

@@ -16,6 +16,7 @@ use Rattle.wot_cache.specs.State.{state_of}
 use Rattle.wot_machine.proofs.Putting.{any_err, puts_still}
 use Rattle.wot_machine.proofs.Stepping.{one_reply, too_long}
 use Rattle.wot_engine.specs.Turn.{SaidBehind, use_by}
+use Rattle.wot_engine.proofs.Asking.{looked_at, passed_over}
 use Rattle.wot_engine.proofs.run.say.Goals as goal
 
 -- the refusal of a line that is too long, unless memory runs out
@@ -64,3 +65,16 @@ pub returns-in-Long-clause-entries : goal.returns-in-Long-clause-entries
 returns-in-Long-clause-entries g c =
     any_err c.print_reply.result _ (puts_still (state_of c.args.machine.now.engine) (use_by c.args.line c.args.text.now)
     (g.D.Shelf.world c.args.shelf.now))
+
+-- ---- the policy
+
+pub returns-in-Text-clause-asked : goal.returns-in-Text-clause-asked
+returns-in-Text-clause-asked g c =
+    looked_at c.line.result c.args.line c.args.text.now (state_of c.args.machine.now.engine)
+    (state_of c.line.new.self.engine)
+    c.args.policy.now c.line.new.policy c.in-Text.is c.line.ensures.asked
+
+pub returns-in-Long-clause-asked : goal.returns-in-Long-clause-asked
+returns-in-Long-clause-asked g c =
+    passed_over c.print_reply.result c.args.line c.args.text.now (state_of c.args.machine.now.engine) c.args.policy.now
+    c.in-Long.is

@@ -261,3 +261,17 @@ pub generate-requires-clause-few : goal.generate-requires-clause-few
 generate-requires-clause-few g c =
     (script_bounds (map string_bytes c.args.words.now) c.in-Some-Generate.start c.in-Some-Generate.count
     (rw c.in-Some-Generate.field-0-is at c.in-Some-Generate.ensures.form)).1
+
+-- ---- how often the policy was asked
+
+pub returns-in-None-clause-asked : goal.returns-in-None-clause-asked
+returns-in-None-clause-asked g c form = absurd (c.in-None.ensures.form (inl form))
+
+pub returns-in-Some-Run-clause-asked : goal.returns-in-Some-Run-clause-asked
+returns-in-Some-Run-clause-asked g c form = rw c.status_of.ensures c.run.ensures.asked
+
+pub returns-in-Some-Generate-clause-asked : goal.returns-in-Some-Generate-clause-asked
+returns-in-Some-Generate-clause-asked g c form =
+    absurd
+    (one_form (map string_bytes c.args.words.now) c.in-Some-Generate.start c.in-Some-Generate.count form
+    (rw c.in-Some-Generate.field-0-is at c.in-Some-Generate.ensures.form))
