@@ -3,7 +3,7 @@
 They are no enumerations of Python's: importing `enum` takes almost as long as the interpreter takes to start.
 
 >>> ReasonWord("issuer-hard").meaning
-"the issuer's key is revoked, for all times"
+"the issuer's key is revoked, with effect at all times"
 >>> TargetWord.OK == "ok", TargetWord("ok") is TargetWord.OK, len(list(TargetWord))
 (True, True, 7)
 """
@@ -64,9 +64,9 @@ class TargetWord(Word):
     """What a key and a user ID come to as the end of paths: `ok`, or the first of the others that applies."""
     OK: TargetWord = _said("ok", "the key and the user ID are in order")
     STANDING: TargetWord = _said("standing", "no signature of its own governs the key")
-    YOUNG: TargetWord = _said("young", "the key was created later")
+    YOUNG: TargetWord = _said("young", "the key wasn't created yet")
     ENDED: TargetWord = _said("ended", "the key has expired")
-    HARD: TargetWord = _said("hard", "the key is revoked, for all times")
+    HARD: TargetWord = _said("hard", "the key is revoked, with effect at all times")
     SOFT: TargetWord = _said("soft", "the key is retired or superseded")
     UID: TargetWord = _said("uid", "the key has revoked this user ID")
 
@@ -80,12 +80,12 @@ class MissingWord(Word):
 class ReasonWord(Word):
     """What a certification comes to: `edge` where it counts, or the first of the others that applies."""
     EDGE: ReasonWord = _said("edge", "counts")
-    UNSOUND: ReasonWord = _said("unsound", "the signature is not readable as it must be")
+    UNSOUND: ReasonWord = _said("unsound", "the signature isn't well-formed")
     UNJUDGED: ReasonWord = _said("unjudged", "nobody has verified it: its issuer isn't in the input")
     BAD: ReasonWord = _said("bad", "it doesn't verify")
-    FOREIGN: ReasonWord = _said("foreign", "it names another issuer than the key that made it")
+    FOREIGN: ReasonWord = _said("foreign", "it names a different issuer than the key that made it")
     POLICY: ReasonWord = _said("policy", "its hash algorithm is too weak for its date")
-    EARLY: ReasonWord = _said("early", "it was made later")
+    EARLY: ReasonWord = _said("early", "it wasn't created yet")
     EXPIRED: ReasonWord = _said("expired", "it has expired")
     REVOKED: ReasonWord = _said("revoked", "its issuer has revoked it")
     OLDER: ReasonWord = _said("older", "its issuer has made a newer one")
@@ -93,5 +93,5 @@ class ReasonWord(Word):
     ISSUER_STANDING: ReasonWord = _said("issuer-standing", "no signature of its own governs the issuer's key")
     ISSUER_YOUNG: ReasonWord = _said("issuer-young", "the issuer's key was created later than it")
     ISSUER_ENDED: ReasonWord = _said("issuer-ended", "the issuer's key had expired when it was made")
-    ISSUER_HARD: ReasonWord = _said("issuer-hard", "the issuer's key is revoked, for all times")
+    ISSUER_HARD: ReasonWord = _said("issuer-hard", "the issuer's key is revoked, with effect at all times")
     ISSUER_SOFT: ReasonWord = _said("issuer-soft", "the issuer's key was retired before it was made")

@@ -36,8 +36,8 @@ def _switch(name: str, help: str, short: str = "") -> Option:
 
 def _known_notation(name: str) -> NoReturn:
     """An option of sq-wot's, which has no counterpart here."""
-    raise ValueError("no notation can be made known: by the engine's rules a signature with a critical notation counts "
-                     "for nothing, and `explain` names the notation")
+    raise ValueError("no notation can be made known: in the engine a signature with a critical notation never counts; "
+                     "`explain` names the notation")
 
 
 INPUTS = (
@@ -46,9 +46,8 @@ INPUTS = (
     Option("--directory", "a certificate directory", "FOLDER", is_many=True),
     _switch("--gpg", "gpg's own keyring, and its owner trust as roots"),
     _switch("--gpg-keyring", "gpg's own keyring, without its owner trust"),
-    Option("--root", "a trust root, of amount 120 unless another is given; by default gpg's with --gpg, the "
-           "directory's trust-root with --directory, and else that of sq", "KEY[:AMOUNT]", values.read_root,
-           is_many=True),
+    Option("--root", "a trust root, with amount 120 by default; without --root, gpg's with --gpg, the directory's "
+           "trust-root with --directory, otherwise sq's", "KEY[:AMOUNT]", values.read_root, is_many=True),
 )
 TIME_AND_AMOUNT = (
     Option("--time", "as of this time (UTC): 2024-01-31, 2024-01-31T12:00:00Z, or @SECONDS since 1970", "TIME",
@@ -59,19 +58,19 @@ TIME_AND_AMOUNT = (
 )
 ANSWERS = (
     _switch("--email", "USERID is an e-mail address, in upper or lower case"),
-    _switch("--strict", "a key that gpg or Sequoia takes as expired isn't reached"),
+    _switch("--strict", "a key that gpg or Sequoia treats as expired counts as not reached"),
     _switch("--paths", "list: show the paths too"),
     Option("--format", f"how the answer is shown: {', '.join(FORMS)}", "FORM", default=FORMS[0], choices=FORMS),
 )
 PROGRAMS = (
     _switch("--no-service", "start an engine just for this question"),
     Option("--cache", "where verified keyrings are kept", "FOLDER"),
-    _switch("--no-cache", "keep nothing, and use nothing that was kept"),
-    _switch("--anew", "verify again what was kept"),
+    _switch("--no-cache", "don't use a cache"),
+    _switch("--anew", "ignore the cache, and verify again"),
     Option("--engine", "the engine's program", "PROGRAM"),
     Option("--verifier", "the program wot-verdicts", "PROGRAM"),
     Option("--known-notation", read=_known_notation),
-    _switch("--version", "print the versions, and end"),
-    _switch("--help", "print this help, and end", short="-h"),
+    _switch("--version", "print the versions and exit"),
+    _switch("--help", "print this help and exit", short="-h"),
 )
 QUESTION = (*INPUTS, *TIME_AND_AMOUNT, *ANSWERS, *PROGRAMS)

@@ -10,26 +10,26 @@ from . import options
 from .failures import WrongWords
 from .given import Given
 
-HELP = """usage: tukyamid [option..] QUESTION WORD..
+HELP = """usage: tukyamid [option..] QUESTION ARGUMENT..
 
 questions:
   authenticate KEY USERID   how confident can I be that this user ID belongs to this key?
-  lookup USERID             which keys does this user ID belong to? the best first
-  identify KEY              which user IDs belong to this key? the best first
-  list [PATTERN]            all bindings that reach the amount; PATTERN is a part of the user ID
+  lookup USERID             which keys does this user ID belong to, best first?
+  identify KEY              which user IDs belong to this key, best first?
+  list [PATTERN]            list all bindings that reach the amount; PATTERN is a part of the user ID
   path KEY.. USERID         is there a path along these certificates, and if not, which step breaks it?
   explain KEY USERID        does each certification of this user ID count, and if not, why?
 
 other commands, each with its own --help:
   verify FILE [SIGNATURE] --for WHOM   is this file signed by WHOM?
-  web                       a page in the browser: who vouches for whom, and what would change that
-  check FILE                does the answer hold that somebody else saved in this file?
-  keyring add|remove|list   the keyrings that the service keeps
-  status                    what the service holds
-  log                       who changed what
-  doctor                    does everything work here?
+  web                       open a page in the browser: who vouches for whom, and what would change that
+  check FILE                check an answer that somebody else saved in a file
+  keyring add|remove|list   change or list the keyrings that the service keeps
+  status                    show what the service holds
+  log                       show who changed what
+  doctor                    check the installation, and say how to repair it
 
-KEY is a fingerprint or a key ID, also with 0x in front."""
+KEY is a fingerprint or a key ID, with or without 0x in front."""
 EPILOG = """exit status: 0 the amount is reached, by at least one binding; 1 it isn't; 2 the arguments are wrong;
 3 there is no answer, and standard error says why; 130 it was interrupted.
 environment: TUKYAMID_ENGINE and TUKYAMID_VERIFIER name the two programs; NO_COLOR turns colours off.
@@ -86,7 +86,7 @@ def add_time_and_amount(group: argparse._ArgumentGroup) -> None:
 
 
 def add_programs(made: Parser) -> None:
-    add_options(made.add_argument_group("programs, and what is kept"), options.PROGRAMS)
+    add_options(made.add_argument_group("programs and caches"), options.PROGRAMS)
 
 
 def add_options(group: argparse._ArgumentGroup, added: Iterable[options.Option]) -> None:

@@ -4,6 +4,7 @@ larger is held in slices from then on."""
 from __future__ import annotations
 
 import asyncio
+import contextlib
 from collections.abc import Callable, Sequence
 from dataclasses import replace
 from functools import partial
@@ -11,14 +12,16 @@ from typing import Protocol, TypeVar
 
 from .access import Access
 from .cursors import Cursors
-from .database import Actor, Database, DatabaseFault, Finder, Snapshot
+from .database import Actor, Database, DatabaseFault, Finder, News, Shared, Snapshot
 from .growth import growth_of, measured, sum_of
 from .hub import Hub
 from .journal import Done
 from .kinds import OF_THE_WHOLE
 from .outbox import Outbox, Pieces
-from .parts import MOST, HasParts, Sizes
+from .parts import MOST, HasParts, SharedInParts, Sizes
 from .reading import brought
+from .shared_hub import SharedHub
+from .shared_sliced import SharedSliced
 from .sliced import Sliced
 from .sliced_cursors import SlicedCursors
 from .sliced_watches import SlicedWatches
@@ -28,6 +31,8 @@ from .watches import Watches
 
 _R = TypeVar("_R")
 LOADED_AT_ONCE = 2 << 20  # Octets of certificates: an engine loads them in less than a tenth of a second.
+_PAUSE = 1.0
+_PATIENCE = 30.0
 
 
 class Sitting(Protocol):
@@ -72,13 +77,13 @@ class Desk:
 
     @property
     def count(self) -> int | None:
-        """The number of the last change that all engines have; None of a sliced keyring."""
-        return self.held.count if isinstance(self.held, Hub) else None
+        """The number of the last change that all engines have; None of a sliced keyring that nobody else changes."""
+        return self.held.count if isinstance(self.held, Hub | SharedSliced) else None
 
     @property
     def age(self) -> float:
         """For how many seconds changes of other services may have been missed."""
-        return self.held.age if isinstance(self.held, Hub) else 0.0
+        return self.held.age if isinstance(self.held, SharedHub | SharedSliced) else 0.0
 
     @property
     def pids(self) -> list[int]:
@@ -97,17 +102,15 @@ class Desk:
     async def start(self) -> None:
         """Starts the first engine; OSError, ValueError or DatabaseFault where it can't take the database. If there is
         much to load, questions are answered from slices until `load` is over."""
-        sizes = await measured(self.database, self._most)
+        sizes = await measured(self.database)
         self._bound = sizes or self._bound
-        if sizes is not None and not sizes.fits(self._most):
-            self._held = sliced = self._sliced()
-            await sliced.start()
+        held: Hub | Sliced = self._whole() if sizes is None or sizes.fits(self._most) else self._sliced()
+        self._held = held
+        if not isinstance(held, Hub) or sizes is None or sizes.octets <= LOADED_AT_ONCE \
+                or isinstance(self.database, Shared):
+            await held.start()
             return
-        self._held = hub = Hub(self._program, self._most_engines, self.database, self._access)
-        if sizes is None or sizes.octets <= LOADED_AT_ONCE:
-            await hub.start()
-            return
-        await hub.begin()
+        await held.begin()
         early = self._sliced()
         await early.start()
         self.early = early
@@ -120,7 +123,7 @@ class Desk:
         self.is_turning = True  # Until all that was asked early is answered, no change may be made.
         await self.early.close()
         self.early = None
-        self._turned()
+        self._resume([])
 
     def takes(self, line: bytes) -> bool:
         """Whether this line may begin now."""
@@ -128,7 +131,8 @@ class Desk:
 
     async def close(self) -> None:
         if self._task is not None:
-            await self._task
+            with contextlib.suppress(asyncio.TimeoutError):
+                await asyncio.wait_for(self._task, _PATIENCE)
         if self.early is not None:
             await self.early.close()
         if self._held is not None:
@@ -138,8 +142,16 @@ class Desk:
     def tell(self, text: str) -> None:
         self._access.tell(text)
 
-    def note(self, session: int, line: bytes) -> None:
+    def note_change(self, session: int, line: bytes) -> None:
+        """Writes down a change when it has begun."""
         self._access.note(session, line)
+
+    def note(self, session: int, line: bytes) -> None:
+        """Writes down any other line when it is handed in."""
+        if isinstance(self.held, SharedSliced) and self._access.notes:
+            self.held.note(session, line)
+        else:
+            self._access.note(session, line)
 
     async def write(self, call: Callable[[], _R]) -> _R:
         return await self._access.write(call)
@@ -163,8 +175,7 @@ class Desk:
         if self.is_turning or self.early is not None:
             self._later.append(partial(self.change, line, actor, done, begun))
         elif isinstance(self.held, Sliced):
-            begun()
-            self.held.change(line, actor, done)
+            self.held.change(line, actor, done, begun)
         else:
             self._change_whole(self.held, line, actor, done, begun)
 
@@ -175,28 +186,54 @@ class Desk:
             hub.change(line, actor, done, begun)
             return
         self.is_turning = True
-        begun()
-        self._task = asyncio.get_running_loop().create_task(self._turn(hub, line, actor, done))
+        self._task = asyncio.get_running_loop().create_task(self._turn(
+            hub, line, lambda: self.held.change(line, actor, done, begun)))
 
-    async def _turn(self, hub: Hub, line: bytes, actor: Actor, done: Done) -> None:
+    async def _fits(self, news: News) -> bool:
+        """Whether engines that hold everything have room for what other services have changed. If they haven't, the
+        keyring is sliced from now on."""
+        hub = self.held
+        assert isinstance(hub, SharedHub)
+        bound = self._bound
+        for _, line in news.lines or ():
+            bound = sum_of(bound, growth_of(line))
+        if news.lines is None or not bound.fits(self._most):
+            bound = await measured(self.database) or bound
+        if bound.fits(self._most):
+            self._bound = bound
+            return True
+        self.is_turning = True
+        self._task = asyncio.get_running_loop().create_task(self._turn_at_once(hub))
+        return False
+
+    async def _turn_at_once(self, hub: SharedHub) -> None:
+        await hub.settle()
+        waiting = hub.waiting()
+        while self.held is hub:
+            try:
+                await self._slice(hub)
+            except (DatabaseFault, OSError) as fault:
+                self.tell(str(fault))
+                await asyncio.sleep(_PAUSE)
+        self._resume([partial(self.change, one.line, one.actor, one.done, one.begun) for one in waiting])
+
+    async def _turn(self, hub: Hub, line: bytes, change: Callable[[], None]) -> None:
         """Measures the keyring when all that came before is done. If what comes may be too much for an engine, it is
         sliced from now on."""
         await hub.settle()
         try:
-            sizes = await measured(self.database, self._most, brought(line))
+            sizes = await measured(self.database, brought(line))
             if sizes is not None:
                 self._bound = sum_of(sizes, replace(growth_of(line), certificates=0))
                 if not self._bound.fits(self._most):
                     await self._slice(hub)
         except (DatabaseFault, OSError) as fault:
             self.tell(str(fault))
-        self.held.change(line, actor, done)
-        self._turned()
+        self._resume([change])
 
-    def _turned(self) -> None:
-        """Lines are taken again, first those that came meanwhile."""
+    def _resume(self, first: list[Callable[[], None]]) -> None:
         self.is_turning = False
-        later, self._later = self._later, []
+        later, self._later = [*first, *self._later], []
         for call in later:
             call()
         for sitting in list(self.sitting):
@@ -209,9 +246,16 @@ class Desk:
             sitting.turn(sliced)
         self._held = sliced
         await hub.close()
-        self.tell("the keyring is larger than an engine from now on, and held in slices")
+        self.tell("the keyring is now larger than an engine, and is held in slices")
+
+    def _whole(self) -> Hub:
+        if isinstance(self.database, Shared):
+            return SharedHub(self._program, self._most_engines, self.database, self._access, self._fits)
+        return Hub(self._program, self._most_engines, self.database, self._access)
 
     def _sliced(self) -> Sliced:
+        if isinstance(self.database, SharedInParts):
+            return SharedSliced(self._program, self._access, self.database, self._most.certificates)
         assert isinstance(self.database, HasParts)
         return Sliced(self._program, self._access, self.database, self._most.certificates)
 

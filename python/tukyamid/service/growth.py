@@ -7,17 +7,19 @@ from dataclasses import replace
 from tukyamid.certificates import KEY, SIGNATURE, packets
 
 from .database import Database
-from .parts import HasParts, Sizes
+from .parts import HasParts, SharedParts, Sizes
 
 
-async def measured(database: Database, most: Sizes, fprs: Collection[bytes] = ()) -> Sizes | None:
+async def measured(database: Database, fprs: Collection[bytes] = ()) -> Sizes | None:
     """How large the keyring is, with as many certificates as it has when these have come; None if the database can't be
     read in parts, and so not sliced."""
     if not isinstance(database, HasParts):
         return None
     parts = await asyncio.to_thread(database.parts)
     try:
-        sizes = await asyncio.to_thread(parts.sizes, most.certificates)
+        if isinstance(parts, SharedParts):
+            await asyncio.to_thread(parts.renew)
+        sizes = await asyncio.to_thread(parts.sizes)
         new = await asyncio.to_thread(lambda: sum(not parts.has(fpr) for fpr in fprs))
         return replace(sizes, certificates=sizes.certificates + new)
     finally:

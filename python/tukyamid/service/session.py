@@ -191,13 +191,13 @@ class Session(asyncio.Protocol):
     def _begun(self, line: bytes) -> None:
         """A change has its place in the order, and so lines behind it may."""
         self._waiting_changes -= 1
-        self.hub.note(self.number, line)
+        self.hub.note_change(self.number, line)
         self._begin_lines()
 
     def _answered(self, slot: Slot, reply: bytes | Pieces | None, count: int) -> None:
         try:
             if reply is None:
-                self.hub.tell(f"client {self.number} is dropped: its line ended the engine several times")
+                self.hub.tell(f"client {self.number} is disconnected: its line killed the engine several times")
             elif slot.finish is not None and isinstance(reply, bytes):
                 reply = slot.finish(reply, count)
             self.outbox.answer(slot, reply)
