@@ -1,4 +1,4 @@
-"""When gpg and Sequoia take a key as expired, though the engine doesn't.
+"""When gpg and Sequoia treat a key as expired, though the engine doesn't.
 
 By the profile a direct key signature governs a key alone, if there is one (docs/PROFILE.md, "What a key's own
 signatures say"). gpg and Sequoia also look at the self-signatures on user IDs. So a direct key signature that names a
@@ -11,19 +11,25 @@ module reads the ends as those programs do:
   signature. The primary user ID is the one marked so by its newest self-signature, then the one with the newest.
 """
 
-from collections.abc import Callable, Container
-from typing import NamedTuple
+from __future__ import annotations
 
+from .bare import TYPE_CHECKING
 from .certificates import Certificate
 from .signatures import CERTIFICATIONS, DIRECT, REVOCATION, Signature
+from .values import Value
 
-Issuer = Callable[[str], str | None]
+if TYPE_CHECKING:
+    from collections.abc import Callable, Container
+
+    Issuer = Callable[[str], str | None]
 
 
-class Expired(NamedTuple):
-    """The programs that take a key as expired, and since when."""
-    programs: tuple[str, ...]
-    since: int
+class Expired(Value):
+    """The programs that treat a key as expired, and since when."""
+    __slots__ = ("programs", "since")
+
+    def __init__(self, programs: tuple[str, ...], since: int) -> None:
+        self.programs, self.since = programs, since
 
     @property
     def who(self) -> str:
@@ -31,7 +37,7 @@ class Expired(NamedTuple):
 
 
 def expired_elsewhere(certificate: Certificate, issuer: Issuer, time: int) -> Expired | None:
-    """Which of both programs take the key as expired at a time; None if neither does. `issuer(number)` says whose
+    """Which of the two programs treat the key as expired at a time; None if neither does. `issuer(number)` says whose
     signature a number is of, as it was verified."""
     if not _sets_a_passed_end(certificate, time):
         return None  # As of most keys. Whose their signatures are needn't be looked up.

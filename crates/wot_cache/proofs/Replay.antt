@@ -19,10 +19,7 @@ use Rattle.wot_types.specs.FprLaws.{fpr_total}
 use Rattle.wot_types.specs.ViewName.{view_name_cmp}
 use Rattle.wot_policy.specs.declared.rows.PolicyRows.{PolicyRows}
 use Rattle.wot_script.specs.declared.command.Command.{Command}
-use Rattle.wot_script.specs.declared.command.Command.TheVariants.{Import, Load, Store, Remove, Good, Bad, Unjudge, Time}
-use Rattle.wot_script.specs.declared.command.Command.TheVariants.{Root, Close, Ask, Explain, Pending, Keys, Export}
-use Rattle.wot_script.specs.declared.command.Command.TheVariants.{Dump, Absence, Check, CursorOver, CursorNext}
-use Rattle.wot_script.specs.declared.command.Command.TheVariants.{CursorClose, WatchOn, WatchOff}
+use Rattle.wot_script.specs.declared.command.Command.TheVariants.{Import, Good, Bad, Time, Root}
 use Rattle.wot_keyring.specs.Dump as keyrings
 use Rattle.wot_keyring.specs.Dump.{after_all, judged_by}
 use Rattle.wot_keyring.specs.Held.{Held, held_of, nothing}
@@ -51,27 +48,7 @@ one_over : (rows : PolicyRows) (l : Limits) (views : Views) (command : Command) 
 one_over rows l views (Import octets) held new e = ap (over_some views) e
 one_over rows l views (Good number fpr) held new e = ap (over_some views) e
 one_over rows l views (Bad number) held new e = ap (over_some views) e
-one_over rows l views (Load name) held new e = cc e
-one_over rows l views (Store fpr) held new e = cc e
-one_over rows l views (Remove fpr) held new e = cc e
-one_over rows l views (Unjudge number) held new e = cc e
-one_over rows l views (Time view t) held new e = cc e
-one_over rows l views (Root view fpr amount) held new e = cc e
-one_over rows l views (Close view) held new e = cc e
-one_over rows l views (Ask view fpr wanted uid) held new e = cc e
-one_over rows l views (Command.List view wanted) held new e = cc e
-one_over rows l views (Explain view fpr uid) held new e = cc e
-one_over rows l views (Absence view fpr wanted uid) held new e = cc e
-one_over rows l views (Check view fpr claims labels uid) held new e = cc e
-one_over rows l views Pending held new e = cc e
-one_over rows l views Keys held new e = cc e
-one_over rows l views (Export fpr) held new e = cc e
-one_over rows l views Dump held new e = cc e
-one_over rows l views (CursorOver cursor view wanted) held new e = cc e
-one_over rows l views (CursorNext cursor count) held new e = cc e
-one_over rows l views (CursorClose cursor) held new e = cc e
-one_over rows l views (WatchOn watch view fpr wanted uid) held new e = cc e
-one_over rows l views (WatchOff watch) held new e = cc e
+one_over rows l views command held new e = cc e
 
 refused_stays : (rows : PolicyRows) (l : Limits) (commands : List Command) →
     after_all (keyrings.after rows l) commands None ≡ None

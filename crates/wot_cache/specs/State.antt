@@ -24,7 +24,7 @@ pub record State : Type 0 where
 abbrev pub start : State
 start = record { held = nothing; views = [] }
 
--- a reachable state: each certificate is filed under the fingerprint of its primary key
+-- a well-formed state: each certificate is filed under the fingerprint of its primary key
 abbrev pub IsState : State → Type 0
 IsState s = AllByRecursion (λ (e : Fpr × Certificate). e.0 ≡ fpr_of e.1.key) s.held.certs
 

@@ -41,7 +41,7 @@ judged_sigs rows = marked_new sig_cmp stays (judged_sig rows)
 abbrev pub none : Signature → Signature → ℕ
 none old new = 0
 
--- how many of the new ones are sound
+-- how many of the new ones are well-formed
 abbrev pub sound_new : List Signature → List Signature → ℕ
 sound_new = weighed_new sig_cmp none if_sound
 
@@ -75,7 +75,7 @@ judged_beside rows old c = record {
   subkeys = judged_parts rows c.subkeys old.subkeys;
 }
 
--- how many of those are sound
+-- how many of those are well-formed
 abbrev pub sound_beside : Certificate → Certificate → ℕ
 sound_beside old c =
     sound_new c.direct old.direct + sound_new_on c.user_ids old.user_ids

@@ -107,7 +107,8 @@ module _ (q : Question) (used : Use) where
 
   -- ---- one edge
 
-  module _ (size : ℕ) (old new : Growth) (fpr : Fpr) (given : IsGiven old new fpr (size + 1)) (none : label_at old.table fpr ≡ None) where
+  module _ (size : ℕ) (old new : Growth) (fpr : Fpr) (given : IsGiven old new fpr (size + 1))
+      (none : label_at old.table fpr ≡ None) where
     given_keeps : (other : Fpr) (label : ℕ) → label_at old.table other ≡ Some label
         → label_at new.table other ≡ Some label
     given_keeps other label e = by (same_fpr fpr other) refl (given.labels other)
@@ -166,8 +167,7 @@ module _ (q : Question) (used : Use) where
               s.1.left,
               labelled_keeps size old.table new.table given_extends from.steps from.labelled,
             );
-            long =
-                e;
+            long = e;
             there = issuer;
           }
 
@@ -187,8 +187,7 @@ module _ (q : Question) (used : Use) where
                 record {
                   leads = subst (λ (f : Fpr). Leads q used new.table label f) (sym s.0)
                       (subst (λ (m : ℕ). Leads q used new.table m fpr) n given_leads);
-                  some =
-                      omega (arith, n);
+                  some = omega (arith, n);
                   few = omega (arith, n);
                 }
           ];

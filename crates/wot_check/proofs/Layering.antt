@@ -124,7 +124,7 @@ module _ (q : Question) (used : Use) where
 
   -- ---- what labels say
 
-  labelled_trail : (table : Labels) (steps : List Step) → Labelled q used table steps → Trail q used steps
+  pub labelled_trail : (table : Labels) (steps : List Step) → Labelled q used table steps → Trail q used steps
   labelled_trail table [] l = tt
   labelled_trail table (x ∷ rest) l = (l.1, l.2, labelled_trail table rest l.3)
 

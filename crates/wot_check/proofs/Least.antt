@@ -545,6 +545,19 @@ module _ (q : Question) (used : Use) where
       | inr le ↦ omega (arith, le)
     ]
 
+  -- what was built is the least table
+  built_is : (b : Built all_issuers) (table : Labels) → IsTable table → IsLeast q used table → b.table ≡ table
+  built_is b table good l =
+      let other = built_least b in
+      tables_same b.table table b.good good
+      (λ fpr. same_labels (label_at b.table fpr) (label_at table fpr) (other.least table good l.closes fpr)
+      (l.least b.table b.good other.closes fpr))
+
+  -- Each label of the least table says how many steps lead from there.
+  pub least_settled : (table : Labels) → IsTable table → IsLeast q used table → IsSettled q used table
+  least_settled table good l =
+      let b = built all_issuers in subst (IsSettled q used) (built_is b table good l) (settled b)
+
   -- The least table shows that no path is left, if none is.
   pub least_shows : (table : Labels) → IsTable table → IsLeastTable q used table → IsSpent q used
       → IsAbsence q used table
@@ -552,12 +565,10 @@ module _ (q : Question) (used : Use) where
     where
       shows : is_in_order q ≡ true → (b : Built all_issuers) → IsLeast q used table → IsAbsence q used table
       shows ok b l =
-          let other = built_least b in
-          let same : b.table ≡ table =
-          tables_same b.table table b.good good
-          (λ fpr. same_labels (label_at b.table fpr) (label_at table fpr) (other.least table good l.closes fpr)
-          (l.least b.table b.good other.closes fpr)) in
-          inr (record { closes = l.closes; roots = subst (RootsSpent q used) same (roots_spent b ok spent) })
+          inr (record {
+            closes = l.closes;
+            roots = subst (RootsSpent q used) (built_is b table good l) (roots_spent b ok spent);
+          })
 
       by : (o : Bool) → is_in_order q ≡ o → IsAbsence q used table
       by false e = inl e

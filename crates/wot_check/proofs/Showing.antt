@@ -70,7 +70,8 @@ module _ (q : Question) (used : Use) where
 
   -- ---- from traced steps
 
-  module _ (good : IsRecord q.told) (items : List ClaimedStep) (steps : List Step) (t : Traces q used items steps) (amount : ℕ) where
+  module _ (good : IsRecord q.told) (items : List ClaimedStep) (steps : List Step) (t : Traces q used items steps)
+      (amount : ℕ) where
     abbrev stated : Claim
     stated = record { amount = amount; steps = items }
 

@@ -82,7 +82,8 @@ module _ (q : Question) (used : Use) (good : IsRecord q.told) where
       (row_edge q.told (begin_of q.target later) f.row f.into) in
       none f.row.edge (subst (λ (xs : List EdgeFacts). Has xs f.row.edge) (sym e) h) (follows_named item later step f)
 
-  module _ (item : ClaimedStep) (later : List ClaimedStep) (row : Row) (into : Has (rows_into q.told (begin_of q.target later)) row) (named : IsNamed item row.edge) where
+  module _ (item : ClaimedStep) (later : List ClaimedStep) (row : Row)
+      (into : Has (rows_into q.told (begin_of q.target later)) row) (named : IsNamed item row.edge) where
     pub row_follows : may_stand q.target used (demand_of q (length later)) row ≡ true
         → IsFollower q used item later (Some (step_of row.edge))
     row_follows s = record { row = row; into = into; shown = refl; same = edge_named item row.edge named; stands = s }

@@ -106,7 +106,7 @@ pub record AsksBy {F : Type 0} (status : ℕ) (rows : PolicyRows) (world : World
   pub taken : IsEither 3 6 status → AsksTaken rows world input left before after
   pub first : AsksFirst rows world (lines_of input) before after
 
--- That is so if the contents of input, output and directory are known.
+-- This holds if the contents of input, output and directory are known.
 abbrev pub RunAsks : {F : Type 0} → ℕ → Octets → Octets → Ends (Option World) → Ends (Policy F) → Type 0
 RunAsks status input output shelf policy = OnContents input output shelf (λ octets before world.
     AsksBy status (rows_of policy.old) world octets input.new policy.old policy.new)

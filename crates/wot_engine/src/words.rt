@@ -31,7 +31,7 @@ use wot_policy::{Ask, Policy};
 ///
 /// Each reply is written completely before more is read. The replies to the lines that one read brought are written
 /// together. `shelf` is the certificate directory, from which `load` reads and to which `store` writes. The policy says
-/// which signatures are admitted, and is asked once for each valid signature that an import or a load adds.
+/// which signatures are admitted, and is asked once for each well-formed signature that an import or a load adds.
 ///
 /// `gen X N` uses neither the input nor the certificate directory. It makes a script from X and N, answers it with an
 /// empty directory in memory, and writes three lines about it. The status is 0, 4 or 5.
@@ -79,8 +79,8 @@ pub fn run_words<S: Source, K: Sink, D: Shelf, F: Fn(Ask) -> bool>(
     ensures rows { rows_of policy.new ≡ rows_of policy.old }
 
     // The policy is asked once for each well-formed signature that an import or a load adds, and for nothing else. With
-    // status 0 that is so over all lines, with 3 and 6 over all whole lines that were taken, and with 4 and 5 over some
-    // first lines.
+    // status 0 this covers all lines, with 3 and 6 all complete lines that were taken, and with 4 and 5 the first lines
+    // up to some line.
     ensures asked { AreOfRun words.now → RunAsks result
         (ends S.left input) (ends K.written output) (ends D.world shelf) (ends itself policy) }
 

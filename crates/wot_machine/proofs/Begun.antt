@@ -27,6 +27,7 @@ use Rattle.wot_cursor.specs.Cursors.{Cursors, begun, cursor_at, is_full, with_cu
 use Rattle.wot_explain.specs.declared.bind.Bind.{Bind}
 use Rattle.wot_explain.specs.Listing.{HasList, HasOneList, IsOfEachList, pairs_in}
 use Rattle.wot_explain.specs.Piece.{binds_after}
+use Rattle.wot_machine.specs.Classes.{class_of}
 use Rattle.wot_machine.specs.Entry.{use_of}
 use Rattle.wot_machine.specs.Joined.{AreOfList, Exchange, IsNext, Since, pieces_in}
 use Rattle.wot_machine.specs.Lines.{heard}
@@ -81,7 +82,7 @@ began_from s name view wanted cursors (Some shown) e l = by (is_full s.cursors n
 
 heard_obeys : (rows : PolicyRows) (old : Whole) (o : Option Command) (command : Command) (answer : Served)
     (reply : Reply) (new : Whole) → o ≡ Some command
-    → Hears rows old o answer (Some reply) new → Obeys rows old command answer reply new
+    → Hears rows old o answer (Some reply) new → Obeys rows old (class_of command) answer reply new
 heard_obeys rows old o command answer reply new e h =
     subst (λ (c : Option Command). Hears rows old c answer (Some reply) new) e h
 
@@ -105,7 +106,7 @@ module _
     answer : Served
     answer = served_in was (use_of (heard since.line))
 
-    obeys : Obeys rows was.whole (CursorOver name view wanted) answer replies.Done since.begins.mid
+    obeys : Obeys rows was.whole (class_of (CursorOver name view wanted)) answer replies.Done since.begins.mid
     unfolding answer
     obeys =
         heard_obeys rows was.whole (heard since.line) (CursorOver name view wanted) answer replies.Done since.begins.mid
@@ -148,7 +149,7 @@ module _
               (stands_told name view wanted w from.shown list.0 began rows since.begins.mid since.behind since.mid.whole
               [] since.begins.tells (record {
                 later =
-                    later_obeys rows view w w (CursorOver name view wanted) answer replies.Done since.begins.mid obeys
+                    later_obeys rows view w w (class_of (CursorOver name view wanted)) answer replies.Done since.begins.mid obeys
                     (later_itself view w sound.order);
                 cursor = record {
                   place = None;

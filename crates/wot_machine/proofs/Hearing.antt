@@ -7,6 +7,8 @@ use Rattle.wot_script.specs.declared.reply.Reply.{Reply}
 use Rattle.wot_script.specs.declared.reply.Reply.TheVariants as replies
 use Rattle.wot_script.specs.Grammar.{command_of}
 use Rattle.wot_watch.specs.Watches.{Watches}
+use Rattle.wot_machine.specs.declared.class.Class.{Class}
+use Rattle.wot_machine.specs.Classes.{class_of}
 use Rattle.wot_machine.specs.Entry.{use_of}
 use Rattle.wot_machine.specs.Lines.{heard, is_silent, longest}
 use Rattle.wot_machine.specs.LineStep.{Answers, HasReply, LineStep, Obeys, Stays}
@@ -19,7 +21,7 @@ use Rattle.wot_machine.specs.Whole.{Whole, watched}
 -- A line that isn't a command changes nothing. Any other line has a reply and does what its command does.
 abbrev pub Hears : PolicyRows → Whole → Option Command → Served → Option Reply → Whole → Type 0
 Hears rows old None given reply new = new ≡ old
-Hears rows old (Some command) given reply new = HasReply (Obeys rows old command given) reply new
+Hears rows old (Some command) given reply new = HasReply (Obeys rows old (class_of command) given) reply new
 
 pub hears : (rows : PolicyRows) (old : Whole) (line : List ℕ) (given : Served) (reply : Option Reply) (new : Whole)
     → LineStep rows old line given reply new
@@ -65,8 +67,8 @@ heard_reads line command = long (nat_lt longest (length line))
 -- What every command preserves, every line preserves, and so every run.
 module _
     (rows : PolicyRows) (P : Whole → Type 0)
-    (kept : (old : Whole) (command : Command) (given : Served) (reply : Reply) (new : Whole) →
-    Obeys rows old command given reply new → P old → P new)
+    (kept : (old : Whole) (class : Class) (given : Served) (reply : Reply) (new : Whole) →
+    Obeys rows old class given reply new → P old → P new)
   where
     pub step_keeps : (old : Whole) (line : List ℕ) (given : Served) (reply : Option Reply) (new : Whole)
         → LineStep rows old line given reply new → P old → P new
@@ -75,7 +77,7 @@ module _
         by : (o : Option Command) (r : Option Reply) → Hears rows old o given r new → P new
         by None r e = subst P (sym e) p
         by (Some command) None g = absurd g
-        by (Some command) (Some r) g = kept old command given r new g p
+        by (Some command) (Some r) g = kept old (class_of command) given r new g p
 
     -- watch lines change only the watches
     pub run_keeps : ((s : Whole) (watches : Watches) → P s → P (watched s watches)) →
@@ -91,13 +93,13 @@ module _
 -- reply.
 pub told_by : (rows : PolicyRows) (D : Reply → Type 0) → D replies.Long → D replies.Line
     → (old : Whole) (line : List ℕ) (given : Served) (reply : Reply) (new : Whole)
-    → ((command : Command) → Obeys rows old command given reply new → D reply)
+    → ((class : Class) → Obeys rows old class given reply new → D reply)
     → LineStep rows old line given (Some reply) new → D reply
 told_by rows D too_long unread old line given reply new obeys = long (nat_lt longest (length line))
   where
     known : (o : Option Command) → Answers rows old o given reply new → D reply
     known None g = subst D (sym g.0) unread
-    known (Some command) g = obeys command g
+    known (Some command) g = obeys (class_of command) g
 
     silent : (b : Bool)
         → MatchBool b ((Some reply ≡ None) × (new ≡ old)) (Answers rows old (command_of line) given reply new) → D reply

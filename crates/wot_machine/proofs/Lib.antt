@@ -45,3 +45,5 @@ pub mod Judging
 mod GoingOn
 mod Slices
 mod Explained
+mod Fit
+mod Leading

@@ -13,7 +13,6 @@ use Rattle.wot_cert.specs.Certificate.{Certificate}
 use Rattle.wot_keyring.specs.Held.{cert_in}
 use Rattle.wot_policy.specs.declared.rows.PolicyRows.{PolicyRows}
 use Rattle.wot_script.specs.declared.command.Command.{Command}
-use Rattle.wot_script.specs.declared.command.Command.TheVariants.{Load, Store}
 use Rattle.wot_script.specs.declared.reply.Reply.{Reply}
 use Rattle.wot_script.specs.declared.reply.Reply.TheVariants as replies
 use Rattle.wot_script.specs.Replies.{reply_text}
@@ -24,6 +23,11 @@ use Rattle.wot_certd.specs.Shelf.{Becomes}
 use Rattle.wot_certd.specs.World.{Answer, World, after_replace, called, fails_next, read_answer}
 use Rattle.wot_cache.specs.State.{Engine, State, StaysButMarks, state_of}
 use Rattle.wot_keyring.specs.Keyring.{Keyring}
+use Rattle.wot_machine.specs.declared.class.Class.{Class}
+use Rattle.wot_machine.specs.declared.class.Class.TheVariants.{State as OfState}
+use Rattle.wot_machine.specs.declared.class.StateCommand.{StateCommand}
+use Rattle.wot_machine.specs.declared.class.StateCommand.TheVariants as kinds
+use Rattle.wot_machine.specs.declared.class.ShelfCall.TheVariants as calls
 use Rattle.wot_machine.specs.declared.told.Moved.{Moved}
 use Rattle.wot_machine.specs.declared.told.Told.{Told}
 use Rattle.wot_cursor.specs.Cursors.{Cursors}
@@ -32,11 +36,11 @@ use Rattle.wot_keyring.specs.Import.{IsOneChange}
 use Rattle.wot_machine.specs.Watching.{AreLines, Tells, Watching, is_watching, told_all}
 use Rattle.wot_machine.specs.Whole.{IsTurnedBy, Whole, watched, whole_of}
 use Rattle.wot_machine.specs.Entry.{IsServed, IsWorldAfter, Use, WasGiven, has_failed, is_fault, put_for, unused}
-use Rattle.wot_machine.specs.Entry.{use_of, world_after}
+use Rattle.wot_machine.specs.Entry.{use_by, use_of, world_after}
 use Rattle.wot_machine.specs.Lines.{heard, is_silent, longest}
-use Rattle.wot_machine.specs.LineStep.{Answers, Does, Gives, LineStep, Obeys}
+use Rattle.wot_machine.specs.LineStep.{Answers, Does, DoesTo, Gives, LineStep, Obeys}
 use Rattle.wot_machine.specs.Outcome.{load}
-use Rattle.wot_machine.specs.Ran.{Ran, Seen, Did}
+use Rattle.wot_machine.specs.Ran.{Did, Ran, RanClass, Seen}
 use Rattle.wot_machine.specs.Served.{Served, unserved}
 use Rattle.wot_machine.specs.Stepped.{Replied, Stepped, TellsBehind}
 use Rattle.wot_machine.specs.Pacing.{Paces, is_pacing, settled}
@@ -75,132 +79,136 @@ ran_uncalled rows command old seen reply new none answers = record {
   cause = λ f. absurd (never_failed old.state (use_of command) none f);
 }
 
-pub uncalled : {E : Type 0} (r : Result Reply E) (rows : PolicyRows) (command : Command) (old : State) (seen : Seen)
-    (new : State) → use_of (Some command) ≡ unused
-    → IfOk r (λ reply. Does rows old command unserved reply new) →
+pub uncalled : {E : Type 0} (r : Result Reply E) (rows : PolicyRows) (command : StateCommand) (old : State)
+    (seen : Seen) (new : State) → use_by (OfState command) ≡ unused
+    → IfOk r (λ reply. DoesTo rows old command unserved reply new) →
     IfOk r (λ reply. Did rows command old seen reply new seen)
 uncalled r rows command old seen new none does = if_ok r _ _ (λ reply d. record {
   given = unserved;
   answers = d;
-  served = idle_by old (use_of (Some command)) seen.world none;
-  cause = λ f. absurd (never_failed old (use_of (Some command)) none f);
+  served = idle_by old (use_by (OfState command)) seen.world none;
+  cause = λ f. absurd (never_failed old (use_by (OfState command)) none f);
 }) does
 
 -- a command that doesn't use the directory, in terms of everything that is kept
-pub ran_alone : (rows : PolicyRows) (command : Command) (old : Whole) (seen : Seen) (reply : Reply) (new : Whole) →
-    use_of (Some command) ≡ unused
-    → Obeys rows old command unserved reply new → Ran rows (Some command) old seen reply new seen
-ran_alone rows command old seen reply new none obeys = ran_uncalled rows (Some command) old seen reply new none obeys
+pub ran_alone : (rows : PolicyRows) (class : Class) (old : Whole) (seen : Seen) (reply : Reply) (new : Whole) →
+    use_by class ≡ unused
+    → Obeys rows old class unserved reply new → RanClass rows class old seen reply new seen
+ran_alone rows class old seen reply new none obeys = record {
+  given = unserved;
+  answers = obeys;
+  served = idle_by old.state (use_by class) seen.world none;
+  cause = λ f. absurd (never_failed old.state (use_by class) none f);
+}
 
 -- a command of a cursor
-pub paced_ran : {E : Type 0} (r : Result Told E) (rows : PolicyRows) (command : Command) (old new : Engine)
+pub paced_ran : {E : Type 0} (r : Result Told E) (rows : PolicyRows) (class : Class) (old new : Engine)
     (before after : Cursors) (watches : Watches) (seen : Seen)
-    → is_pacing command ≡ true → StaysButMarks old new →
-    IfOk r (λ (told : Told). Paces (whole_of old before) command told.reply (settled told.moved after))
-    → IfOk r (λ (told : Told). Ran rows (Some command) (watched (whole_of old before) watches) seen told.reply
+    → is_pacing class ≡ true → StaysButMarks old new →
+    IfOk r (λ (told : Told). Paces (whole_of old before) class told.reply (settled told.moved after))
+    → IfOk r (λ (told : Told). RanClass rows class (watched (whole_of old before) watches) seen told.reply
     (watched (whole_of new (settled told.moved after)) watches) seen)
-paced_ran (Err e) rows command old new before after watches seen pacing stays paces = tt
-paced_ran (Ok told) rows command old new before after watches seen pacing stays paces =
+paced_ran (Err e) rows class old new before after watches seen pacing stays paces = tt
+paced_ran (Ok told) rows class old new before after watches seen pacing stays paces =
     let same : state_of new ≡ state_of old = same_state old new stays in
-    ran_alone rows command (watched (whole_of old before) watches) seen told.reply
+    ran_alone rows class (watched (whole_of old before) watches) seen told.reply
     (watched (whole_of new (settled told.moved after)) watches)
-    (uncalled_paced command pacing) (record {
-      does = subst (λ (s : State). Does rows (state_of old) command unserved told.reply s) (sym same)
-          (state_paced rows (state_of old) command unserved told.reply pacing);
+    (uncalled_paced class pacing) (record {
+      does = subst (λ (s : State). Does rows (state_of old) class unserved told.reply s) (sym same)
+          (state_paced rows (state_of old) class unserved told.reply pacing);
       counted = inl (ap (λ (s : State). s.held) same, ap (λ (k : Keyring). k.changes) stays.keyring);
-      turned = turns_paced command old.views new.views old.turns new.turns pacing stays.turns;
-      paces = paces_watched (whole_of old before) watches command told.reply (settled told.moved after) pacing paces;
-      watching = watching_plain (watched (whole_of old before) watches) command told.reply
-          (paced_unwatched command pacing);
+      turned = turns_paced class old.views new.views old.turns new.turns pacing stays.turns;
+      paces = paces_watched (whole_of old before) watches class told.reply (settled told.moved after) pacing paces;
+      watching = watching_plain (watched (whole_of old before) watches) class told.reply
+          (paced_unwatched class pacing);
     })
 
 -- a command of a watch
-watched_ran : (rows : PolicyRows) (command : Command) (old new : Engine) (cursors : Cursors) (before after : Watches)
-    (seen : Seen) (reply : Reply) → is_watching command ≡ true
-    → StaysButMarks old new → Watching (watched (whole_of old cursors) before) command reply after
-    → Ran rows (Some command) (watched (whole_of old cursors) before) seen reply (watched (whole_of new cursors) after)
+watched_ran : (rows : PolicyRows) (class : Class) (old new : Engine) (cursors : Cursors) (before after : Watches)
+    (seen : Seen) (reply : Reply) → is_watching class ≡ true
+    → StaysButMarks old new → Watching (watched (whole_of old cursors) before) class reply after
+    → RanClass rows class (watched (whole_of old cursors) before) seen reply (watched (whole_of new cursors) after)
     seen
-watched_ran rows command old new cursors before after seen reply watching stays puts =
+watched_ran rows class old new cursors before after seen reply watching stays puts =
     let same : state_of new ≡ state_of old = same_state old new stays in
-    ran_alone rows command (watched (whole_of old cursors) before) seen reply (watched (whole_of new cursors) after)
-    (uncalled_watched command watching) (record {
-      does = subst (λ (s : State). Does rows (state_of old) command unserved reply s) (sym same)
-          (state_watched rows (state_of old) command unserved reply watching);
+    ran_alone rows class (watched (whole_of old cursors) before) seen reply (watched (whole_of new cursors) after)
+    (uncalled_watched class watching) (record {
+      does = subst (λ (s : State). Does rows (state_of old) class unserved reply s) (sym same)
+          (state_watched rows (state_of old) class unserved reply watching);
       counted = inl (ap (λ (s : State). s.held) same, ap (λ (k : Keyring). k.changes) stays.keyring);
-      turned = turns_watched command old.views new.views old.turns new.turns watching stays.turns;
-      paces = paces_plain (watched (whole_of old cursors) before) command reply (watched_unpaced command watching);
+      turned = turns_watched class old.views new.views old.turns new.turns watching stays.turns;
+      paces = paces_plain (watched (whole_of old cursors) before) class reply (watched_unpaced class watching);
       watching = puts;
     })
 
 -- a command of a watch, with a reply by itself
-pub watched_told : {E : Type 0} (r : Result Reply E) (t : Result Told E) (rows : PolicyRows) (command : Command)
+pub watched_told : {E : Type 0} (r : Result Reply E) (t : Result Told E) (rows : PolicyRows) (class : Class)
     (old new : Engine) (cursors : Cursors) (before after : Watches)
     (seen : Seen) → IfOk r (λ reply. t ≡ Ok (record { reply = reply; moved = None })) → is_ok t ≡ is_ok r →
-    is_watching command ≡ true → StaysButMarks old new
-    → IfOk r (λ reply. Watching (watched (whole_of old cursors) before) command reply after)
-    → IfOk t (λ (told : Told). Ran rows (Some command) (watched (whole_of old cursors) before) seen told.reply
+    is_watching class ≡ true → StaysButMarks old new
+    → IfOk r (λ reply. Watching (watched (whole_of old cursors) before) class reply after)
+    → IfOk t (λ (told : Told). RanClass rows class (watched (whole_of old cursors) before) seen told.reply
     (watched (whole_of new (settled told.moved cursors)) after) seen)
-watched_told (Err e) (Err d) rows command old new cursors before after seen is ok watching stays puts = tt
-watched_told (Err e) (Ok told) rows command old new cursors before after seen is ok watching stays puts =
+watched_told (Err e) (Err d) rows class old new cursors before after seen is ok watching stays puts = tt
+watched_told (Err e) (Ok told) rows class old new cursors before after seen is ok watching stays puts =
     let never : true ≡ false = ok in absurd cc
-watched_told (Ok reply) t rows command old new cursors before after seen is ok watching stays puts =
-    subst (λ (t : Result Told _). IfOk t (λ (told : Told). Ran rows (Some command)
+watched_told (Ok reply) t rows class old new cursors before after seen is ok watching stays puts =
+    subst (λ (t : Result Told _). IfOk t (λ (told : Told). RanClass rows class
     (watched (whole_of old cursors) before) seen told.reply
     (watched (whole_of new (settled told.moved cursors)) after) seen))
-    (sym is) (watched_ran rows command old new cursors before after seen reply watching stays puts)
+    (sym is) (watched_ran rows class old new cursors before after seen reply watching stays puts)
 
 -- a command of a watch whose reply moves no cursor
-pub watched_alone : (told : Told) (rows : PolicyRows) (command : Command) (engine : Engine) (cursors : Cursors)
+pub watched_alone : (told : Told) (rows : PolicyRows) (class : Class) (engine : Engine) (cursors : Cursors)
     (before after : Watches) (seen : Seen) (reply : Reply)
-    → told.reply ≡ reply → told.moved ≡ None → is_watching command ≡ true → StaysButMarks engine engine →
-    Watching (watched (whole_of engine cursors) before) command reply after
-    → Ran rows (Some command) (watched (whole_of engine cursors) before) seen told.reply
+    → told.reply ≡ reply → told.moved ≡ None → is_watching class ≡ true → StaysButMarks engine engine →
+    Watching (watched (whole_of engine cursors) before) class reply after
+    → RanClass rows class (watched (whole_of engine cursors) before) seen told.reply
     (watched (whole_of engine (settled told.moved cursors)) after) seen
-watched_alone told rows command engine cursors before after seen reply is none watching stays puts =
-    subst (λ (o : Option Moved). Ran rows (Some command) (watched (whole_of engine cursors) before) seen told.reply
+watched_alone told rows class engine cursors before after seen reply is none watching stays puts =
+    subst (λ (o : Option Moved). RanClass rows class (watched (whole_of engine cursors) before) seen told.reply
     (watched (whole_of engine (settled o cursors)) after) seen)
-    (sym none) (watched_ran rows command engine engine cursors before after seen told.reply watching stays
-    (subst (λ (r : Reply). Watching (watched (whole_of engine cursors) before) command r after) (sym is) puts))
+    (sym none) (watched_ran rows class engine engine cursors before after seen told.reply watching stays
+    (subst (λ (r : Reply). Watching (watched (whole_of engine cursors) before) class r after) (sym is) puts))
 
 -- a change of the state, in terms of everything that is kept
-pub ran_plain : {E : Type 0} (r : Result Reply E) (rows : PolicyRows) (command : Command) (old new : Engine)
+pub ran_plain : {E : Type 0} (r : Result Reply E) (rows : PolicyRows) (command : StateCommand) (old new : Engine)
     (before after : Seen) (cursors : Cursors) (watches : Watches)
-    → is_pacing command ≡ false → is_watching command ≡ false → IsOneChange old.keyring new.keyring →
-    OnOk r (IsTurnedBy command old.views old.turns new.views new.turns)
+    → IsOneChange old.keyring new.keyring →
+    OnOk r (IsTurnedBy (OfState command) old.views old.turns new.views new.turns)
     → IfOk r (λ reply. Did rows command (state_of old) before reply (state_of new) after)
-    → IfOk r (λ reply. Ran rows (Some command) (watched (whole_of old cursors) watches) before reply
+    → IfOk r (λ reply. RanClass rows (OfState command) (watched (whole_of old cursors) watches) before reply
     (watched (whole_of new cursors) watches) after)
-ran_plain (Err e) rows command old new before after cursors watches plain still counted turned did = tt
-ran_plain (Ok reply) rows command old new before after cursors watches plain still counted turned did = record {
+ran_plain (Err e) rows command old new before after cursors watches counted turned did = tt
+ran_plain (Ok reply) rows command old new before after cursors watches counted turned did = record {
   given = did.given;
   answers = record {
     does = did.answers;
     counted = counted_by old new cursors cursors counted;
     turned = turned;
-    paces = paces_plain (watched (whole_of old cursors) watches) command reply plain;
-    watching = watching_plain (watched (whole_of old cursors) watches) command reply still;
+    paces = refl;
+    watching = refl;
   };
   served = did.served;
   cause = did.cause;
 }
 
 module _ {E : Type 0} where
-  pub ran_told : (r : Result Reply E) (t : Result Told E) (rows : PolicyRows) (command : Command) (old new : Engine)
+  pub ran_told : (r : Result Reply E) (t : Result Told E) (rows : PolicyRows) (command : StateCommand) (old new : Engine)
       (before after : Seen) (cursors : Cursors) (watches : Watches)
-      → IfOk r (λ reply. t ≡ Ok (record { reply = reply; moved = None })) → is_ok t ≡ is_ok r →
-      is_pacing command ≡ false → is_watching command ≡ false
-      → IsOneChange old.keyring new.keyring → OnOk r (IsTurnedBy command old.views old.turns new.views new.turns)
+      → IfOk r (λ reply. t ≡ Ok (record { reply = reply; moved = None })) → is_ok t ≡ is_ok r
+      → IsOneChange old.keyring new.keyring → OnOk r (IsTurnedBy (OfState command) old.views old.turns new.views new.turns)
       → IfOk r (λ reply. Did rows command (state_of old) before reply (state_of new) after)
-      → IfOk t (λ (told : Told). Ran rows (Some command) (watched (whole_of old cursors) watches) before told.reply
+      → IfOk t (λ (told : Told). RanClass rows (OfState command) (watched (whole_of old cursors) watches) before told.reply
       (watched (whole_of new (settled told.moved cursors)) watches) after)
-  ran_told (Err e) (Err d) rows command old new before after cursors watches is ok plain still counted turned did = tt
-  ran_told (Err e) (Ok told) rows command old new before after cursors watches is ok plain still counted turned did =
+  ran_told (Err e) (Err d) rows command old new before after cursors watches is ok counted turned did = tt
+  ran_told (Err e) (Ok told) rows command old new before after cursors watches is ok counted turned did =
       let never : true ≡ false = ok in absurd cc
-  ran_told (Ok reply) t rows command old new before after cursors watches is ok plain still counted turned did =
-      let ran : Ran rows (Some command) (watched (whole_of old cursors) watches) before reply
+  ran_told (Ok reply) t rows command old new before after cursors watches is ok counted turned did =
+      let ran : RanClass rows (OfState command) (watched (whole_of old cursors) watches) before reply
       (watched (whole_of new cursors) watches) after =
-      ran_plain {E = E} (Ok reply) rows command old new before after cursors watches plain still counted turned did in
-      subst (λ (t : Result Told E). IfOk t (λ (told : Told). Ran rows (Some command)
+      ran_plain {E = E} (Ok reply) rows command old new before after cursors watches counted turned did in
+      subst (λ (t : Result Told E). IfOk t (λ (told : Told). RanClass rows (OfState command)
       (watched (whole_of old cursors) watches) before told.reply
       (watched (whole_of new (settled told.moved cursors)) watches) after)) (sym is) ran
 
@@ -253,18 +261,18 @@ ran_told_line told rows command old cursors watches seen r m e =
 
 -- ---- turns
 
-pub few_turns : {T E : Type 0} (r : Result T E) (command : Command) (old new : Engine) →
-    OnOk r (IsTurnedBy command old.views old.turns new.views new.turns)
+pub few_turns : {T E : Type 0} (r : Result T E) (class : Class) (old new : Engine) →
+    OnOk r (IsTurnedBy class old.views old.turns new.views new.turns)
     → OnErr r (StaysButMarks old new) → new.turns.count ≤ old.turns.count + 1
-few_turns (Ok a) command old new turned kept = turned_few command old.views new.views old.turns new.turns turned
-few_turns (Err e) command old new turned kept = same_few old.turns new.turns kept.turns
+few_turns (Ok a) class old new turned kept = turned_few class old.views new.views old.turns new.turns turned
+few_turns (Err e) class old new turned kept = same_few old.turns new.turns kept.turns
 
-pub still_turns : {T E : Type 0} (r : Result T E) (command : Command) (old new : Engine) →
-    OnOk r (IsTurnedBy command old.views old.turns new.views new.turns)
+pub still_turns : {T E : Type 0} (r : Result T E) (class : Class) (old new : Engine) →
+    OnOk r (IsTurnedBy class old.views old.turns new.views new.turns)
     → OnErr r (StaysButMarks old new) → state_of new ≡ state_of old → new.turns ≡ old.turns
-still_turns (Ok a) command old new turned kept same = turned_still command old.views new.views old.turns new.turns
+still_turns (Ok a) class old new turned kept same = turned_still class old.views new.views old.turns new.turns
     (ap (λ (s : State). s.views) same) turned
-still_turns (Err e) command old new turned kept same = kept.turns
+still_turns (Err e) class old new turned kept same = kept.turns
 
 -- ---- entries
 
@@ -303,7 +311,7 @@ pub ran_load : (rows : PolicyRows) (name : Name) (old : State) (before after : O
     → Gives (load rows old name answer) reply new → IfSome before (λ (w : World). answer ≡ read_answer w name) →
     Becomes before called after
     → (is_fault answer ≡ true → Rose faults later)
-    → Did rows (Load name) old (record { world = before; faults = faults }) reply new
+    → Did rows (kinds.Shelf (calls.Load name)) old (record { world = before; faults = faults }) reply new
     (record { world = after; faults = later })
 ran_load rows name old before after faults later reply new answer gives told becomes cause =
     let e : answer ≡ (read_alone before answer).read = sym (read_is before answer) in
@@ -318,7 +326,7 @@ ran_load rows name old before after faults later reply new answer gives told bec
 
 -- the certificate doesn't exist
 pub ran_absent : (rows : PolicyRows) (fpr : Fpr) (old : State) (seen : Seen) → cert_in old.held fpr ≡ None →
-    Did rows (Store fpr) old seen replies.Absent old seen
+    Did rows (kinds.Shelf (calls.Store fpr)) old seen replies.Absent old seen
 ran_absent rows fpr old seen none =
     let All : Option Certificate → Type 0 = λ o. WasGiven (if is_some o then Some (Cert fpr) else None) seen.world
     unserved
@@ -340,7 +348,7 @@ none_kept (Some c) fpr e = absurd (cc e)
 -- the certificate exists
 pub ran_stored : (rows : PolicyRows) (fpr : Fpr) (kept : Certificate) (old : State) (before : Seen) (reply : Reply)
     (after : Seen) → cert_in old.held fpr ≡ Some kept
-    → Stores fpr kept before reply after → Did rows (Store fpr) old before reply old after
+    → Stores fpr kept before reply after → Did rows (kinds.Shelf (calls.Store fpr)) old before reply old after
 ran_stored rows fpr kept old before reply after is s =
     let All : Option Certificate → Type 0 = λ o. WasGiven (if is_some o then Some (Cert fpr) else None) before.world
     s.given

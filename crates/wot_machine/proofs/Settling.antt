@@ -10,7 +10,6 @@ use Rattle.wot_keyring.specs.Import.{IsOneChange}
 use Rattle.wot_keyring.specs.Keyring.{Keyring}
 use Rattle.wot_policy.specs.declared.rows.PolicyRows.{PolicyRows}
 use Rattle.wot_script.specs.declared.command.Command.{Command}
-use Rattle.wot_script.specs.declared.command.Command.TheVariants.{Close, Root, Time}
 use Rattle.wot_script.specs.declared.reply.Reply.{Reply}
 use Rattle.wot_script.specs.declared.reply.Reply.TheVariants as replies
 use Rattle.wot_cache.specs.declared.view.View.{View}
@@ -22,6 +21,12 @@ use Rattle.wot_cache.specs.State.{Engine, State, StaysButMarks, closing, state_o
 use Rattle.wot_cache.specs.Turns.{AreTurnsBy, Turns, without_turn}
 use Rattle.wot_cache.specs.Views.{Views, view_at}
 use Rattle.wot_watch.specs.Watches.{Watch, Watches, is_full, is_name, watch_at, with_watch, without_watch}
+use Rattle.wot_machine.specs.declared.class.Class.{Class}
+use Rattle.wot_machine.specs.declared.class.Class.TheVariants.{State as OfState}
+use Rattle.wot_machine.specs.declared.class.StateCommand.TheVariants as kinds
+use Rattle.wot_machine.specs.declared.class.ViewChange.{ViewChange}
+use Rattle.wot_machine.specs.declared.class.ViewChange.TheVariants as turns
+use Rattle.wot_machine.specs.Classes.{class_of, view_change_of}
 use Rattle.wot_machine.specs.Served.{Served}
 use Rattle.wot_cursor.specs.Cursors.{Cursors}
 use Rattle.wot_machine.specs.LineStep.{Answers, Does, Gives, Obeys}
@@ -32,7 +37,7 @@ use Rattle.wot_machine.specs.Watching.{AreLines, HasAmount, LeavesWatches, Opens
 use Rattle.wot_machine.specs.Watching.{line_by, opened}
 use Rattle.wot_machine.specs.Whole.{IsCounted, IsTurnedBy, Whole, watched, whole_of}
 use Rattle.wot_machine.proofs.Entries.{all_weaker, all_without}
-use Rattle.wot_machine.proofs.Viewed.{does_views}
+use Rattle.wot_machine.proofs.Viewed.{changes_view, does_views}
 use Rattle.wot_machine.proofs.Watched.{amount_has, plain_watching, watched_cases}
 use Rattle.wot_machine.proofs.Wholes.{turned_still}
 
@@ -139,17 +144,17 @@ takes_leaves s name reply watches l = by (is_some (watch_at s.watches name)) l
     by true l = inr (name, l.1)
     by false l = inl l.1
 
-watching_leaves : (s : Whole) (command : Command) (reply : Reply) (watches : Watches) → IsNoAmount reply
-    → Watching s command reply watches → LeavesOrTakes s.watches watches
-watching_leaves s command reply watches plain w = by (is_watching command) refl
+watching_leaves : (s : Whole) (class : Class) (reply : Reply) (watches : Watches) → IsNoAmount reply
+    → Watching s class reply watches → LeavesOrTakes s.watches watches
+watching_leaves s class reply watches plain w = by (is_watching class) refl
   where
-    by : (b : Bool) → is_watching command ≡ b → LeavesOrTakes s.watches watches
+    by : (b : Bool) → is_watching class ≡ b → LeavesOrTakes s.watches watches
     by true e =
-        watched_cases (λ (c : Command). Watching s c reply watches → LeavesOrTakes s.watches watches)
+        watched_cases (λ (c : Class). Watching s c reply watches → LeavesOrTakes s.watches watches)
         (λ name view target wanted uid. opens_leaves s name view target wanted uid (view_at s.state.views view) reply
         watches plain)
-        (λ name. takes_leaves s name reply watches) command e w
-    by false e = inl (plain_watching s command reply watches e w)
+        (λ name. takes_leaves s name reply watches) class e w
+    by false e = inl (plain_watching s class reply watches e w)
 
 pub all_left : (engine : Engine) (basis : Basis) (old new : Watches) → LeavesOrTakes old new →
     AllSettled engine basis old
@@ -174,7 +179,7 @@ abbrev pub IsCountedOn : Whole → Whole → Type 0
 IsCountedOn old new = (new.changes ≢ old.changes) ⊎ (new.turns.count ≢ old.turns.count)
 
 closed_on : (old new : Whole) (view : List ℕ) (reply : Reply) → Gives (close old.state view) reply new.state
-    → IsCounted old new → IsTurnedBy (Close view) old.state.views old.turns new.state.views new.turns
+    → IsCounted old new → IsTurnedBy (OfState (kinds.View view turns.Close)) old.state.views old.turns new.state.views new.turns
     → (reply ≡ replies.Done → IsCountedOn old new) → AreViewsOn old.state.views old.turns new.state.views new.turns
 closed_on old new view reply g counted turned tells = by (is_some (view_at old.state.views view)) refl g
   where
@@ -198,29 +203,36 @@ closed_on old new view reply g counted turned tells = by (is_some (view_at old.s
     by false e h =
         let same = ap (λ (s : State). s.views) h.1 in
         views_still old.state.views new.state.views old.turns new.turns same
-        (turned_still (Close view) old.state.views new.state.views old.turns new.turns same turned)
+        (turned_still (OfState (kinds.View view turns.Close)) old.state.views new.state.views old.turns new.turns same turned)
 
 module _ (rows : PolicyRows) (on : TurnGoesOn) where
-  does_on : (old new : Whole) (command : Command) (given : Served) (reply : Reply)
-      → Does rows old.state command given reply new.state → IsCounted old new
-      → IsTurnedBy command old.state.views old.turns new.state.views new.turns
+  view_on : (old new : Whole) (view : List ℕ) (change : ViewChange) (reply : Reply)
+      → Gives (view_change_of old.state view change) reply new.state → IsCounted old new
+      → IsTurnedBy (OfState (kinds.View view change)) old.state.views old.turns new.state.views new.turns
       → (reply ≡ replies.Done → IsCountedOn old new) → AreViewsOn old.state.views old.turns new.state.views new.turns
-  does_on old new (Close view) given reply d counted turned tells = closed_on old new view reply d counted turned tells
-  does_on old new (Time view t) given reply d counted turned tells =
+  view_on old new view turns.Close reply d counted turned tells = closed_on old new view reply d counted turned tells
+  view_on old new view (turns.Time t) reply d counted turned tells =
       on view old.state.views new.state.views old.turns new.turns
-      (does_views rows old.state (Time view t) given reply new.state d).others turned
-  does_on old new (Root view fpr amount) given reply d counted turned tells =
+      (changes_view old.state view (turns.Time t) reply new.state d).others turned
+  view_on old new view (turns.Root fpr amount) reply d counted turned tells =
       on view old.state.views new.state.views old.turns new.turns
-      (does_views rows old.state (Root view fpr amount) given reply new.state d).others turned
-  does_on old new command given reply d counted turned tells =
+      (changes_view old.state view (turns.Root fpr amount) reply new.state d).others turned
+
+  does_on : (old new : Whole) (class : Class) (given : Served) (reply : Reply)
+      → Does rows old.state class given reply new.state → IsCounted old new
+      → IsTurnedBy class old.state.views old.turns new.state.views new.turns
+      → (reply ≡ replies.Done → IsCountedOn old new) → AreViewsOn old.state.views old.turns new.state.views new.turns
+  does_on old new (OfState (kinds.View view change)) given reply d counted turned tells =
+      view_on old new view change reply d counted turned tells
+  does_on old new class given reply d counted turned tells =
       views_still old.state.views new.state.views old.turns new.turns
-      (does_views rows old.state command given reply new.state d) turned
+      (does_views rows old.state class given reply new.state d) turned
 
   -- the state after a line develops from the one before, by its reply and the counts
-  pub obeys_on : (old new : Whole) (command : Command) (given : Served) (reply : Reply)
-      → Obeys rows old command given reply new → (reply ≡ replies.Done → IsCountedOn old new)
+  pub obeys_on : (old new : Whole) (class : Class) (given : Served) (reply : Reply)
+      → Obeys rows old class given reply new → (reply ≡ replies.Done → IsCountedOn old new)
       → AreViewsOn old.state.views old.turns new.state.views new.turns
-  obeys_on old new command given reply o tells = does_on old new command given reply o.does o.counted o.turned tells
+  obeys_on old new class given reply o tells = does_on old new class given reply o.does o.counted o.turned tells
 
   answers_on : (old new : Whole) (command : Option Command) (given : Served) (reply : Reply)
       → Answers rows old command given reply new → (reply ≡ replies.Done → IsCountedOn old new)
@@ -228,12 +240,13 @@ module _ (rows : PolicyRows) (on : TurnGoesOn) where
   answers_on old new None given reply g tells =
       views_still old.state.views new.state.views old.turns new.turns (ap (λ (w : Whole). w.state.views) g.1)
       (ap (λ (w : Whole). w.turns) g.1)
-  answers_on old new (Some command) given reply g tells = obeys_on old new command given reply g tells
+  answers_on old new (Some command) given reply g tells = obeys_on old new (class_of command) given reply g tells
 
   answers_leaves : (old new : Whole) (command : Option Command) (given : Served) (reply : Reply)
       → Answers rows old command given reply new → IsNoAmount reply → LeavesOrTakes old.watches new.watches
   answers_leaves old new None given reply g plain = inl (ap (λ (w : Whole). w.watches) g.1)
-  answers_leaves old new (Some command) given reply g plain = watching_leaves old command reply new.watches plain
+  answers_leaves old new (Some command) given reply g plain = watching_leaves old (class_of command) reply new.watches
+      plain
       g.watching
 
   -- a line was answered, with what was settled before it

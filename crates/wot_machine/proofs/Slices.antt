@@ -30,6 +30,7 @@ use Rattle.wot_cache.specs.declared.view.View.{View}
 use Rattle.wot_cache.specs.Question.{question_in}
 use Rattle.wot_cache.specs.State.{State}
 use Rattle.wot_cache.specs.Views.{view_at}
+use Rattle.wot_machine.specs.Classes.{class_of}
 use Rattle.wot_machine.specs.Answer.{Asks, path_lines, step_line, told, uid_at, uid_in}
 use Rattle.wot_machine.specs.Law.{OneOutcome}
 use Rattle.wot_machine.specs.LineStep.{Does, LineStep}
@@ -175,8 +176,8 @@ module _ (laws : Laws) (rows : PolicyRows) (forgets : (c : Certificate) → judg
           (laws.lawful one.held.certs one.held.verdicts view.time uid own) wanted reply a
 
   pub does_same : AreOwn one.held.certs → (wanted : ℕ) (uid : List ℕ) (given told : Served) (reply : Reply)
-      (new : State) → Does rows one (Ask name target wanted uid) given reply new
-      → Does rows other (Ask name target wanted uid) told reply other
+      (new : State) → Does rows one (class_of (Ask name target wanted uid)) given reply new
+      → Does rows other (class_of (Ask name target wanted uid)) told reply other
   does_same own wanted uid given told reply new does = (asks_same own wanted uid reply does.0, refl)
 
 pub replied_same : Laws → (rows : PolicyRows) → OneOutcome rows →

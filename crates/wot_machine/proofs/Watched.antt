@@ -16,11 +16,6 @@ use Rattle.wot_edge.specs.Record.{IsRecord}
 use Rattle.wot_keyring.specs.Keyring.{Certificates}
 use Rattle.wot_network.specs.Told.{record_of}
 use Rattle.wot_policy.specs.declared.rows.PolicyRows.{PolicyRows}
-use Rattle.wot_script.specs.declared.command.Command.{Command}
-use Rattle.wot_script.specs.declared.command.Command.TheVariants.{Import, Load, Store, Remove, Good, Bad, Unjudge, Time}
-use Rattle.wot_script.specs.declared.command.Command.TheVariants.{Root, Close, Ask, Explain, Absence, Check, Pending}
-use Rattle.wot_script.specs.declared.command.Command.TheVariants.{Keys, Export, Dump, CursorOver, CursorNext}
-use Rattle.wot_script.specs.declared.command.Command.TheVariants.{CursorClose, WatchOn, WatchOff}
 use Rattle.wot_script.specs.declared.reply.Reply.{Reply}
 use Rattle.wot_script.specs.declared.reply.Reply.TheVariants as replies
 use Rattle.wot_script.specs.Replies.{HasWords, reply_text}
@@ -31,7 +26,10 @@ use Rattle.wot_cache.specs.State.{IsState, State}
 use Rattle.wot_cache.specs.Turns.{Turns}
 use Rattle.wot_cache.specs.Views.{Views, view_at}
 use Rattle.wot_watch.specs.Watches.{Watch, Watches, is_full, watch_at, with_watch, without_watch}
-use Rattle.wot_machine.specs.Entry.{unused, use_of}
+use Rattle.wot_machine.specs.declared.class.Class.{Class}
+use Rattle.wot_machine.specs.declared.class.Class.TheVariants.{State as OfState, Cursor as OfCursor, Watch as OfWatch}
+use Rattle.wot_machine.specs.declared.class.WatchCommand.TheVariants as commands
+use Rattle.wot_machine.specs.Entry.{unused, use_by}
 use Rattle.wot_machine.specs.Law.{is_refused}
 use Rattle.wot_machine.specs.LineStep.{Does}
 use Rattle.wot_machine.specs.Pacing.{is_pacing}
@@ -45,107 +43,66 @@ use Rattle.wot_machine.specs.Whole.{IsTurnedBy, Whole}
 -- ---- other commands
 
 -- a claim that holds of each command of a watch
-pub watched_cases : (P : Command → Type 0) → ((name view : List ℕ) (target : Fpr) (wanted : ℕ) (uid : List ℕ) →
-    P (WatchOn name view target wanted uid))
-    → ((name : List ℕ) → P (WatchOff name)) → (command : Command) → is_watching command ≡ true → P command
-watched_cases P on off (WatchOn name view target wanted uid) e = on name view target wanted uid
-watched_cases P on off (WatchOff name) e = off name
-watched_cases P on off (Import octets) e = absurd (cc e)
-watched_cases P on off (Load name) e = absurd (cc e)
-watched_cases P on off (Store fpr) e = absurd (cc e)
-watched_cases P on off (Remove fpr) e = absurd (cc e)
-watched_cases P on off (Good number fpr) e = absurd (cc e)
-watched_cases P on off (Bad number) e = absurd (cc e)
-watched_cases P on off (Unjudge number) e = absurd (cc e)
-watched_cases P on off (Time view t) e = absurd (cc e)
-watched_cases P on off (Root view fpr amount) e = absurd (cc e)
-watched_cases P on off (Close view) e = absurd (cc e)
-watched_cases P on off (Ask view target wanted uid) e = absurd (cc e)
-watched_cases P on off (Command.List view wanted) e = absurd (cc e)
-watched_cases P on off (Explain view fpr uid) e = absurd (cc e)
-watched_cases P on off (Absence view target wanted uid) e = absurd (cc e)
-watched_cases P on off (Check view target claims labels uid) e = absurd (cc e)
-watched_cases P on off Pending e = absurd (cc e)
-watched_cases P on off Keys e = absurd (cc e)
-watched_cases P on off (Export fpr) e = absurd (cc e)
-watched_cases P on off Dump e = absurd (cc e)
-watched_cases P on off (CursorOver name view wanted) e = absurd (cc e)
-watched_cases P on off (CursorNext name count) e = absurd (cc e)
-watched_cases P on off (CursorClose name) e = absurd (cc e)
+pub watched_cases : (P : Class → Type 0) → ((name view : List ℕ) (target : Fpr) (wanted : ℕ) (uid : List ℕ) →
+    P (OfWatch name (commands.On view target wanted uid)))
+    → ((name : List ℕ) → P (OfWatch name commands.Off)) → (class : Class) → is_watching class ≡ true → P class
+watched_cases P on off (OfWatch name (commands.On view target wanted uid)) e = on name view target wanted uid
+watched_cases P on off (OfWatch name commands.Off) e = off name
+watched_cases P on off (OfState done) e = absurd (cc e)
+watched_cases P on off (OfCursor name done) e = absurd (cc e)
 
--- other commands don't change the watches
-unwatched_is : (s : Whole) (command : Command) (reply : Reply) (watches : Watches) → is_watching command ≡ false →
-    Watching s command reply watches ≡ (watches ≡ s.watches)
-unwatched_is s (Import octets) reply watches e = refl
-unwatched_is s (Load name) reply watches e = refl
-unwatched_is s (Store fpr) reply watches e = refl
-unwatched_is s (Remove fpr) reply watches e = refl
-unwatched_is s (Good number fpr) reply watches e = refl
-unwatched_is s (Bad number) reply watches e = refl
-unwatched_is s (Unjudge number) reply watches e = refl
-unwatched_is s (Time view t) reply watches e = refl
-unwatched_is s (Root view fpr amount) reply watches e = refl
-unwatched_is s (Close view) reply watches e = refl
-unwatched_is s (Ask view target wanted uid) reply watches e = refl
-unwatched_is s (Command.List view wanted) reply watches e = refl
-unwatched_is s (Explain view fpr uid) reply watches e = refl
-unwatched_is s (Absence view target wanted uid) reply watches e = refl
-unwatched_is s (Check view target claims labels uid) reply watches e = refl
-unwatched_is s Pending reply watches e = refl
-unwatched_is s Keys reply watches e = refl
-unwatched_is s (Export fpr) reply watches e = refl
-unwatched_is s Dump reply watches e = refl
-unwatched_is s (CursorOver name view wanted) reply watches e = refl
-unwatched_is s (CursorNext name count) reply watches e = refl
-unwatched_is s (CursorClose name) reply watches e = refl
-unwatched_is s (WatchOn name view target wanted uid) reply watches e = absurd (cc e)
-unwatched_is s (WatchOff name) reply watches e = absurd (cc e)
+-- the other commands leave the watches
+unwatched_is : (s : Whole) (class : Class) (reply : Reply) (watches : Watches) → is_watching class ≡ false →
+    Watching s class reply watches ≡ (watches ≡ s.watches)
+unwatched_is s (OfState done) reply watches e = refl
+unwatched_is s (OfCursor name done) reply watches e = refl
+unwatched_is s (OfWatch name done) reply watches e = absurd (cc e)
 
-pub watching_plain : (s : Whole) (command : Command) (reply : Reply) → is_watching command ≡ false →
-    Watching s command reply s.watches
-watching_plain s command reply e = subst (λ (P : Type 0). P) (sym (unwatched_is s command reply s.watches e)) refl
+pub watching_plain : (s : Whole) (class : Class) (reply : Reply) → is_watching class ≡ false →
+    Watching s class reply s.watches
+watching_plain s class reply e = subst (λ (P : Type 0). P) (sym (unwatched_is s class reply s.watches e)) refl
 
-pub plain_watching : (s : Whole) (command : Command) (reply : Reply) (watches : Watches) → is_watching command ≡ false →
-    Watching s command reply watches → watches ≡ s.watches
-plain_watching s command reply watches e p = subst (λ (P : Type 0). P) (unwatched_is s command reply watches e) p
+pub plain_watching : (s : Whole) (class : Class) (reply : Reply) (watches : Watches) → is_watching class ≡ false →
+    Watching s class reply watches → watches ≡ s.watches
+plain_watching s class reply watches e p = subst (λ (P : Type 0). P) (unwatched_is s class reply watches e) p
 
 -- ---- commands of watches don't change the state, the cursors, the turns and the certificate directory
 
 -- no command is both of a cursor and of a watch
-pub watched_unpaced : (command : Command) → is_watching command ≡ true → is_pacing command ≡ false
-watched_unpaced command e = watched_cases (λ (c : Command). is_pacing c ≡ false) (λ name view target wanted uid. refl)
-    (λ name. refl) command e
+pub watched_unpaced : (class : Class) → is_watching class ≡ true → is_pacing class ≡ false
+watched_unpaced class e = watched_cases (λ (c : Class). is_pacing c ≡ false) (λ name view target wanted uid. refl)
+    (λ name. refl) class e
 
-pub paced_unwatched : (command : Command) → is_pacing command ≡ true → is_watching command ≡ false
-paced_unwatched command e = by (is_watching command) refl
+pub paced_unwatched : (class : Class) → is_pacing class ≡ true → is_watching class ≡ false
+paced_unwatched class e = by (is_watching class) refl
   where
-    by : (b : Bool) → is_watching command ≡ b → is_watching command ≡ false
+    by : (b : Bool) → is_watching class ≡ b → is_watching class ≡ false
     by false w = w
-    by true w = let none = watched_unpaced command w in let never : true ≡ false = sym e ∙ none in absurd cc
+    by true w = let none = watched_unpaced class w in let never : true ≡ false = sym e ∙ none in absurd cc
 
-pub state_watched : (rows : PolicyRows) (old : State) (command : Command) (given : Served) (reply : Reply) →
-    is_watching command ≡ true → Does rows old command given reply old
-state_watched rows old command given reply e =
-    watched_cases (λ (c : Command). Does rows old c given reply old) (λ name view target wanted uid. refl)
-    (λ name. refl) command e
+pub state_watched : (rows : PolicyRows) (old : State) (class : Class) (given : Served) (reply : Reply) →
+    is_watching class ≡ true → Does rows old class given reply old
+state_watched rows old class given reply e =
+    watched_cases (λ (c : Class). Does rows old c given reply old) (λ name view target wanted uid. refl)
+    (λ name. refl) class e
 
-pub watched_state : (rows : PolicyRows) (old : State) (command : Command) (given : Served) (reply : Reply)
-    (new : State) → is_watching command ≡ true
-    → Does rows old command given reply new → new ≡ old
-watched_state rows old command given reply new e d =
-    watched_cases (λ (c : Command). Does rows old c given reply new → new ≡ old) (λ name view target wanted uid p. p)
-    (λ name p. p) command e d
+pub watched_state : (rows : PolicyRows) (old : State) (class : Class) (given : Served) (reply : Reply)
+    (new : State) → is_watching class ≡ true
+    → Does rows old class given reply new → new ≡ old
+watched_state rows old class given reply new e d =
+    watched_cases (λ (c : Class). Does rows old c given reply new → new ≡ old) (λ name view target wanted uid p. p)
+    (λ name p. p) class e d
 
-pub turns_watched : (command : Command) (old new : Views) (before after : Turns) → is_watching command ≡ true →
-    after ≡ before → IsTurnedBy command old before new after
-turns_watched command old new before after e same =
-    watched_cases (λ (c : Command). IsTurnedBy c old before new after) (λ name view target wanted uid. same)
-    (λ name. same) command e
+pub turns_watched : (class : Class) (old new : Views) (before after : Turns) → is_watching class ≡ true →
+    after ≡ before → IsTurnedBy class old before new after
+turns_watched class old new before after e same =
+    watched_cases (λ (c : Class). IsTurnedBy c old before new after) (λ name view target wanted uid. same)
+    (λ name. same) class e
 
-pub uncalled_watched : (command : Command) → is_watching command ≡ true → use_of (Some command) ≡ unused
-uncalled_watched command e =
-    watched_cases (λ (c : Command). use_of (Some c) ≡ unused) (λ name view target wanted uid. refl) (λ name. refl)
-    command e
+pub uncalled_watched : (class : Class) → is_watching class ≡ true → use_by class ≡ unused
+uncalled_watched class e =
+    watched_cases (λ (c : Class). use_by c ≡ unused) (λ name view target wanted uid. refl) (λ name. refl)
+    class e
 
 -- ---- printable replies
 
@@ -174,13 +131,13 @@ off_worded s name reply watches l =
     (left_worded replies.Done reply (without_watch s.watches name) watches tt)
     (left_worded replies.NoWatch reply s.watches watches tt) l
 
-pub watching_worded : (s : Whole) (command : Command) (reply : Reply) (watches : Watches) → is_watching command ≡ true →
-    Watching s command reply watches → HasWords reply
-watching_worded s command reply watches e p =
-    watched_cases (λ (c : Command). Watching s c reply watches → HasWords reply)
+pub watching_worded : (s : Whole) (class : Class) (reply : Reply) (watches : Watches) → is_watching class ≡ true →
+    Watching s class reply watches → HasWords reply
+watching_worded s class reply watches e p =
+    watched_cases (λ (c : Class). Watching s c reply watches → HasWords reply)
     (λ name view target wanted uid. opens_worded s name view target wanted uid (view_at s.state.views view) reply
     watches)
-    (λ name. off_worded s name reply watches) command e p
+    (λ name. off_worded s name reply watches) class e p
 
 pub line_worded : (line : Reply) → IsWatchLine line → HasWords line
 line_worded said (inl is) = subst HasWords (sym is.2) tt
@@ -214,13 +171,13 @@ off_left s name reply watches l e = by (is_some (watch_at s.watches name)) l
     by true l = refused_not replies.Done reply (watches ≡ s.watches) l.0 refl e
     by false l = l.1
 
-pub watching_left : (s : Whole) (command : Command) (reply : Reply) (watches : Watches) → is_watching command ≡ true →
-    Watching s command reply watches
+pub watching_left : (s : Whole) (class : Class) (reply : Reply) (watches : Watches) → is_watching class ≡ true →
+    Watching s class reply watches
     → is_refused reply ≡ true → watches ≡ s.watches
-watching_left s command reply watches e =
-    watched_cases (λ (c : Command). Watching s c reply watches → is_refused reply ≡ true → watches ≡ s.watches)
+watching_left s class reply watches e =
+    watched_cases (λ (c : Class). Watching s c reply watches → is_refused reply ≡ true → watches ≡ s.watches)
     (λ name view target wanted uid. opens_left s name view target wanted uid (view_at s.state.views view) reply watches)
-    (λ name. off_left s name reply watches) command e
+    (λ name. off_left s name reply watches) class e
 
 -- ---- one amount
 
@@ -413,19 +370,19 @@ off_some s name =
     if_some (is_some (watch_at s.watches name)) (LeavesWatches replies.Done (without_watch s.watches name)) _
     (leaves_some replies.Done (without_watch s.watches name)) (leaves_some replies.NoWatch s.watches)
 
-pub watching_one : AnswerOne → Lawful → (s : Whole) (command : Command) → is_watching command ≡ true → IsState s.state →
-    IsOneOf (Watching s command)
-watching_one one lawful s command e can =
-    watched_cases (λ (c : Command). IsOneOf (Watching s c))
+pub watching_one : AnswerOne → Lawful → (s : Whole) (class : Class) → is_watching class ≡ true → IsState s.state →
+    IsOneOf (Watching s class)
+watching_one one lawful s class e can =
+    watched_cases (λ (c : Class). IsOneOf (Watching s c))
     (λ name view target wanted uid. opens_one one lawful s name view target wanted uid (view_at s.state.views view) can)
-    (λ name. off_one s name) command e
+    (λ name. off_one s name) class e
 
-pub watching_some : AnswerSome → (s : Whole) (command : Command) → is_watching command ≡ true →
-    IsSomeOf (Watching s command)
-watching_some some s command e =
-    watched_cases (λ (c : Command). IsSomeOf (Watching s c))
+pub watching_some : AnswerSome → (s : Whole) (class : Class) → is_watching class ≡ true →
+    IsSomeOf (Watching s class)
+watching_some some s class e =
+    watched_cases (λ (c : Class). IsSomeOf (Watching s c))
     (λ name view target wanted uid. opens_some some s name view target wanted uid (view_at s.state.views view))
-    (λ name. off_some s name) command e
+    (λ name. off_some s name) class e
 
 -- ---- the loop that collects watch lines
 

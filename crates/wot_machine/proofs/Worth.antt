@@ -26,6 +26,9 @@ use Rattle.wot_cache.specs.Question.{question_in}
 use Rattle.wot_cache.specs.State.{IsState, State}
 use Rattle.wot_cache.specs.Views.{view_at}
 use Rattle.wot_watch.specs.Watches.{Watch, Watches, is_full, is_name, watch_at, with_watch, without_watch}
+use Rattle.wot_machine.specs.declared.class.Class.{Class}
+use Rattle.wot_machine.specs.Classes.{IsFit, class_of}
+use Rattle.wot_machine.proofs.Fit.{fit_of}
 use Rattle.wot_machine.specs.Entry.{use_of}
 use Rattle.wot_machine.specs.Lines.{heard, is_silent, longest}
 use Rattle.wot_machine.specs.LineStep.{Answers, HasReply, LineStep, Obeys, Stays}
@@ -185,27 +188,27 @@ module _ (told : List Reply) where
       by false l =
           left_told replies.NoWatch reply s.watches watches l (still_told s.watches replies.NoWatch (λ n. refl) t)
 
-  watching_told : (s : Whole) (command : Command) (reply : Reply) (watches : Watches) → is_watching command ≡ true
-      → HasSpelling command → Watching s command reply watches → AreTold told s.watches
+  watching_told : (s : Whole) (class : Class) (reply : Reply) (watches : Watches) → is_watching class ≡ true
+      → IsFit class → Watching s class reply watches → AreTold told s.watches
       → AreTold (told ++ reply ∷ []) watches
-  watching_told s command reply watches e =
+  watching_told s class reply watches e =
       watched_cases
-      (λ (c : Command). HasSpelling c → Watching s c reply watches → AreTold told s.watches
+      (λ (c : Class). IsFit c → Watching s c reply watches → AreTold told s.watches
       → AreTold (told ++ reply ∷ []) watches)
       (λ name view target wanted uid. opens_told s name view target wanted uid
       (view_at s.state.views view) reply watches)
-      (λ name some. takes_told s name reply watches) command e
+      (λ name some. takes_told s name reply watches) class e
 
   module _ (rows : PolicyRows) (old : Whole) (given : Served) (new : Whole) (t : AreTold told old.watches) where
-    obeys_told : (command : Command) (reply : Reply) → HasSpelling command → Obeys rows old command given reply new
+    obeys_told : (class : Class) (reply : Reply) → IsFit class → Obeys rows old class given reply new
         → AreTold (told ++ reply ∷ []) new.watches
-    obeys_told command reply spelled o = by (is_watching command) refl
+    obeys_told class reply spelled o = by (is_watching class) refl
       where
-        by : (b : Bool) → is_watching command ≡ b → AreTold (told ++ reply ∷ []) new.watches
-        by true e = watching_told old command reply new.watches e spelled o.watching t
+        by : (b : Bool) → is_watching class ≡ b → AreTold (told ++ reply ∷ []) new.watches
+        by true e = watching_told old class reply new.watches e spelled o.watching t
         by false e =
-            subst (AreTold (told ++ reply ∷ [])) (sym (plain_watching old command reply new.watches e o.watching))
-            (still_told old.watches reply (λ name. untold rows old command given reply new e o name) t)
+            subst (AreTold (told ++ reply ∷ [])) (sym (plain_watching old class reply new.watches e o.watching))
+            (still_told old.watches reply (λ name. untold rows old class given reply new e o name) t)
 
     stays_told : (said reply : Reply) → ((name : List ℕ) → amount_in name said ≡ []) → Stays old said reply new
         → AreTold (told ++ reply ∷ []) new.watches
@@ -222,7 +225,8 @@ module _ (told : List Reply) where
             → HasReply (Answers rows old o given) r new → AreTold (told ++ listed r) new.watches
         known o e None g = absurd g
         known None e (Some r) g = stays_told replies.Line r (λ n. refl) g
-        known (Some command) e (Some r) g = obeys_told command r (spelled line command e) g
+        known (Some command) e (Some r) g = obeys_told (class_of command) r
+            (fit_of command (spelled line command e)) g
 
         silent : (b : Bool)
             → MatchBool b ((reply ≡ None) × (new ≡ old)) (HasReply (Answers rows old (command_of line) given) reply new)

@@ -106,7 +106,7 @@ AreClaimsAccepted =
     → Misses s (Some view) target wanted uid (replies.Missed sum claims labels)
     → Checks s (Some view) target claims labels uid (replies.CheckedYes sum)
 
--- In a reachable state, no valid path of positive amount is left after the paths of an accepted claim.
+-- In a well-formed state, no valid path of positive amount is left after the paths of an accepted claim.
 abbrev pub DoClaimsLeaveNothing : Type 0
 DoClaimsLeaveNothing =
     (s : State) (view : View) (target : Fpr) (uid : List ℕ) (sum : ℕ)

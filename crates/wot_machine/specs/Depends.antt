@@ -3,7 +3,10 @@ use Rattle.std.specs.Prelude.{◌≡◌, ℕ, List, map, Option, Some}
 use Rattle.wot_types.specs.declared.fpr.Fpr.{Fpr}
 use Rattle.wot_policy.specs.declared.rows.PolicyRows.{PolicyRows}
 use Rattle.wot_script.specs.declared.command.Command.{Command}
-use Rattle.wot_script.specs.declared.command.Command.TheVariants.{Ask, Explain, Absence, Check}
+use Rattle.wot_machine.specs.declared.class.Class.{Class}
+use Rattle.wot_machine.specs.declared.class.Class.TheVariants.{State as OfState}
+use Rattle.wot_machine.specs.declared.class.StateCommand.TheVariants as kinds
+use Rattle.wot_machine.specs.Classes.{class_of}
 use Rattle.wot_script.specs.declared.reply.Reply.{Reply}
 use Rattle.wot_script.specs.Grammar.{command_of}
 use Rattle.wot_cert.specs.Certificate.{Certificate, unmarked}
@@ -38,18 +41,14 @@ pub record AreAlike (name : List ℕ) (one other : State) : Type 0 where
 
 -- a command that asks something from the named view: an answer, a list, an explanation, a proof of absence or the check
 -- of one
-abbrev pub AsksFrom : List ℕ → Command → Type 0
-AsksFrom name (Ask view target wanted uid) = view ≡ name
-AsksFrom name (Command.List view wanted) = view ≡ name
-AsksFrom name (Explain view fpr uid) = view ≡ name
-AsksFrom name (Absence view target wanted uid) = view ≡ name
-AsksFrom name (Check view target claims labels uid) = view ≡ name
+abbrev pub AsksFrom : List ℕ → Class → Type 0
+AsksFrom name (OfState (kinds.Question view question)) = view ≡ name
 AsksFrom name _ = ⊥
 
 -- a line with such a command
 pub record IsAsk (name line : List ℕ) : Type 0 where
   pub command : Command
-  pub asks : AsksFrom name command
+  pub asks : AsksFrom name (class_of command)
   pub read : command_of line ≡ Some command
 
 -- the replies to this line are equal, whatever the certificate directory returns

@@ -3,7 +3,12 @@ use Rattle.std.specs.Prelude.{◌≡◌, ◌⊎◌, ℕ, List, length, map, Opti
 use Rattle.wot_types.specs.declared.fpr.Fpr.{Fpr}
 use Rattle.wot_keyring.specs.Keyring.{Keyring, certificates_in}
 use Rattle.wot_script.specs.declared.command.Command.{Command}
-use Rattle.wot_script.specs.declared.command.Command.TheVariants.{Explain}
+use Rattle.wot_machine.specs.declared.class.Class.{Class}
+use Rattle.wot_machine.specs.declared.class.Class.TheVariants.{State as OfState}
+use Rattle.wot_machine.specs.declared.class.StateCommand.TheVariants as kinds
+use Rattle.wot_machine.specs.declared.class.ViewQuestion.{ViewQuestion}
+use Rattle.wot_machine.specs.declared.class.ViewQuestion.TheVariants as questions
+use Rattle.wot_machine.specs.Classes.{class_of}
 use Rattle.wot_script.specs.declared.reply.Reply.{Reply}
 use Rattle.wot_script.specs.declared.reply.Reply.TheVariants as replies
 use Rattle.wot_cache.specs.declared.view.View.{View}
@@ -39,11 +44,16 @@ MarksFrom engine name fpr uid =
     IfSome (view_at engine.views name) (λ (v : View).
     MarksEdges engine.keyring v.time fpr uid (explained_from (state_of engine) (Some v) fpr uid))
 
--- what holds of the reply if the command is `explain`
-abbrev pub CommandMarks : Engine → Command → Type 0
-CommandMarks engine (Explain name fpr uid) = MarksFrom engine name fpr uid
+-- what holds of the reply if the question is `explain`
+abbrev pub QuestionMarks : Engine → List ℕ → ViewQuestion → Type 0
+QuestionMarks engine view (questions.Explain fpr uid) = MarksFrom engine view fpr uid
+QuestionMarks engine view _ = Unit {0}
+
+-- what holds of the reply to a command
+abbrev pub CommandMarks : Engine → Class → Type 0
+CommandMarks engine (OfState (kinds.Question view question)) = QuestionMarks engine view question
 CommandMarks engine _ = Unit {0}
 
 -- what holds of the reply if the line's command is `explain`
 abbrev pub LineMarks : Engine → Option Command → Type 0
-LineMarks engine command = IfSome command (CommandMarks engine)
+LineMarks engine command = IfSome command (λ command. CommandMarks engine (class_of command))

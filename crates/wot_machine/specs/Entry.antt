@@ -5,7 +5,12 @@ use Rattle.wot_types.specs.declared.fpr.Fpr.{Fpr}
 use Rattle.wot_types.specs.declared.name.Name.{Name}
 use Rattle.wot_types.specs.declared.name.Name.TheVariants.{Cert}
 use Rattle.wot_script.specs.declared.command.Command.{Command}
-use Rattle.wot_script.specs.declared.command.Command.TheVariants.{Load, Store}
+use Rattle.wot_machine.specs.declared.class.Class.{Class}
+use Rattle.wot_machine.specs.declared.class.Class.TheVariants.{State as OfState}
+use Rattle.wot_machine.specs.declared.class.StateCommand.TheVariants as kinds
+use Rattle.wot_machine.specs.declared.class.ShelfCall.{ShelfCall}
+use Rattle.wot_machine.specs.declared.class.ShelfCall.TheVariants as calls
+use Rattle.wot_machine.specs.Classes.{class_of}
 use Rattle.wot_keyring.specs.Held.{cert_in}
 use Rattle.wot_certd.specs.World.{Answer, World, after_replace, called, fails_next, read_answer, with_entry}
 use Rattle.wot_cache.specs.State.{State}
@@ -22,10 +27,17 @@ pub data Use : Type 0 where
   loads : Name → Use
   stores : Fpr → Use
 
+abbrev pub use_in : ShelfCall → Use
+use_in (calls.Load name) = loads name
+use_in (calls.Store fpr) = stores fpr
+
+abbrev pub use_by : Class → Use
+use_by (OfState (kinds.Shelf call)) = use_in call
+use_by _ = unused
+
 abbrev pub use_of : Option Command → Use
-use_of (Some (Load name)) = loads name
-use_of (Some (Store fpr)) = stores fpr
-use_of _ = unused
+use_of None = unused
+use_of (Some command) = use_by (class_of command)
 
 -- none of these lines uses the directory
 abbrev pub CallNothing : List (List ℕ) → Type 0

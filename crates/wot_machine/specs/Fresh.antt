@@ -3,8 +3,10 @@ use Rattle.std.specs.Prelude.{◌≡◌, false, List, [], ℕ, length, codes}
 use Rattle.std.specs.List.{AllByRecursion}
 use Rattle.wot_io.specs.Input as inputs
 use Rattle.wot_policy.specs.declared.rows.PolicyRows.{PolicyRows}
-use Rattle.wot_script.specs.declared.command.Command.{Command}
-use Rattle.wot_script.specs.declared.command.Command.TheVariants.{Dump}
+use Rattle.wot_machine.specs.declared.class.Class.{Class}
+use Rattle.wot_machine.specs.declared.class.Class.TheVariants.{State as OfState}
+use Rattle.wot_machine.specs.declared.class.StateCommand.TheVariants as kinds
+use Rattle.wot_machine.specs.declared.class.Read.TheVariants as reads
 use Rattle.wot_script.specs.declared.reply.Reply.{Reply}
 use Rattle.wot_script.specs.Replies.{is_refusal}
 use Rattle.wot_types.specs.Limits.{standard_limits}
@@ -21,8 +23,8 @@ abbrev pub IsDump : List ℕ → Type 0
 IsDump line = line ≡ codes "dump"
 
 -- P holds if the command is `dump`
-abbrev pub OnDump : Command → Type 0 → Type 0
-OnDump Dump P = P
+abbrev pub OnDump : Class → Type 0 → Type 0
+OnDump (OfState (kinds.Read reads.Dump)) P = P
 OnDump _ P = Unit {0}
 
 -- the lines of a dump of this state

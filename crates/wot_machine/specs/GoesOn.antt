@@ -1,21 +1,26 @@
 -- A machine that was restored from a dump behaves like the one that dumped.
-use Rattle.std.specs.Prelude.{◌≡◌, Bool, true, not, ◌&&◌, List, [], ◌∷◌, ℕ, Option, Some, None}
+use Rattle.std.specs.Prelude.{◌≡◌, Bool, true, false, List, [], ◌∷◌, ℕ, Option, Some, None}
 use Rattle.wot_policy.specs.declared.rows.PolicyRows.{PolicyRows}
 use Rattle.wot_script.specs.declared.command.Command.{Command}
 use Rattle.wot_script.specs.declared.reply.Reply.{Reply}
 use Rattle.wot_certd.specs.World.{World}
+use Rattle.wot_machine.specs.declared.class.Class.{Class}
+use Rattle.wot_machine.specs.declared.class.Class.TheVariants.{State as OfState}
 use Rattle.wot_machine.specs.Fresh.{IsMadeAnew}
 use Rattle.wot_machine.specs.Joined.{Exchange, Passes, lines_in}
+use Rattle.wot_machine.specs.Classes.{class_of}
 use Rattle.wot_machine.specs.Lines.{heard}
-use Rattle.wot_machine.specs.Pacing.{is_pacing}
 use Rattle.wot_machine.specs.Scene.{Scene, opening}
 use Rattle.wot_machine.specs.Transcript.{Run}
-use Rattle.wot_machine.specs.Watching.{is_watching}
 
 -- whether it isn't a command of a cursor or of a watch
+abbrev pub is_own : Class → Bool
+is_own (OfState command) = true
+is_own _ = false
+
 abbrev pub is_of_state : Option Command → Bool
 is_of_state None = true
-is_of_state (Some command) = not (is_pacing command) && not (is_watching command)
+is_of_state (Some command) = is_own (class_of command)
 
 -- Line by line the replies are equal, except those to commands of cursors and watches.
 abbrev pub HaveSameReplies : List Exchange → List Exchange → Type 0

@@ -4,7 +4,7 @@ use Rattle.std.specs.Prelude.{List, [], ◌∷◌, ◌++◌, length, map, flat_m
 use Rattle.std.specs.List.{list_any}
 use Rattle.wot_policy.specs.declared.rows.PolicyRows.{PolicyRows}
 use Rattle.wot_script.specs.declared.command.Command.{Command}
-use Rattle.wot_script.specs.declared.command.Command.TheVariants.{CursorOver, CursorNext, CursorClose}
+use Rattle.wot_script.specs.declared.command.Command.TheVariants.{CursorOver, CursorNext}
 use Rattle.wot_script.specs.declared.reply.BindLine.{BindLine}
 use Rattle.wot_script.specs.declared.reply.Reply.{Reply}
 use Rattle.wot_script.specs.declared.reply.Reply.TheVariants as replies
@@ -12,6 +12,10 @@ use Rattle.wot_certd.specs.World.{World}
 use Rattle.wot_cache.specs.State.{State}
 use Rattle.wot_cache.specs.Views.{view_at}
 use Rattle.wot_cursor.specs.Cursors.{is_name}
+use Rattle.wot_machine.specs.declared.class.Class.{Class}
+use Rattle.wot_machine.specs.declared.class.Class.TheVariants.{Cursor as OfCursor}
+use Rattle.wot_machine.specs.declared.class.CursorCommand.TheVariants as paces
+use Rattle.wot_machine.specs.Classes.{class_of}
 use Rattle.wot_machine.specs.Lines.{heard}
 use Rattle.wot_machine.specs.LineStep.{LineStep}
 use Rattle.wot_machine.specs.Listing.{Lists}
@@ -68,9 +72,13 @@ given_by asked (Some (replies.Piece size binds)) = record { asked = asked; binds
 given_by asked reply = []
 
 -- the piece of this cursor in the reply to a command, if it is one
+abbrev pub given_to : List ℕ → Class → Option Reply → List Given
+given_to name (OfCursor other (paces.Next asked)) reply = if is_name name other then given_by asked reply else []
+given_to name _ reply = []
+
 abbrev pub given_in : List ℕ → Option Command → Option Reply → List Given
-given_in name (Some (CursorNext other asked)) reply = if is_name name other then given_by asked reply else []
-given_in name command reply = []
+given_in name None reply = []
+given_in name (Some command) reply = given_to name (class_of command) reply
 
 abbrev pub pieces_in : List ℕ → List Exchange → List Given
 pieces_in name exchanges = flat_map (λ (e : Exchange). given_in name (heard e.line) e.reply) exchanges
@@ -80,10 +88,14 @@ is_done (Some replies.Done) = true
 is_done reply = false
 
 -- whether the command restarted or closed this cursor
+abbrev pub is_restart_by : List ℕ → Class → Option Reply → Bool
+is_restart_by name (OfCursor other (paces.Over view wanted)) reply = is_name name other && is_done reply
+is_restart_by name (OfCursor other paces.Close) reply = is_name name other && is_done reply
+is_restart_by name _ reply = false
+
 abbrev pub is_restart : List ℕ → Option Command → Option Reply → Bool
-is_restart name (Some (CursorOver other view wanted)) reply = is_name name other && is_done reply
-is_restart name (Some (CursorClose other)) reply = is_name name other && is_done reply
-is_restart name command reply = false
+is_restart name None reply = false
+is_restart name (Some command) reply = is_restart_by name (class_of command) reply
 
 abbrev pub has_restart : List ℕ → List Exchange → Bool
 has_restart name exchanges = list_any (λ (e : Exchange). is_restart name (heard e.line) e.reply) exchanges

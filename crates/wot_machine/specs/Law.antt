@@ -15,20 +15,20 @@ abbrev pub HaveOutcomes : PolicyRows → Type 0
 HaveOutcomes rows = (old : Whole) (line : List ℕ) (given : Served)
     → (reply : Option Reply) × (new : Whole) × LineStep rows old line given reply new
 
--- from a reachable state it has only one
+-- from a well-formed state it has only one
 abbrev pub HaveOneOutcome : PolicyRows → Type 0
 HaveOneOutcome rows =
     (old : Whole) (line : List ℕ) (given : Served) (reply other : Option Reply) (new third : Whole) → IsState old.state
     → LineStep rows old line given reply new → LineStep rows old line given other third
     → (reply ≡ other) × (new ≡ third)
 
--- the new state is reachable too
+-- the new state is well-formed too
 abbrev pub LeadToStates : PolicyRows → Type 0
 LeadToStates rows =
     (old : Whole) (line : List ℕ) (given : Served) (reply : Option Reply) (new : Whole) → IsState old.state
     → LineStep rows old line given reply new → IsState new.state
 
--- a state has watch lines, and a reachable state has only one list of them
+-- a state has watch lines, and a well-formed state has only one list of them
 abbrev pub HaveWatchLines : Type 0
 HaveWatchLines = (old : Whole) → (told : List Reply) × (new : Whole) × Tells old told new
 

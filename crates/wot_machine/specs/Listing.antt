@@ -91,6 +91,6 @@ hint_of None None = hints.Nothing
 abbrev pub pending_line : Pending → PendingLine
 pending_line sig = record { 0 = sig.number; 1 = sig.fpr; 2 = hint_of sig.issuer sig.hint }
 
--- `pending`: a line for each valid signature without a verdict, by certificate and then in the order of its text
+-- `pending`: a line for each well-formed signature without a verdict, by certificate and then in the order of its text
 abbrev pub pending : State → Outcome
 pending s = only s (replies.Pending (length (pending_in s.held)) (map pending_line (pending_in s.held)))

@@ -47,7 +47,7 @@ done s = record { reply = replies.Done; state = s }
 
 -- ---- import
 
--- the reply to a fault of a certificate; running out of memory is none
+-- the reply to a fault of a certificate; the definition of assembly never returns `Memory`
 abbrev pub cert_refusal : CertFault → Reply
 cert_refusal certs.Compressed = replies.Compressed
 cert_refusal certs.Secret = replies.Secret
@@ -56,7 +56,7 @@ cert_refusal (certs.Order offset) = replies.Order offset
 cert_refusal certs.Empty = replies.Empty
 cert_refusal certs.Memory = replies.Empty
 
--- the reply to a refusal; running out of memory gets no reply
+-- the reply to a refusal; the last line is arbitrary, since `Memory` gets no reply
 abbrev pub refusal : Refusal → Reply
 refusal (refusals.Packet fault) = replies.Packet (number_of fault.why) fault.at
 refusal (refusals.Cert fault) = cert_refusal fault
@@ -104,7 +104,7 @@ clear_verdict s number =
 
 -- ---- views
 
--- the reply to a view's fault; running out of memory gets no reply
+-- the reply to a view's fault; the last line is arbitrary, since `Memory` gets no reply
 abbrev pub view_refusal : ViewFault → Reply
 view_refusal faults.View = replies.View
 view_refusal faults.Absent = replies.Absent

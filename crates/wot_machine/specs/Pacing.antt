@@ -3,8 +3,10 @@ use Rattle.std.specs.Prelude.{◌≡◌, ◌==◌, ℕ, Bool, true, false, Match
 use Rattle.std.specs.Prelude.{Option, Some, None, Result, IfOk, IfSome, is_some}
 use Rattle.std.specs.Option.{unwrap_or}
 use Rattle.wot_types.specs.declared.place.Place.{Place}
-use Rattle.wot_script.specs.declared.command.Command.{Command}
-use Rattle.wot_script.specs.declared.command.Command.TheVariants.{CursorOver, CursorNext, CursorClose}
+use Rattle.wot_machine.specs.declared.class.Class.{Class}
+use Rattle.wot_machine.specs.declared.class.Class.TheVariants.{Cursor as OfCursor}
+use Rattle.wot_machine.specs.declared.class.CursorCommand.{CursorCommand}
+use Rattle.wot_machine.specs.declared.class.CursorCommand.TheVariants as paces
 use Rattle.wot_script.specs.declared.reply.Reply.{Reply}
 use Rattle.wot_script.specs.declared.reply.Reply.TheVariants as replies
 use Rattle.wot_keyring.specs.Keyring.{certificates_in}
@@ -124,10 +126,8 @@ left_by None cursors = cursors
 left_by (Some told) cursors = settled told.moved cursors
 
 -- whether it is a command of a cursor
-abbrev pub is_pacing : Command → Bool
-is_pacing (CursorOver name view wanted) = true
-is_pacing (CursorNext name count) = true
-is_pacing (CursorClose name) = true
+abbrev pub is_pacing : Class → Bool
+is_pacing (OfCursor name command) = true
 is_pacing _ = false
 
 -- ---- `cursor C close`
@@ -139,10 +139,14 @@ Ends s name reply cursors =
 
 -- ---- all commands
 
--- What a command does to the cursors, and the reply if it is a command of a cursor. No other command changes them.
-abbrev pub Paces : Whole → Command → Reply → Cursors → Type 0
-Paces s (CursorOver name view wanted) reply cursors =
+-- what a command of a cursor does to the cursors, and its reply
+abbrev pub PacesCursor : Whole → List ℕ → CursorCommand → Reply → Cursors → Type 0
+PacesCursor s name (paces.Over view wanted) reply cursors =
     Begins s name view wanted (view_at s.state.views view) reply cursors
-Paces s (CursorNext name count) reply cursors = Goes (cursor_at s.cursors name) s name count reply cursors
-Paces s (CursorClose name) reply cursors = Ends s name reply cursors
+PacesCursor s name (paces.Next count) reply cursors = Goes (cursor_at s.cursors name) s name count reply cursors
+PacesCursor s name paces.Close reply cursors = Ends s name reply cursors
+
+-- What a command does to the cursors, and the reply if it is a command of a cursor. No other command changes them.
+abbrev pub Paces : Whole → Class → Reply → Cursors → Type 0
+Paces s (OfCursor name command) reply cursors = PacesCursor s name command reply cursors
 Paces s _ reply cursors = cursors ≡ s.cursors

@@ -1,18 +1,23 @@
 -- The outcome of a command that uses a certificate directory.
-use Rattle.std.specs.Prelude.{◌≡◌, ℕ, true, Option, Some}
+use Rattle.std.specs.Prelude.{◌≡◌, ℕ, true, Option}
 use denote.MutBor.{MutBor}
 use denote.Triple.Both.{Both}
 use Rattle.wot_io.specs.Counts.{Rose}
 use Rattle.wot_types.specs.declared.fpr.Fpr.{Fpr}
+use Rattle.wot_types.specs.declared.name.Name.{Name}
 use Rattle.wot_policy.specs.declared.rows.PolicyRows.{PolicyRows}
 use Rattle.wot_script.specs.declared.command.Command.{Command}
-use Rattle.wot_script.specs.declared.command.Command.TheVariants.{Store}
+use Rattle.wot_machine.specs.declared.class.Class.{Class}
+use Rattle.wot_machine.specs.declared.class.Class.TheVariants.{State as OfState}
+use Rattle.wot_machine.specs.declared.class.StateCommand.{StateCommand}
+use Rattle.wot_machine.specs.declared.class.StateCommand.TheVariants as kinds
+use Rattle.wot_machine.specs.declared.class.ShelfCall.TheVariants as calls
 use Rattle.wot_script.specs.declared.reply.Reply.{Reply}
 use Rattle.wot_certd.specs.World.{World}
 use Rattle.wot_cache.specs.State.{State}
 use Rattle.wot_machine.specs.Both.{Ends, ends}
-use Rattle.wot_machine.specs.Entry.{IsServed, Use, has_failed, put_for, use_of}
-use Rattle.wot_machine.specs.LineStep.{Answers, Does}
+use Rattle.wot_machine.specs.Entry.{IsServed, Use, has_failed, put_for, use_by, use_of}
+use Rattle.wot_machine.specs.LineStep.{Answers, DoesTo, Obeys}
 use Rattle.wot_machine.specs.Whole.{Whole}
 use Rattle.wot_machine.specs.Served.{Served}
 
@@ -41,18 +46,27 @@ abbrev pub Ran : PolicyRows → Option Command → Whole → Seen → Reply → 
 Ran rows command old before reply new after =
     IsBy (λ given. Answers rows old command given reply new) old.state (use_of command) before after
 
+-- what a command does, by its class
+abbrev pub RanClass : PolicyRows → Class → Whole → Seen → Reply → Whole → Seen → Type 0
+RanClass rows class old before reply new after =
+    IsBy (λ given. Obeys rows old class given reply new) old.state (use_by class) before after
+
 -- what a command does to the state alone
-abbrev pub Did : PolicyRows → Command → State → Seen → Reply → State → Seen → Type 0
+abbrev pub Did : PolicyRows → StateCommand → State → Seen → Reply → State → Seen → Type 0
 Did rows command old before reply new after =
-    IsBy (λ given. Does rows old command given reply new) old (use_of (Some command)) before after
+    IsBy (λ given. DoesTo rows old command given reply new) old (use_by (OfState command)) before after
 
 -- what a command does, by the state and the directory before and after it
-abbrev pub Acts : PolicyRows → Command → Ends State → Ends Seen → Reply → Type 0
+abbrev pub Acts : PolicyRows → StateCommand → Ends State → Ends Seen → Reply → Type 0
 Acts rows command state shelf reply = Did rows command state.old shelf.old reply state.new shelf.new
+
+-- the certificate of this entry is loaded or not
+abbrev pub LoadsBy : PolicyRows → Name → Ends State → Ends Seen → Reply → Type 0
+LoadsBy rows name state shelf reply = Acts rows (kinds.Shelf (calls.Load name)) state shelf reply
 
 -- The certificate of this fingerprint was stored or not. The state stays.
 abbrev pub StoresBy : PolicyRows → Fpr → State → Ends Seen → Reply → Type 0
-StoresBy rows fpr s shelf reply = Did rows (Store fpr) s shelf.old reply s shelf.new
+StoresBy rows fpr s shelf reply = Did rows (kinds.Shelf (calls.Store fpr)) s shelf.old reply s shelf.new
 
 -- R holds of what was seen before the reply, the reply, and what is seen after it.
 abbrev pub across : (Seen → Reply → Seen → Type 0) → Ends Seen → Reply → Type 0

@@ -4,6 +4,7 @@ use Rattle.wot_io.specs.Counts.{Rose}
 use Rattle.wot_policy.specs.declared.rows.PolicyRows.{PolicyRows}
 use Rattle.wot_script.specs.declared.command.Command.{Command}
 use Rattle.wot_script.specs.declared.reply.Reply.{Reply}
+use Rattle.wot_machine.specs.declared.class.Class.{Class}
 use Rattle.wot_machine.specs.declared.told.Told.{Told}
 use Rattle.wot_machine.specs.Both.{Ends}
 use Rattle.wot_machine.specs.Entry.{IsServed, has_failed, put_for, use_of}
@@ -12,7 +13,7 @@ use Rattle.wot_machine.specs.LineStep.{LineStep}
 use Rattle.wot_machine.specs.Machine.{Machine, Parts, kept}
 use Rattle.wot_machine.specs.Pacing.{left_by, reply_in, settled}
 use Rattle.wot_machine.specs.Whole.{Whole, watched, whole_of}
-use Rattle.wot_machine.specs.Ran.{Ran, Seen}
+use Rattle.wot_machine.specs.Ran.{Ran, RanClass, Seen}
 use Rattle.wot_machine.specs.Served.{Served}
 use Rattle.wot_machine.specs.Transcript.{listed, octets_of}
 use Rattle.wot_machine.specs.Watching.{Tells}
@@ -37,6 +38,12 @@ Replies rows line machine shelf told =
 abbrev pub Heeds : PolicyRows → Option Command → Ends Parts → Ends Seen → Told → Type 0
 Heeds rows command parts shelf told =
     Ran rows command (watched (whole_of parts.old.engine parts.old.cursors) parts.old.watches) shelf.old told.reply
+    (watched (whole_of parts.new.engine (settled told.moved parts.new.cursors)) parts.new.watches) shelf.new
+
+-- what a command does, by its class, in terms of a machine's parts
+abbrev pub HeedsClass : PolicyRows → Class → Ends Parts → Ends Seen → Told → Type 0
+HeedsClass rows class parts shelf told =
+    RanClass rows class (watched (whole_of parts.old.engine parts.old.cursors) parts.old.watches) shelf.old told.reply
     (watched (whole_of parts.new.engine (settled told.moved parts.new.cursors)) parts.new.watches) shelf.new
 
 -- The line had its step by what the directory returned, and the octets of its reply are appended. A call failed only if

@@ -4,8 +4,10 @@ use Rattle.std.specs.Prelude.{Option, Some, None, is_some}
 use Rattle.wot_types.specs.declared.fpr.Fpr.{Fpr}
 use Rattle.wot_edge.specs.declared.path.Path.{Path}
 use Rattle.wot_edge.specs.Answer.{IsAnswer, amount_of}
-use Rattle.wot_script.specs.declared.command.Command.{Command}
-use Rattle.wot_script.specs.declared.command.Command.TheVariants.{WatchOn, WatchOff}
+use Rattle.wot_machine.specs.declared.class.Class.{Class}
+use Rattle.wot_machine.specs.declared.class.Class.TheVariants.{Watch as OfWatch}
+use Rattle.wot_machine.specs.declared.class.WatchCommand.{WatchCommand}
+use Rattle.wot_machine.specs.declared.class.WatchCommand.TheVariants as commands
 use Rattle.wot_script.specs.declared.reply.Reply.{Reply}
 use Rattle.wot_script.specs.declared.reply.Reply.TheVariants as replies
 use Rattle.wot_cache.specs.declared.view.View.{View}
@@ -110,20 +112,27 @@ TakesOff s name reply watches =
 -- ---- all commands
 
 -- whether it is a command of a watch
-abbrev pub is_watching : Command → Bool
-is_watching (WatchOn name view target wanted uid) = true
-is_watching (WatchOff name) = true
+abbrev pub is_watching : Class → Bool
+is_watching (OfWatch name command) = true
 is_watching _ = false
 
--- What a command does to the watches, and the reply if it is a command of a watch. No other command changes them.
-abbrev pub Watching : Whole → Command → Reply → Watches → Type 0
-Watching s (WatchOn name view target wanted uid) reply watches =
+-- what a command of a watch does to the watches, and its reply
+abbrev pub SetsWatch : Whole → List ℕ → WatchCommand → Reply → Watches → Type 0
+SetsWatch s name (commands.On view target wanted uid) reply watches =
     Opens s name view target wanted uid (view_at s.state.views view) reply watches
-Watching s (WatchOff name) reply watches = TakesOff s name reply watches
+SetsWatch s name commands.Off reply watches = TakesOff s name reply watches
+
+-- What a command does to the watches, and the reply if it is a command of a watch. No other command changes them.
+abbrev pub Watching : Whole → Class → Reply → Watches → Type 0
+Watching s (OfWatch name command) reply watches = SetsWatch s name command reply watches
 Watching s _ reply watches = watches ≡ s.watches
 
--- what the beginning of a watch replies over an engine, and the watches after it, whatever the cursors are
+-- what a command of a watch does over an engine, whatever the cursors are
+abbrev pub SetsOver : Engine → Watches → List ℕ → WatchCommand → Reply → Watches → Type 0
+SetsOver engine old name command reply watches =
+    (cursors : Cursors) → SetsWatch (watched (whole_of engine cursors) old) name command reply watches
+
+-- what the beginning of a watch does over an engine
 abbrev pub OpensOver : Engine → Watches → List ℕ → List ℕ → Fpr → ℕ → List ℕ → Reply → Watches → Type 0
 OpensOver engine old name view target wanted uid reply watches =
-    (cursors : Cursors)
-    → Watching (watched (whole_of engine cursors) old) (WatchOn name view target wanted uid) reply watches
+    SetsOver engine old name (commands.On view target wanted uid) reply watches

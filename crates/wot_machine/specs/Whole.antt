@@ -5,8 +5,11 @@ use Rattle.wot_cache.specs.Turns.{IsOneClosing, IsOneTurn, Turns, no_turns}
 use Rattle.wot_cache.specs.Views.{Views}
 use Rattle.wot_cursor.specs.Cursors.{Cursors}
 use Rattle.wot_watch.specs.Watches.{Watches}
-use Rattle.wot_script.specs.declared.command.Command.{Command}
-use Rattle.wot_script.specs.declared.command.Command.TheVariants.{Time, Root, Close}
+use Rattle.wot_machine.specs.declared.class.Class.{Class}
+use Rattle.wot_machine.specs.declared.class.Class.TheVariants.{State as OfState}
+use Rattle.wot_machine.specs.declared.class.StateCommand.TheVariants as kinds
+use Rattle.wot_machine.specs.declared.class.ViewChange.{ViewChange}
+use Rattle.wot_machine.specs.declared.class.ViewChange.TheVariants as alterings
 
 -- the state, the count of changes, the turns of views, and cursors and watches by name
 pub record Whole : Type 0 where
@@ -46,10 +49,13 @@ pub data Turning : Type 0 where
   closing : List ℕ → Turning
   leaving : Turning
 
-abbrev pub turning_of : Command → Turning
-turning_of (Time view t) = turning view
-turning_of (Root view fpr amount) = turning view
-turning_of (Close view) = closing view
+abbrev pub turning_in : List ℕ → ViewChange → Turning
+turning_in view (alterings.Time t) = turning view
+turning_in view (alterings.Root fpr amount) = turning view
+turning_in view alterings.Close = closing view
+
+abbrev pub turning_of : Class → Turning
+turning_of (OfState (kinds.View view change)) = turning_in view change
 turning_of _ = leaving
 
 -- how it changes them, by what it did to the view
@@ -58,5 +64,5 @@ AreTurned (turning view) old before new after = IsOneTurn view old before new af
 AreTurned (closing view) old before new after = IsOneClosing view old before new after
 AreTurned leaving old before new after = after ≡ before
 
-abbrev pub IsTurnedBy : Command → Views → Turns → Views → Turns → Type 0
-IsTurnedBy command old before new after = AreTurned (turning_of command) old before new after
+abbrev pub IsTurnedBy : Class → Views → Turns → Views → Turns → Type 0
+IsTurnedBy class old before new after = AreTurned (turning_of class) old before new after

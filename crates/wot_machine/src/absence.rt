@@ -20,8 +20,8 @@ use wot_script::{
 use wot_search::Consulted;
 use wot_types::{Fpr, Memory, Steps, ViewName};
 
-/// Why the answer to a question doesn't reach what is wanted, from a view: its paths, and the least table after them.
-/// If the answer does, its sum.
+/// The reply to `absence`: why the answer to a question doesn't reach the amount `wanted`, from a view: its paths, and
+/// the least table after them. If the answer does reach it, the reply is its sum. Refused if the view isn't open.
 pub fn absence(
     alloc: Global,
     engine: &mut Engine,

@@ -18,7 +18,8 @@ use wot_edge::{Path, Step};
 use wot_script::{AnswerLine, AnswerLines, Reply};
 use wot_types::{Fpr, Memory, Steps, UserId, ViewName};
 
-/// The reply to `ask`: how confident one can be that a user ID belongs to a target, from a view.
+/// The reply to `ask`: how confident one can be that a user ID belongs to a target, from a view. `wanted` is the amount
+/// at which no further path is needed. Refused if the view isn't open.
 pub fn ask(
     alloc: Global,
     engine: &mut Engine,

@@ -15,7 +15,8 @@ use wot_explain::Bind;
 use wot_script::{BindLine, BindLines, Reply};
 use wot_types::{Memory, Steps, ViewName};
 
-/// The bindings that are authenticated to the wanted amount, from a view.
+/// The reply to `list`: the bindings that are authenticated to the amount `wanted`, from a view. Refused if the view
+/// isn't open.
 pub fn list(
     alloc: Global,
     engine: &mut Engine,

@@ -15,7 +15,8 @@ use wot_check::{Checked, Claimed, Table};
 use wot_script::{ClaimLine, ClaimLines, LabelLine, LabelLines, Reply};
 use wot_types::{Fpr, Memory, Steps, ViewName};
 
-/// Whether claimed paths and a table prove, from a view, that the amount isn't higher. Nothing is searched.
+/// The reply to `check`: whether claimed paths and a table prove, from a view, that the amount isn't higher. Nothing is
+/// searched. Refused if the view isn't open.
 pub fn check(
     alloc: Global,
     engine: &mut Engine,

@@ -10,23 +10,25 @@ ghost use Rattle.wot_machine.specs.GoesOn.{FreshMachinesGoOn};
 ghost use Rattle.wot_machine.specs.Joined.{NextsAreTold, PiecesJoin, RunsAreExchanges, StaleNumbersDiffer};
 ghost use Rattle.wot_machine.specs.Law.{HaveOneOutcome, HaveOnlyWatchLines, HaveOutcomes, HaveWatchLines};
 ghost use Rattle.wot_machine.specs.Law.{LeadToStates, RefusalsLeaveAll};
+ghost use Rattle.wot_machine.specs.Leading.{DoAbsencesRestOnLeading, DoChecksRestOnLookedAt};
 ghost use Rattle.wot_machine.specs.Slices.{DoAnswersRestOnSlices, DoExplanationsRestOnIssuers, DoRepliesRestOnSlices};
 ghost use Rattle.wot_machine.specs.Transcript.{HasOneTranscript, StayJudged, Transcript};
 ghost use Rattle.wot_machine.specs.Worth.{QuietLinesTellNothing, WatchLinesAreNews, WatchesAreTrue};
 
-use wot_auth::laws::answers_rest_on_slices;
+use wot_auth::laws::{answers_rest_on_paths, answers_rest_on_slices};
 use wot_cert::laws::judging;
 use wot_check::laws::{
-    accepted_paths_leave_nothing, check_is_one, least_table_is_one, least_tables_are_accepted,
+    accepted_paths_leave_nothing, check_is_one, checks_rest_on_what_they_name, least_table_is_one,
+    least_tables_are_accepted, tables_rest_on_what_leads,
 };
 use wot_edge::laws::answer_is_one;
 use wot_explain::laws::{explanations_rest_on_issuers, list_is_one};
 use wot_network::laws::{edges_rest_on_trust, record_is_lawful, records_agree};
 use wot_script::laws::lines_spell_commands;
 
-/// Whatever the certificate directory returns, each line has an outcome: a reply or none, and a new state. A reachable
-/// state has only one, which is reachable too, as the state before the first line is. So it is with the watch lines of
-/// a state.
+/// Whatever the certificate directory returns, each line has an outcome: a reply or none, and a new state. From a
+/// well-formed state, as the one before the first line is, there is only one, and the new state is well-formed too. The
+/// watch lines of a state exist too, and those of a well-formed state are unique.
 pub fn each_line_has_one_outcome()
     ensures some { (rows : PolicyRows) → HaveOutcomes rows }
     ensures one { (rows : PolicyRows) → HaveOneOutcome rows }
@@ -116,6 +118,37 @@ pub fn explanations_rest_on_slices()
     judging();
     reached_states_are_judged();
     each_line_has_one_outcome();
+}
+
+/// The reply to `absence` depends only on the certificates that lead to the target, and on the verdicts on their
+/// signatures: the target, every key that certified it, and with each of these every key that certified it with a depth
+/// of at least 1. Two states that agree on these and on the asking view give the same reply.
+pub fn absences_rest_on_slices()
+    ensures { (rows : PolicyRows) → DoAbsencesRestOnLeading rows }
+{
+    answers_rest_on_paths();
+    tables_rest_on_what_leads();
+    edges_rest_on_trust();
+    records_agree();
+    judging();
+    reached_states_are_judged();
+    each_line_has_one_outcome();
+}
+
+/// The reply to `check` depends only on the certificates that the check looks at, and on the verdicts on their
+/// signatures: the target, every key that certified it, the issuers on the claimed paths, each key with a label, and
+/// every key that certified one with a depth of at least 1. Two states that agree on these and on the asking view give
+/// the same reply.
+pub fn checks_rest_on_slices()
+    ensures { (rows : PolicyRows) → DoChecksRestOnLookedAt rows }
+{
+    checks_rest_on_what_they_name();
+    edges_rest_on_trust();
+    records_agree();
+    judging();
+    reached_states_are_judged();
+    each_line_has_one_outcome();
+    lines_spell_commands();
 }
 
 /// Claims of absence hold. A claim from a reply `absence missed` is accepted by `check` from the same view in the same

@@ -47,7 +47,7 @@ pub fn cert_of<'a>(engine: &'a Engine, fpr: &Fpr) -> Option<&'a Cert>
     engine.keyring().get(fpr)
 }
 
-/// The reply to `export`: the octets of a certificate.
+/// The reply to `export`: the octets of a certificate (RFC 9580, section 10.1), or that it is absent.
 pub fn export(alloc: Global, engine: &Engine, fpr: &Fpr) -> Result<Reply, Memory>
     ensures export { IfOk result (λ reply. reply ≡ (export_of (state_of engine.now) fpr.now).reply) }
 {

@@ -1,7 +1,7 @@
 //! The machine between two lines, and what one line does: it is read as a command, the command is run on the engine and
 //! the certificate directory, its reply is printed, and the watch lines are printed after it.
 //! A function for each command is in the files next to this one. `specs/Outcome.antt` and `specs/LineStep.antt` define
-//! the outcome of each command. A new command gets its arm in `run`, `obey` or `act`.
+//! the outcome of each command. A new command gets its arm with its class, in `state`, `pacing` or `watching`.
 ghost use Rattle.std.specs.Prelude.{◌≡◌, ◌≤◌, ◌<◌, ◌+◌, ◌-◌, ◌^◌, [], ◌++◌};
 ghost use Rattle.std.specs.Prelude.{length, vec_items, vec_len, vec_capacity};
 ghost use Rattle.std.specs.Prelude.{Some, None, false, true, IfOk, IfSome, IsOk, OnOk, OnErr};
@@ -12,41 +12,30 @@ ghost use Rattle.wot_policy.specs.Kept.{IsFaithful, rows_of};
 ghost use Rattle.wot_keyring.specs.Kept.{IsJudgedBy};
 ghost use Rattle.wot_keyring.specs.Import.{IsOneChange};
 ghost use Rattle.wot_script.specs.Grammar.{command_of};
-ghost use Rattle.wot_script.specs.Spelling.{HasSpelling, IsWithin};
 ghost use Rattle.wot_script.specs.Replies.{HasWords, is_short, reply_text};
 ghost use Rattle.wot_cache.specs.State.{empty, state_of, StaysButMarks};
-ghost use Rattle.wot_machine.specs.Asked.{LineAsks};
+ghost use Rattle.wot_machine.specs.Asked.{AsksBy, LineAsks};
+ghost use Rattle.wot_machine.specs.Classes.{IsFit, IsSmall};
 ghost use Rattle.wot_machine.specs.EdgeLines.{CommandMarks, LineMarks};
 ghost use Rattle.wot_machine.specs.Lines.{heard, is_silent};
-ghost use Rattle.wot_machine.specs.Entry.{MayPut, entry_for, unused, use_of};
-ghost use Rattle.wot_machine.specs.LineStep.{Does};
+ghost use Rattle.wot_machine.specs.Entry.{MayPut, entry_for, use_by, use_of};
 ghost use Rattle.wot_machine.specs.Both.{ends, itself};
-ghost use Rattle.wot_machine.specs.Ran.{Acts, over};
-ghost use Rattle.wot_machine.specs.Stepped.{Heeds, Replies, Runs, TellsBehind};
+ghost use Rattle.wot_machine.specs.Ran.{over};
+ghost use Rattle.wot_machine.specs.Stepped.{Heeds, HeedsClass, Replies, Runs, TellsBehind};
 ghost use Rattle.wot_machine.specs.Transcript.{octets_of};
 ghost use Rattle.wot_machine.specs.Machine.{kept, parts, PartsStay, StaysKept};
-ghost use Rattle.wot_machine.specs.Pacing.{is_pacing, settled};
+ghost use Rattle.wot_machine.specs.Pacing.{settled};
 ghost use Rattle.wot_machine.specs.Fresh.{IsDump, OnDump, IsMadeAnew};
 ghost use Rattle.wot_machine.specs.Made.{LineMakes, Makes, TellingMakes, WatchesMake};
 ghost use Rattle.wot_script.specs.declared.reply.Reply.TheVariants as replies;
 ghost use Rattle.wot_machine.specs.Settled.{CountsDiffer, IsNoAmount};
-ghost use Rattle.wot_machine.specs.Served.{unserved};
-ghost use Rattle.wot_machine.specs.Watching.{AreLines, IsWatchLine, is_watching, told_all};
-ghost use Rattle.wot_machine.specs.Whole.{IsTurnedBy};
+ghost use Rattle.wot_machine.specs.Watching.{AreLines, IsWatchLine, told_all};
 
-use crate::absence::absence;
-use crate::answer::ask;
-use crate::bindings::list;
-use crate::checking::check;
-use crate::commands::{clear_verdict, close, import, remove, root, set_verdict, time};
-use crate::listing::{dump, export, keys};
-use crate::load::load;
-use crate::pacing::{close as close_cursor, next, over};
-use crate::pending::pending;
-use crate::reasons::explain;
-use crate::store::store;
+use crate::class::{Class, sort};
+use crate::pacing::pace;
+use crate::state::obey;
 use crate::told::{Moved, Told, alone, plain, settle};
-use crate::watching::{are_settled, off, on, tell_all, watch_lines};
+use crate::watching::{are_settled, tell_all, watch, watch_lines};
 use std::alloc::Global;
 use std::marker::Model;
 use wot_cache::laws::{change_goes_on, rests_on, views_go_on};
@@ -54,9 +43,8 @@ use wot_cache::{Basis, Engine};
 use wot_certd::Shelf;
 use wot_cursor::Cursors;
 use wot_policy::{Ask, Policy};
-use wot_script::{Command, LineFault, Reply, print_reply, read_line};
+use wot_script::{LineFault, Reply, print_reply, read_line};
 use wot_types::{Limits, Memory, Steps};
-use wot_verdict::Verdict;
 use wot_watch::Watches;
 
 /// The most octets in a line, without its line feed.
@@ -155,7 +143,7 @@ impl Machine {
             self.old.made self.new.made }
         ensures counted { IsOneChange self.old.engine.keyring self.new.engine.keyring }
         ensures turned { self.new.engine.turns.count ≤ self.old.engine.turns.count + 1 }
-        // The policy is asked once for each valid signature that an import or a load adds, and in no other line.
+        // The policy is asked once for each well-formed signature that an import or a load adds, and in no other line.
         ensures asked { LineAsks result (heard line.now) (state_of self.old.engine) (state_of self.new.engine)
             policy.old policy.new }
         ensures judged { IsJudgedBy (rows_of policy.old) self.new.engine.keyring }
@@ -457,187 +445,62 @@ fn answer<D: Shelf, F: Fn(Ask) -> bool>(
 {
     match read_line(alloc, line) {
         Ok(command) => act(
-            alloc, engine, cursors, watches, steps, &command, shelf, policy,
+            alloc,
+            engine,
+            cursors,
+            watches,
+            steps,
+            sort(command),
+            shelf,
+            policy,
         ),
         Err(LineFault::Line) => Ok(alone(Reply::Line)),
         Err(LineFault::Memory) => Err(Memory),
     }
 }
 
-/// Runs a command, which may be one of a cursor or of a watch.
+/// Runs a command, by its class.
 fn act<D: Shelf, F: Fn(Ask) -> bool>(
     alloc: Global,
     engine: &mut Engine,
     cursors: &mut Cursors,
     watches: &mut Watches,
     steps: &mut Steps,
-    command: &Command,
+    class: Class,
     shelf: &mut D,
     policy: &mut Policy<F>,
 ) -> Result<Told, Memory>
-    requires within { IsWithin 16777216 command.now }
-    requires spelled { HasSpelling command.now }
+    requires fit { IsFit class }
+    requires small { IsSmall class }
     requires standard { engine.old.keyring.limits ≡ standard_limits }
     requires countable { engine.old.keyring.changes < 2 ^ 64 - 1 }
     requires turnable { engine.old.turns.count < 2 ^ 64 - 1 }
     requires judged { IsJudgedBy (rows_of policy.old) engine.old.keyring }
     requires faithful { IsFaithful F.Fn policy.old }
-    ensures ran { IfOk result (Heeds (rows_of policy.old) (Some command.now)
+    ensures ran { IfOk result (HeedsClass (rows_of policy.old) class
         (parts engine cursors watches) (over D.world D.faults shelf)) }
-    ensures untouched { entry_for (state_of engine.old) (use_of (Some command.now)) ≡ None → shelf.new ≡ shelf.old }
-    ensures entries { OnErr result (MayPut (state_of engine.old) (use_of (Some command.now))
+    ensures untouched { entry_for (state_of engine.old) (use_by class) ≡ None → shelf.new ≡ shelf.old }
+    ensures entries { OnErr result (MayPut (state_of engine.old) (use_by class)
         (D.world shelf.old) (D.world shelf.new)) }
     ensures later { D.faults shelf.old ≤ D.faults shelf.new }
-    ensures anew { OnOk result (OnDump command.now ((rows : PolicyRows) → IsMadeAnew rows (state_of engine.old))) }
-    ensures edges { OnOk result (CommandMarks engine.old command.now) }
+    ensures anew { OnOk result (OnDump class ((rows : PolicyRows) → IsMadeAnew rows (state_of engine.old))) }
+    ensures edges { OnOk result (CommandMarks engine.old class) }
     ensures quiet { IfOk result (λ told.
         is_short told.reply ≡ false → PartsStay (parts engine cursors watches)) }
     ensures kept { OnErr result (PartsStay (parts engine cursors watches)) }
-    ensures makes { LineMakes result (Some command.now) cursors.old engine.old engine.new
-        steps.old.made steps.new.made }
+    ensures makes { Makes result class cursors.old engine.old engine.new steps.old.made steps.new.made }
     ensures standard { engine.new.keyring.limits ≡ standard_limits }
     ensures counted { IsOneChange engine.old.keyring engine.new.keyring }
     ensures turned { engine.new.turns.count ≤ engine.old.turns.count + 1 }
     ensures still { state_of engine.new ≡ state_of engine.old → engine.new.turns ≡ engine.old.turns }
-    ensures asked { LineAsks result (Some command.now) (state_of engine.old) (state_of engine.new)
-        policy.old policy.new }
+    ensures asked { AsksBy result class (state_of engine.old) (state_of engine.new) policy.old policy.new }
     ensures judged { IsJudgedBy (rows_of policy.old) engine.new.keyring }
     ensures faithful { IsFaithful F.Fn policy.new }
     ensures rows { rows_of policy.new ≡ rows_of policy.old }
 {
-    match command {
-        Command::CursorOver(name, view, wanted) => {
-            over(alloc, engine, cursors, name, view, *wanted)
-        }
-        Command::CursorNext(name, count) => next(alloc, engine, steps, cursors, name, *count),
-        Command::CursorClose(name) => Ok(close_cursor(engine, cursors, name)),
-        Command::WatchOn(name, view, target, wanted, uid) => plain(on(
-            alloc, engine, steps, watches, name, view, target, *wanted, uid,
-        )),
-        Command::WatchOff(name) => Ok(alone(off(watches, name))),
-        _ => plain(obey(alloc, engine, steps, command, shelf, policy)),
-    }
-}
-
-/// Runs a command, which may use the certificate directory.
-fn obey<D: Shelf, F: Fn(Ask) -> bool>(
-    alloc: Global,
-    engine: &mut Engine,
-    steps: &mut Steps,
-    command: &Command,
-    shelf: &mut D,
-    policy: &mut Policy<F>,
-) -> Result<Reply, Memory>
-    requires plain { is_pacing command.now ≡ false }
-    requires unwatched { is_watching command.now ≡ false }
-    requires within { IsWithin 16777216 command.now }
-    requires spelled { HasSpelling command.now }
-    requires standard { engine.old.keyring.limits ≡ standard_limits }
-    requires countable { engine.old.keyring.changes < 2 ^ 64 - 1 }
-    requires turnable { engine.old.turns.count < 2 ^ 64 - 1 }
-    requires judged { IsJudgedBy (rows_of policy.old) engine.old.keyring }
-    requires faithful { IsFaithful F.Fn policy.old }
-    ensures did { IfOk result (Acts (rows_of policy.old) command.now
-        (ends state_of engine) (over D.world D.faults shelf)) }
-    ensures untouched { entry_for (state_of engine.old) (use_of (Some command.now)) ≡ None → shelf.new ≡ shelf.old }
-    ensures entries { OnErr result (MayPut (state_of engine.old) (use_of (Some command.now))
-        (D.world shelf.old) (D.world shelf.new)) }
-    ensures later { D.faults shelf.old ≤ D.faults shelf.new }
-    ensures anew { OnOk result (OnDump command.now ((rows : PolicyRows) → IsMadeAnew rows (state_of engine.old))) }
-    ensures edges { OnOk result (CommandMarks engine.old command.now) }
-    ensures quiet { IfOk result (λ reply. is_short reply ≡ false → StaysButMarks engine.old engine.new) }
-    ensures kept { OnErr result (StaysButMarks engine.old engine.new) }
-    ensures makes { Makes result command.now engine.old engine.new steps.old.made steps.new.made }
-    ensures standard { engine.new.keyring.limits ≡ standard_limits }
-    ensures counted { IsOneChange engine.old.keyring engine.new.keyring }
-    ensures turned { OnOk result
-        (IsTurnedBy command.now engine.old.views engine.old.turns engine.new.views engine.new.turns) }
-    ensures asked { LineAsks result (Some command.now) (state_of engine.old) (state_of engine.new)
-        policy.old policy.new }
-    ensures judged { IsJudgedBy (rows_of policy.old) engine.new.keyring }
-    ensures faithful { IsFaithful F.Fn policy.new }
-    ensures rows { rows_of policy.new ≡ rows_of policy.old }
-{
-    match command {
-        Command::Load(name) => load(engine, name, shelf, policy),
-        Command::Store(fpr) => store(alloc, engine, fpr, shelf),
-        _ => run(alloc, engine, steps, command, policy),
-    }
-}
-
-/// Runs a command that doesn't use the certificate directory.
-fn run<F: Fn(Ask) -> bool>(
-    alloc: Global,
-    engine: &mut Engine,
-    steps: &mut Steps,
-    command: &Command,
-    policy: &mut Policy<F>,
-) -> Result<Reply, Memory>
-    requires alone { use_of (Some command.now) ≡ unused }
-    requires plain { is_pacing command.now ≡ false }
-    requires unwatched { is_watching command.now ≡ false }
-    requires within { IsWithin 16777216 command.now }
-    requires spelled { HasSpelling command.now }
-    requires standard { engine.old.keyring.limits ≡ standard_limits }
-    requires countable { engine.old.keyring.changes < 2 ^ 64 - 1 }
-    requires turnable { engine.old.turns.count < 2 ^ 64 - 1 }
-    requires judged { IsJudgedBy (rows_of policy.old) engine.old.keyring }
-    requires faithful { IsFaithful F.Fn policy.old }
-    ensures does { IfOk result (λ told.
-        Does (rows_of policy.old) (state_of engine.old) command.now unserved told (state_of engine.new)) }
-    ensures anew { OnOk result (OnDump command.now ((rows : PolicyRows) → IsMadeAnew rows (state_of engine.old))) }
-    ensures edges { OnOk result (CommandMarks engine.old command.now) }
-    ensures quiet { IfOk result (λ reply. is_short reply ≡ false → StaysButMarks engine.old engine.new) }
-    ensures kept { OnErr result (StaysButMarks engine.old engine.new) }
-    ensures makes { Makes result command.now engine.old engine.new steps.old.made steps.new.made }
-    ensures standard { engine.new.keyring.limits ≡ standard_limits }
-    ensures counted { IsOneChange engine.old.keyring engine.new.keyring }
-    ensures turned { OnOk result
-        (IsTurnedBy command.now engine.old.views engine.old.turns engine.new.views engine.new.turns) }
-    ensures asked { LineAsks result (Some command.now) (state_of engine.old) (state_of engine.new)
-        policy.old policy.new }
-    ensures judged { IsJudgedBy (rows_of policy.old) engine.new.keyring }
-    ensures faithful { IsFaithful F.Fn policy.new }
-    ensures rows { rows_of policy.new ≡ rows_of policy.old }
-{
-    match command {
-        Command::Import(octets) => import(engine, octets.items(), policy),
-        Command::Load(_) | Command::Store(_) => unreachable!(),
-        Command::Remove(fpr) => Ok(remove(engine, fpr)),
-        Command::Good(number, fpr) => set_verdict(engine, *number, Verdict::Good(*fpr)),
-        Command::Bad(number) => set_verdict(engine, *number, Verdict::Bad),
-        Command::Unjudge(number) => Ok(clear_verdict(engine, number)),
-        Command::Time(view, t) => time(engine, view, *t),
-        Command::Root(view, fpr, amount) => root(engine, view, fpr, *amount),
-        Command::Close(view) => Ok(close(engine, view)),
-        Command::Ask(view, target, wanted, uid) => {
-            ask(alloc, engine, steps, view, target, *wanted, uid.octets())
-        }
-        Command::List(view, wanted) => list(alloc, engine, steps, view, *wanted),
-        Command::Explain(view, fpr, uid) => {
-            explain(alloc, engine, steps, view, fpr, uid.octets())
-        }
-        Command::Absence(view, target, wanted, uid) => {
-            absence(alloc, engine, steps, view, target, *wanted, uid.octets())
-        }
-        Command::Check(view, target, claims, labels, uid) => check(
-            alloc,
-            engine,
-            steps,
-            view,
-            target,
-            claims,
-            labels,
-            uid.octets(),
-        ),
-        Command::Pending => pending(alloc, engine),
-        Command::Keys => keys(alloc, engine),
-        Command::Export(fpr) => export(alloc, engine, fpr),
-        Command::Dump => dump(alloc, engine),
-        Command::CursorOver(_, _, _)
-        | Command::CursorNext(_, _)
-        | Command::CursorClose(_)
-        | Command::WatchOn(_, _, _, _, _)
-        | Command::WatchOff(_) => unreachable!(),
+    match class {
+        Class::State(command) => plain(obey(alloc, engine, steps, &command, shelf, policy)),
+        Class::Cursor(name, command) => pace(alloc, engine, steps, cursors, &name, &command),
+        Class::Watch(name, command) => plain(watch(alloc, engine, steps, watches, &name, &command)),
     }
 }

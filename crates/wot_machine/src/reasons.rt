@@ -18,8 +18,8 @@ use wot_explain::Reason;
 use wot_script::{ReasonLine, ReasonLines, Reply};
 use wot_types::{Fpr, Memory, Steps, ViewName};
 
-/// Why a certificate is or isn't usable for a user ID, and why each certification on it counts or doesn't, at the time
-/// of a view.
+/// The reply to `explain`: why a certificate is or isn't usable for a user ID, and why each certification on it counts
+/// or doesn't, at the time of a view. Refused if the view isn't open, and absent if the certificate or the user ID is.
 pub fn explain(
     alloc: Global,
     engine: &mut Engine,

@@ -35,8 +35,9 @@ pub enum Unwritten {
     Memory,
 }
 
-/// Writes a certificate, merged with its entry of the certificate directory, in place of the entry. What is held
-/// doesn't change, and the policy isn't asked.
+/// The reply to `store`: writes a certificate, merged with its entry of the certificate directory, in place of the
+/// entry, or replies that it is absent. What is held doesn't change, and the policy isn't asked. After `Memory` the
+/// entry may have been written.
 pub fn store<D: Shelf>(
     alloc: Global,
     engine: &Engine,

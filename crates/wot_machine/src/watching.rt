@@ -2,18 +2,20 @@
 //! depends on may have changed: `wot_cache`'s `Basis` says so. Watches are kept by wot_watch.
 ghost use Rattle.std.specs.Prelude.{◌≡◌, ◌≤◌, [], None, true, IfOk, IfSome, OnErr};
 ghost use Rattle.std.specs.List.{AllByRecursion};
-ghost use Rattle.wot_script.specs.declared.command.Command.TheVariants.{WatchOff};
 ghost use Rattle.wot_script.specs.Replies.{is_short};
 ghost use Rattle.wot_cache.specs.Basis.{HasGrown, IsPresent, RestsOn};
 ghost use Rattle.wot_cache.specs.Marks.{IsRefreshed};
 ghost use Rattle.wot_cache.specs.State.{StaysButMarks, state_of};
 ghost use Rattle.wot_cache.specs.Views.{view_at};
-ghost use Rattle.wot_machine.specs.Made.{WatchMakes, WatchesMake};
+ghost use Rattle.wot_machine.specs.declared.class.WatchCommand.TheVariants as commands;
+ghost use Rattle.wot_machine.specs.Classes.{IsWatched};
+ghost use Rattle.wot_machine.specs.Made.{WatchMakes, WatchMakesMarks, WatchesMake};
 ghost use Rattle.wot_machine.specs.Settled.{AllSettled, AreOpen, AreSettled, IsSettled};
 ghost use Rattle.wot_machine.specs.Watching.{AreLines, BeginsWatch, HasAmount, IsLine, IsWatchLine};
-ghost use Rattle.wot_machine.specs.Watching.{OpensOver, Watching, told_all, told_by};
+ghost use Rattle.wot_machine.specs.Watching.{OpensOver, SetsOver, SetsWatch, told_all, told_by};
 ghost use Rattle.wot_machine.specs.Whole.{Whole, watched};
 
+use crate::class::WatchCommand;
 use crate::refusal::{Refused, reply_to};
 use std::alloc::Global;
 use wot_cache::laws::{kept_on_is_order, rests_on};
@@ -22,7 +24,33 @@ use wot_script::Reply;
 use wot_types::{Fpr, Memory, Steps, UserId, ViewName};
 use wot_watch::{Watch, Watches};
 
-/// `watch W on V FPR N UID`.
+/// Runs a command about the watch of this name. After `Memory` the watches are unchanged.
+pub fn watch(
+    alloc: Global,
+    engine: &mut Engine,
+    steps: &mut Steps,
+    watches: &mut Watches,
+    name: &ViewName,
+    command: &WatchCommand,
+) -> Result<Reply, Memory>
+    requires wanted { IsWatched command.now }
+    ensures sets { IfOk result (λ reply.
+        SetsOver engine.old watches.old name.now command.now reply watches.new) }
+    ensures stays { StaysButMarks engine.old engine.new }
+    ensures makes { WatchMakesMarks result command.now engine.old engine.new steps.old.made steps.new.made }
+    ensures short { IfOk result (λ reply. is_short reply ≡ true) }
+    ensures kept { OnErr result (watches.new ≡ watches.old) }
+{
+    match command {
+        WatchCommand::On(view, target, wanted, uid) => on(
+            alloc, engine, steps, watches, name, view, target, *wanted, uid,
+        ),
+        WatchCommand::Off => Ok(off(watches, name)),
+    }
+}
+
+/// `watch W on V FPR N UID`: begins or restarts a watch, with its current amount as the reply. Refused if the view
+/// isn't open, or if the number of watches is at its limit. After `Memory` the watches are unchanged.
 pub fn on(
     alloc: Global,
     engine: &mut Engine,
@@ -74,9 +102,9 @@ fn begin(
     }
 }
 
-/// `watch W off`. Takes no memory.
+/// `watch W off`: removes a watch, or replies that there is none of this name. Takes no memory.
 pub fn off(watches: &mut Watches, name: &ViewName) -> Reply
-    ensures watching { (s : Whole) → Watching (watched s watches.old) (WatchOff name.now) result watches.new }
+    ensures watching { (s : Whole) → SetsWatch (watched s watches.old) name.now commands.Off result watches.new }
     ensures short { is_short result ≡ true }
 {
     if watches.get(name).is_none() {

@@ -1,4 +1,4 @@
-//! The numbers of a table of reach while they are put in.
+//! The numbers of a table of reach while they are inserted.
 //!
 //! It stands on std's map. `checking` fills it, and takes the map once all numbers are there.
 ghost use Rattle.std.specs.Prelude.{◌≡◌, [], OnOk};

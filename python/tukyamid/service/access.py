@@ -26,6 +26,11 @@ class Access:
     def tell(self, text: str) -> None:
         print(f"tukyamid-server: {text}", file=sys.stderr, flush=True)
 
+    @property
+    def notes(self) -> bool:
+        """Whether the order of lines is written down."""
+        return self._order is not None
+
     def note(self, session: int, line: bytes) -> None:
         """Writes down the order of lines, for those who check it."""
         if self._order is not None:

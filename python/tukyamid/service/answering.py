@@ -197,7 +197,7 @@ async def asked(session: Session, line: bytes, is_change: bool, noted: bytes | N
 
     def begun() -> None:
         if noted is not None:
-            session.hub.note(session.number, noted)
+            (session.hub.note_change if is_change else session.hub.note)(session.number, noted)
 
     if is_change:
         session.hub.change(line, session.actor, done, begun)

@@ -8,7 +8,6 @@ from pathlib import Path
 
 from .database import Actor, Database, DatabaseFault
 from .dumps import restore
-from .parts import MOST
 from .places import Lock, beside, default_database
 from .sqlite import Sqlite
 
@@ -42,9 +41,6 @@ class Chosen:
             wrong = source.check()
             if wrong:
                 raise DatabaseFault(f"{copy}: {wrong[0]}")
-            with contextlib.closing(source.parts()) as parts:
-                if not parts.sizes(MOST.certificates).fits(MOST):
-                    raise DatabaseFault(f"{copy}: the keyring is larger than an engine, and so than a shared database")
             with contextlib.closing(source.snapshot()) as snapshot, self.open() as database:
                 database.fill(snapshot.lines(), f"restore {copy}", Actor(os.getuid(), os.getpid()))
         return None

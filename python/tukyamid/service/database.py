@@ -202,6 +202,9 @@ class Place:
     mark: bytes
 
 
+UNREAD = Place(-1, b"")  # Where a service stands that has read nothing yet.
+
+
 @dataclass(frozen=True)
 class News:
     """What other services have committed since this one last looked: the lines of their changes in order, each with
@@ -229,9 +232,7 @@ class Shared(Database, Protocol):
     """A database that other services change too. It remembers how far this service has read, and `apply` is called
     within a turn only."""
 
-    @property
-    def place(self) -> Place:
-        """Behind the last change that this service has read, or made itself."""
+    place: Place  # Behind the last change that this service has read, or made itself.
 
     def take_turn(self) -> News:
         """Waits, up to a bound, until no other service may change anything; what they have changed is to be applied

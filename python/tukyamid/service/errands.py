@@ -10,20 +10,22 @@ from typing import TypeVar
 from .asking import Asker
 from .journal import Done
 from .loading import Loader
-from .parts import HasParts, Parts
+from .parts import Parts
 
 _AT_ONCE = 2
 _R = TypeVar("_R")
 Work = Callable[[Asker], Awaitable[bytes]]
+# Has the database read as it is now, whatever is committed later.
+Freeze = Callable[[], Awaitable[Parts]]
 # Does work with tries and faults, and hands its reply on.
 Answer = Callable[[Callable[[], Awaitable[bytes]], Done], Awaitable[None]]
 
 
 class Errands:
-    def __init__(self, program: Sequence[str], budget: int, database: HasParts, answer: Answer) -> None:
+    def __init__(self, program: Sequence[str], budget: int, freeze: Freeze, answer: Answer) -> None:
         self._program = program
         self._budget = budget
-        self._database = database
+        self._freeze = freeze
         self._answer = answer
         self._loaders: set[Loader] = set()
         self._tasks: set[asyncio.Task[None]] = set()
@@ -35,7 +37,7 @@ class Errands:
 
     async def begin(self, work: Work, done: Done) -> None:
         """Comes back when the database is held as it is now."""
-        parts = await asyncio.to_thread(self._database.parts, True)
+        parts = await self._freeze()
         task = asyncio.get_running_loop().create_task(self._do(work, parts, done))
         self._tasks.add(task)
         task.add_done_callback(self._tasks.discard)

@@ -8,23 +8,23 @@ from functools import partial
 
 from .access import Access
 from .committing import FAULT, Barrier, Committer
-from .database import Actor, Database, News, Shared, Snapshot
+from .database import Actor, Database, Snapshot
 from .engine import Engine
 from .importing import exported_as
 from .journal import Change, Done, Journal, Point
 from .reading import brought
 from .seats import Seats
-from .sending import ignore
-from .turns import Begun, Turns, Waiting
+from .turns import Begun
 
 _BUSY_SECONDS = 0.05
 _RENEWING_SECONDS = 1.0
-_COPIED = 16  # A snapshot of a shared database is a copy, so it is renewed less often.
 
 
 class Hub:
     """Sends every change to all engines in one order, and a question to one of them. Nothing here waits: a line's place
-    in the order is the moment at which it is handed in."""
+    in the order is the moment at which it is handed in. `SharedHub` is one over a database that others change too."""
+
+    _renewing_cost = 1  # How much dearer a newer snapshot is than opening one.
 
     def __init__(self, program: Sequence[str], most_engines: int, database: Database,
                  access: Access | None = None) -> None:
@@ -36,7 +36,6 @@ class Hub:
         self._most_engines = most_engines
         self._committer = Committer(database, self.access.writing, self._release, self._roll_back)
         self._journal: Journal | None = None
-        self._turns: Turns | None = None
         self._is_renewing = False
 
     @property
@@ -50,35 +49,39 @@ class Hub:
         return self._committer.count
 
     @property
-    def age(self) -> float:
-        """For how many seconds changes of other services may have been missed."""
-        return self._turns.age if self._turns is not None else 0.0
-
-    @property
     def pids(self) -> list[int]:
         return [engine.pid for engine in self.engines if engine.pid is not None]
 
     async def start(self) -> None:
-        """Starts the first engine, and waits until it has taken the database; OSError, ValueError or DatabaseFault
-        where it can't."""
+        """Starts the first engine, and waits until it has taken the whole database; the errors are those of `begin`."""
+        await self.begin()
+        await self.load()
+
+    async def begin(self) -> None:
+        """Starts the first engine, and waits until it takes the database; OSError, ValueError or DatabaseFault where it
+        can't."""
         snapshot = await self.access.write(self.access.database.snapshot)
         self._committer.count = snapshot.change
         self._journal = Journal(snapshot)
-        await self._start_engine().ready
-        if isinstance(self.access.database, Shared):
-            self._turns = Turns(self.access.database, self.access.writing, self._committer, self)
+        await self._start_engine().has_begun
+
+    async def load(self) -> None:
+        """Waits until the first engine has taken all of the database; the errors are those of `begin`."""
+        await asyncio.shield(self.engines[0].ready)
 
     async def close(self) -> None:
         """Ends the engines. What was handed in is answered first, and so is committed."""
         await asyncio.gather(*(engine.close() for engine in self.engines))
         while self._committer.is_busy:
             await asyncio.sleep(0.01)
-        if self._turns is not None:
-            await self._turns.close()
+        await self._end_turns()
         if self._journal is not None:
             self._journal.close()
         if self._owns_access:
             self.access.close()
+
+    async def _end_turns(self) -> None:
+        """Ends the turns, where changes are made in turns."""
 
     async def settle(self) -> None:
         """Comes back when all that was handed in is answered, and committed."""
@@ -91,9 +94,6 @@ class Hub:
     def change(self, line: bytes, actor: Actor, done: Done, begun: Begun = lambda: None) -> None:
         """Has a change made; `done` gets its reply once all engines have answered and it is committed. `begun` is
         called when it is sent to them: at once, unless it waits for its turn at a shared database."""
-        if self._turns is not None:
-            self._turns.change(Waiting(line, actor, done, begun))
-            return
         begun()
         if self._committer.refuses():
             done(FAULT, self.count)
@@ -117,30 +117,8 @@ class Hub:
     def snapshot(self, done: Callable[[Snapshot | None], None], begun: Begun = lambda: None) -> None:
         """Asks for a snapshot of the keyring behind the changes so far; of a shared database, also behind later ones.
         `begun` is called when its place among them is known."""
-        if self._turns is not None:
-            self._turns.snapshot(Barrier(done, begun=begun))
-        else:
-            begun()
-            self._committer.add(Barrier(done))
-
-    def take_news(self, news: News) -> None:
-        """Has all engines take what other services have changed. Nothing is under way in them that isn't committed."""
-        assert self._journal is not None
-        if news.lines is None:
-            assert news.snapshot is not None
-            self._committer.count = news.snapshot.change
-            point = self._journal.begin_anew(news.snapshot)
-            for engine in self.engines:
-                engine.roll_back(point)
-            return
-        for number, line in news.lines:
-            self.access.note(0, line)
-            change = self._journal.add_committed(line, set(self.engines), number, ignore)
-            self._committer.count = number
-            for engine in self.engines:
-                engine.send(line, ignore, change)
-        if news.lines:
-            self._release()
+        begun()
+        self._committer.add(Barrier(done))
 
     def withdraw_where_all_are_stuck(self, change: Change) -> None:
         """A change that ends every program, and that none has answered, is withdrawn from all."""
@@ -176,7 +154,7 @@ class Hub:
         if change.reply is None:
             change.reply = reply
         elif change.reply != reply:
-            self.tell(f"engines answered one line with {change.reply[:80]!r} and {(reply or b'')[:80]!r}")
+            self.tell(f"engines gave different replies to one line: {change.reply[:80]!r} and {(reply or b'')[:80]!r}")
         if not change.left:
             if change.reply is not None and not change.reply.startswith(b"ok"):
                 self._journal.forget(change)
@@ -195,17 +173,14 @@ class Hub:
         for engine in self.engines:
             engine.release()
         self._settle()
-        if self._journal.is_long(_COPIED if self._turns is not None else 1) and not self._is_renewing:
+        if self._journal.is_long(self._renewing_cost) and not self._is_renewing:
             self._renew()
 
     def _renew(self) -> None:
         """Has a newer snapshot made behind the changes so far. By then all engines have answered these."""
         assert self._journal is not None
         self._is_renewing = True
-        if self._turns is not None:
-            self._turns.snapshot(Barrier(partial(self._renewed, None)))
-        else:
-            self._committer.add(Barrier(partial(self._renewed, self._journal.last), self._journal.lend))
+        self._committer.add(Barrier(partial(self._renewed, self._journal.last), self._journal.lend))
 
     def _settle(self) -> None:
         assert self._journal is not None
@@ -225,7 +200,7 @@ class Hub:
     def _roll_back(self, failed: list[Change], why: str) -> None:
         """These changes couldn't be committed: all engines go back to where they stood before them."""
         assert self._journal is not None
-        self.tell(f"{len(failed)} changes were refused, since they can't be kept: {why}")
+        self.tell(f"{len(failed)} changes were refused, because they can't be stored: {why}")
         for change in failed:
             self._journal.forget(change)
         for engine in self.engines:

@@ -56,17 +56,29 @@ class Lane:
         await turn()
 
     def _next_changes(self) -> Iterator[Change]:
-        """The changes at the beginning. One that brings what another drops begins others: it has to meet it dropped."""
-        gone: set[bytes] = set()
-        count = octets = certificates = 0
-        while self._queue and isinstance(change := self._queue[0], Change):
-            octets += len(change.line or b"")
-            certificates += len(change.fprs)
-            is_much = count >= _MOST_CHANGES or octets > _MOST_OCTETS or certificates > _MOST_CERTIFICATES
-            if count and is_much or not gone.isdisjoint(change.fprs):
-                return
-            count += 1
-            if (fpr := dropped(change)) is not None:
-                gone.add(fpr)
+        """The changes at the beginning that can be made together."""
+        group = Group()
+        while self._queue and isinstance(change := self._queue[0], Change) and group.takes(change):
             yield change
             self._queue.popleft()
+
+
+class Group:
+    """Changes that are made together, up to a bound. One that brings what another drops begins others: it has to meet
+    it dropped."""
+
+    def __init__(self) -> None:
+        self._gone: set[bytes] = set()
+        self._count = self._octets = self._certificates = 0
+
+    def takes(self, change: Change) -> bool:
+        """Whether it takes a change behind those that it has."""
+        self._octets += len(change.line or b"")
+        self._certificates += len(change.fprs)
+        is_much = self._count >= _MOST_CHANGES or self._octets > _MOST_OCTETS or self._certificates > _MOST_CERTIFICATES
+        if self._count and is_much or not self._gone.isdisjoint(change.fprs):
+            return False
+        self._count += 1
+        if (fpr := dropped(change)) is not None:
+            self._gone.add(fpr)
+        return True

@@ -8,9 +8,8 @@ from pathlib import Path
 
 from .database import Actor, Binding, DatabaseFault, Figures, LogEntry, Source, with_part
 
-_BINDINGS = "SELECT fingerprint, user_id FROM user_ids JOIN certificates ON certificates.id = user_ids.certificate"
+_BINDINGS = "SELECT fingerprint, user_id FROM user_ids JOIN keys ON keys.id = certificate"
 _KILOBYTES_OF_A_SNAPSHOT = 128
-_VERDICTS = "FROM verdicts WHERE issuer IS NOT NULL"
 
 
 class SqliteSnapshot:
@@ -34,17 +33,18 @@ class SqliteSnapshot:
         self.change = self._begin()
 
     def count(self) -> int:
-        certificates = self._connection.execute("SELECT count(*) FROM certificates").fetchone()[0]
-        return int(certificates) + int(self._connection.execute(f"SELECT count(*) {_VERDICTS}").fetchone()[0])
+        return int(self._connection.execute("SELECT certificates + verdicts FROM counts").fetchone()[0])
 
     def lines(self) -> Iterator[bytes]:
         for octets in self.certificates():
             yield b"import " + hexlify(octets)
-        for number, issuer in self._connection.execute(f"SELECT number, issuer {_VERDICTS} ORDER BY number"):
+        for number, issuer in self._connection.execute(
+                "SELECT number, fingerprint FROM verdicts JOIN keys ON keys.id = issuer "
+                "ORDER BY substr(number, 1, 8), number"):  # As the index has them.
             yield b"verdict %s " % hexlify(number) + (b"good " + hexlify(issuer) if issuer else b"bad")
 
     def certificates(self) -> Iterator[bytes]:
-        for (octets,) in self._connection.execute("SELECT octets FROM certificates ORDER BY fingerprint"):
+        for (octets,) in self._connection.execute("SELECT octets FROM certificates JOIN keys USING (id) ORDER BY fingerprint"):
             yield octets
 
     def close(self) -> None:
@@ -71,9 +71,8 @@ class SqliteFinder:
 
     def figures(self) -> Figures:
         (row,) = self._rows(
-            "SELECT (SELECT count(*) FROM certificates), (SELECT count(*) FROM user_ids), "
-            f"(SELECT count(*) {_VERDICTS}), (SELECT coalesce(max(number), 0) FROM changes), "
-            "(SELECT page_count * page_size FROM pragma_page_count, pragma_page_size)")
+            "SELECT certificates, user_ids, verdicts, (SELECT coalesce(max(number), 0) FROM changes), "
+            "(SELECT page_count * page_size FROM pragma_page_count, pragma_page_size) FROM counts")
         return Figures(*map(_number, row))
 
     def by_address(self, address: str) -> list[Binding]:
@@ -90,14 +89,15 @@ class SqliteFinder:
             raise DatabaseFault(f"{self._path}: {error}") from None
 
     def by_key(self, key: bytes) -> list[Binding]:
-        return self._bindings("key_id = ?" if len(key) == 8 else "fingerprint = ?", key)
+        return self._bindings("certificate IN (SELECT id FROM certificates WHERE key_id = ?)" if len(key) == 8
+                              else "fingerprint = ?", key)
 
     def issuers(self, fpr: bytes) -> list[tuple[bytes, bytes]] | None:
-        place = self._rows("SELECT id FROM certificates WHERE fingerprint = ?", fpr)
+        place = self._rows("SELECT id FROM certificates JOIN keys USING (id) WHERE fingerprint = ?", fpr)
         if not place:
             return None
-        rows = self._rows("SELECT number, issuer FROM verdicts WHERE certificate = ? AND length(issuer) > 0 "
-                          "ORDER BY number", *place[0])
+        rows = self._rows("SELECT number, fingerprint FROM verdicts JOIN keys ON keys.id = issuer "
+                          "WHERE certificate = ? AND issuer > 0 ORDER BY number", *place[0])
         return [(_octets(number), _octets(issuer)) for number, issuer in rows]
 
     def log(self, count: int) -> list[LogEntry]:

@@ -1,9 +1,11 @@
 """What the service reads of a keyring that is larger than an engine: the certificates that a question rests on, and
-who certified whom. `sqlite_parts` reads it in the SQLite database."""
+who certified whom. `sqlite_parts` reads it in the SQLite database, and `postgres.parts` in a shared one."""
 
 from collections.abc import Collection, Iterator
 from dataclasses import dataclass
 from typing import Protocol, runtime_checkable
+
+from .database import UNREAD, Place, Shared, Snapshot
 
 
 @dataclass(frozen=True)
@@ -35,8 +37,7 @@ class Parts(Protocol):
     """Reads what has been committed, or what was when it was opened. One thread uses it at a time. Who certified whom
     looks at good verdicts and depths alone: times, policy and revocations are the engine's matter."""
 
-    def sizes(self, most: int) -> Sizes:
-        """With more than `most` certificates, only these are counted, and only up to one more."""
+    def sizes(self) -> Sizes: ...
 
     def count(self) -> int:
         """How many certificates there are."""
@@ -80,6 +81,9 @@ class Parts(Protocol):
     def keys(self) -> Iterator[tuple[bytes, int, int]]:
         """Each certificate's fingerprint, with how many user IDs and how many signatures it has."""
 
+    def frozen(self) -> "Parts":
+        """Reads what this one reads now, whatever is committed later."""
+
     def close(self) -> None: ...
 
 
@@ -87,5 +91,26 @@ class Parts(Protocol):
 class HasParts(Protocol):
     """A database that can be read in parts."""
 
-    def parts(self, is_frozen: bool = False) -> Parts:
-        """What has been committed by the time of each call; or, frozen, what is committed now."""
+    def parts(self) -> Parts:
+        """What has been committed by the time of each call."""
+
+
+@runtime_checkable
+class SharedParts(Parts, Protocol):
+    """Parts of a database that other services change too: all that is read is what was committed at one moment."""
+
+    def renew(self, place: Place = UNREAD) -> tuple[Place, tuple[tuple[int, bytes], ...] | None]:
+        """Reads what is committed now from now on. Gives its place, and the numbers and lines of the changes that lead
+        there from `place`; None if they can't be listed."""
+
+    def snapshot(self) -> Snapshot:
+        """A copy of all of it."""
+
+
+@runtime_checkable
+class SharedInParts(Shared, HasParts, Protocol):
+    """A shared database that can be read in parts."""
+
+    def lock(self) -> None:
+        """Waits, up to a bound, until no other service may change anything. This turn too ends with `apply`, or with
+        `end_turn`; what others have changed is read by renewing parts."""

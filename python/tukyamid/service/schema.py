@@ -1,11 +1,14 @@
 """The tables of the SQLite database, and how a database of an earlier version becomes one of this version."""
 
+import contextlib
 import sqlite3
 
 from .database import DatabaseFault
 
 APPLICATION_ID = 0x54756B79  # "Tuky", so that `file` and the service know it from other databases.
-VERSION = 2
+VERSION = 3
+# Most certificates are shorter than two thousand octets, and few of them share a smaller page without waste.
+PAGE_OCTETS = 8192
 
 _FIRST = """
 CREATE TABLE certificates (
@@ -69,8 +72,81 @@ CREATE INDEX trust_by_target ON certifications (target, issuer) WHERE depth > 0;
 CREATE INDEX unjudged_by_certificate ON verdicts (certificate) WHERE issuer IS NULL;
 """
 
+# A third of the room: keys are numbered, and each fingerprint is kept once. The key of number 0 is nobody's, and has no
+# octets: it is the issuer of a signature that is bad. Who certified whom is read off the verdicts. A signature is found
+# by the first octets of its number. What there is of everything is counted with each change.
+_THIRD = """
+CREATE TABLE keys (
+    id INTEGER PRIMARY KEY,
+    fingerprint BLOB NOT NULL UNIQUE
+) STRICT;
+INSERT INTO keys SELECT id, fingerprint FROM certificates;
+INSERT INTO keys VALUES (0, x'');
+INSERT INTO keys (fingerprint) SELECT DISTINCT issuer FROM verdicts WHERE length(issuer) > 0
+    AND issuer NOT IN (SELECT fingerprint FROM certificates);
+
+CREATE TABLE new_certificates (
+    id INTEGER PRIMARY KEY REFERENCES keys,
+    key_id BLOB NOT NULL,
+    octets BLOB NOT NULL,
+    change INTEGER NOT NULL
+) STRICT;
+INSERT INTO new_certificates SELECT id, key_id, octets, change FROM certificates;
+
+CREATE TABLE new_user_ids (
+    certificate INTEGER NOT NULL REFERENCES new_certificates ON DELETE CASCADE,
+    user_id BLOB NOT NULL,
+    address TEXT,
+    PRIMARY KEY (certificate, user_id)
+) STRICT, WITHOUT ROWID;
+INSERT INTO new_user_ids SELECT certificate, user_id, address FROM user_ids;
+
+-- The issuer is NULL where nobody has judged, and 0 where the signature is nobody's.
+CREATE TABLE new_verdicts (
+    number BLOB NOT NULL,
+    certificate INTEGER REFERENCES new_certificates,
+    depth INTEGER NOT NULL DEFAULT 0,
+    issuer INTEGER REFERENCES keys
+) STRICT;
+INSERT INTO new_verdicts SELECT number, certificate, depth, keys.id
+    FROM verdicts LEFT JOIN keys ON keys.fingerprint = verdicts.issuer ORDER BY certificate, number;
+
+DROP TABLE certifications;
+DROP TABLE verdicts;
+DROP TABLE user_ids;
+DROP TABLE certificates;
+ALTER TABLE new_certificates RENAME TO certificates;
+ALTER TABLE new_user_ids RENAME TO user_ids;
+ALTER TABLE new_verdicts RENAME TO verdicts;
+CREATE INDEX certificates_by_key_id ON certificates (key_id);
+CREATE INDEX user_ids_by_address ON user_ids (address) WHERE address IS NOT NULL;
+CREATE INDEX user_ids_by_user_id ON user_ids (user_id);
+CREATE INDEX verdicts_by_number ON verdicts (substr(number, 1, 8));
+CREATE INDEX verdicts_by_certificate ON verdicts (certificate) WHERE certificate IS NOT NULL;
+CREATE INDEX verdicts_by_issuer ON verdicts (issuer, certificate) WHERE issuer > 0;
+CREATE INDEX trust_by_issuer ON verdicts (issuer, certificate) WHERE issuer > 0 AND depth > 0;
+CREATE INDEX trust_by_target ON verdicts (certificate, issuer) WHERE issuer > 0 AND depth > 0;
+CREATE INDEX unjudged_by_certificate ON verdicts (certificate) WHERE certificate IS NOT NULL AND issuer IS NULL;
+
+CREATE TABLE counts (
+    certificates INTEGER NOT NULL,
+    octets INTEGER NOT NULL,
+    user_ids INTEGER NOT NULL,
+    signatures INTEGER NOT NULL,
+    verdicts INTEGER NOT NULL,
+    pending INTEGER NOT NULL
+) STRICT;
+INSERT INTO counts SELECT (SELECT count(*) FROM certificates),
+    (SELECT coalesce(sum(length(octets)), 0) FROM certificates),
+    (SELECT count(*) FROM user_ids),
+    (SELECT count(*) FROM verdicts WHERE certificate IS NOT NULL),
+    (SELECT count(*) FROM verdicts WHERE issuer IS NOT NULL),
+    (SELECT count(*) FROM verdicts WHERE certificate IS NOT NULL AND issuer IS NULL);
+"""
+
 # What brings a database from each version to the next; version 0 is an empty file.
-MIGRATIONS = (_FIRST, _SECOND)
+MIGRATIONS = (_FIRST, _SECOND, _THIRD)
+_SMALLER = 3  # From the version before this one on, a file has room that nothing needs.
 
 
 def version_of(connection: sqlite3.Connection) -> int:
@@ -88,6 +164,11 @@ def prepare(connection: sqlite3.Connection, path: str) -> None:
     if version > VERSION:
         raise DatabaseFault(f"{path} has version {version}, and this program reads versions up to {VERSION}; "
                             "it was made by a later Tukyamid")
+    connection.execute(f"PRAGMA page_size = {PAGE_OCTETS}")  # Of a new file, or one that is written anew.
     for number in range(version, VERSION):
         connection.executescript(f"BEGIN IMMEDIATE; {MIGRATIONS[number]} PRAGMA user_version = {number + 1}; "
                                  f"PRAGMA application_id = {APPLICATION_ID}; COMMIT;")
+    if not is_empty and version < _SMALLER:
+        with contextlib.suppress(sqlite3.OperationalError):  # With no room for a copy, it stays as large as it is.
+            connection.execute("PRAGMA journal_mode = DELETE")
+            connection.execute("VACUUM")

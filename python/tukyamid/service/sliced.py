@@ -25,6 +25,7 @@ from .parts import HasParts, Parts
 from .reading import brought
 from .sliced_watches import Watched
 from .talking import EngineGone
+from .turns import Begun
 from .views import Value
 
 _R = TypeVar("_R")
@@ -45,7 +46,7 @@ class Sliced:
         self._parts: Parts | None = None
         self._asker = Asker(Loader(program, budget), self.read)
         self._merging = Merging(program, budget)
-        self._errands = Errands(program, budget, database, self.answer)
+        self._errands = Errands(program, budget, self._freeze, self.answer)
         self._committer = Committer(access.database, access.writing, self._settle, self._refused)
         self._making: list[Change] = []
         self._over = asyncio.Event()
@@ -87,12 +88,28 @@ class Sliced:
     async def read(self, call: Callable[[Parts], _R], /) -> _R:
         return await self.access.read(lambda: call(self._opened()))
 
+    async def _freeze(self) -> Parts:
+        """Has the database read as it is now, whatever is committed later."""
+        for _ in range(_TRIES):
+            try:
+                return await self.read(lambda parts: parts.frozen())
+            except DatabaseFault as fault:
+                if not await self._is_mended():
+                    raise fault
+        raise DatabaseFault("the database can't be read")
+
+    async def _is_mended(self) -> bool:
+        """Whether the database can be read again that couldn't."""
+        return False
+
     def _opened(self) -> Parts:
         if self._parts is None:
             self._parts = self._database.parts()
         return self._parts
 
-    def change(self, line: bytes, actor: Actor, done: Done) -> None:
+    def change(self, line: bytes, actor: Actor, done: Done, begun: Begun = lambda: None) -> None:
+        """Has a change made; `begun` is called when it has its place in the order of lines."""
+        begun()
         if self._committer.refuses():
             done(FAULT, self.count)
         else:
@@ -119,13 +136,14 @@ class Sliced:
         """The reply to `keys`, in pieces, from the database as it is when the line's turn comes."""
         async def turn() -> None:
             try:
-                done(keys_of(await asyncio.to_thread(self._database.parts, True)), self.count)
+                done(keys_of(await self._freeze()), self.count)
             except DatabaseFault as fault:
                 self.access.tell(str(fault))
                 done(FAULT, self.count)
         self.turn(turn)
 
     def snapshot(self, done: Callable[[Snapshot | None], None]) -> None:
+        """Asks for a snapshot behind the changes so far."""
         async def turn() -> None:
             self._committer.add(Barrier(done))
         self.turn(turn)
@@ -179,7 +197,8 @@ class Sliced:
             except DatabaseFault as fault:
                 self.access.tell(str(fault))
                 reply = FAULT
-                break
+                if not await self._is_mended():
+                    break
             except Exception as error:  # Whatever one line meets, the others go on.
                 self.access.tell(repr(error))
                 break
@@ -206,14 +225,18 @@ class Sliced:
         self._committer.advance()
         await self._over.wait()
         if self.count != before:
-            await self._follow(made)
+            await self._committed(made)
+
+    async def _committed(self, made: list[Change]) -> None:
+        """Behind a commit of these changes."""
+        await self._follow(made)
 
     def _settle(self) -> None:
         if all(change.count is not None for change in self._making):
             self._over.set()
 
     def _refused(self, failed: list[Change], why: str) -> None:
-        self.access.tell(f"{len(failed)} changes were refused, since they can't be kept: {why}")
+        self.access.tell(f"{len(failed)} changes were refused, because they can't be stored: {why}")
         self._settle()
 
     async def _follow(self, made: list[Change]) -> None:
@@ -223,11 +246,15 @@ class Sliced:
             await self._asker.loader.forget(touched)
         except (DatabaseFault, EngineGone) as error:
             self.access.tell(str(error))
-            self._asker = Asker(self._asker.loader, self.read)
-            self._asker.loader.end()
-            await self.watched.look_at_all()
+            await self._begin_anew()
         else:
             await self.watched.change(touched, reached)
+
+    async def _begin_anew(self) -> None:
+        """Whatever is loaded, and whatever is known, may have changed."""
+        self._asker.loader.end()
+        self._asker = Asker(self._asker.loader, self.read)
+        await self.watched.look_at_all()
 
     def _touched(self, made: list[Change], parts: Parts) -> tuple[set[bytes], set[tuple[bytes, ...]]]:
         touched = {fpr for change in made for fpr in change.fprs}

@@ -9,11 +9,12 @@ from pathlib import Path
 from typing import Concatenate, ParamSpec, TypeVar
 
 from . import schema
+from .checking import EVERY_CERTIFICATE, compare
 from .database import Actor, Change, DatabaseFault, Snapshot, Source
 from .looking import SqliteFinder, SqliteSnapshot
 from .sqlite_parts import SqliteParts
 from .whole import sync_folder
-from .writing import EVERY_CERTIFICATE, Writing, compare
+from .writing import Writing
 
 _BUSY_SECONDS = 10.0
 _LOG_OCTETS = 64 << 20
@@ -68,9 +69,9 @@ class Sqlite:
         os.close(os.open(self.path, os.O_RDWR | (os.O_CREAT if is_made else 0), 0o600))
         connection = connect(self.path)
         try:
+            schema.prepare(connection, str(self.path))
             connection.execute("PRAGMA journal_mode = WAL")
             connection.execute(f"PRAGMA journal_size_limit = {_LOG_OCTETS}")
-            schema.prepare(connection, str(self.path))
             connection.execute("BEGIN IMMEDIATE")  # So that the log's file is there from now on.
             connection.execute("COMMIT")
         except BaseException:
@@ -110,7 +111,7 @@ class Sqlite:
             writing = Writing(connection)
             for change in changes:
                 numbers.append(writing.make(change, now))
-            writing.refresh_certifications()
+            writing.count()
         self._check_identities()
         return numbers
 
@@ -127,8 +128,6 @@ class Sqlite:
     def fill(self, lines: Iterable[bytes], what: str, actor: Actor) -> int:
         self._check_identities()
         with self._transaction() as connection:
-            for table in ("certifications", "verdicts", "user_ids", "certificates"):
-                connection.execute(f"DELETE FROM {table}")
             writing = Writing(connection)
             number = writing.fill(lines, Change(what, actor, ()), int(time.time()))
         self._check_identities()
@@ -148,8 +147,8 @@ class Sqlite:
         return SqliteFinder(connect(self.path), self.path)
 
     @faults
-    def parts(self, is_frozen: bool = False) -> SqliteParts:
-        return SqliteParts(connect(self.path), self.path, is_frozen)
+    def parts(self) -> SqliteParts:
+        return SqliteParts(connect, self.path)
 
     @faults
     def put_source(self, source: Source) -> None:
@@ -184,8 +183,10 @@ class Sqlite:
 
     @faults
     def copy_to(self, other: "Sqlite") -> None:
-        """Puts all of it into the place of what another database has."""
+        """Puts all of it into the place of what another database has, which nobody uses."""
+        other._connection.execute("PRAGMA journal_mode = DELETE")  # With a log its pages couldn't have another size.
         self._connection.backup(other._connection)
+        other._connection.execute("PRAGMA journal_mode = WAL")
 
     def close(self) -> None:
         self._connection.close()

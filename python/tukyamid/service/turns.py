@@ -4,7 +4,7 @@ from __future__ import annotations
 
 import asyncio
 from collections import deque
-from collections.abc import Callable
+from collections.abc import Awaitable, Callable, Sequence
 from concurrent.futures import ThreadPoolExecutor
 from dataclasses import dataclass
 from functools import partial
@@ -14,7 +14,6 @@ from .committing import FAULT, Barrier, Committer, called
 from .database import Actor, DatabaseFault, News, Shared
 from .journal import Done
 
-_MOST_CHANGES = 256
 _LONGEST_CALL = 12.0  # Longer than a server lets one wait for others.
 _LONGEST_COPY = 600.0
 _PAUSE = 0.5
@@ -33,14 +32,34 @@ class Waiting:
     begun: Begun
 
 
-class Home(Protocol):
-    """What turns have done by the hub."""
+class Outgrown(Exception):
+    """What other services have changed is too much for an engine. Somebody else makes what is still waiting."""
 
-    def send_change(self, line: bytes, actor: Actor, done: Done) -> None:
-        """Sends a change to all engines, and hands it to the committer."""
+
+class Call(Protocol):
+    """Calls the database, and waits for it up to a bound."""
+
+    def __call__(self, call: Callable[[], _R], /) -> Awaitable[_R]: ...
+
+
+class Home(Protocol):
+    """What turns have done where the engines are."""
+
+    async def begin_turn(self, call: Call) -> None:
+        """Begins a turn: what other services have changed is taken by the engines before anything that comes later.
+        Outgrown where they can't take it; then there is no turn."""
+
+    async def catch_up(self, call: Call) -> None:
+        """Has the engines take what other services have changed."""
 
     def take_news(self, news: News) -> None:
-        """Has all engines take what other services have changed."""
+        """Has all engines take what other services have changed, if that was read already."""
+
+    def next_batch(self, waiting: Sequence[Waiting]) -> int:
+        """How many of these changes, of which there is one at least, are made in one turn."""
+
+    def send_batch(self, batch: Sequence[Waiting], done: Callable[[Waiting], Done]) -> None:
+        """Sends changes to the engines in this order, and hands them to the committer. Each has begun then."""
 
     def tell(self, text: str) -> None: ...
 
@@ -56,7 +75,8 @@ class Turns:
         self._follower = database.follow()
         self._committer = committer
         self._home = home
-        self._waiting: deque[Waiting] = deque()
+        self.waiting: deque[Waiting] = deque()
+        self._is_working = self._is_over = False
         self._barriers: deque[Barrier] = deque()
         self._is_behind = False
         self._wake = asyncio.Event()
@@ -69,11 +89,15 @@ class Turns:
         """For how many seconds the engines may have missed something."""
         return self._loop.time() - self._current
 
+    @property
+    def is_busy(self) -> bool:
+        return not self._is_over and (self._is_working or self._wake.is_set())
+
     def change(self, waiting: Waiting) -> None:
         if self._committer.fault:
             self._refuse(waiting)
             return
-        self._waiting.append(waiting)
+        self.waiting.append(waiting)
         self._wake.set()
 
     def snapshot(self, barrier: Barrier) -> None:
@@ -96,9 +120,9 @@ class Turns:
     def _fail(self, fault: DatabaseFault) -> None:
         """Nothing that waits can be done at present."""
         self._committer.fault = str(fault)
-        waiting, self._waiting = self._waiting, deque()
+        waiting, self.waiting = self.waiting, deque()
         if waiting:
-            self._home.tell(f"{len(waiting)} changes were refused, since they can't be kept: {fault}")
+            self._home.tell(f"{len(waiting)} changes were refused, because they can't be stored: {fault}")
         for one in waiting:
             self._refuse(one)
 
@@ -109,28 +133,33 @@ class Turns:
     async def _work(self) -> None:
         while True:
             await self._wake.wait()
+            self._is_working = True
             self._wake.clear()
-            while self._waiting or self._barriers or self._is_behind:
+            while self.waiting or self._barriers or self._is_behind:
                 try:
                     await self._step()
+                except Outgrown:
+                    self._is_over = True
+                    return
                 except DatabaseFault as fault:
                     self._fail(fault)
                 except Exception as error:  # Whatever one change meets, the others go on.
                     self._fail(DatabaseFault(repr(error)))
+            self._is_working = False
 
     async def _step(self) -> None:
         if self._barriers:
             await self._open_snapshot(self._barriers.popleft())
-        if self._waiting:
+        if self.waiting:
             await self._have_turn()
         elif self._is_behind:
-            await self._take(self._database.news)
+            await self._take(self._home.catch_up)
 
-    async def _take(self, read: Callable[[], News]) -> None:
+    async def _take(self, take: Callable[[Call], Awaitable[None]]) -> None:
         """Applies what others have changed; by then the engines have all that was committed when this began."""
         begun = self._loop.time()
         self._is_behind = False
-        self._home.take_news(await self._call(read))
+        await take(self._call)
         self._current = begun
 
     async def _open_snapshot(self, barrier: Barrier) -> None:
@@ -146,9 +175,9 @@ class Turns:
             barrier.done(snapshot)
 
     async def _have_turn(self) -> None:
-        await self._take(self._database.take_turn)
+        await self._take(self._home.begin_turn)
         answered = asyncio.Event()
-        batch = [self._waiting.popleft() for _ in range(min(len(self._waiting), _MOST_CHANGES))]
+        batch = [self.waiting.popleft() for _ in range(self._home.next_batch(self.waiting))]
         left = len(batch)
 
         def done(one: Waiting, reply: bytes | None, count: int) -> None:
@@ -158,10 +187,7 @@ class Turns:
                 answered.set()
             one.done(reply, count)
 
-        for one in batch:
-            self._home.send_change(one.line, one.actor, partial(done, one))
-        for one in batch:
-            one.begun()
+        self._home.send_batch(batch, lambda one: partial(done, one))
         await answered.wait()
         await self._call(self._database.end_turn)
 

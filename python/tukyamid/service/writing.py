@@ -1,18 +1,27 @@
 """What changes do to the tables of a database, within one transaction. The statements are those that SQLite and
-PostgreSQL understand alike."""
+PostgreSQL understand alike; `checking` says whether they have done it."""
 
-from collections.abc import Iterable, Iterator, Sequence
+from collections import Counter
+from collections.abc import Iterable, Sequence
 from typing import Any, Protocol
 
 from .database import Change, DropCertificate, Effect, PutCertificate, SetVerdict
 from .reading import Described, describe
 
-CERTIFIED = ("SELECT issuer, certificate, max(depth) FROM verdicts "
-             "WHERE certificate IS NOT NULL AND length(issuer) > 0")
+NOBODY = 0  # The key of this number has no octets: the issuer of a signature that is bad.
+OF_NUMBER = "substr(number, 1, 8) = substr(?, 1, 8) AND number = ?"
+COUNTED = ("certificates", "octets", "user_ids", "signatures", "verdicts", "pending")
+_TABLES = ("verdicts", "user_ids", "certificates")
+_ADOPT = f"UPDATE verdicts SET certificate = ?, depth = ? WHERE {OF_NUMBER} AND certificate IS NULL"
+_BRING = "INSERT INTO verdicts (number, certificate, depth) SELECT ?, ?, ? " \
+    f"WHERE NOT EXISTS (SELECT 1 FROM verdicts WHERE {OF_NUMBER})"
 
 
 class Rows(Protocol):
     """What a statement has found."""
+
+    @property
+    def rowcount(self) -> int: ...
 
     def fetchone(self) -> Any: ...
 
@@ -24,16 +33,17 @@ class Statements(Protocol):
 
     def execute(self, statement: str, values: Sequence[Any] = (), /) -> Rows: ...
 
-    def executemany(self, statement: str, values: Iterable[Sequence[Any]], /) -> object: ...
+    def executemany(self, statement: str, values: Iterable[Sequence[Any]], /) -> Rows: ...
 
 
 class Writing:
-    """Changes within one transaction."""
+    """Changes within one transaction. `count` is called behind the last of them."""
 
     def __init__(self, connection: Statements) -> None:
         self._connection = connection
         self._number = int(connection.execute("SELECT coalesce(max(number), 0) FROM changes").fetchone()[0])
-        self._touched: set[int] = set()
+        self._keys: dict[bytes, int] = {b"": NOBODY}
+        self._more: Counter[str] = Counter()
 
     def make(self, change: Change, now: int) -> int:
         """Makes a change, and gives the number of the last change so far."""
@@ -47,6 +57,10 @@ class Writing:
                                  (self._number, now, change.actor.uid, change.actor.pid, change.what))
 
     def fill(self, lines: Iterable[bytes], change: Change, now: int) -> int:
+        """Puts what these lines bring into the place of everything."""
+        for table in _TABLES:
+            self._connection.execute(f"DELETE FROM {table}")
+        self._connection.execute(f"UPDATE counts SET {', '.join(f'{name} = 0' for name in COUNTED)}")
         for line in lines:
             word, _, rest = line.partition(b" ")
             if word == b"import":
@@ -57,8 +71,15 @@ class Writing:
                 self._judge(bytes.fromhex(number.decode()), bytes.fromhex(issuer.removeprefix(b"good ").decode())
                             if issuer != b"bad" else b"")
         self._log(change, now)
-        self.refresh_certifications()
+        self.count()
         return self._number
+
+    def count(self) -> None:
+        """Has the counts say what there is now."""
+        if any(self._more.values()):
+            self._connection.execute(f"UPDATE counts SET {', '.join(f'{name} = {name} + ?' for name in COUNTED)}",
+                                     [self._more[name] for name in COUNTED])
+        self._more.clear()
 
     def _is_made(self, effect: Effect) -> bool:
         """Makes an effect, and says whether anything is other than before."""
@@ -70,84 +91,78 @@ class Writing:
             case SetVerdict(number, issuer):
                 return self._judge(number, issuer)
 
+    def _one(self, statement: str, *values: object) -> Any:
+        """The first row, or None."""
+        return self._connection.execute(statement, values).fetchone()
+
+    def _key(self, fpr: bytes) -> int:
+        """The number of a key, which it has from now on."""
+        place = self._keys.get(fpr)
+        if place is None:
+            row = self._one("SELECT id FROM keys WHERE fingerprint = ?", fpr) \
+                or self._one("INSERT INTO keys (fingerprint) VALUES (?) RETURNING id", fpr)
+            place = self._keys[fpr] = int(row[0])
+        return place
+
     def _put(self, described: Described, octets: bytes) -> bool:
-        row = self._connection.execute(
-            "INSERT INTO certificates (fingerprint, key_id, octets, change) VALUES (?, ?, ?, ?) "
-            "ON CONFLICT (fingerprint) DO UPDATE SET octets = excluded.octets, change = excluded.change "
-            "WHERE certificates.octets <> excluded.octets RETURNING id",
-            (described.fpr, described.key_id, octets, self._number + 1)).fetchone()
+        place = self._key(described.fpr)
+        row = self._one("SELECT length(octets) FROM certificates WHERE id = ?", place)
         if row is None:
+            self._more["certificates"] += 1
+            self._connection.execute("INSERT INTO certificates (id, key_id, octets, change) VALUES (?, ?, ?, ?)",
+                                     (place, described.key_id, octets, self._number + 1))
+        elif self._one("UPDATE certificates SET octets = ?, change = ? WHERE id = ? AND octets <> ? RETURNING id",
+                       octets, self._number + 1, place, octets) is None:
             return False
-        place = int(row[0])
-        self._touched.add(place)
-        self._connection.executemany("INSERT INTO user_ids VALUES (?, ?, ?) ON CONFLICT DO NOTHING",
-                                     [(place, user_id, address) for user_id, address in described.user_ids.items()])
-        self._connection.executemany(
-            "INSERT INTO verdicts (number, certificate, depth) VALUES (?, ?, ?) "
-            "ON CONFLICT (number) DO UPDATE SET certificate = excluded.certificate, depth = excluded.depth",
-            [(number, place, depth) for number, depth in described.signatures.items()])
+        self._more["octets"] += len(octets) - (row[0] if row is not None else 0)
+        if described.user_ids:
+            self._more["user_ids"] += self._connection.executemany(
+                "INSERT INTO user_ids VALUES (?, ?, ?) ON CONFLICT DO NOTHING",
+                [(place, user_id, address) for user_id, address in described.user_ids.items()]).rowcount
+        self._bring(place, described.signatures, is_new=row is None)
         return True
 
+    def _bring(self, place: int, signatures: dict[bytes, int], is_new: bool) -> None:
+        """Has a certificate carry these signatures too. Some may have a verdict already, as those of a certificate
+        that was dropped."""
+        known = set() if is_new else {bytes(row[0]) for row in self._connection.execute(
+            "SELECT number FROM verdicts WHERE certificate = ?", (place,)).fetchall()}
+        new = [(number, depth) for number, depth in signatures.items() if number not in known]
+        if new:
+            adopted = self._connection.executemany(
+                _ADOPT, [(place, depth, number, number) for number, depth in new]).rowcount
+            self._connection.executemany(_BRING, [(number, place, depth, number, number) for number, depth in new])
+            self._more["signatures"] += len(new)
+            self._more["pending"] += len(new) - adopted
+
     def _drop(self, fpr: bytes) -> bool:
-        row = self._connection.execute("SELECT id FROM certificates WHERE fingerprint = ?", (fpr,)).fetchone()
+        row = self._one("SELECT id, length(octets), (SELECT count(*) FROM user_ids WHERE certificate = id) "
+                        "FROM certificates JOIN keys USING (id) WHERE fingerprint = ?", fpr)
         if row is None:
             return False
-        self._touched.discard(int(row[0]))
-        self._connection.execute("DELETE FROM verdicts WHERE certificate = ? AND issuer IS NULL", row)
-        self._connection.execute("UPDATE verdicts SET certificate = NULL, depth = 0 WHERE certificate = ?", row)
-        self._connection.execute("DELETE FROM certificates WHERE id = ?", row)
+        place, octets, user_ids = row
+        unjudged = self._connection.execute("DELETE FROM verdicts WHERE certificate = ? AND issuer IS NULL", (place,))
+        judged = self._connection.execute("UPDATE verdicts SET certificate = NULL, depth = 0 WHERE certificate = ?",
+                                          (place,))
+        self._connection.execute("DELETE FROM certificates WHERE id = ?", (place,))
+        self._more.subtract({"certificates": 1, "octets": octets, "user_ids": user_ids, "pending": unjudged.rowcount,
+                             "signatures": unjudged.rowcount + judged.rowcount})
         return True
 
     def _judge(self, number: bytes, issuer: bytes | None) -> bool:
-        row = self._connection.execute("SELECT certificate, issuer FROM verdicts WHERE number = ?",
-                                       (number,)).fetchone()
-        if (row[1] if row else None) == issuer:
+        by = None if issuer is None else self._key(issuer)
+        row = self._one(f"SELECT certificate, issuer FROM verdicts WHERE {OF_NUMBER}", number, number)
+        before = row[1] if row else None
+        if before == by:
             return False
         if row is None:
-            self._connection.execute("INSERT INTO verdicts (number, issuer) VALUES (?, ?)", (number, issuer))
-        elif issuer is None and row[0] is None:
-            self._connection.execute("DELETE FROM verdicts WHERE number = ?", (number,))
+            self._connection.execute("INSERT INTO verdicts (number, issuer) VALUES (?, ?)", (number, by))
+        elif by is None and row[0] is None:
+            self._connection.execute(f"DELETE FROM verdicts WHERE {OF_NUMBER}", (number, number))
         else:
-            self._connection.execute("UPDATE verdicts SET issuer = ? WHERE number = ?", (issuer, number))
+            self._connection.execute(f"UPDATE verdicts SET issuer = ? WHERE {OF_NUMBER}", (by, number, number))
+        more = (by is not None) - (before is not None)
+        self._more["verdicts"] += more
         if row is not None and row[0] is not None:
-            self._touched.add(int(row[0]))
+            self._more["pending"] -= more
         return True
-
-    def refresh_certifications(self) -> None:
-        """Makes the certifications of each changed certificate again."""
-        for place in self._touched:
-            self._connection.execute("DELETE FROM certifications WHERE target = ?", (place,))
-            self._connection.execute(f"INSERT INTO certifications {CERTIFIED} AND certificate = ? "
-                                     "GROUP BY issuer, certificate", (place,))
-        self._touched.clear()
-
-
-EVERY_CERTIFICATE = "SELECT id, fingerprint, octets FROM certificates"
-
-
-def compare(connection: Statements, certificates: Iterable[tuple[Any, ...]]) -> Iterator[str]:
-    """Where the tables say something else than the octets of these rows, which are those of `EVERY_CERTIFICATE`."""
-    for place, fpr, octets in certificates:
-        try:
-            described = describe(octets)
-        except (ValueError, IndexError) as error:
-            yield f"the certificate {fpr.hex()} can't be read: {error}"
-            continue
-        if described.fpr != fpr:
-            yield f"the certificate {fpr.hex()} is that of {described.fpr.hex()}"
-        user_ids = connection.execute("SELECT user_id, address FROM user_ids WHERE certificate = ?", (place,))
-        if {user_id: _text(address) for user_id, address in user_ids.fetchall()} != described.user_ids:
-            yield f"the user IDs of {fpr.hex()} aren't those of its octets"
-        signatures = connection.execute("SELECT number, depth FROM verdicts WHERE certificate = ?", (place,))
-        if dict(signatures.fetchall()) != described.signatures:
-            yield f"the signatures of {fpr.hex()} aren't those of its octets"
-    kept, wanted = "SELECT issuer, target, depth FROM certifications", f"{CERTIFIED} GROUP BY issuer, certificate"
-    for one, other in ((kept, wanted), (wanted, kept)):
-        if connection.execute(f"SELECT 1 FROM ({one} EXCEPT {other}) AS other LIMIT 1").fetchone():
-            yield "the certifications aren't those of the verdicts"
-            return
-
-
-def _text(address: object) -> object:
-    """An address as text; PostgreSQL keeps its octets."""
-    return address.decode() if isinstance(address, bytes) else address

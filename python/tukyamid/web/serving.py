@@ -1,12 +1,17 @@
 """The service that the page asks: the user's own, or one for the inputs that the words name."""
 
-from collections.abc import Callable
-from typing import NamedTuple
+from __future__ import annotations
 
-from ..command.inputs import Inputs, Tell
-from ..command.parser import Given
+from collections.abc import Callable
+from typing import TYPE_CHECKING, NamedTuple
+
+from ..command.given import Given
+from ..command.inputs import Inputs
 from ..command.runtime import runtime_file
 from ..command.sources import sources_of
+
+if TYPE_CHECKING:
+    from ..command.inputs import Tell
 
 
 class Service(NamedTuple):
@@ -24,6 +29,6 @@ def service_for(given: Given, inputs: Inputs, tell: Tell) -> Service:
         return Service(runtime_file("tukyamid.socket"), ensure)
     from ..command.reopening import Reopening
     reopening = Reopening(given, sources, lambda: inputs.as_paths(sources))
-    tell("the inputs are read; the first time this takes as long as to verify them")
+    tell("reading the inputs; the first time, this takes as long as verifying them")
     start = reopening.ensure(lambda: inputs.verified(sources))
     return Service(start(), start)

@@ -9,9 +9,11 @@ import unittest
 from contextlib import closing
 from pathlib import Path
 
+from earlier import Earlier
 from outside import PATIENCE, PROGRAM, PYTHON, SERVER, Client, Server, alone, needs_engine, script_of
 from tukyamid.service.database import Actor, Change, DatabaseFault, DropCertificate, PutCertificate, SetVerdict
-from tukyamid.service.schema import VERSION
+from tukyamid.service.parts import Sizes
+from tukyamid.service.schema import MIGRATIONS, VERSION
 from tukyamid.service.sqlite import Sqlite
 from world import World
 
@@ -99,8 +101,11 @@ class Changes(InAFolder):
             for number, issuer in told:
                 self.assertEqual(issuer.hex().encode(), signed[number.hex().encode()])
         with closing(sqlite3.connect(self.path)) as raw:
-            rows = raw.execute("SELECT count(*), max(depth) FROM certifications").fetchone()
-        self.assertEqual(rows, (len(self.pairs()), 255))
+            rows = raw.execute("SELECT by.fingerprint, own.fingerprint FROM verdicts JOIN keys AS own ON "
+                               "own.id = certificate JOIN keys AS by ON by.id = issuer").fetchall()
+            depths = raw.execute("SELECT max(depth) FROM verdicts").fetchone()
+        self.assertEqual({(by.hex().encode(), own.hex().encode()) for by, own in rows}, self.pairs())
+        self.assertEqual(depths, (255,))
 
     def pairs(self):
         """Who has certified whom, by the world's lines."""
@@ -134,10 +139,11 @@ class Changes(InAFolder):
         """Each of these was changed behind the back of the service."""
         for statement, told in (
                 ("UPDATE user_ids SET address = 'eve@example.org' WHERE address = 'u3@example.org'", "user IDs"),
-                ("DELETE FROM certifications WHERE depth = 255", "certifications"),
+                ("UPDATE counts SET pending = pending + 1", "counts"),
+                ("INSERT INTO verdicts SELECT number, NULL, 0, 0 FROM verdicts LIMIT 1", "two verdicts"),
                 ("UPDATE verdicts SET depth = depth + 1 WHERE depth = 0 AND certificate IS NOT NULL", "signatures"),
                 ("UPDATE certificates SET octets = x'99' WHERE id = 2", "can't be read"),
-                ("UPDATE certificates SET fingerprint = zeroblob(20) WHERE id = 3", "is that of")):
+                ("UPDATE keys SET fingerprint = zeroblob(20) WHERE id = 3", "is that of")):
             with self.subTest(told), tempfile.TemporaryDirectory() as folder:
                 copy = Path(folder) / "copy.db"
                 self.database.backup(copy)
@@ -202,6 +208,48 @@ class Versions(InAFolder):
             raw.execute(f"PRAGMA user_version = {VERSION + 1}")
         with self.assertRaisesRegex(DatabaseFault, "made by a later Tukyamid"):
             Sqlite(self.path)
+
+    def fill_earlier(self, version, lines):
+        """A file as this version has made it."""
+        with closing(sqlite3.connect(self.path)) as raw, raw:
+            raw.execute("PRAGMA journal_mode = WAL")
+            for migration in MIGRATIONS[:version]:
+                raw.executescript(migration)
+            for statement, values in Earlier(lines).statements():
+                raw.executemany(statement, values)
+            raw.execute("INSERT INTO changes VALUES (1, 5, 0, 0, 'filled')")
+            raw.execute(f"PRAGMA user_version = {version}")
+            raw.execute("PRAGMA application_id = 0x54756B79")
+
+    @needs_engine
+    def test_earlier_versions(self):
+        """Also with a verdict that is bad, one on a signature that isn't kept, one by a key that isn't kept, and
+        signatures without a verdict."""
+        world, unkept = World(count=6), b"5" * 40
+        number, other = (number for number, _ in world.verdicts[:2])
+        lines = [*world.lines(), b"verdict %s bad" % number, b"verdict %s good %s" % (other, unkept),
+                 b"verdict %064x bad" % 1, b"verdict %064x good %s" % (2, world.fprs[0])]
+        for line in world.verdicts[2:5]:
+            lines.append(b"verdict %s none" % line[0])
+        told = alone([*lines, b"dump"])[-1].splitlines()[1:]
+        for version in range(1, VERSION):
+            with self.subTest(version):
+                self.path.unlink(missing_ok=True)
+                self.fill_earlier(version, told)
+                with closing(Sqlite(self.path)) as database, closing(database.finder()) as finder:
+                    self.assertEqual(database.check(), [])
+                    self.assertEqual(script_of(database).splitlines(), told)
+                    self.assertEqual([one.what for one in finder.log(9)], ["filled"])
+                    self.check_counts(database, finder, told)
+
+    def check_counts(self, database, finder, told):
+        """What is counted, beside the lines and the world: each certificate has a direct signature and five more."""
+        figures, verdicts = finder.figures(), sum(line.startswith(b"verdict ") for line in told)
+        self.assertEqual((figures.certificates, figures.user_ids, figures.verdicts), (6, 6, verdicts))
+        with closing(database.parts()) as parts:
+            self.assertEqual((parts.count(), parts.pending()), (6, 3))
+            octets = sum(len(line) - len(b"import ") for line in told if line.startswith(b"import ")) // 2
+            self.assertEqual(parts.sizes(), Sizes(6, octets, 36, verdicts))
 
     def test_another_programs_database(self):
         with closing(sqlite3.connect(self.path)) as raw, raw:

@@ -103,18 +103,19 @@ class Writer(threading.Thread):
             time.sleep(0.02)
 
 
-def check_kept(test, writers, servers):
+def check_kept(test, writers, servers, before=()):
     """What was acknowledged is there, what was refused isn't, and each change was made once. All services report the
-    same."""
+    same. `before` is what was kept before the writers began."""
     wait_until_same(servers)
     dumps = [dump_of(server) for server in servers]
     for dump in dumps[1:]:
         test.assertEqual(dump, dumps[0])
-    there = set(dumps[0])
+    test.assertLessEqual(set(before), set(dumps[0]))
+    there = set(dumps[0]) - set(before)
     for writer in writers:
         test.assertEqual([line for line in writer.kept if line not in there], [])
         test.assertEqual([line for line in writer.refused if line in there], [])
-    made = [what.split(b" on ")[0] for what in log_of(servers[0])]
+    made = [what.split(b" on ")[0] for what in log_of(servers[0]) if what.startswith(b"verdict ")]
     test.assertEqual(len(made), len(set(made)))
     maybe = {line for writer in writers for line in writer.uncertain}
     test.assertLessEqual(there - {line for writer in writers for line in writer.kept}, maybe)

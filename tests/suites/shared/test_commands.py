@@ -5,18 +5,9 @@ import tempfile
 from pathlib import Path
 
 from alone_cluster import OneServer
+from earlier import Earlier
 from outside import Client
-from talking import dump_of, listed, log_of, told, wait_until_same
-from tukyamid.service.database import Actor
-from tukyamid.service.sqlite import Sqlite
-
-MOST_CERTIFICATES = 65_536
-
-
-def certificate(place):
-    """A line that imports a key, without anything else."""
-    key = b"\x04" + place.to_bytes(4, "big") + b"\x16\0\1\1"
-    return b"import " + (b"\xc6" + bytes([len(key)]) + key).hex().encode()
+from talking import dump_of, listed, log_of, status_of, told, wait_until_same
 
 
 class Commands(OneServer):
@@ -40,17 +31,6 @@ class Commands(OneServer):
                 self.assertEqual((folder / "out").read_bytes().splitlines(), told(lines))
         self.assertEqual(log_of(server)[0].split(b" on ")[0][:8], b"restore ")
 
-    def test_a_copy_larger_than_an_engine(self):
-        """A file may hold it in slices; a shared database may not hold it at all."""
-        self.assertEqual(self.command("check", "--database", self.url), (0, ""))
-        with tempfile.TemporaryDirectory() as name:
-            copy = Path(name) / "copy.db"
-            with contextlib.closing(Sqlite(copy)) as database:
-                database.fill(map(certificate, range(MOST_CERTIFICATES + 1)), "test", Actor(0, 0))
-            status, said = self.command("restore", "--database", self.url, copy)
-        self.assertEqual((status, "larger than an engine" in said, said.count("\n")), (1, True, 0), said)
-        self.assertEqual(self.cluster.query("SELECT count(*) FROM certificates", self.name), [(0,)])
-
     def test_what_is_found(self):
         server = self.serve()
         with Client(server.path) as client:
@@ -68,9 +48,28 @@ class Commands(OneServer):
         with Client(self.serve().path) as client:
             for line in self.world.lines():
                 client.tell(line)
-        self.cluster.query("UPDATE certifications SET depth = depth + 1", self.name)
+        self.cluster.query("UPDATE counts SET pending = pending + 1", self.name)
         status, said = self.command("check", "--database", self.url)
-        self.assertEqual((status, "the certifications aren't those" in said), (1, True), said)
+        self.assertEqual((status, "the counts aren't those" in said), (1, True), said)
+
+    def test_an_earlier_version(self):
+        """Also with a verdict that is bad, and one on a signature that isn't kept."""
+        import psycopg
+        from tukyamid.service.postgres.connecting import Statements
+        from tukyamid.service.postgres.tables import MIGRATIONS
+        lines = told([*self.world.lines(), b"verdict %s bad" % self.world.verdicts[0][0], b"verdict %064x bad" % 1,
+                      b"verdict %064x good %s" % (2, b"5" * 40), b"verdict %s none" % self.world.verdicts[1][0]])
+        with contextlib.closing(psycopg.connect(self.cluster.at(self.name), autocommit=True)) as connection:
+            connection.execute("CREATE TABLE tukyamid (version INTEGER NOT NULL)")
+            connection.execute("INSERT INTO tukyamid VALUES (1)")
+            connection.execute(MIGRATIONS[0])
+            for statement, values in Earlier(lines).statements("OVERRIDING SYSTEM VALUE"):
+                Statements(connection).executemany(statement, values)
+        self.assertEqual(self.command("check", "--database", self.url), (0, ""))
+        server = self.serve()
+        self.assertEqual(dump_of(server), lines)
+        self.assertEqual(status_of(server)[b"certificates"], b"8")
+        self.assertEqual(status_of(server)[b"verdicts"], b"%d" % sum(line.startswith(b"verdict") for line in lines))
 
     def test_odd_user_ids(self):
         """A long one, and one with octets that are no text."""

@@ -5,13 +5,17 @@ import time
 import unittest
 
 from clusters import Cluster, needs_postgres, wait_for
-from outside import Client, needs_engine
-from talking import Writer, check_kept, dump_of, serve, status_of, wait_until_same
+from outside import Client, alone, needs_engine
+from talking import Writer, check_kept, dump_of, serve, status_of, told, wait_until_same
+from world import World
 
 
 @needs_engine
 @needs_postgres
 class Pair(unittest.TestCase):
+    options = ()
+    kept_before = ()  # Lines that make what is kept before a test.
+
     def setUp(self):
         self.primary = Cluster(self.addCleanup)
         self.standby = Cluster(self.addCleanup, of=self.primary, name="other")
@@ -20,8 +24,12 @@ class Pair(unittest.TestCase):
         wait_for(self.is_synchronous)
         self.stack = contextlib.ExitStack()
         self.addCleanup(self.stack.close)
-        self.servers = [self.stack.enter_context(serve(url)) for url in (
+        self.servers = [self.stack.enter_context(serve(url, *self.options)) for url in (
             self.primary.url(self.standby), self.standby.url(self.primary))]
+        with Client(self.servers[0].path) as client:
+            for line in self.kept_before:
+                self.assertTrue(client.tell(line).startswith(b"ok"))
+        wait_until_same(self.servers)
 
     def is_synchronous(self):
         return self.primary.query("SELECT sync_state FROM pg_stat_replication") == [("sync",)]
@@ -42,7 +50,7 @@ class Pair(unittest.TestCase):
         for writer in writers:
             writer.wait_for(5)
             writer.end()
-        check_kept(self, writers, self.servers)
+        check_kept(self, writers, self.servers, told(self.kept_before))
 
     def test_the_standby_is_gone(self):
         """A change isn't acknowledged that only one machine has. Questions go on."""
@@ -62,7 +70,7 @@ class Pair(unittest.TestCase):
         for writer in writers:
             writer.wait_for(3)
             writer.end()
-        check_kept(self, writers, self.servers)
+        check_kept(self, writers, self.servers, told(self.kept_before))
 
     def test_a_change_that_is_lost_is_undone(self):
         """A service that has read what the new primary never had goes back to what that has."""
@@ -79,10 +87,35 @@ class Pair(unittest.TestCase):
             self.standby.promote()
             wait_for(lambda: other.tell(kept) == b"ok")
             wait_until_same(self.servers)
-            self.assertEqual([dump_of(server) for server in self.servers], [[kept], [kept]])
-            self.assertEqual(status_of(self.servers[0])[b"change"], b"1")
+            expected = told([*self.kept_before, kept])
+            self.assertEqual([dump_of(server) for server in self.servers], [expected, expected])
+            self.assertEqual(status_of(self.servers[0])[b"change"], b"%d" % (len(self.kept_before) + 1))
 
     @staticmethod
     def has(server, line):
         """Whether a service has this verdict."""
         return line in dump_of(server)
+
+
+class SlicedPair(Pair):
+    """The same where no engine may hold the keyring whole."""
+    options = ("--budget", "3")
+    world = World(1, 5, depths=(0,))  # So a slice has one member.
+    kept_before = world.lines()
+
+    def test_a_question_without_a_primary(self):
+        """What is loaded is asked, and what isn't is read at the standby, as long as that has all changes."""
+        world = self.world
+        view = [b"view p time 5000", b"view p root %s 120" % world.fprs[0]]
+        questions = [b"ask p %s 120 %s" % (fpr, user_id) for fpr, user_id in zip(world.fprs, world.user_ids)]
+        expected = alone([*self.kept_before, *view, *questions])[-len(questions):]
+        with Client(self.servers[0].path) as client:
+            for line in view:
+                client.tell(line)
+            self.primary.kill()
+            wait_for(lambda: client.tell(questions[0]) != b"fault database")  # The standby may be a moment behind.
+            for line, reply in zip(questions, expected):
+                client.send(line)
+                self.assertEqual(client.read_line(), reply.splitlines()[0], line)
+                for told_line in reply.splitlines()[1:]:
+                    self.assertEqual(client.read_line(), told_line, line)

@@ -124,7 +124,7 @@ class Index(unittest.TestCase):
 
     def test_a_frozen_view_stays_as_it_was(self):
         fpr = self.plain.fprs[0]
-        with closing(self.database.parts(True)) as frozen:
+        with closing(self.parts.frozen()) as frozen:
             self.apply(DropCertificate(fpr))
             self.assertTrue(frozen.has(fpr))
             self.assertEqual(frozen.count(), 30)

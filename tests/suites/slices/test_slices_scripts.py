@@ -49,8 +49,11 @@ def talk(path, name, lines, seed, between=lambda: None):
 
 @needs_engine
 class Scripts(unittest.TestCase):
-    def world(self, seed):
+    def new_world(self, seed):
         return World(seed, 40, DEPTHS)
+
+    def serve(self, *options):
+        return Server(*options)
 
     def talk_all(self, server, world, count, length, seed, between=lambda: None):
         """What clients heard who talk at once, and the lines of each."""
@@ -71,7 +74,7 @@ class Scripts(unittest.TestCase):
         for name, lines in spoken.items():
             sent = [name, *with_reply(lines)]
             own, replies = expected(order, name, len(sent), world.make_directory)
-            self.assertEqual(own, sent)
+            self.assertEqual(own, sent, server.said())
             told = list(cut(heard[name]))
             self.assertEqual(len(told), len(sent), server.said())
             for line, mine, other in zip(sent, told, cut(replies)):
@@ -80,12 +83,12 @@ class Scripts(unittest.TestCase):
                     self.assertFalse(line.startswith(NEVER_REFUSED), line)
                     refused += 1
                 else:
-                    self.assertEqual(mine, other, line)
+                    self.assertEqual(mine, other, (line, server.said()))
         return refused, asked
 
     def test_several_clients_at_once(self):
-        with Server("--budget", str(BUDGET)) as server:
-            world = self.world(1)
+        with self.serve("--budget", str(BUDGET)) as server:
+            world = self.new_world(1)
             spoken, heard = self.talk_all(server, world, 4, 80, 1)
             self.assertIn("held in slices", server.said())
             refused, asked = self.check(server, world, spoken, heard)
@@ -94,8 +97,8 @@ class Scripts(unittest.TestCase):
 
     def test_a_budget_with_room_for_all_refuses_nothing(self):
         """It is held in slices all the same, since the keyring was larger once."""
-        with Server("--budget", "39") as server:
-            world = self.world(3)
+        with self.serve("--budget", "39") as server:
+            world = self.new_world(3)
             spoken, heard = self.talk_all(server, world, 3, 60, 3)
             self.assertIn("held in slices", server.said())
             refused, asked = self.check(server, world, spoken, heard)
@@ -103,7 +106,7 @@ class Scripts(unittest.TestCase):
 
     def test_engines_that_are_killed(self):
         draw, lock, killed = random.Random(4), threading.Lock(), set()
-        with Server("--budget", str(BUDGET)) as server:
+        with self.serve("--budget", str(BUDGET)) as server:
             def kill():
                 """What was under way is answered before the next one is killed: no line meets three ends."""
                 with lock:
@@ -115,7 +118,7 @@ class Scripts(unittest.TestCase):
                         with Client(server.path) as client:
                             client.tell(b"verdict %064x bad" % len(killed))
 
-            world = self.world(4)
+            world = self.new_world(4)
             spoken, heard = self.talk_all(server, world, 3, 80, 4, kill)
             self.check(server, world, spoken, heard)
             self.assertGreater(len(killed), 0)

@@ -10,17 +10,17 @@ from pathlib import Path
 import psycopg
 from psycopg.pq import TransactionStatus
 
-from ..database import Actor, Change, DatabaseFault, News, Place, Snapshot, Source, Uncertain
+from ..checking import EVERY_CERTIFICATE, compare
+from ..database import UNREAD, Actor, Change, DatabaseFault, News, Place, Snapshot, Source, Uncertain
 from ..sqlite import Sqlite
-from ..writing import EVERY_CERTIFICATE, compare
 from . import tables
 from .connecting import Servers, Statements, Wire, faults, text_of
 from .following import PLACE, PostgresFollower
 from .looking import PostgresFinder, PostgresSnapshot
-from .writing import SharedWriting, row_of
+from .news import lines_between
+from .parts import PostgresParts
+from .writing import SharedWriting
 
-_UNREAD = Place(-1, b"")
-_MOST_NEWS = 1000
 _NOW = "SELECT extract(epoch FROM clock_timestamp())::BIGINT"
 
 
@@ -29,7 +29,7 @@ class Postgres:
 
     def __init__(self, url: str) -> None:
         """DatabaseFault if no server can be reached, or the database can't be used."""
-        self.place = _UNREAD
+        self.place = UNREAD
         self._servers = Servers(url)
         self._machine = socket.gethostname()
         self._wire: Wire | None = None
@@ -91,6 +91,11 @@ class Postgres:
         return self._read(statements, place, has_snapshot=False)
 
     @faults
+    def lock(self) -> None:
+        """Begins a turn of a service that reads by itself what others have changed."""
+        self._begin()
+
+    @faults
     def end_turn(self) -> None:
         if self._wire is not None and self._wire.connection.info.transaction_status != TransactionStatus.IDLE:
             self._wire.connection.execute("ROLLBACK")
@@ -104,8 +109,8 @@ class Postgres:
         try:
             with wire.reading() as statements:
                 place = Place(*statements.row(PLACE))
-                if not is_primary and self.place not in (place, _UNREAD):
-                    raise DatabaseFault(f"{self.name}: the standby isn't where this service is")
+                if not is_primary and self.place not in (place, UNREAD):
+                    raise DatabaseFault(f"{self.name}: the standby doesn't have the same changes as this service")
                 return self._read(statements, place, has_snapshot)
         finally:
             if not is_primary:
@@ -113,20 +118,10 @@ class Postgres:
 
     def _read(self, statements: Statements, place: Place, has_snapshot: bool) -> News:
         """What leads from where this service has read to this place."""
-        lines = self._lines_to(statements, place)
+        lines = lines_between(statements, self.place, place)
         snapshot = PostgresSnapshot(statements, place.number) if has_snapshot or lines is None else None
         self.place = place
         return News(lines, snapshot)
-
-    def _lines_to(self, statements: Statements, place: Place) -> tuple[tuple[int, bytes], ...] | None:
-        if place == self.place:
-            return ()
-        rows = statements.rows("SELECT number, mark, line FROM lines WHERE number >= ? ORDER BY number LIMIT ?",
-                               self.place.number, _MOST_NEWS + 1)
-        is_linked = rows[:1] and rows[0][:2] == row_of(self.place) and rows[-1][:2] == row_of(place)
-        if not is_linked or any(line is None for _, _, line in rows[1:]):
-            return None
-        return tuple((number, line) for number, _, line in rows[1:])
 
     @faults
     def apply(self, changes: Sequence[Change]) -> list[int]:
@@ -134,7 +129,7 @@ class Postgres:
         statements = Statements(self._wire.connection)
         writing, now = SharedWriting(statements, self._machine), int(statements.row(_NOW)[0])
         numbers = [writing.make(change, now) for change in changes]
-        writing.refresh_certifications()
+        writing.count()
         self._commit(writing)
         return numbers
 
@@ -160,10 +155,8 @@ class Postgres:
     @faults
     def fill(self, lines: Iterable[bytes], what: str, actor: Actor) -> int:
         statements, place = self._begin()
-        if self.place not in (place, _UNREAD):
-            raise DatabaseFault(f"{self.name}: another service has changed it meanwhile; try again")
-        for table in ("certifications", "verdicts", "user_ids", "certificates"):
-            statements.execute(f"DELETE FROM {table}")
+        if self.place not in (place, UNREAD):
+            raise DatabaseFault(f"{self.name}: another service has changed the database meanwhile; try again")
         writing = SharedWriting(statements, self._machine)
         number = writing.fill(lines, Change(what, actor, ()), int(statements.row(_NOW)[0]))
         self._commit(writing)
@@ -171,13 +164,16 @@ class Postgres:
 
     @faults
     def snapshot(self, before: Snapshot | None = None) -> PostgresSnapshot:
-        self.place = _UNREAD
+        self.place = UNREAD
         snapshot = self.news().snapshot
         assert isinstance(snapshot, PostgresSnapshot)
         return snapshot
 
     def finder(self) -> PostgresFinder:
         return PostgresFinder(self, self._servers, self._machine)
+
+    def parts(self) -> PostgresParts:
+        return PostgresParts(self._servers)
 
     def follow(self) -> PostgresFollower:
         return PostgresFollower(self._servers)

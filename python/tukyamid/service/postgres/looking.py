@@ -13,13 +13,12 @@ from .connecting import Connected, Servers, Statements, Wire, faults
 if TYPE_CHECKING:
     from .database import Postgres
 
-_VERDICTS = "FROM verdicts WHERE issuer IS NOT NULL"
 _COPIES = (
-    "SELECT 'import ' || encode(octets, 'hex') FROM certificates ORDER BY fingerprint",
-    "SELECT 'verdict ' || encode(number, 'hex') || CASE WHEN length(issuer) = 0 THEN ' bad' "
-    f"ELSE ' good ' || encode(issuer, 'hex') END {_VERDICTS} ORDER BY number",
+    "SELECT 'import ' || encode(octets, 'hex') FROM certificates JOIN keys USING (id) ORDER BY fingerprint",
+    "SELECT 'verdict ' || encode(number, 'hex') || CASE WHEN issuer = 0 THEN ' bad' "
+    "ELSE ' good ' || encode(fingerprint, 'hex') END FROM verdicts JOIN keys ON keys.id = issuer ORDER BY number",
 )
-_BINDINGS = "SELECT fingerprint, user_id FROM user_ids JOIN certificates ON certificates.id = user_ids.certificate"
+_BINDINGS = "SELECT fingerprint, user_id FROM user_ids JOIN keys ON keys.id = certificate"
 _STANDBY_SECONDS = 30.0
 
 
@@ -83,7 +82,7 @@ class PostgresFinder(Connected):
             self._wire = self._connect()
         statements = Statements(self._wire.connection)
         if statements.row("SELECT number FROM head")[0] < self._database.place.number:
-            raise DatabaseFault(f"{self.name}: the standby is behind what this service has read")
+            raise DatabaseFault(f"{self.name}: the standby lacks changes that this service has read")
         return statements.rows(query, *values)
 
     def _bindings(self, condition: str, *values: object) -> list[Binding]:
@@ -92,8 +91,8 @@ class PostgresFinder(Connected):
 
     def figures(self) -> Figures:
         (row,) = self._rows(
-            "SELECT (SELECT count(*) FROM certificates), (SELECT count(*) FROM user_ids), "
-            f"(SELECT count(*) {_VERDICTS}), (SELECT number FROM head), pg_database_size(current_database())")
+            "SELECT certificates, user_ids, verdicts, (SELECT number FROM head), pg_database_size(current_database()) "
+            "FROM counts")
         return Figures(*map(int, row))
 
     def by_address(self, address: str) -> list[Binding]:
@@ -107,14 +106,15 @@ class PostgresFinder(Connected):
         return with_part(((fpr, user_id) for fpr, user_id in rows), part, most)
 
     def by_key(self, key: bytes) -> list[Binding]:
-        return self._bindings("key_id = ?" if len(key) == 8 else "fingerprint = ?", key)
+        return self._bindings("certificate IN (SELECT id FROM certificates WHERE key_id = ?)" if len(key) == 8
+                              else "fingerprint = ?", key)
 
     def issuers(self, fpr: bytes) -> list[tuple[bytes, bytes]] | None:
-        place = self._rows("SELECT id FROM certificates WHERE fingerprint = ?", fpr)
+        place = self._rows("SELECT id FROM certificates JOIN keys USING (id) WHERE fingerprint = ?", fpr)
         if not place:
             return None
-        rows = self._rows("SELECT number, issuer FROM verdicts WHERE certificate = ? AND length(issuer) > 0 "
-                               "ORDER BY number", *place[0])
+        rows = self._rows("SELECT number, fingerprint FROM verdicts JOIN keys ON keys.id = issuer "
+                          "WHERE certificate = ? AND issuer > 0 ORDER BY number", *place[0])
         return [(number, issuer) for number, issuer in rows]
 
     def log(self, count: int) -> list[LogEntry]:

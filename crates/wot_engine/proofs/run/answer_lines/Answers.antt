@@ -445,7 +445,8 @@ lines-preserved g c =
           (g.D.Shelf.world c.reply_to.new.shelf) (kept c.reply_to.new.machine) c.reply_to.new.policy c.in-Ok.line
           replies.octets c.lines.invariant.asked c.in-Ok.ensures.ok replies.replies
           (subst (λ (x : List ℕ). LineAsks done (command_by c.in-Ok.line x) (kept c.lines.machine).state
-          (kept c.reply_to.new.machine).state c.lines.policy c.reply_to.new.policy) c.text.ensures c.in-Ok-reply_to.ensures.asked);
+          (kept c.reply_to.new.machine).state c.lines.policy c.reply_to.new.policy) c.text.ensures
+          c.in-Ok-reply_to.ensures.asked);
     }
 
 pub lines-smaller : goal.lines-smaller

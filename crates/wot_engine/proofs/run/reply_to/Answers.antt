@@ -60,7 +60,8 @@ returns-clause-asked g c =
     asks_behind done (command_by c.args.line c.args.text.now) (state_of c.args.machine.now.engine)
     (kept c.say.new.machine) (kept c.tell.new.self)
     c.in_default.ensures.tells.lines c.args.policy.now c.say.new.policy c.in_default.ensures.tells.tells
-    (asks_done (Ok tt) tt (command_by c.args.line c.args.text.now) (state_of c.args.machine.now.engine) (state_of c.say.new.machine.engine)
+    (asks_done (Ok tt) tt (command_by c.args.line c.args.text.now) (state_of c.args.machine.now.engine)
+    (state_of c.say.new.machine.engine)
     c.args.policy.now c.say.new.policy refl c.in_ok-say.ensures.asked)
 
 pub returns-in_err-say-clause-may_ask : goal.returns-in_err-say-clause-may_ask

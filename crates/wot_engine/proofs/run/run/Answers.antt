@@ -97,7 +97,8 @@ returns-in_err-lines-clause-asked g c =
     (g.S.Source.left c.args.input.now) (g.D.Shelf.world c.args.shelf.now) beginning c.args.policy.now
     (g.S.Source.left c.args.input.now)
     (inr (ap status_at (stopped c.from_residual.result Memory c.from_residual.ensures.1)))
-    (HasAsked-init (rows_of c.args.policy.now) c.args.policy.now (g.D.Shelf.world c.args.shelf.now) (g.S.Source.left c.args.input.now) (g.K.Sink.written c.args.output.now))
+    (HasAsked-init (rows_of c.args.policy.now) c.args.policy.now (g.D.Shelf.world c.args.shelf.now)
+    (g.S.Source.left c.args.input.now) (g.K.Sink.written c.args.output.now))
 
 -- ---- everything else follows from the contract of `answer_lines`
 

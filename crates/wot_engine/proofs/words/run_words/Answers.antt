@@ -273,4 +273,5 @@ returns-in-Some-Run-clause-asked g c form = rw c.status_of.ensures c.run.ensures
 pub returns-in-Some-Generate-clause-asked : goal.returns-in-Some-Generate-clause-asked
 returns-in-Some-Generate-clause-asked g c form =
     absurd
-    (one_form (map string_bytes c.args.words.now) c.in-Some-Generate.start c.in-Some-Generate.count form (rw c.in-Some-Generate.field-0-is at c.in-Some-Generate.ensures.form))
+    (one_form (map string_bytes c.args.words.now) c.in-Some-Generate.start c.in-Some-Generate.count form
+    (rw c.in-Some-Generate.field-0-is at c.in-Some-Generate.ensures.form))
