@@ -20,7 +20,10 @@ if TYPE_CHECKING:
 else:
     try:
         from _sha1 import sha1
-        from _sha256 import sha256
+        try:
+            from _sha2 import sha256
+        except ImportError:  # Before Python 3.12.
+            from _sha256 import sha256
     except ImportError:
         from hashlib import sha1, sha256
     from _signal import SIGINT, signal

@@ -9,7 +9,7 @@ from collections.abc import Callable, Iterable, Iterator, Sequence
 
 from .framing import ReplyCutter
 
-_WRITTEN_PIECE = 1 << 16
+_WRITTEN_PIECE = 1 << 14
 _LONGEST_WAIT = 10.0
 
 
@@ -107,6 +107,7 @@ class Program:
             for piece in pieces(lines):
                 stdin.write(piece)
                 await stdin.drain()
+                await asyncio.sleep(0)  # Questions to other engines come between.
         except Exception as error:  # Who reads the program's output meets its end.
             if not isinstance(error, ConnectionError):
                 self._tell(f"an engine can't be brought up to date: {error!r}")
