@@ -5,20 +5,20 @@ from __future__ import annotations
 
 import asyncio
 import contextlib
-from collections.abc import Callable, Collection, Sequence
+from collections.abc import Callable, Sequence
 from dataclasses import replace
 from functools import partial
 from typing import Protocol, TypeVar
 
-from tukyamid.certificates import KEY, SIGNATURE, packets
-
 from .access import Access
 from .cursors import Cursors
 from .database import Actor, Database, DatabaseFault, Finder, News, Shared, Snapshot
+from .growth import growth_of, measured, sum_of
 from .hub import Hub
 from .journal import Done
+from .kinds import OF_THE_WHOLE
 from .outbox import Outbox, Pieces
-from .parts import MOST, HasParts, SharedInParts, SharedParts, Sizes
+from .parts import MOST, HasParts, SharedInParts, Sizes
 from .reading import brought
 from .shared_hub import SharedHub
 from .shared_sliced import SharedSliced
@@ -30,6 +30,7 @@ from .views import Views
 from .watches import Watches
 
 _R = TypeVar("_R")
+LOADED_AT_ONCE = 2 << 20  # Octets of certificates: an engine loads them in less than a tenth of a second.
 _PAUSE = 1.0
 _PATIENCE = 30.0
 
@@ -55,6 +56,7 @@ class Desk:
         self._most = Sizes(min(budget, MOST.certificates), MOST.octets, MOST.signatures, MOST.verdicts)
         self._most_engines = most_engines
         self._held: Hub | Sliced | None = None
+        self.early: Sliced | None = None
         self._bound = Sizes(0, 0, 0, 0)
         self._later: list[Callable[[], None]] = []
         self._task: asyncio.Task[None] | None = None
@@ -98,17 +100,41 @@ class Desk:
         return self._most.certificates
 
     async def start(self) -> None:
-        """Starts the first engine; OSError, ValueError or DatabaseFault where it can't take the database."""
-        sizes = await self._measured()
+        """Starts the first engine; OSError, ValueError or DatabaseFault where it can't take the database. If there is
+        much to load, questions are answered from slices until `load` is over."""
+        sizes = await measured(self.database)
         self._bound = sizes or self._bound
         held: Hub | Sliced = self._whole() if sizes is None or sizes.fits(self._most) else self._sliced()
         self._held = held
-        await held.start()
+        if not isinstance(held, Hub) or sizes is None or sizes.octets <= LOADED_AT_ONCE \
+                or isinstance(self.database, Shared):
+            await held.start()
+            return
+        await held.begin()
+        early = self._sliced()
+        await early.start()
+        self.early = early
+
+    async def load(self) -> None:
+        """Waits until the first engine has taken all of the database; the errors are those of `start`."""
+        if self.early is None or not isinstance(self.held, Hub):
+            return
+        await self.held.load()
+        self.is_turning = True  # Until all that was asked early is answered, no change may be made.
+        await self.early.close()
+        self.early = None
+        self._resume([])
+
+    def takes(self, line: bytes) -> bool:
+        """Whether this line may begin now."""
+        return not self.is_turning and (self.early is None or line.partition(b" ")[0] not in OF_THE_WHOLE)
 
     async def close(self) -> None:
         if self._task is not None:
             with contextlib.suppress(asyncio.TimeoutError):
                 await asyncio.wait_for(self._task, _PATIENCE)
+        if self.early is not None:
+            await self.early.close()
         if self._held is not None:
             await self._held.close()
         self._access.close()
@@ -146,7 +172,7 @@ class Desk:
     def change(self, line: bytes, actor: Actor, done: Done, begun: Begun = lambda: None) -> None:
         """Has a change made; `done` gets its reply once it is committed, and `begun` is called when it has its place in
         the order of lines."""
-        if self.is_turning:
+        if self.is_turning or self.early is not None:
             self._later.append(partial(self.change, line, actor, done, begun))
         elif isinstance(self.held, Sliced):
             self.held.change(line, actor, done, begun)
@@ -154,7 +180,7 @@ class Desk:
             self._change_whole(self.held, line, actor, done, begun)
 
     def _change_whole(self, hub: Hub, line: bytes, actor: Actor, done: Done, begun: Begun) -> None:
-        bound = _sum(self._bound, growth_of(line))
+        bound = sum_of(self._bound, growth_of(line))
         if bound.fits(self._most) or hub.fault or not isinstance(self.database, HasParts):
             self._bound = bound
             hub.change(line, actor, done, begun)
@@ -170,9 +196,9 @@ class Desk:
         assert isinstance(hub, SharedHub)
         bound = self._bound
         for _, line in news.lines or ():
-            bound = _sum(bound, growth_of(line))
+            bound = sum_of(bound, growth_of(line))
         if news.lines is None or not bound.fits(self._most):
-            bound = await self._measured() or bound
+            bound = await measured(self.database) or bound
         if bound.fits(self._most):
             self._bound = bound
             return True
@@ -196,9 +222,9 @@ class Desk:
         sliced from now on."""
         await hub.settle()
         try:
-            sizes = await self._measured(brought(line))
+            sizes = await measured(self.database, brought(line))
             if sizes is not None:
-                self._bound = _sum(sizes, replace(growth_of(line), certificates=0))
+                self._bound = sum_of(sizes, replace(growth_of(line), certificates=0))
                 if not self._bound.fits(self._most):
                     await self._slice(hub)
         except (DatabaseFault, OSError) as fault:
@@ -233,28 +259,12 @@ class Desk:
         assert isinstance(self.database, HasParts)
         return Sliced(self._program, self._access, self.database, self._most.certificates)
 
-    async def _measured(self, fprs: Collection[bytes] = ()) -> Sizes | None:
-        """How large the keyring is, with as many certificates as it has when these have come; None if the database
-        can't be read in parts, and so not sliced."""
-        database = self.database
-        if not isinstance(database, HasParts):
-            return None
-        parts = await asyncio.to_thread(database.parts)
-        try:
-            if isinstance(parts, SharedParts):
-                await asyncio.to_thread(parts.renew)
-            sizes = await asyncio.to_thread(parts.sizes)
-            new = await asyncio.to_thread(lambda: sum(not parts.has(fpr) for fpr in fprs))
-            return replace(sizes, certificates=sizes.certificates + new)
-        finally:
-            await asyncio.to_thread(parts.close)
-
     def ask(self, line: bytes, done: Done) -> None:
         """Asks what is no view's, and changes nothing."""
-        if self.is_turning:
+        if not self.takes(line):
             self._later.append(partial(self.ask, line, done))
         else:
-            self.held.ask(line, done)
+            (self.early or self.held).ask(line, done)
 
     async def pending(self) -> int | None:
         """How many signatures of a sliced keyring have no verdict, well-formed or not; None if engines hold all."""
@@ -268,32 +278,10 @@ class Desk:
 
     def snapshot(self, done: Callable[[Snapshot | None], None], begun: Begun = lambda: None) -> None:
         """Asks for a snapshot of the keyring behind the changes so far; `begun` as with a change."""
-        if self.is_turning:
+        if self.is_turning or self.early is not None:
             self._later.append(partial(self.snapshot, done, begun))
         elif isinstance(self.held, Sliced):
             begun()
             self.held.snapshot(done)
         else:
             self.held.snapshot(done, begun)
-
-
-def growth_of(line: bytes) -> Sizes:
-    """How much larger a line makes the keyring at most."""
-    if line.startswith(b"verdict "):
-        return Sizes(0, 0, 0, 1)
-    if not line.startswith(b"import "):
-        return Sizes(0, 0, 0, 0)
-    keys = signatures = 0
-    try:
-        octets = bytes.fromhex(line[7:].decode())
-        for kind, _ in packets(octets):
-            keys += kind == KEY
-            signatures += kind == SIGNATURE
-    except (ValueError, IndexError):
-        return Sizes(0, 0, 0, 0)  # The engine refuses such a line.
-    return Sizes(keys, len(octets), signatures, 0)
-
-
-def _sum(one: Sizes, other: Sizes) -> Sizes:
-    return Sizes(one.certificates + other.certificates, one.octets + other.octets,
-                 one.signatures + other.signatures, one.verdicts + other.verdicts)
