@@ -6,7 +6,7 @@ use Rattle.wot_script.specs.declared.reply.Reply.{Reply}
 use Rattle.wot_script.specs.declared.reply.Reply.TheVariants as replies
 use Rattle.wot_types.specs.declared.name.Name.{Name}
 use Rattle.wot_io.specs.Counts.{Rose}
-use Rattle.wot_certd.specs.Shelf.{AnswersReplace, Replaces}
+use Rattle.wot_certd.specs.Shelf.{ReplaceReturns, Replaces}
 use Rattle.wot_certd.specs.World.{World, fails_next}
 use Rattle.wot_machine.specs.Stored.{Puts}
 use Rattle.wot_certd.specs.declared.shelf.ShelfFault.{ShelfFault}
@@ -125,7 +125,7 @@ for_memory r refused fault P is told f = by r fault (subst (λ (x : Refused). On
 
 -- the directory failed when the octets were put
 pub put_failed : (world after : Option World) (old new : ℕ) (name : Name) (octets : List ℕ)
-    → IfSome world (λ (w : World). AnswersReplace (Err shelves.Failed) (fails_next w))
+    → IfSome world (λ (w : World). ReplaceReturns (Err shelves.Failed) (fails_next w))
     → Replaces world name octets (Err shelves.Failed) after → Rose old new
     → Puts name octets (record { world = world; faults = old }) replies.Shelf (record { world = after; faults = new })
 put_failed None after old new name octets answers becomes rose =

@@ -1,6 +1,6 @@
 pub mod CutLines
 mod Known
-mod Wholes
+mod Sessions
 mod Paced
 pub mod Pieces
 pub mod Watched

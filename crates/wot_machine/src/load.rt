@@ -11,7 +11,7 @@ ghost use Rattle.wot_machine.specs.Asked.{AsksForNew};
 ghost use Rattle.wot_machine.specs.Both.{ends};
 ghost use Rattle.wot_machine.specs.Entry.{MayPutTo, loads};
 ghost use Rattle.wot_machine.specs.LineStep.{Loads};
-ghost use Rattle.wot_machine.specs.Ran.{LoadsBy, seen};
+ghost use Rattle.wot_machine.specs.CommandRun.{LoadsBy, seen};
 
 use crate::refusal::{Refused, reply_to};
 use wot_cache::Engine;

@@ -13,7 +13,7 @@ ghost use Rattle.wot_machine.specs.Made.{WatchMakes, WatchMakesMarks, WatchesMak
 ghost use Rattle.wot_machine.specs.Settled.{AllSettled, AreOpen, AreSettled, IsSettled};
 ghost use Rattle.wot_machine.specs.Watching.{AreLines, BeginsWatch, HasAmount, IsLine, IsWatchLine};
 ghost use Rattle.wot_machine.specs.Watching.{OpensOver, SetsOver, SetsWatch, told_all, told_by};
-ghost use Rattle.wot_machine.specs.Whole.{Whole, watched};
+ghost use Rattle.wot_machine.specs.Session.{Session, watched};
 
 use crate::class::WatchCommand;
 use crate::refusal::{Refused, reply_to};
@@ -104,7 +104,7 @@ fn begin(
 
 /// `watch W off`: removes a watch, or replies that there is none of this name. Takes no memory.
 pub fn off(watches: &mut Watches, name: &ViewName) -> Reply
-    ensures watching { (s : Whole) → SetsWatch (watched s watches.old) name.now commands.Off result watches.new }
+    ensures watching { (s : Session) → SetsWatch (watched s watches.old) name.now commands.Off result watches.new }
     ensures short { is_short result ≡ true }
 {
     if watches.get(name).is_none() {

@@ -4,7 +4,7 @@ use Rattle.wot_types.specs.declared.name.Name.TheVariants.{Cert}
 use Rattle.wot_certd.specs.World.{Answer, World, read_answer}
 use Rattle.wot_script.specs.declared.reply.Reply.TheVariants as replies
 use Rattle.wot_machine.specs.Entry.{stores}
-use Rattle.wot_machine.specs.Ran.{Seen}
+use Rattle.wot_machine.specs.CommandRun.{Seen}
 use Rattle.wot_machine.specs.Stored.{answer_of}
 use Rattle.wot_machine.proofs.Faults.{failed}
 use Rattle.wot_machine.proofs.Putting.{any_err, on_err_as, puts_none, stored_may}

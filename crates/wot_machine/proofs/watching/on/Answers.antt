@@ -1,7 +1,7 @@
 use Rattle.std.proofs.Common.{Option, ap, refl}
 use Rattle.std.specs.Prelude.{is_ok}
 use Rattle.wot_cache.specs.Views.{view_at}
-use Rattle.wot_machine.specs.Whole.{watched, whole_of}
+use Rattle.wot_machine.specs.Session.{watched, session_of}
 use Rattle.wot_script.specs.declared.reply.Reply.{Reply}
 use Rattle.wot_cache.specs.declared.view.View.{View}
 use Rattle.wot_cursor.specs.Cursors.{Cursors}
@@ -17,7 +17,7 @@ returns-in-Ok-clause-watching c =
     let a = c.args in
     if_ok c.begin.result _ _ (λ reply begins cursors.
     opens_answered
-    (watched (whole_of a.engine.now cursors) a.watches.now) a.name.now a.view.now a.target.now a.wanted a.uid.now
+    (watched (session_of a.engine.now cursors) a.watches.now) a.name.now a.view.now a.target.now a.wanted a.uid.now
     (view_at a.engine.now.views a.view.now)
     c.in-Ok.answer.paths c.in-Ok.answer.sum reply c.begin.new.watches c.requires.wanted c.in-Ok.ensures.open
     (rw c.octets.ensures.whole at c.in-Ok.ensures.answer)
@@ -37,7 +37,7 @@ returns-in-Err-clause-watching c =
     let a = c.args in
     unopened c.ask.result c.reply_to.result c.from.result c.in-Err.fault (view_at a.engine.now.views a.view.now)
     (λ (v : Option View) (reply : Reply). (cursors : Cursors) →
-    Opens (watched (whole_of a.engine.now cursors) a.watches.now) a.name.now a.view.now a.target.now a.wanted a.uid.now v
+    Opens (watched (session_of a.engine.now cursors) a.watches.now) a.name.now a.view.now a.target.now a.wanted a.uid.now v
     reply a.watches.now)
     c.from.ensures c.reply_to.ensures.reply c.in-Err.ensures.open (λ cursors. (refl, refl))
 
