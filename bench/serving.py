@@ -41,6 +41,11 @@ class Talk:
         self._reading, self._writing = reading, writing
         self._cutter = ReplyCutter()
 
+    def process(self) -> int:
+        """The process at the other end of a socket."""
+        with socket.socket(fileno=os.dup(self._reading)) as other:
+            return int.from_bytes(other.getsockopt(socket.SOL_SOCKET, socket.SO_PEERCRED, 4), sys.byteorder)
+
     def receive(self) -> int:
         """How many replies have come, at least one."""
         count = 0
