@@ -5,12 +5,10 @@ from __future__ import annotations
 
 import asyncio
 import contextlib
-from collections.abc import Callable, Collection, Sequence
+from collections.abc import Awaitable, Callable, Sequence
 from dataclasses import replace
 from functools import partial
 from typing import Protocol, TypeVar
-
-from tukyamid.certificates import KEY, SIGNATURE, packets
 
 from .access import Access
 from .cursors import Cursors
@@ -18,8 +16,8 @@ from .database import Actor, Database, DatabaseFault, Finder, News, Shared, Snap
 from .hub import Hub
 from .journal import Done
 from .outbox import Outbox, Pieces
-from .parts import MOST, HasParts, SharedInParts, SharedParts, Sizes
-from .reading import brought
+from .parts import MOST, HasParts, SharedInParts
+from .room import Room
 from .shared_hub import SharedHub
 from .shared_sliced import SharedSliced
 from .sliced import Sliced
@@ -52,10 +50,9 @@ class Desk:
         self.is_turning = False
         self._program = program
         self._access = access
-        self._most = Sizes(min(budget, MOST.certificates), MOST.octets, MOST.signatures, MOST.verdicts)
+        self._room = Room(access.database, replace(MOST, certificates=min(budget, MOST.certificates)))
         self._most_engines = most_engines
         self._held: Hub | Sliced | None = None
-        self._bound = Sizes(0, 0, 0, 0)
         self._later: list[Callable[[], None]] = []
         self._task: asyncio.Task[None] | None = None
 
@@ -95,15 +92,12 @@ class Desk:
 
     @property
     def budget(self) -> int:
-        return self._most.certificates
+        return self._room.certificates
 
     async def start(self) -> None:
         """Starts the first engine; OSError, ValueError or DatabaseFault where it can't take the database."""
-        sizes = await self._measured()
-        self._bound = sizes or self._bound
-        held: Hub | Sliced = self._whole() if sizes is None or sizes.fits(self._most) else self._sliced()
-        self._held = held
-        await held.start()
+        self._held = self._whole() if await self._room.has_all() else self._sliced()
+        await self._held.start()
 
     async def close(self) -> None:
         if self._task is not None:
@@ -154,56 +148,41 @@ class Desk:
             self._change_whole(self.held, line, actor, done, begun)
 
     def _change_whole(self, hub: Hub, line: bytes, actor: Actor, done: Done, begun: Begun) -> None:
-        bound = _sum(self._bound, growth_of(line))
-        if bound.fits(self._most) or hub.fault or not isinstance(self.database, HasParts):
-            self._bound = bound
+        if hub.fault or self._room.takes(line):
             hub.change(line, actor, done, begun)
             return
         self.is_turning = True
         self._task = asyncio.get_running_loop().create_task(self._turn(
-            hub, line, lambda: self.held.change(line, actor, done, begun)))
+            hub, lambda: self._room.takes_measured(line), [lambda: self.held.change(line, actor, done, begun)]))
 
-    async def _fits(self, news: News) -> bool:
+    async def _takes_news(self, news: News) -> bool:
         """Whether engines that hold everything have room for what other services have changed. If they haven't, the
         keyring is sliced from now on."""
-        hub = self.held
-        assert isinstance(hub, SharedHub)
-        bound = self._bound
-        for _, line in news.lines or ():
-            bound = _sum(bound, growth_of(line))
-        if news.lines is None or not bound.fits(self._most):
-            bound = await self._measured() or bound
-        if bound.fits(self._most):
-            self._bound = bound
+        if await self._room.takes_news(news):
             return True
-        self.is_turning = True
-        self._task = asyncio.get_running_loop().create_task(self._turn_at_once(hub))
+        if not self.is_turning:
+            self.is_turning = True
+            self._task = asyncio.get_running_loop().create_task(self._turn(self.held, self._room.has_all, []))
         return False
 
-    async def _turn_at_once(self, hub: SharedHub) -> None:
+    async def _turn(self, hub: Hub | Sliced, has_room: Callable[[], Awaitable[bool]],
+                    changes: list[Callable[[], None]]) -> None:
+        """When all that came before is done, the keyring is sliced unless an engine has room for it. Then these changes
+        are made, behind those that have waited for their turn."""
+        assert isinstance(hub, Hub)
         await hub.settle()
         waiting = hub.waiting()
         while self.held is hub:
             try:
+                if await has_room():
+                    break
                 await self._slice(hub)
             except (DatabaseFault, OSError) as fault:
                 self.tell(str(fault))
+                if not hub.is_outgrown:
+                    break
                 await asyncio.sleep(_PAUSE)
-        self._resume([partial(self.change, one.line, one.actor, one.done, one.begun) for one in waiting])
-
-    async def _turn(self, hub: Hub, line: bytes, change: Callable[[], None]) -> None:
-        """Measures the keyring when all that came before is done. If what comes may be too much for an engine, it is
-        sliced from now on."""
-        await hub.settle()
-        try:
-            sizes = await self._measured(brought(line))
-            if sizes is not None:
-                self._bound = _sum(sizes, replace(growth_of(line), certificates=0))
-                if not self._bound.fits(self._most):
-                    await self._slice(hub)
-        except (DatabaseFault, OSError) as fault:
-            self.tell(str(fault))
-        self._resume([change])
+        self._resume([*(partial(self.change, one.line, one.actor, one.done, one.begun) for one in waiting), *changes])
 
     def _resume(self, first: list[Callable[[], None]]) -> None:
         self.is_turning = False
@@ -224,30 +203,14 @@ class Desk:
 
     def _whole(self) -> Hub:
         if isinstance(self.database, Shared):
-            return SharedHub(self._program, self._most_engines, self.database, self._access, self._fits)
+            return SharedHub(self._program, self._most_engines, self.database, self._access, self._takes_news)
         return Hub(self._program, self._most_engines, self.database, self._access)
 
     def _sliced(self) -> Sliced:
         if isinstance(self.database, SharedInParts):
-            return SharedSliced(self._program, self._access, self.database, self._most.certificates)
+            return SharedSliced(self._program, self._access, self.database, self._room.certificates)
         assert isinstance(self.database, HasParts)
-        return Sliced(self._program, self._access, self.database, self._most.certificates)
-
-    async def _measured(self, fprs: Collection[bytes] = ()) -> Sizes | None:
-        """How large the keyring is, with as many certificates as it has when these have come; None if the database
-        can't be read in parts, and so not sliced."""
-        database = self.database
-        if not isinstance(database, HasParts):
-            return None
-        parts = await asyncio.to_thread(database.parts)
-        try:
-            if isinstance(parts, SharedParts):
-                await asyncio.to_thread(parts.renew)
-            sizes = await asyncio.to_thread(parts.sizes)
-            new = await asyncio.to_thread(lambda: sum(not parts.has(fpr) for fpr in fprs))
-            return replace(sizes, certificates=sizes.certificates + new)
-        finally:
-            await asyncio.to_thread(parts.close)
+        return Sliced(self._program, self._access, self.database, self._room.certificates)
 
     def ask(self, line: bytes, done: Done) -> None:
         """Asks what is no view's, and changes nothing."""
@@ -275,25 +238,3 @@ class Desk:
             self.held.snapshot(done)
         else:
             self.held.snapshot(done, begun)
-
-
-def growth_of(line: bytes) -> Sizes:
-    """How much larger a line makes the keyring at most."""
-    if line.startswith(b"verdict "):
-        return Sizes(0, 0, 0, 1)
-    if not line.startswith(b"import "):
-        return Sizes(0, 0, 0, 0)
-    keys = signatures = 0
-    try:
-        octets = bytes.fromhex(line[7:].decode())
-        for kind, _ in packets(octets):
-            keys += kind == KEY
-            signatures += kind == SIGNATURE
-    except (ValueError, IndexError):
-        return Sizes(0, 0, 0, 0)  # The engine refuses such a line.
-    return Sizes(keys, len(octets), signatures, 0)
-
-
-def _sum(one: Sizes, other: Sizes) -> Sizes:
-    return Sizes(one.certificates + other.certificates, one.octets + other.octets,
-                 one.signatures + other.signatures, one.verdicts + other.verdicts)
