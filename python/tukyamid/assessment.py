@@ -39,7 +39,7 @@ class Other(NamedTuple):
 
 class Assessment(NamedTuple):
     """An answer with what is said about it. `word` is the target's, `ok` if it is in order. `expired` says which other
-    programs take the key as expired, and `strict` that the answer then isn't reached. `brief` is for long lists:
+    programs treat the key as expired, and `strict` that the answer then isn't reached. `brief` is for long lists:
     neither paths nor other certifications were asked for."""
     fpr: str
     user_id: bytes
@@ -83,7 +83,7 @@ class Report(NamedTuple):
 
 
 def elsewhere(view: View, fpr: str) -> Expired | None:
-    """Which other programs take a key as expired at the view's time."""
+    """Which other programs treat a key as expired at the view's time."""
     certificate = view.keyring.certificate(fpr)
     if certificate is None:
         return None
@@ -191,11 +191,11 @@ class _WhyUnused:
         if self._word is not TargetWord.OK:
             return f"counts, but no path may end here: {self._word.meaning}"
         if issuer == self._target:
-            return "counts: the key's own, which ends only paths of introducers for the key itself"
+            return "counts: the key's own, which only extends paths that lead to this key"
         if self._reached:
             return "counts: the wanted amount was reached without it"
         if issuer is not None and (issuer in self._view.roots or self._is_known(issuer)):
-            return ("counts, but its issuer isn't trusted as far as this: a depth, a scope or what is left of an "
+            return ("counts, but its issuer isn't trusted this far: a depth, a scope or what is left of an "
                     "amount doesn't allow it")
         return "counts, but no path from a root goes through its issuer"
 

@@ -48,8 +48,8 @@ def run(words: Sequence[str] = ()) -> int:
 
 def _parser() -> argparse.ArgumentParser:
     words = argparse.ArgumentParser(
-        prog="tukyamid doctor", description="Does everything work here? Says what is missing, and how to fix it.",
-        epilog="Exit status: 0 questions can be answered, 3 something that answers need is missing.")
+        prog="tukyamid doctor", description="Checks the installation. Says what is missing, and how to fix it.",
+        epilog="Exit status: 0 questions can be answered, 3 something that is needed for that is missing.")
     words.add_argument("--engine", metavar="PROGRAM", help="the engine's program")
     words.add_argument("--verifier", metavar="PROGRAM", help="the program wot-verdicts")
     words.add_argument("--socket", metavar="PATH", type=Path, help="the service's socket")
@@ -58,7 +58,7 @@ def _parser() -> argparse.ArgumentParser:
 
 def _shown(finding: Finding) -> str:
     text = f"[{finding.state.value}]".ljust(10) + finding.part.ljust(10) + _printable(finding.text) + "\n"
-    return text + (f"{'':20}mend it with: {_printable(finding.mend)}\n" if finding.mend else "")
+    return text + (f"{'':20}fix it with: {_printable(finding.mend)}\n" if finding.mend else "")
 
 
 def _printable(text: str) -> str:
@@ -115,7 +115,7 @@ def _service(path: Path | None) -> Iterator[Finding]:
             for keyring in service.keyrings():
                 yield _kept(keyring.name, keyring.certificates, keyring.fault)
     except ServiceMissing:
-        yield Finding("service", State.NOTE, f"none runs at {path}; a question that needs one starts it")
+        yield Finding("service", State.NOTE, f"none is running at {path}; a question that needs one starts it")
     except (Refused, KeyError) as fault:
         yield Finding("service", State.BAD, f"{path} doesn't answer as a service: {fault}",
                       "end it, and ask again: the next question starts another")
@@ -133,7 +133,7 @@ def _sources() -> Iterator[Finding]:
     """Keyrings of other programs, which a question can be asked about."""
     from .service.places import default_directory
     if shutil.which("gpg"):
-        yield Finding("gpg", State.GOOD, f"{shutil.which('gpg')} is there; --gpg asks about its keyring")
+        yield Finding("gpg", State.GOOD, f"{shutil.which('gpg')} is there; --gpg uses its keyring")
     else:
         yield Finding("gpg", State.NOTE, "gpg isn't installed; --gpg needs it", "apt install gnupg")
     directory = default_directory()

@@ -31,7 +31,7 @@ class Filling:
         if entry is not None and self._store is not None:
             if not entry.give_to(self._engine):
                 self._store.forget(digest)
-                raise VerifierFailed("what was kept of this input is damaged. It is deleted now; ask again")
+                raise VerifierFailed("the cache entry of this input was damaged, and has been deleted; ask again")
             return entry
         self._verify({} if anew or self._store is None else self._store.good_verdicts(self._verifier.version))
         return self._keep(digest, anew)
@@ -44,7 +44,7 @@ class Filling:
                 self._store.forget(digest)
             return self._store.keep(digest, self._engine.dump(), self._verifier.version)
         except OSError as error:
-            self._tell(f"what was verified can't be kept in {self._store.folder}: {error.strerror}")
+            self._tell(f"the result can't be kept in {self._store.folder}: {error.strerror}")
             return Held(self._engine.dump())
 
     def _verify(self, known: dict[str, str]) -> None:
@@ -68,4 +68,4 @@ class Filling:
 
     def _feed(self, lines: Iterable[bytes]) -> None:
         for refusal in self._engine.feed(lines):
-            self._tell(f"line {refusal.position} of the verifier: {refusal}")
+            self._tell(f"line {refusal.position} of the verifier's output: {refusal}")

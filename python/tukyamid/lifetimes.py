@@ -1,4 +1,4 @@
-"""When gpg and Sequoia take a key as expired, though the engine doesn't.
+"""When gpg and Sequoia treat a key as expired, though the engine doesn't.
 
 By the profile a direct key signature governs a key alone, if there is one (docs/PROFILE.md, "What a key's own
 signatures say"). gpg and Sequoia also look at the self-signatures on user IDs. So a direct key signature that names a
@@ -21,7 +21,7 @@ Issuer = Callable[[str], str | None]
 
 
 class Expired(NamedTuple):
-    """The programs that take a key as expired, and since when."""
+    """The programs that treat a key as expired, and since when."""
     programs: tuple[str, ...]
     since: int
 
@@ -31,7 +31,7 @@ class Expired(NamedTuple):
 
 
 def expired_elsewhere(certificate: Certificate, issuer: Issuer, time: int) -> Expired | None:
-    """Which of both programs take the key as expired at a time; None if neither does. `issuer(number)` says whose
+    """Which of the two programs treat the key as expired at a time; None if neither does. `issuer(number)` says whose
     signature a number is of, as it was verified."""
     if not _sets_a_passed_end(certificate, time):
         return None  # As of most keys. Whose their signatures are needn't be looked up.

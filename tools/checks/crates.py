@@ -53,9 +53,9 @@ def crates(tree: Tree) -> Iterator[Finding]:
         named = named_by(tree, crate)
         for library in deps:
             if library in listed and listed[library][0] >= number:
-                yield Finding(LIST, number, f"{library} stands below {crate}, which uses it", "move its line up")
+                yield Finding(LIST, number, f"{library} comes after {crate}, which uses it", "move its line up")
             if library not in named:
                 yield Finding(LIST, number, f"{crate} never names {library}", "remove it from the line")
         for library, (path, line) in sorted(named.items()):
             if library not in deps and library in libraries | folders:
-                yield Finding(path, line, f"{library} is missing in the line of {crate} in {LIST}", "add it there")
+                yield Finding(path, line, f"{library} is missing from the line of {crate} in {LIST}", "add it there")

@@ -45,7 +45,7 @@ def links(tree: Tree) -> Iterator[Finding]:
             path = joined(page, target) if target else page
             line = line_of(text, found.start())
             if not tree.exists(path):
-                yield Finding(page, line, f"the link leads to {path}, which isn't there", "mend or remove it")
+                yield Finding(page, line, f"the link leads to {path}, which isn't there", "fix or remove it")
             elif anchor and path.endswith(".md") and anchor not in anchors_of(tree.text(path)):
                 yield Finding(page, line, f"{path} has no heading #{anchor}", "name a heading that it has")
 

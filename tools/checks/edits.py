@@ -38,7 +38,7 @@ def applied(edit: str, crate: Path) -> tuple[dict[str, str], str]:
             return texts, f"there is no file {file}"
         before = texts.get(file) or (crate / file).read_text(encoding="utf-8")
         if before.count(old) != 1:
-            return texts, f"its old text stands {before.count(old)} times in {file}"
+            return texts, f"its old text occurs {before.count(old)} times in {file}"
         texts[file] = before.replace(old, new)
     return texts, wrong
 
@@ -56,7 +56,7 @@ def edits(tree: Tree) -> Iterator[Finding]:
     for path in tree.ending(".edit"):
         crate = crate_of(path)
         if not crate:
-            yield Finding(path, 1, "nothing reads an edit here", "move it to tests/edits/CRATE")
+            yield Finding(path, 1, "edits in this folder are never tried", "move it to tests/edits/CRATE")
             continue
         _, wrong = applied(tree.text(path), tree.root / "crates" / crate)
         if wrong:

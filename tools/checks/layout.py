@@ -35,7 +35,7 @@ def layout(tree: Tree) -> Iterator[Finding]:
     files = tree.ending(*PLACES)
     for path in files:
         if misplaced(path):
-            yield Finding(path, 1, "no check reads a file of Rattle here", "move it into a crate")
+            yield Finding(path, 1, "a file of Rattle outside of a crate is never checked", "move it into a crate")
     ran = subprocess.run(
         [formatter(), "fmt", "--check", *files], cwd=tree.root, capture_output=True, text=True, check=False
     )

@@ -39,7 +39,7 @@ def shell(tree: Tree) -> Iterator[Finding]:
     scripts = tree.scripts(SHELL)
     if scripts:
         for found in PLACE.finditer(run(tree, ["shellcheck", *SHELLCHECK, *scripts], "shellcheck")):
-            yield Finding(found[1], int(found[2]), found[3].removeprefix("note: "), "mend it as shellcheck says")
+            yield Finding(found[1], int(found[2]), found[3].removeprefix("note: "), "fix it as shellcheck says")
 
 
 def python(tree: Tree) -> Iterator[Finding]:

@@ -1,4 +1,4 @@
-"""Each request for memory of random scripts is refused in turn: status 5 behind whole replies, or the whole transcript.
+"""Each request for memory of random scripts is refused in turn: status 5 after whole replies, or the whole transcript.
 
 The suite `memory` does the same over scripts of its own; its library that refuses stands between the program and the C
 library.
@@ -72,7 +72,7 @@ def refused_in_turn(refuser: Refuser, script: bytes, replies: list[bytes], most:
         if count == 0:
             return first - 1, wrong
         if not (status == 0 and written == whole or status == 5 and written in beginnings):
-            wrong.append(f"request {first}: status {status} behind {len(written)} octets of {len(whole)}")
+            wrong.append(f"request {first}: status {status} after {len(written)} octets of {len(whole)}")
     return most - 1, wrong
 
 

@@ -22,7 +22,7 @@ pub enum Word {
     Bad,
     /// No key that it names is there.
     Absent,
-    /// Its key, its dates or its hash algorithm won't do: expired, revoked, not bound, not for signing, too weak.
+    /// Its key, its dates or its hash algorithm aren't acceptable: expired, revoked, not bound, not for signing, weak.
     Refused,
     /// Its version or one of its algorithms isn't known to the library.
     Unsupported,

@@ -129,7 +129,7 @@ fn version() -> String {
 fn write_script(words: &ScriptWords) -> Result<bool, Failed> {
     let begun = Instant::now();
     if words.pending && words.inputs.iter().chain(&words.with).any(|path| input::is_standard_input(path)) {
-        return Err(Failed::Words("with --pending standard input is the engine's reply, and no keyring".to_owned()));
+        return Err(Failed::Words("with --pending, standard input is the engine's reply, not a keyring".to_owned()));
     }
     let mut notices = Vec::new();
     let texts = read(&words.inputs, &mut notices)?;
@@ -155,7 +155,7 @@ fn write_script(words: &ScriptWords) -> Result<bool, Failed> {
     let judge = Judge { issuers, all: words.all, pending };
     let counts = writing::write(&certificates, &judge, words.jobs, &mut script)?;
     if script.octets >= ENGINE_INPUT {
-        eprintln!("wot-verdicts: the script has {} octets, and the engine reads 2^30 in one run", script.octets);
+        eprintln!("wot-verdicts: the script has {} octets, but the engine reads at most 2^30 a run", script.octets);
     }
     if words.stats {
         eprint!("{}", Stats { certificates: certificates.len(), counts, script_octets: script.octets, begun });

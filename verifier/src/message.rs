@@ -43,17 +43,17 @@ impl Message {
         let (passes, signatures) = (&self.one_passes, &self.signatures);
         if self.is_cleartext {
             let is_text = |body: &Vec<u8>| Signature::read(body).map_or(true, |one| one.kind == TEXT);
-            return if signatures.iter().all(is_text) { Ok(()) } else { Err("a signature that isn't one on text") };
+            return if signatures.iter().all(is_text) { Ok(()) } else { Err("a signature that isn't on text") };
         }
         if self.literals != 1 {
-            return Err("a signed message holds data once");
+            return Err("a signed message has data more than once");
         }
         if passes.is_empty() {
             let is_before = self.before == signatures.len();
-            return if is_before { Ok(()) } else { Err("a signature behind the data isn't announced") };
+            return if is_before { Ok(()) } else { Err("a signature after the data has no one-pass signature") };
         }
         if passes.len() != signatures.len() || self.before != 0 {
-            return Err("signatures and their announcements aren't equally many");
+            return Err("there aren't as many signatures as one-pass signatures");
         }
         // Only the last is marked: others would be over the message inside them, and not over the data.
         let marks = passes.iter().map(|pass| pass.last() != Some(&0));
@@ -63,7 +63,7 @@ impl Message {
         let pairs = passes.iter().rev().zip(signatures);
         match pairs.into_iter().all(|(pass, signature)| is_announced(pass, signature)) {
             true => Ok(()),
-            false => Err("a signature isn't the one that was announced"),
+            false => Err("a signature doesn't match its one-pass signature"),
         }
     }
 
@@ -138,7 +138,7 @@ pub fn signatures_of(text: &[u8]) -> io::Result<Vec<Vec<u8>>> {
         match packet {
             Ok(packet) if packet.kind == kind::SIGNATURE => signatures.push(packet.body.into_owned()),
             Ok(packet) if matches!(packet.kind, kind::MARKER | kind::PADDING) => {}
-            Ok(_) => return Err(invalid("a packet that is no signature")),
+            Ok(_) => return Err(invalid("a packet that isn't a signature")),
             Err(_) => return Err(invalid("a packet that is cut short")),
         }
     }

@@ -41,10 +41,10 @@ impl fmt::Display for Notice {
         write!(f, "{}: octet {}: ", self.name, self.place)?;
         match &self.what {
             What::Respelled => write!(f, "a packet of partial or indeterminate length; written with a definite one"),
-            What::Secret => write!(f, "a secret key; left out (--public drops the secret parts)"),
-            What::PublicPart => write!(f, "a secret key whose public part can't be told; left out"),
+            What::Secret => write!(f, "a secret key; left out (--public writes its public parts)"),
+            What::PublicPart => write!(f, "a secret key whose public part can't be determined; left out"),
             What::Compressed => write!(f, "a certificate with compressed data; left out"),
-            What::Kind(kind) => write!(f, "a certificate with a packet of type {kind}, which has no place; left out"),
+            What::Kind(kind) => write!(f, "a certificate with a packet of type {kind}, which isn't allowed; left out"),
             What::Long => write!(f, "a certificate that is too long for a line; left out"),
             What::Fault(fault) => write!(f, "{fault}; what begins here is left out"),
             What::BeforeFirst => write!(f, "a packet before the first key; left out"),

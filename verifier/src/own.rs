@@ -99,7 +99,7 @@ impl<'h> Judge<'h> {
             return Err(refused(Word::Bad, "it isn't a signature on data"));
         }
         if !has_right_salt(signature) {
-            return Err(refused(Word::Bad, "its salt hasn't the size that goes with its hash algorithm"));
+            return Err(refused(Word::Bad, "its salt doesn't have the size that its hash algorithm requires"));
         }
         if self.waiting == MOST {
             return Err(refused(Word::Refused, "too many signatures on one file"));

@@ -102,9 +102,9 @@ pub enum Why {
 impl fmt::Display for Fault {
     fn fmt(&self, f: &mut fmt::Formatter<'_>) -> fmt::Result {
         let why = match self.why {
-            Why::NotAPacket => "no packet begins",
-            Why::CutLength => "a packet is cut within its length",
-            Why::CutBody => "a packet is cut within its body",
+            Why::NotAPacket => "there is no packet",
+            Why::CutLength => "a packet ends within its length",
+            Why::CutBody => "a packet ends within its body",
         };
         write!(f, "{why} at octet {}", self.place)
     }

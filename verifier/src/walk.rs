@@ -49,7 +49,7 @@ impl Walk<'_> {
                 }
                 kind::COMPRESSED => self.compressed(&mut body)?,
                 kind::MARKER | kind::PADDING => {}
-                other => return Err(invalid(format!("a packet of type {other} has no place in a signed message"))),
+                other => return Err(invalid(format!("a packet of type {other} doesn't belong in a signed message"))),
             }
             io::copy(&mut body, &mut io::sink())?;
         }
@@ -65,7 +65,7 @@ impl Walk<'_> {
 
     fn compressed(&mut self, body: &mut Body) -> io::Result<()> {
         if self.depth == DEEPEST {
-            return Err(invalid("compressed packets stand too deep in one another".to_owned()));
+            return Err(invalid("compressed packets are nested too deep".to_owned()));
         }
         let algorithm = octet(body)?;
         let packed = BufReader::new(body);

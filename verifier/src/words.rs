@@ -11,7 +11,7 @@ Verifies the signatures of OpenPGP keyrings and writes certificates and verdicts
 Usage: wot-verdicts [OPTION..] FILE|FOLDER..
        wot-verdicts --data FILE [--signature FILE] [OPTION..] FILE|FOLDER..
 
-Standard output gets one line `import` for each certificate, with its packets as they stand, and one line `verdict`
+Standard output gets one line `import` for each certificate, with its packets unchanged, and one line `verdict`
 for each certification, direct key signature, key revocation and certification revocation whose issuer is there.
 With --data it gets one line `signature` for each signature on that data.
 
@@ -21,7 +21,7 @@ Arguments:
 Options of keyrings:
   --with FILE..      Keyrings or directories whose keys may be issuers, and whose certificates aren't written
   --all              Verify signatures on user attributes and subkeys too
-  --public           Drop the secret parts of secret keys, which are otherwise left out whole
+  --public           Write the public parts of secret keys, which are otherwise left out
   --certificates     Write only `import` lines, and verify nothing
   --pending          Read the engine's reply to `pending` from standard input, and write verdicts only
                      on these signatures
@@ -30,7 +30,7 @@ Options of keyrings:
 
 Options of data:
   --data FILE        Verify the signatures on this file (- is standard input) with the keyrings' certificates
-  --signature FILE   Signatures that stand apart from the data; otherwise the data is a signed message or text
+  --signature FILE   A file with detached signatures; otherwise the data is a signed message or text
   --content FILE     Write what is signed to this new file
   --at SECONDS       Verify as of this time in seconds since 1970, by default now
 
@@ -39,8 +39,8 @@ Options of data:
 
 Exit statuses:
   0  everything was read, and what was asked for is written
-  1  the same, but something of the keyrings was left out; standard error says what
-  2  the words are wrong
+  1  the same, but a part of the keyrings was left out; standard error says which
+  2  the arguments are wrong
   3  an input can't be read; nothing is written
   4  an output can't be written
 ";
@@ -133,11 +133,11 @@ impl Given {
             return Err("--signature, --content and --at go with --data".into());
         }
         if self.jobs == Some(0) {
-            return Err("--jobs takes a number from 1 on".into());
+            return Err("--jobs takes a number, at least 1".into());
         }
         let is_judging = self.pending || self.all || self.stats || self.jobs.is_some() || !self.with.is_empty();
         if self.certificates && is_judging {
-            return Err("--certificates goes with --public alone".into());
+            return Err("--certificates goes only with --public".into());
         }
         let Given { inputs, with, all, public, certificates, pending, stats, jobs, .. } = self;
         Ok(ScriptWords { inputs, with, all, public, certificates, pending, stats, jobs })
@@ -146,7 +146,7 @@ impl Given {
     fn data_words(self) -> Result<DataWords, lexopt::Error> {
         let is_marked = self.all || self.public || self.certificates || self.pending || self.stats;
         if is_marked || self.jobs.is_some() || !self.with.is_empty() {
-            return Err("--data goes with --signature, --content and --at alone".into());
+            return Err("--data goes only with --signature, --content and --at".into());
         }
         if self.signature.is_some() && self.content.is_some() {
             return Err("--content doesn't go with --signature: what is signed is the data itself".into());

@@ -37,7 +37,8 @@ long_but_last (p ∷ x ∷ ps) m n rest =
     let ih = long_but_last (x ∷ ps) m n rest in
     omega (arith, a, b, ih)
 
-module _ (q : Question) (one : (used : Use) (a b : Path) → IsNextPath q used a → IsNextPath q used b → a ≡ b) (wanted : ℕ) where
+module _ (q : Question) (one : (used : Use) (a b : Path) → IsNextPath q used a → IsNextPath q used b → a ≡ b)
+    (wanted : ℕ) where
   abbrev Ends : List Path → Type 0
   Ends paths = (wanted ≤ amount_of paths) ⊎ IsSpent q (use_of paths)
 
@@ -63,7 +64,7 @@ module _ (q : Question) (one : (used : Use) (a b : Path) → IsNextPath q used a
         subst (λ (xs : List Path). EachNext q xs ih.0) (append_assoc earlier (p ∷ []) ps) ih.2,
       )
 
-  -- Where the next path's amount is enough, it is the last one.
+  -- If the next path's amount is enough, it is the last one.
   pub enough_sum : (ps : List Path) (sum amount : ℕ) → EachNext q [] ps → sum ≡ amount_of ps → sum < wanted
       → IsNextAmount q (use_of ps) amount → wanted ≤ sum + amount
       → (paths : List Path) → IsAnswer q wanted paths → sum + amount ≡ amount_of paths

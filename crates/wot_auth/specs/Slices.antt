@@ -1,5 +1,5 @@
--- Slices: the part of a network that is enough for the answers from some roots to a target. A database with millions of
--- certificates can load a slice and ask an engine that knows nothing else.
+-- The part of a network that is enough for the answers from some roots to a target. A database with millions of
+-- certificates can load such a part, as a slice, and ask an engine that knows nothing else.
 use Rattle.std.specs.Prelude.{ℕ, ◌<◌, ◌≤◌, ◌↔◌, List, ◌∷◌}
 use Rattle.wot_types.specs.declared.fpr.Fpr.{Fpr}
 use Rattle.wot_edge.specs.declared.path.Path.{Path}
@@ -30,11 +30,25 @@ pub record AnswerAlike (q other : Question) : Type 0 where
   pub next : (used : Use) (path : Path) → IsNextPath q used path ↔ IsNextPath other used path
   pub answer : (wanted : ℕ) (paths : List Path) → IsAnswer q wanted paths ↔ IsAnswer other wanted paths
 
--- Each issuer on a valid path is a member of each slice.
+-- Each issuer on a valid path is a member.
+abbrev pub StayWithin : Question → List Fpr → Type 0
+StayWithin q set = (steps : List Step) → IsValid q steps → (step : Step) → Has steps step → Has set step.issuer
+
+-- Valid paths stay within each slice.
 abbrev pub AreWithinSlices : Type 0
-AreWithinSlices =
-    (q : Question) (set : List Fpr) → IsSliceOf q set
-    → (steps : List Step) → IsValid q steps → (step : Step) → Has steps step → Has set step.issuer
+AreWithinSlices = (q : Question) (set : List Fpr) → IsSliceOf q set → StayWithin q set
 
 abbrev pub DoSlicesAnswer : Type 0
 DoSlicesAnswer = (q other : Question) (set : List Fpr) → ShareSlice q other set → AnswerAlike q other
+
+-- ---- any other part
+
+-- The valid paths of both questions stay within the set, and the questions agree on it and on the target.
+pub record AgreeWithin (q other : Question) (set : List Fpr) : Type 0 where
+  pub one : StayWithin q set
+  pub second : StayWithin other set
+  pub agree : Agree q other (q.target ∷ set)
+
+-- Such questions have the same valid paths, next paths and answers.
+abbrev pub DoPathsAnswer : Type 0
+DoPathsAnswer = (q other : Question) (set : List Fpr) → AgreeWithin q other set → AnswerAlike q other

@@ -1,4 +1,4 @@
--- What is asked over the parts that are seen from a view is the view's question.
+-- Asking over the parts that a view shows is asking the view's question.
 use Rattle.std.proofs.Common.{◌≡◌, ℕ, ◌≤◌, List, [], length, Option, Some, None, Result, Ok, Err, refl, sym, ap, subst}
 use Rattle.std.proofs.Common.{◌∙◌, arith}
 use Rattle.std.specs.Prelude.{IfOk, IfSome, IsSomeAnd}
@@ -30,7 +30,7 @@ pub if_ok : {A E : Type 0} (r : Result A E) (P Q : A → Type 0) → ((a : A) �
 if_ok (Ok a) P Q step p = step a p
 if_ok (Err e) P Q step p = tt
 
--- keyring and views are those of an engine of which the networks alone became others
+-- an engine with only its networks replaced keeps its keyring and views
 pub same_engine : {marks : ViewMarks} {turns : Turns} (engine : Engine) (k new : Keyring) (views more : Views) →
     record { keyring = k; views = views; marks = marks; turns = turns } ≡ engine
     → new ≡ k → more ≡ views → engine_of new more ≡ engine_of engine.keyring engine.views
@@ -38,17 +38,17 @@ same_engine engine k new views more seen same equal =
     ap (λ (k : Keyring). engine_of k more) same ∙ ap (λ (vs : Views). engine_of k vs) equal
     ∙ ap (λ (e : Engine). engine_of e.keyring e.views) seen
 
--- These are the parts that are seen from the view of that name, which is open.
+-- the parts are those of the open view of this name
 abbrev pub AreSeen : Engine → List ℕ → Parts → Type 0
 AreSeen engine name p = IsSomeAnd (view_at engine.views name) (λ (v : View). ArePartsOf engine.keyring v p)
 
--- what is of each view of which these are parts is of the view of that name
+-- a fact of every view with these parts holds of the view of that name
 pub of_view : (o : Option View) (k : Keyring) (p : Parts) (P : View → Type 0) → ((v : View) → ArePartsOf k v p → P v)
     → IsSomeAnd o (λ (v : View). ArePartsOf k v p) → IfSome o P
 of_view None k p P step seen = tt
 of_view (Some v) k p P step seen = step v seen
 
--- what holds of what is asked over them holds of the view's question
+-- a fact of the question over the parts holds of the view's question
 pub as_asked : (P : Question → Type 0) (engine : Engine) (name : List ℕ) (p : Parts) (target : Fpr) (uid : List ℕ) →
     AreSeen engine name p
     → P (asked_over (present_of p.roads) p.roots.now target uid) →
@@ -58,7 +58,7 @@ as_asked P engine name p target uid seen holds =
     subst (λ (present : Present). P (asked_over present v.roots target uid)) are.roads
     (subst (λ (roots : List (Fpr × ℕ)). P (asked_over (present_of p.roads) roots target uid)) are.roots holds)) seen
 
--- The parts are seen from the view of an engine whose networks alone became others.
+-- the parts are still those of the view after the engine's networks are replaced
 pub seen_after : {marks : ViewMarks} {turns : Turns} (engine : Engine) (k new : Keyring) (views more : Views)
     (name : List ℕ) (p : Parts)
     → record { keyring = k; views = views; marks = marks; turns = turns } ≡ engine → new ≡ k → more ≡ views →
@@ -79,7 +79,7 @@ few_of limits k views name p within small seen = by (view_at views name) refl se
         let same : length p.roots.now ≡ length v.roots = ap length are.roots in
         omega (arith, few, small, same)
 
--- there are few roots among them
+-- the parts have no more roots than the limit allows
 pub few_seen : {marks : ViewMarks} {turns : Turns} (engine : Engine) (k : Keyring) (views : Views) (networks : Networks)
     (answers : AllAnswers) (name : List ℕ) (p : Parts)
     → record { keyring = k; views = views; marks = marks; turns = turns } ≡ engine →
@@ -88,7 +88,7 @@ few_seen engine k views networks answers name p same inside seen =
     few_of k.limits engine.keyring engine.views name p (subst (λ (e : Engine). IsWithin k.limits e.views) same
     inside.within) inside.small.roots seen
 
--- what is local at the time of a view's network is local at the view's
+-- what is local at the time of a view's network is local at the view's time
 pub local_from : (k : Keyring) (views : Views) (networks : Networks) (name : List ℕ) (shown : View) (n : Net)
     (p : Present)
     → view_at views name ≡ Some shown → network_at networks name ≡ Some n → IsReady k views networks name →
@@ -120,7 +120,7 @@ keyring_seen engine name p = by (view_at engine.views name)
 
 -- ---- answers
 
--- the parts are of the keyring and the time that their roads are of
+-- the parts have the keyring and the time of their roads
 pub present_seen : (engine : Engine) (name : List ℕ) (p : Parts) → AreSeen engine name p →
     present_of p.roads ≡ present_in p
 present_seen engine name p = by (view_at engine.views name)
@@ -132,7 +132,7 @@ present_seen engine name p = by (view_at engine.views name)
         are.roads ∙ sym (ap (λ (k : Keyring). record { keyring = k; time = p.t }) are.keyring
         ∙ ap (λ (t : ℕ). record { keyring = engine.keyring; time = t }) are.time)
 
--- the kept answers are right from the keyring of the parts on
+-- kept answers that are right in the engine's keyring are right in the keyring of the parts
 pub right_seen : {marks : ViewMarks} {turns : Turns} (engine : Engine) (k : Keyring) (views : Views) (name : List ℕ)
     (p : Parts) (answers : AllAnswers) → record { keyring = k; views = views; marks = marks; turns = turns } ≡ engine
     → AreSeen engine name p → AreAllRight k answers → AreAllRight p.keyring.now answers
@@ -144,7 +144,7 @@ right_seen engine k views name p answers same seen right = by (view_at engine.vi
     by (Some v) are = subst (λ (k : Keyring). AreAllRight k answers) (ap (λ (e : Engine). e.keyring) same
         ∙ sym are.keyring) right
 
--- and the other way round
+-- the converse
 pub right_kept : {marks : ViewMarks} {turns : Turns} (engine : Engine) (k new : Keyring) (views : Views) (name : List ℕ)
     (p : Parts) (answers : AllAnswers) → record { keyring = k; views = views; marks = marks; turns = turns } ≡ engine
     → new ≡ k → AreSeen engine name p → AreAllRight p.keyring.now answers → AreAllRight new answers
@@ -155,7 +155,7 @@ right_kept engine k new views name p answers same equal seen right = by (view_at
     by (Some v) are = subst (λ (k : Keyring). AreAllRight k answers) (are.keyring
         ∙ sym (ap (λ (e : Engine). e.keyring) same) ∙ sym equal) right
 
--- All that is said of an answer over the parts is said of the view's question.
+-- each claim about an answer over the parts is that claim about the view's question
 pub told_seen : (engine : Engine) (name : List ℕ) (p : Parts) (target : Fpr) (uid : List ℕ) (wanted : ℕ) (a : Answer) →
     AreSeen engine name p
     → IsTold (asked_of p target uid) wanted a →
@@ -174,7 +174,7 @@ pub both_ok : {A E : Type 0} (r : Result A E) (P Q R : A → Type 0) → ((a : A
 both_ok (Ok a) P Q R step p q = step a p q
 both_ok (Err e) P Q R step p q = tt
 
--- ---- what the laws say of an answer
+-- ---- the laws of answers, as premises
 
 abbrev pub OneAnswer : Type 0
 OneAnswer = (q : Question) (wanted : ℕ) (a b : List Path) → IsRecord q.told → IsAnswer q wanted a →

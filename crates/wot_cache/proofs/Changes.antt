@@ -13,7 +13,7 @@ use Rattle.wot_cache.specs.Turns.{Turns}
 pub found : (k : Keyring) (fpr : Fpr) → cert_at k fpr ≡ cert_in (held_of k) fpr
 found k fpr = sym (lookup-map_values (λ (x : Kept). x.cert) (is_fpr fpr) k.certs)
 
--- What becomes of what is held becomes of the state; the views stay.
+-- a change of what is held is the change of the state; the views stay
 pub held_state : {A E : Type 0} {marks : ViewMarks} {turns : Turns} (result : Result A E) (old : Engine)
     (k new : Keyring) (views : Views) (change : Held → Held)
     → record { keyring = k; views = views; marks = marks; turns = turns } ≡ old →

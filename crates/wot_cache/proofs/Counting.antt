@@ -1,4 +1,4 @@
--- The kept answers of one view: how many fingerprints were consulted for them.
+-- The answers kept for one view: how many fingerprints they consulted together.
 use Rattle.std.proofs.Common.{◌≡◌, ℕ, ◌+◌, ◌-◌, ◌<◌, ◌≤◌, length, Option, Some, None, refl, ap, arith}
 use Rattle.std.specs.List.{sum_by}
 use Rattle.std.specs.List.Sorted.{IsStrictlySortedBy}
@@ -25,7 +25,7 @@ by_option : (o : Option KeptAnswer) → looked_by o ≡ unwrap_or (option_map lo
 by_option None = refl
 by_option (Some a) = refl
 
--- what all consulted with this answer in the place of an earlier one
+-- the total after an answer replaced an earlier one under its key
 pub counted : (entries : Entries) (a : KeptAnswer) → IsStrictlySortedBy nat_cmp (keys_of entries)
     → sum_by looked_in (values_of (insert_entry nat_cmp entries a.key a)) + looked_by
     (lookup (is_at (nat_cmp a.key)) entries)
@@ -35,7 +35,7 @@ counted entries a sorted =
     let sums = sum_by-insert_entry looked_in nat_cmp_total entries a.key a sorted in
     omega (arith, same, sums)
 
--- no more than what all consulted goes
+-- an answer consulted no more fingerprints than the total, so the subtraction doesn't underflow
 pub fewer : (entries : Entries) (a : KeptAnswer) (looked earlier : ℕ) → IsStrictlySortedBy nat_cmp (keys_of entries) →
     AreFew entries looked
     → earlier ≡ looked_by (lookup (is_at (nat_cmp a.key)) entries) → earlier ≤ looked + looked_in a
@@ -57,7 +57,7 @@ few_put entries a looked earlier sorted few e room fits =
       bounded = omega (arith, fits);
     }
 
--- one that was found good again counts as before
+-- revalidating an answer leaves the total unchanged
 pub few_set : (entries : Entries) (key : ℕ) (old new : KeptAnswer) (looked : ℕ) →
     lookup (is_at (nat_cmp key)) entries ≡ Some old → IsSameBut old new
     → AreFew entries looked → AreFew (set_value (is_at (nat_cmp key)) entries new) looked

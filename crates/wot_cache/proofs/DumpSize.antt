@@ -1,4 +1,4 @@
--- How many octets the lines of a dump have in all.
+-- The size of a dump in octets.
 use Rattle.std.proofs.Common.{ℕ, ◌+◌, ◌*◌, ◌≤◌, ◌<◌, ◌^◌, List, [], ◌∷◌, ◌++◌, length, map, arith, length-append, ap}
 use Rattle.std.proofs.Common.{◌∙◌}
 use Rattle.std.proofs.lemmas.Grind.{flat_map-append}
@@ -15,7 +15,7 @@ use Rattle.wot_cache.specs.State.{Engine, state_of}
 use Rattle.wot_cache.specs.Dump.{commands_of, root_of, view_commands}
 use Rattle.wot_cache.proofs.Lines.{few_commands}
 
--- The line of the command has 128 octets at most.
+-- the line of the command has at most 128 octets
 abbrev IsShort : Command → Type 0
 IsShort c = most_octets c ≤ 128
 

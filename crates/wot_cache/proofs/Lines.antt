@@ -1,4 +1,4 @@
--- Lines that are put one by one.
+-- Lines that are appended one at a time.
 use Rattle.std.proofs.Common.{◌≡◌, ℕ, ◌+◌, ◌*◌, ◌≤◌, ◌<◌, ◌^◌, List, [], ◌∷◌, ◌++◌, length, arith, length-append, refl}
 use Rattle.std.proofs.Common.{sym, ap, ◌∙◌, append_assoc, append-nil}
 use Rattle.std.proofs.lemmas.Grind.{flat_map-append}
@@ -16,7 +16,7 @@ use Rattle.wot_cache.specs.declared.view.View.{View}
 use Rattle.wot_cache.specs.Dump.{HaveRoots, commands_of, root_of, view_commands}
 use Rattle.wot_cache.specs.State.{Engine, state_of}
 
--- The lines of all these commands but the rest were put.
+-- the lines of all commands but the rest are appended
 pub record PutSoFar (before now : List ℕ) (all rest : List Command) : Type 0 where
   pub made : List ℕ
   pub text : now ≡ before ++ made
@@ -45,7 +45,7 @@ some_put before now next all cs rest so_far added lines = record {
 
 -- ---- views
 
--- The commands of all these views but the rest were put.
+-- the commands of all views but the rest are appended
 pub record ViewsPut (before now : List ℕ) (all rest : Views) (count : ℕ) : Type 0 where
   pub lines : PutSoFar before now (flat_map view_commands all) (flat_map view_commands rest)
   pub counted : count + length (flat_map view_commands rest) ≡ length (flat_map view_commands all)
@@ -66,14 +66,14 @@ view_put before now next all e rest count so_far added lines roots = record {
   roots = λ h. so_far.roots (roots, h);
 }
 
--- there is room to count the next view
+-- counting the next view doesn't overflow
 pub countable : (before now : List ℕ) (all : Views) (e : List ℕ × View) (rest : Views) (count : ℕ) →
     ViewsPut before now all (e ∷ rest) count
     → length (flat_map view_commands all) < 2 ^ 32 → count + (1 + length e.1.roots) < 2 ^ 32
 countable before now all e rest count so_far few =
     omega (arith, so_far.counted, length-view_commands e (flat_map view_commands rest), few)
 
--- within the limits there are not many commands
+-- the limits bound the number of commands
 pub few_commands : (l : Limits) (views : Views) → l.roots ≤ 64 →
     AllByRecursion (λ (e : List ℕ × View). length e.1.roots ≤ l.roots) views
     → length (flat_map view_commands views) ≤ 65 * length views

@@ -1,4 +1,4 @@
--- Marks of views: networks are kept for open views alone, and what is shown of them.
+-- Marks of views. Networks are kept for open views only, and their marks are what contracts see of them.
 use Rattle.std.proofs.Common.{◌≡◌, ℕ, Bool, true, false, cond, List, [], ◌∷◌, Option, Some, None, Result, Ok, Err, OnOk}
 use Rattle.std.proofs.Common.{OnErr, refl, sym, ap, subst, ◌∙◌}
 use Rattle.std.specs.Prelude.{IfOk, IfSome, IsSomeAnd, is_ok}
@@ -31,14 +31,14 @@ equal_if Less e = absurd cc
 equal_if Equal e = refl
 equal_if Greater e = absurd cc
 
--- what is found by one name is found by an equal one
+-- equal names find equal entries
 pub found_by : {X : Type 0} (name other : List ℕ) (es : List (List ℕ × X)) → is_name name other ≡ true →
     lookup (is_name name) es ≡ lookup (is_name other) es
 found_by name other es e =
     let same = equal_if (view_name_cmp name other) e in
     ap (λ (test : List ℕ → Bool). lookup test es) (λ i key. is_eq (nat_list_cmp_total.congr name other key same i))
 
--- ---- what isn't in a map that grew wasn't in it before
+-- ---- what is missing in a map that grew was missing before
 
 none_behind : {X : Type 0} (q : Bool) (v w : X) (old new : Option X) → (new ≡ None → old ≡ None) →
     cond q (Some v) new ≡ None → cond q (Some w) old ≡ None
@@ -72,7 +72,7 @@ none_put query cmp (e ∷ es) k v none = by (none_put query cmp es k v) (cmp k e
     by rest Equal = none_behind (query e.0) v e.1 (lookup query es) (lookup query es) (λ none. none)
     by rest Greater = none_behind (query e.0) e.1 e.1 (lookup query es) (lookup query (insert_entry cmp es k v)) rest
 
--- ---- what is kept stays that of open views
+-- ---- what is kept is still kept for open views only
 
 of_more : {X : Type 0} (views new : Views) (kept : List (List ℕ × X)) →
     ((other : List ℕ) → view_at new other ≡ None → view_at views other ≡ None)
@@ -178,7 +178,7 @@ keeps_inserted answers new name of_view (Ok done) put same other apart none =
     ap (lookup (is_name other)) put ∙ still_none_put (is_name other) view_name_cmp answers name of_view apart none
 keeps_inserted answers new name of_view (Err fault) put same other apart none = ap (lookup (is_name other)) same ∙ none
 
--- where the view is open, what is kept for it is kept for an open one
+-- an open view's answers are kept for an open view
 pub answered_open : (P : View → Type 0) (views : Views) (old new : AllAnswers) (name : List ℕ) →
     IsSomeAnd (view_at views name) P
     → KeepsFor name old new → AreOfOpen views old → AreOfOpen views new
@@ -188,7 +188,7 @@ answered_open P views old new name there keeps all other none = by (is_name othe
     by true e = absurd (subst (λ (o : Option View). IsSomeAnd o P) (sym (found_by other name views e) ∙ none) there)
     by false e = keeps other e (all other none)
 
--- ---- what is shown of networks
+-- ---- the marks that networks show
 
 pub shown_at : (networks : Networks) (name : List ℕ) → unwrap_or (lookup (is_name name) (marks_shown networks))
     [] ≡ marks_in networks name
@@ -200,7 +200,7 @@ shown_at networks name =
     by None = refl
     by (Some n) = refl
 
--- a view that isn't open has no marks, and none once it is opened
+-- a closed view has no marks, and still none right after it is opened
 pub unmarked : {turns : Turns} (next : Turns) (engine : Engine) (k : Keyring) (views new : Views) (networks : Networks)
     (name : List ℕ) → shown k views networks turns ≡ engine
     → AreOfOpen views networks → view_at engine.views name ≡ None → marks_at (shown k new networks next) name ≡ []
@@ -215,11 +215,11 @@ others_marked {turns} next engine k new views more old rest name seen others =
     subst (λ (e : Engine). OtherMarksStay name e (shown new more rest next)) seen
     (λ other e. shown_at rest other ∙ ap marks_by (others other e) ∙ sym (shown_at old other))
 
--- what was forgotten is gone, and the rest stays
+-- forgetting a network leaves the others
 pub others_left : (name : List ℕ) (old rest : Networks) → IsForgotten name old rest → OthersStay name old rest
 others_left name old rest forgotten other e = forgotten other ∙ ap (λ (b : Bool). cond b None (network_at old other)) e
 
--- what was forgotten isn't there
+-- a forgotten network is gone
 pub gone_itself : (name : List ℕ) (old rest : Networks) → IsForgotten name old rest → network_at rest name ≡ None
 gone_itself name old rest forgotten =
     forgotten name ∙ ap (λ (o : Ordering). cond (is_eq o) None (network_at old name))
@@ -237,7 +237,7 @@ on_less r (Err e) P less p = tt
 on_less (Ok a) (Ok b) P less p = p
 on_less (Err e) (Ok b) P less p = let never : false ≡ true = less refl in absurd cc
 
--- what is an error is Ok at most where anything is
+-- an error isn't Ok, so the claim holds of it
 pub err_less : {A B T E : Type 0} (r : Result A B) (s : Result T E) (e : E) → s ≡ Err e → is_ok s ≡ true →
     is_ok r ≡ true
 err_less r s e is ok = let never : false ≡ true = sym (ap is_ok is) ∙ ok in absurd cc
@@ -245,7 +245,7 @@ err_less r s e is ok = let never : false ≡ true = sym (ap is_ok is) ∙ ok in 
 pub if_err : {T E : Type 0} (s : Result T E) (P : T → Type 0) (e : E) → s ≡ Err e → IfOk s P
 if_err {T} {E} s P e is = subst (λ (r : Result T E). IfOk r P) (sym is) tt
 
--- after a refresh the bounds stand whatever comes of the question
+-- the bounds of a refresh hold whatever the question answers
 pub made_as : {A B T E : Type 0} (o : Option View) (r : Result A B) (s : Result T E) (k : Keyring) (old new : Marks)
     (before after : ℕ)
     → (is_ok s ≡ true → is_ok r ≡ true) → IfSome o (λ (v : View). IsMadeFor r k v.time old new before after)
@@ -282,7 +282,7 @@ left {turns = turns} s engine k new views more old rest name before after seen s
       );
     })
 
--- an engine after a refresh of the networks
+-- the engine after its networks were refreshed
 pub engine_after : {turns : Turns} (answers : AllAnswers) (k new : Keyring) (views more : Views) (old rest : Networks)
     (name : List ℕ) (before after : ℕ) → new ≡ k → more ≡ views → AllFit rest new
     → OthersStay name old rest → (view_at views name ≡ None → (rest ≡ old) × (after ≡ before)) →

@@ -1,4 +1,4 @@
--- How views go on: a view that becomes another has a turn, and one that is closed is open no more.
+-- How views develop: each changed view gets a turn, and a closed view is no longer open.
 use Rattle.std.proofs.Common.{◌≡◌, inl, inr, ℕ, ◌+◌, Bool, true, false, cond, List, [], ◌∷◌, Option, Some, None, refl}
 use Rattle.std.proofs.Common.{sym, ap, ◌∙◌, arith}
 use Rattle.std.specs.declared.cmp.Ordering.{Ordering}
@@ -17,7 +17,7 @@ use Rattle.wot_cache.proofs.Marking.{equal_if, found_by}
 
 -- ---- other names
 
--- which of two names comes first doesn't matter to whether they are one
+-- whether two names are equal doesn't depend on their order
 turned_about : (a b : List ℕ) → is_name a b ≡ is_name b a
 turned_about a b = ap is_eq (nat_list_cmp_total.antisymm a b) ∙ about (view_name_cmp b a)
   where
@@ -26,13 +26,13 @@ turned_about a b = ap is_eq (nat_list_cmp_total.antisymm a b) ∙ about (view_na
     about Equal = refl
     about Greater = refl
 
--- what has this name doesn't have another
+-- a key with this name differs from every other name
 apart_from : (name other key : List ℕ) → is_name name other ≡ false → view_name_cmp name key ≡ Equal →
     is_name other key ≡ false
 apart_from name other key apart same =
     turned_about other key ∙ ap is_eq (sym (nat_list_cmp_total.congr name key other same)) ∙ apart
 
--- an entry of another name isn't looked at
+-- an entry with another name is skipped
 passed : {X : Type 0} (b : Bool) (v w : X) (o : Option X) → b ≡ false → cond b (Some v) o ≡ cond b (Some w) o
 passed true v w o e = absurd cc
 passed false v w o e = refl
@@ -87,7 +87,7 @@ rooted_others name views fpr amount other apart = by (view_at views name)
 -- ---- turns
 
 module _ (name : List ℕ) (old new : Views) (before after : Turns) (others : OtherViewsStay name old new) where
-  -- where the view of the name is as it was, all are
+  -- if the named view is unchanged, all views are
   all_same : view_at new name ≡ view_at old name → (other : List ℕ) → view_at new other ≡ view_at old other
   all_same same other = by (is_name name other) refl
     where

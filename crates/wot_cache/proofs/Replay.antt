@@ -1,4 +1,4 @@
--- The commands of a dump, run in a fresh engine, give the state that was dumped.
+-- The commands of a dump restore the dumped state in a fresh engine.
 use Rattle.std.proofs.Common.{◌≡◌, ℕ, ◌<◌, ◌≤◌, ◌==◌, Bool, false, List, [], ◌∷◌, ◌++◌, length, map, Option, Some, None}
 use Rattle.std.proofs.Common.{refl, sym, ap, ◌∙◌, subst, arith, append_assoc, append-nil, length-append}
 use Rattle.std.specs.Prelude.{◌&&◌, nat_lt, nat_le, is_none, if◌then◌else◌, IsSomeAnd}
@@ -19,10 +19,7 @@ use Rattle.wot_types.specs.FprLaws.{fpr_total}
 use Rattle.wot_types.specs.ViewName.{view_name_cmp}
 use Rattle.wot_policy.specs.declared.rows.PolicyRows.{PolicyRows}
 use Rattle.wot_script.specs.declared.command.Command.{Command}
-use Rattle.wot_script.specs.declared.command.Command.TheVariants.{Import, Load, Store, Remove, Good, Bad, Unjudge, Time}
-use Rattle.wot_script.specs.declared.command.Command.TheVariants.{Root, Close, Ask, Explain, Pending, Keys, Export}
-use Rattle.wot_script.specs.declared.command.Command.TheVariants.{Dump, Absence, Check, CursorOver, CursorNext}
-use Rattle.wot_script.specs.declared.command.Command.TheVariants.{CursorClose, WatchOn, WatchOff}
+use Rattle.wot_script.specs.declared.command.Command.TheVariants.{Import, Good, Bad, Time, Root}
 use Rattle.wot_keyring.specs.Dump as keyrings
 use Rattle.wot_keyring.specs.Dump.{after_all, judged_by}
 use Rattle.wot_keyring.specs.Held.{Held, held_of, nothing}
@@ -36,9 +33,9 @@ use Rattle.wot_cache.specs.Dump.{AreSortedByName, CarriesOver, HaveRoots, IsRest
 use Rattle.wot_cache.specs.Dump.{unless_refused, view_commands}
 use Rattle.wot_keyring.specs.Behind.{AreBelow, all_at, below_next, last_found, last_set, none_before, put_behind}
 
--- ---- what the keyring's commands do
+-- ---- the keyring's commands
 
--- this held, and these views
+-- a state from what is held and views
 abbrev over : Views → Held → State
 over views held = record { held = held; views = views }
 
@@ -51,27 +48,7 @@ one_over : (rows : PolicyRows) (l : Limits) (views : Views) (command : Command) 
 one_over rows l views (Import octets) held new e = ap (over_some views) e
 one_over rows l views (Good number fpr) held new e = ap (over_some views) e
 one_over rows l views (Bad number) held new e = ap (over_some views) e
-one_over rows l views (Load name) held new e = cc e
-one_over rows l views (Store fpr) held new e = cc e
-one_over rows l views (Remove fpr) held new e = cc e
-one_over rows l views (Unjudge number) held new e = cc e
-one_over rows l views (Time view t) held new e = cc e
-one_over rows l views (Root view fpr amount) held new e = cc e
-one_over rows l views (Close view) held new e = cc e
-one_over rows l views (Ask view fpr wanted uid) held new e = cc e
-one_over rows l views (Command.List view wanted) held new e = cc e
-one_over rows l views (Explain view fpr uid) held new e = cc e
-one_over rows l views (Absence view fpr wanted uid) held new e = cc e
-one_over rows l views (Check view fpr claims labels uid) held new e = cc e
-one_over rows l views Pending held new e = cc e
-one_over rows l views Keys held new e = cc e
-one_over rows l views (Export fpr) held new e = cc e
-one_over rows l views Dump held new e = cc e
-one_over rows l views (CursorOver cursor view wanted) held new e = cc e
-one_over rows l views (CursorNext cursor count) held new e = cc e
-one_over rows l views (CursorClose cursor) held new e = cc e
-one_over rows l views (WatchOn watch view fpr wanted uid) held new e = cc e
-one_over rows l views (WatchOff watch) held new e = cc e
+one_over rows l views command held new e = cc e
 
 refused_stays : (rows : PolicyRows) (l : Limits) (commands : List Command) →
     after_all (keyrings.after rows l) commands None ≡ None
@@ -106,7 +83,7 @@ names_total = nat_list_cmp_total
 fprs_total : IsTotalOrder fpr_cmp
 fprs_total = fpr_total
 
--- the state with these views
+-- the state with its views replaced
 abbrev with_views : State → Views → State
 with_views s views = record s { views = views }
 
@@ -114,7 +91,7 @@ timed_new : (views : Views) (name : List ℕ) (t : ℕ) (o : Option View) → o 
     → timed views name t o ≡ insert_entry view_name_cmp views name (record { time = t; roots = [] })
 timed_new views name t o h = ap (timed views name t) h
 
--- a view behind all others is opened
+-- opening a view whose name follows all others
 opened : (rows : PolicyRows) (l : Limits) (s : State) (prefix : Views) (name : List ℕ) (t : ℕ) →
     AreBelow view_name_cmp name prefix → length prefix < l.views
     → after rows l (Time name t) (with_views s prefix) ≡ Some
@@ -129,7 +106,7 @@ opened rows l s prefix name t below room =
     (none_before view_name_cmp names_total prefix name below)
     ∙ put_behind view_name_cmp names_total prefix name new below)
 
--- a root behind all others is set in the last view
+-- setting a root whose fingerprint follows all others, in the last view
 rooted_next : (rows : PolicyRows) (l : Limits) (s : State) (prefix : Views) (name : List ℕ) (t : ℕ)
     (roots : List (Fpr × ℕ)) (fpr : Fpr) (amount : ℕ)
     → AreBelow view_name_cmp name prefix → AreBelow fpr_cmp fpr roots → 0 < amount → length roots < l.roots
@@ -168,7 +145,7 @@ rooted_next rows l s prefix name t roots fpr amount below lower some room =
     ap (λ f. unless_refused f (rooting name fpr amount (with_views s views))) sound
     ∙ ap (λ (vs : Views). Some (with_views s vs)) changed
 
--- the last view, with these roots
+-- the state whose last view has these roots
 abbrev with_last : State → Views → List ℕ → ℕ → List (Fpr × ℕ) → Option State
 with_last s prefix name t roots = Some (with_views s (prefix ++ (name, record { time = t; roots = roots }) ∷ []))
 
@@ -223,7 +200,7 @@ views_made rows l s all within roots order prefix (e ∷ rest) parts =
     (all_at (λ (e : List ℕ × View). length e.1.roots ≤ l.roots) prefix e rest (subst Few (sym parts) within.few_roots)))
     ∙ views_made rows l s all within roots order (prefix ++ e ∷ []) rest (append_assoc prefix (e ∷ []) rest ∙ parts)
 
--- ---- all of them
+-- ---- all commands
 
 carried : (rows : PolicyRows) (s new : State) (o : Option State) → o ≡ Some new → CarriesOver rows s new →
     IsSomeAnd o (CarriesOver rows s)

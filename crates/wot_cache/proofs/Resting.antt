@@ -1,4 +1,4 @@
--- How an engine goes on, and what rests on a basis meanwhile.
+-- How an engine develops, and what stays true of a basis meanwhile.
 use Rattle.std.proofs.Common.{◌≡◌, inl, inr, ℕ, ◌+◌, ◌<◌, ◌≤◌, Bool, true, false, cond, List, [], ◌∷◌, length, Option}
 use Rattle.std.proofs.Common.{Some, None, refl, sym, ap, subst, ◌∙◌, arith}
 use Rattle.std.specs.Prelude.{◌⊎◌, ◌||◌, nat_le, IfSome, Result, Err, Vec, is_ok}
@@ -51,7 +51,7 @@ risen a b c h k = omega arith
 not_both : (a b : ℕ) → a < b → b ≤ a → ⊥
 not_both a b h k = omega arith
 
--- where the last of three counts is the first, none was raised
+-- counts that only rise and end at the first value never rose
 first_same : (a b c : ℕ) → a ≤ b → b ≤ c → c ≡ a → b ≡ a
 first_same a b c h k e = omega arith
 
@@ -101,7 +101,7 @@ keyring_further old mid new first second = record {
               (k.said x (h.kept ∙ e));
         })
 
--- what is gone though nothing is gone wasn't there
+-- a certificate that is missing after a change that removes none was missing before
 absent_on : (old new : Keyring) (fpr : Fpr) → kept_at new fpr ≡ None → kept_at old fpr ≡ None → IsKeptAt old new fpr
 absent_on old new fpr gone none = inl (record { kept = gone ∙ sym none; said = λ x e. absurd (never x (sym none ∙ e)) })
   where
@@ -132,7 +132,7 @@ change_on old new (inr changed) more = by changed.kept
     by (inl all) = changed_on old new changed.later all changed.counted
     by (inr fewer) = absurd (not_both (length new.certs) (length old.certs) fewer more)
 
--- what goes on is later
+-- a keyring that develops without removals is a later one
 pub on_later : (old new : Keyring) → IsKeyringOn old new → IsLater old new
 on_later old new on = record { counted = on.counted; at = λ fpr. by fpr (on.at fpr) }
   where
@@ -180,12 +180,12 @@ engine_further old mid new first second = record {
   views = views_further old.views mid.views new.views old.turns mid.turns new.turns first.views second.views;
 }
 
--- ---- bases
+-- ---- growing a basis
 
 pub grown_itself : (b : Basis) → HasGrown b b
 grown_itself b = record { changes = refl; turns = refl; fprs = λ fpr h. h; whole = λ h. h }
 
--- what is undisturbed though more rests on it was undisturbed
+-- if a larger basis is undisturbed, so is a smaller one
 pub undisturbed_before : (later : Engine) (old new : Basis) → HasGrown old new → IsUndisturbed later new →
     IsUndisturbed later old
 undisturbed_before later old new grown calm = record {
@@ -204,9 +204,9 @@ pub rests_later : (old new : Engine) (basis : Basis) (view : List ℕ) (target :
 rests_later old new basis view target wanted uid n on rests later further calm =
     rests later (engine_further old new later on further) calm
 
--- ---- what an answer rests on
+-- ---- what an answer depends on
 
--- What has no stamp above the count of then is unaltered.
+-- a fingerprint whose stamp isn't above the old count is unaltered
 unaltered_at : (k later : Keyring) (fpr : Fpr) → IsKeyringOn k later → stamp_at later fpr ≤ k.changes →
     IsUnaltered k later fpr
 unaltered_at k later fpr on past = by (on.at fpr)
@@ -215,7 +215,7 @@ unaltered_at k later fpr on past = by (on.at fpr)
     by (inl u) = u
     by (inr given) = absurd (not_both k.changes (stamp_at later fpr) given past)
 
--- at these fingerprints the same is found as was
+-- lookups at unaltered fingerprints find what was noted
 pub still_on : (k later : Keyring) (roots : Amounts) (fprs : List Fpr) (looked : List Looked) → IsKeyringOn k later →
     AreCalm later k.changes fprs
     → AllIn fprs looked → AreStill k roots looked → AreStill later roots looked
@@ -228,7 +228,7 @@ still_on k later roots fprs (l ∷ ls) on calm all still = (
   still_on k later roots fprs ls on calm all.1 still.1,
 )
 
--- A right answer to the question rests on the fingerprints that it consulted.
+-- a right answer depends only on the fingerprints that it consulted
 pub answer_rests : (k : Keyring) (fprs : List Fpr) (view : View) (target : Fpr) (wanted : ℕ) (uid : List ℕ)
     (a : KeptAnswer)
     → IsRight k a → IsOf a target wanted uid view.time
@@ -241,7 +241,7 @@ answer_rests k fprs view target wanted uid a right is still later on calm = (
   right.sum,
 )
 
--- where all that it consulted is found as it was, and is among them
+-- its sum does too, if all that it consulted is unchanged and in the basis
 pub sum_rests : (k : Keyring) (fprs : List Fpr) (view : View) (target : Fpr) (wanted : ℕ) (uid : List ℕ)
     (a : KeptAnswer) (looked : Vec Looked Global)
     → a.looked ≡ Some looked → IsRight k a → IsOf a target wanted uid view.time → AreStill k view.roots looked.items →
@@ -252,9 +252,9 @@ sum_rests k fprs view target wanted uid a looked there right is still all =
     (λ later on calm. subst (AllStill later view.roots) (sym there) (still_on k later view.roots fprs looked.items on
     calm all still))
 
--- ---- what rests in an engine
+-- ---- what depends on a basis
 
--- seen from a view that is as it was, or closed
+-- for a view that is unchanged or closed
 rests_seen : (engine later : Engine) (name : List ℕ) (target : Fpr) (wanted : ℕ) (uid : List ℕ) (n : ℕ) (v : View) →
     view_at engine.views name ≡ Some v
     → IsSameOrClosed (view_at engine.views name) (view_at later.views name) →
@@ -267,7 +267,7 @@ rests_seen engine later name target wanted uid n v found (inl same) has =
     subst (λ (o : Option View). IfSome o (λ (v : View). HasAmount wanted n (question_in (state_of later) v target uid)))
     (sym (same ∙ found)) has
 
--- What rests on fingerprints of the keyring rests on a basis that has them.
+-- an amount that depends on some fingerprints depends on each basis that has them
 pub engine_rests : (engine : Engine) (basis : Basis) (name : List ℕ) (target : Fpr) (wanted : ℕ) (uid : List ℕ) (n : ℕ)
     (v : View)
     → IsPresent engine basis → view_at engine.views name ≡ Some v
@@ -278,7 +278,7 @@ engine_rests engine basis name target wanted uid n v now found rests later on ca
     (rests later.keyring on.keyring (λ fpr there. subst (λ m. stamp_at later.keyring fpr ≤ m) now.changes
     (calm.calm fpr there)))
 
--- and it is so now
+-- with the amount as it is now
 pub rests_now : (engine : Engine) (basis : Basis) (name : List ℕ) (target : Fpr) (wanted : ℕ) (uid : List ℕ) (n : ℕ)
     (v : View)
     → AreStamped engine.keyring.changes engine.keyring.certs → view_at engine.views name ≡ Some v
@@ -288,7 +288,7 @@ rests_now engine basis name target wanted uid n v stamped found rests =
     rests_seen engine engine name target wanted uid n v found (inl refl)
     (rests engine.keyring (keyring_itself engine.keyring) (λ fpr there. stamp_past engine.keyring fpr stamped))
 
--- On a basis that rests on all that there is each answer rests.
+-- every answer depends on a basis that covers the whole keyring
 pub whole_rests : (engine : Engine) (basis : Basis) (name : List ℕ) (target : Fpr) (wanted : ℕ) (uid : List ℕ) (n : ℕ)
     → IsPresent engine basis → basis.whole ≡ true → OfQuestion engine name target uid (HasAmount wanted n) →
     RestsOn engine basis name target wanted uid n
@@ -314,7 +314,7 @@ whole_rests engine basis name target wanted uid n now all has later on calm =
         rests_seen engine later name target wanted uid n v found seen
         (subst (λ (k : Keyring). HasAmount wanted n (question_on k v target uid)) (sym same) here)
 
--- ---- moving a basis on
+-- ---- moving a basis forward
 
 module _ (engine : Engine) (k : Keyring) (views : Views) (networks : Networks) (turns : Turns)
     (seen : shown k views networks turns ≡ engine) (old new : Basis) where
@@ -347,7 +347,7 @@ module _ (engine : Engine) (k : Keyring) (views : Views) (networks : Networks) (
     whole = λ all. undisturbed.whole all ∙ whole all;
   }
 
-  -- whether it was moved or not
+  -- both if the basis was moved forward and if it wasn't
   pub carried_on : (stands : Bool) → (stands ≡ true → AreCalm k old.changes old.fprs) →
       (stands ≡ true → old.whole ≡ true → k.changes ≡ old.changes)
       → (stands ≡ true → new ≡ record old { changes = k.changes }) → (stands ≡ false → new ≡ old) →
@@ -373,7 +373,7 @@ grown_further a b c h k = record {
 pub grown_by : (old : Basis) (fprs : List Fpr) → Includes old.fprs fprs → HasGrown old (record old { fprs = fprs })
 grown_by old fprs more = record { changes = refl; turns = refl; fprs = more; whole = λ all. all }
 
--- to all that there is
+-- by the whole keyring
 pub grown_whole : (old b new : Basis) → HasGrown old b → new ≡ record b { whole = true } → HasGrown old new
 grown_whole old b new grown is =
     subst (λ (c : Basis). HasGrown old c) (sym is) (record {
@@ -387,7 +387,7 @@ grown_whole old b new grown is =
 pub present_on : (engine : Engine) (old new : Basis) → HasGrown old new → IsPresent engine old → IsPresent engine new
 present_on engine old new grown now = record { changes = grown.changes ∙ now.changes; turns = grown.turns ∙ now.turns }
 
--- ---- what is found for a view
+-- ---- kept answers of a view
 
 module _ (engine : Engine) (k : Keyring) (views : Views) (networks : Networks) (turns : Turns)
     (seen : shown k views networks turns ≡ engine) (name : List ℕ) (target : Fpr) (wanted : ℕ) (uid : List ℕ) (v : View)
@@ -443,7 +443,7 @@ question_before P old new name target uid stays here =
     (subst (λ (vs : Views). IfSome (view_at vs name) (λ (v : View). P (question_on new.keyring v target uid)))
     stays.views here)
 
--- the sum of the answer is its amount
+-- the answer's sum is its amount
 pub sum_of_answer : (engine : Engine) (name : List ℕ) (target : Fpr) (wanted : ℕ) (uid : List ℕ) (a : Answer)
     → OfQuestion engine name target uid (λ q. IsAnswer q wanted a.paths) → a.sum ≡ amount_of a.paths →
     OfQuestion engine name target uid (HasAmount wanted a.sum)
@@ -461,7 +461,7 @@ refreshed_as r s name old new before after less is = record {
   closed = is.closed;
 }
 
--- a fault tells the same of any answer
+-- an error says the same whatever the type of the answer
 pub open_as : (A B : Type 0) (fault : AskFault) (o : Option View) → TellsOpen {T = A} (Err fault) o →
     TellsOpen {T = B} (Err fault) o
 open_as A B asked.View o told = told
@@ -472,7 +472,7 @@ open_as A B asked.Memory o told = told
 pub includes_on : (a b c : List Fpr) → Includes a b → Includes b c → Includes a c
 includes_on a b c h k fpr there = k fpr (h fpr there)
 
--- what an insertion into a set leaves
+-- inserting into a set only adds to it
 pub updated_more : (fpr : Fpr) (old new : List Fpr) →
     ((q : Fpr) → is_in q new ≡ cond (is_fpr fpr q) true (is_in q old)) → Includes old new
 updated_more fpr old new update q there = update q ∙ by (is_fpr fpr q) there
@@ -481,7 +481,7 @@ updated_more fpr old new update q there = update q ∙ by (is_fpr fpr q) there
     by true t = refl
     by false t = t
 
--- one more is in
+-- one more fingerprint is in the basis
 pub put_in : (looked rest later : List Looked) (first : Looked) (old new : List Fpr) → rest ≡ first ∷ later
     → ((fprs : List Fpr) → Includes old fprs → AllIn fprs rest → AllIn fprs looked) → Includes old new →
     is_in first.fpr new ≡ true
@@ -502,7 +502,7 @@ other_fpr fprs fpr other there apart = by (is_fpr fpr other) refl
         apart))
     by false e = refl
 
--- one more isn't in
+-- one more changed fingerprint isn't in the basis
 pub free_more : (fprs : List Fpr) (changed rest later : Logged) (first : ℕ × Fpr) → rest ≡ first ∷ later →
     (IsFreeOf fprs rest → IsFreeOf fprs changed)
     → is_in first.1 fprs ≡ false → IsFreeOf fprs later → IsFreeOf fprs changed
@@ -510,7 +510,7 @@ free_more fprs changed rest later first split all apart free =
     all (subst (λ (es : Logged). IsFreeOf fprs es) (sym split)
     (λ fpr there. ap (λ b. b || is_listed fpr later) (other_fpr fprs fpr first.1 there apart) ∙ free fpr there))
 
--- what isn't listed has no stamp above the count
+-- a fingerprint that isn't in the log has a stamp of at most the count
 pub calm_by : (k : Keyring) (count : ℕ) (fprs : List Fpr) (changed : Logged) → HasChangedSince k count changed →
     IsFreeOf fprs changed → AreCalm k count fprs
 calm_by k count fprs changed since free fpr there = by (nat_le (stamp_at k fpr) count) refl

@@ -1,4 +1,4 @@
--- Turns: what is taken back, that exactly the open views have one, and when there is one more.
+-- Turns: undoing the first turn, that exactly the open views have a turn, and when a change adds one.
 use Rattle.std.proofs.Common.{◌≡◌, ◌≢◌, inr, ℕ, ◌+◌, ◌-◌, ◌==◌, Bool, true, false, cond, List, [], ◌∷◌, Option, Some}
 use Rattle.std.proofs.Common.{None, refl, sym, ap, subst, ◌∙◌, arith}
 use Rattle.std.specs.Prelude.{◌||◌, IfSome, is_some, length, nat_le, nat_lt, if◌then◌else◌}
@@ -38,7 +38,7 @@ either_true true = refl
 either_true false = refl
 
 module _ {K X : Type 0} (R : K → K → Ordering) (total : IsTotalOrder R) where
-  -- what was put under a new key is taken out again
+  -- removing a key right after it was inserted restores the map
   pub removed_inserted : (es : List (K × X)) (k : K) (v : X) → lookup (is_at (R k)) es ≡ None →
       remove_entry (is_at (R k)) (insert_entry R es k v) ≡ es
   removed_inserted [] k v none = rw (tied_itself total k) refl
@@ -52,7 +52,7 @@ module _ {K X : Type 0} (R : K → K → Ordering) (total : IsTotalOrder R) wher
       by rest Equal h n = absurd cc
       by rest Greater h n = rw h (rw h (ap (λ (xs : List (K × X)). e ∷ xs) (rest n)))
 
-  -- it is found
+  -- an inserted key is found
   pub found_inserted : (es : List (K × X)) (k : K) (v : X) → lookup (is_at (R k)) (insert_entry R es k v) ≡ Some v
   found_inserted [] k v = rw (tied_itself total k) refl
   found_inserted (e ∷ es) k v = by (found_inserted es k v) (R k e.0) refl
@@ -63,7 +63,7 @@ module _ {K X : Type 0} (R : K → K → Ordering) (total : IsTotalOrder R) wher
       by rest Equal h = rw h (rw h refl)
       by rest Greater h = rw h (rw h rest)
 
-  -- beside those that were there
+  -- all other keys are still found
   pub there_inserted : (q : K) (es : List (K × X)) (k : K) (v : X)
       → is_some (lookup (is_at (R q)) (insert_entry R es k v)) ≡ (is_at (R q) k || is_some (lookup (is_at (R q)) es))
   there_inserted q [] k v = one (is_at (R q) k)
@@ -98,7 +98,7 @@ module _ {K X : Type 0} (R : K → K → Ordering) (total : IsTotalOrder R) wher
       by rest Greater h = rw h (behind (is_at (R q) e.0) (is_at (R q) k) (lookup (is_at (R q)) (insert_entry R es k v))
           (lookup (is_at (R q)) es) rest)
 
-  -- what is put where the same stands changes nothing
+  -- inserting the entry that is already there changes nothing
   pub inserted_same : (es : List (K × X)) (k : K) (v : X) → IsStrictlySortedBy R (keys_of es) →
       lookup (is_at (R k)) es ≡ Some v → insert_entry R es k v ≡ es
   unfolding IsStrictlySortedBy
@@ -120,7 +120,7 @@ module _ {K X : Type 0} (R : K → K → Ordering) (total : IsTotalOrder R) wher
           rw h (λ i. (e.0, sym same i) ∷ es)
       by rest below Greater h f = rw h (ap (λ (xs : List (K × X)). e ∷ xs) (rest f))
 
-  -- what was taken out of entries in order isn't there
+  -- a removed key is gone
   pub removed_gone : (es : List (K × X)) (k : K) → IsStrictlySortedBy R (keys_of es) →
       lookup (is_at (R k)) (remove_entry (is_at (R k)) es) ≡ None
   unfolding IsStrictlySortedBy
@@ -227,7 +227,7 @@ closed_turns views left turns rest name closed forgotten all q =
     both true = refl
     both false = all q
 
--- ---- whether there is one more
+-- ---- whether a change adds a turn
 
 pub equal_there : (o : Option ℕ) (t : ℕ) → option_eq ◌==◌ o (Some t) ≡ true → o ≡ Some t
 equal_there None t h = absurd cc
@@ -237,7 +237,7 @@ pub other_there : (o : Option ℕ) (t : ℕ) → option_eq ◌==◌ o (Some t) �
 other_there None t h e = cc e
 other_there (Some x) t h e = not_from_Decides (x == t) (Decides-eqb x t) h (same_Some x t e)
 
--- the time of an open view is what it was
+-- setting an open view's time to its current time changes nothing
 pub time_kept : (views : Views) (name : List ℕ) (t : ℕ) → option_map (λ (v : View). v.time) (view_at views name) ≡ Some
     t → with_time views name t ≡ views
 time_kept views name t h = by (view_at views name) refl h
@@ -250,7 +250,7 @@ time_kept views name t h = by (view_at views name) refl h
         set_value_same (is_name name) views (record v { time = t })
         (e ∙ λ i. Some (record { time = same i; roots = v.roots }))
 
--- the amount of a root of an open view is what it was
+-- setting a root's amount to its current amount changes nothing
 amount_kept : (l : Limits) (roots : List (Fpr × ℕ)) (fpr : Fpr) (amount : ℕ) → IsRoots roots →
     amount_fault l roots fpr amount ≡ None
     → root_amount roots fpr ≡ amount → with_amount roots fpr amount ≡ roots
@@ -287,7 +287,7 @@ roots_kept l views name fpr amount v found are none same =
     ∙ set_value_same (is_name name) views (record v { roots = with_amount v.roots fpr amount })
     (found ∙ λ i. Some (record { time = v.time; roots = sym kept i }))
 
--- a view that was closed isn't as it was
+-- closing a view changes it
 pub closing : (views left : Views) (turns : Turns) (name : List ℕ) → is_some (view_at views name) ≡ true →
     IsForgotten name views left
     → AreTurnsBy (without_turn name turns) name views turns left (without_turn name turns)
@@ -296,7 +296,7 @@ closing views left turns name there gone =
     gone name ∙ ap (λ (o : Ordering). cond (is_eq o) None (view_at views name)) (tied_itself nat_list_cmp_total name) in
     inr ((λ same. let never : false ≡ true = ap is_some (sym none ∙ same) ∙ there in cc), refl)
 
--- a view that was opened isn't as it was
+-- opening a view changes it
 pub opening : (views : Views) (turns : Turns) (name : List ℕ) (view : View) → view_at views name ≡ None
     → AreTurnsBy (turned name turns) name views turns (insert_entry view_name_cmp views name view) (turned name turns)
 opening views turns name view none =
@@ -306,7 +306,7 @@ opening views turns name view none =
       refl,
     )
 
--- nor is one whose time is another
+-- moving its time changes it, unless the time is the same
 pub moving : (views new : Views) (turns : Turns) (name : List ℕ) (t : ℕ) →
     option_map (λ (v : View). v.time) (view_at views name) ≢ Some t
     → MovesTime true name t views new → AreTurnsBy (turned name turns) name views turns new (turned name turns)
@@ -323,7 +323,7 @@ moving views new turns name t other moves = by (view_at views name) refl moves
         ap (λ (vs : Views). view_at vs name) m.1 ∙ found_set (is_name name) views (record v { time = t }) there in
         inr ((λ same. other (sym (ap (option_map (λ (v : View). v.time)) (sym found ∙ same)))), refl)
 
--- what was set is the amount
+-- the amount after it was set
 amount_set : (roots : List (Fpr × ℕ)) (fpr : Fpr) (amount : ℕ) → IsRoots roots →
     root_amount (with_amount roots fpr amount) fpr ≡ amount
 amount_set roots fpr amount are = by (amount == 0) refl
@@ -333,7 +333,7 @@ amount_set roots fpr amount are = by (amount == 0) refl
         ∙ sym (eqb-true amount 0 z))
     by false z = rw z (ap (λ (o : Option ℕ). unwrap_or o 0) (found_inserted fpr_cmp fpr_total roots fpr amount))
 
--- nor one of which a root has another amount
+-- setting a root changes it, unless the amount is the same
 pub rooting : (views new : Views) (turns : Turns) (name : List ℕ) (fpr : Fpr) (amount : ℕ) →
     IfSome (view_at views name) (λ (v : View). IsRoots v.roots)
     → IfSome (view_at views name) (λ (v : View). root_amount v.roots fpr ≢ amount) →
@@ -355,7 +355,7 @@ rooting views new turns name fpr amount are other sets = by (view_at views name)
         let Amount : Option View → ℕ = λ o. unwrap_or (option_map (λ (v : View). root_amount v.roots fpr) o) 0 in
         inr ((λ same. h (sym (ap Amount (sym found ∙ same ∙ e)) ∙ amount_set v.roots fpr amount a)), refl)
 
--- ---- the views have turns after a change of one
+-- ---- exactly the open views have a turn after a view changed
 
 pub moved_turns : (views new : Views) (turns : Turns) (name : List ℕ) (t : ℕ) → MovesTime true name t views new →
     AreTurnsOf views turns → AreTurnsOf new (turned name turns)

@@ -1,4 +1,4 @@
--- Answers that are kept: what each rests on, and that it is right for as long as that stays.
+-- Kept answers: what each depends on, and that it is right for as long as that is unchanged.
 use Rattle.std.specs.Prelude.{◌≡◌, ℕ, ◌≤◌, false, List, length, sum_by, Option, None, IfSome, IsSomeAnd, Vec}
 use Rattle.std.specs.declared.alloc.Global.{Global}
 use Rattle.std.specs.List.{AllByRecursion}
@@ -19,17 +19,17 @@ use Rattle.wot_cache.specs.declared.answers.KeptReach.{KeptReach}
 use Rattle.wot_cache.specs.declared.answers.Looked.{Looked}
 use Rattle.wot_cache.specs.Views.{is_name}
 
--- ---- what an answer rests on
+-- ---- what an answer depends on
 
--- the amounts of roots
+-- roots with their amounts
 abbrev pub Amounts : Type 0
 Amounts = List (Fpr × ℕ)
 
--- what is found at a fingerprint: its stamp, and its amount as a root
+-- a lookup at a fingerprint: its stamp, and its amount as a root
 abbrev pub look : Keyring → Amounts → Fpr → Looked
 look k roots fpr = record { fpr = fpr; stamp = stamp_at k fpr; amount = root_amount roots fpr }
 
--- The same is found there.
+-- the stamp and the amount are still those that were noted
 pub record IsStill (k : Keyring) (roots : Amounts) (looked : Looked) : Type 0 where
   pub stamp : stamp_at k looked.fpr ≡ looked.stamp
   pub amount : root_amount roots looked.fpr ≡ looked.amount
@@ -37,20 +37,19 @@ pub record IsStill (k : Keyring) (roots : Amounts) (looked : Looked) : Type 0 wh
 abbrev pub AreStill : Keyring → Amounts → List Looked → Type 0
 AreStill k roots looked = AllByRecursion (IsStill k roots) looked
 
--- An answer rests on these fingerprints; where there are none, on all that there is.
+-- the fingerprints that an answer depends on; None if it depends on the whole keyring
 abbrev pub Grounds : Type 0
 Grounds = Option (Vec Looked Global)
 
--- The answer rests on a few fingerprints, and the same is found at each.
+-- The answer depends on some fingerprints only, and all of them are unchanged.
 abbrev pub AllStill : Keyring → Amounts → Grounds → Type 0
 AllStill k roots grounds = IsSomeAnd grounds (λ (looked : Vec Looked Global). AreStill k roots looked.items)
 
--- Each of these leads to the target.
+-- each member of the set leads to the target
 abbrev pub AllLead : Record → Fpr → List Fpr → Type 0
 AllLead told target set = (fpr : Fpr) → Has set fpr → Leads told target fpr
 
--- Each of these led to the target when it was looked at: in the certification network of the keyring of that moment, of
--- which this one is a later one, and in which it had the stamp that is noted.
+-- Each fingerprint led to the target in an earlier keyring, in which it had the stamp that was noted.
 pub record AllLed (k : Keyring) (t : ℕ) (uid : List ℕ) (target : Fpr) (looked : List Looked) : Type 0 where
   pub before : Keyring
   pub later : IsLater before k
@@ -60,45 +59,45 @@ pub record AllLed (k : Keyring) (t : ℕ) (uid : List ℕ) (target : Fpr) (looke
 
 -- ---- one answer
 
--- This is its question.
+-- the question that a kept answer is for
 pub record IsOf (a : KeptAnswer) (asked : Fpr) (most : ℕ) (text : List ℕ) (t : ℕ) : Type 0 where
   pub target : a.target ≡ asked
   pub wanted : a.wanted ≡ most
   pub uid : a.uid ≡ text
   pub time : a.time ≡ t
 
--- the question in a keyring as it is, from these roots
+-- its question, in this keyring and from these roots
 abbrev pub question_at : Keyring → Amounts → KeptAnswer → Question
 question_at k roots a = asks (record_of (certificates_in k) k.verdicts a.time a.uid) roots a.target
 
--- It is the answer to its question.
+-- the paths are the answer to its question
 abbrev pub Answers : Keyring → Amounts → KeptAnswer → Type 0
 Answers k roots a = IsAnswer (question_at k roots a) a.wanted a.answer.paths
 
--- The few fingerprints that it rests on are no more than its search had to look at: each led to the target.
+-- An answer depends on no more than its search had to look at: every fingerprint led to the target.
 abbrev pub RestsOnLeads : Keyring → KeptAnswer → Type 0
 RestsOnLeads k a = IfSome a.looked (λ (looked : Vec Looked Global). AllLed k a.time a.uid a.target looked.items)
 
--- It is the answer in this keyring and in every later one, from whatever roots, where the few that it rests on are
--- found as they were, and these led to the target.
+-- In this keyring and every later one, from any roots, this is the answer to its question as long as the fingerprints
+-- that it depends on are unchanged.
 pub record IsRight (k : Keyring) (a : KeptAnswer) : Type 0 where
   pub sum : a.answer.sum ≡ amount_of a.answer.paths
   pub answer : (later : Keyring) (roots : Amounts) → IsLater k later → AllStill later roots a.looked
       → Answers later roots a
   pub leads : RestsOnLeads k a
 
--- Where it was last found good at the count of changes and by the roots that there are now, it is the answer now.
+-- It is the current answer if it was last found valid at the current count of changes and turn of the roots.
 pub record IsGood (k : Keyring) (roots : Amounts) (turn : ℕ) (a : KeptAnswer) : Type 0 where
   pub counted : a.count ≤ k.changes
   pub turned : a.turn ≤ turn
   pub now : a.count ≡ k.changes → a.turn ≡ turn → Answers k roots a
 
--- It is the answer by these roots, and was found good at the present count of changes.
+-- It is the answer from these roots, found valid at a count of changes that isn't in the future.
 pub record IsFound (k : Keyring) (roots : Amounts) (a : KeptAnswer) : Type 0 where
   pub counted : a.count ≤ k.changes
   pub now : Answers k roots a
 
--- Nothing but when it was last found good is another.
+-- only the count and the turn at which it was last found valid differ
 abbrev pub IsSameBut : KeptAnswer → KeptAnswer → Type 0
 IsSameBut old new = new ≡ record old { count = new.count; turn = new.turn }
 
@@ -107,29 +106,30 @@ IsSameBut old new = new ≡ record old { count = new.count; turn = new.turn }
 abbrev pub Entries : Type 0
 Entries = List (ℕ × KeptAnswer)
 
--- They are right, and good by these roots where they were last found so by them.
+-- Every kept answer is right, and valid if it was last found so at this turn of the roots.
 abbrev pub AreRight : Keyring → Amounts → ℕ → Entries → Type 0
 AreRight k roots turn entries = AllByRecursion (λ (e : ℕ × KeptAnswer). IsRight k e.1 × IsGood k roots turn e.1) entries
 
--- They are right afterwards, wherever they were before.
+-- The operation keeps every answer right.
 abbrev pub StayRight : Entries → Entries → Type 0
 StayRight old new =
     (k : Keyring) (roots : Amounts) (turn : ℕ) → AreRight k roots turn old → AreRight k roots turn new
 
--- So they are with this answer more, where it is right and good too.
+-- The operation keeps every answer right if the added answer is right and valid.
 abbrev pub StayRightWith : KeptAnswer → Entries → Entries → Type 0
 StayRightWith a old new = (k : Keyring) (roots : Amounts) (turn : ℕ) → AreRight k roots turn old
     → IsRight k a → IsGood k roots turn a → AreRight k roots turn new
 
--- how many fingerprints are kept with an answer
+-- how many fingerprints an answer depends on
 abbrev pub looked_in : KeptAnswer → ℕ
 looked_in a = option_map_or (λ (looked : Vec Looked Global). length looked.items) a.looked 0
 
--- for one that may be there
+-- the number for an answer that may be missing
 abbrev pub looked_by : Option KeptAnswer → ℕ
 looked_by found = option_map_or looked_in found 0
 
--- There are few of them, and few fingerprints are kept with all together, which are counted.
+-- the limits of what is kept for one view: 1,024 answers, and 2^20 consulted fingerprints, of which `looked` is the
+-- count
 pub record AreFew (entries : Entries) (looked : ℕ) : Type 0 where
   pub few : length entries ≤ 1024
   pub counted : sum_by looked_in (values_of entries) ≡ looked
@@ -137,8 +137,8 @@ pub record AreFew (entries : Entries) (looked : ℕ) : Type 0 where
 
 -- ---- a table of reach
 
--- Where the making was begun at the count of changes and for the roots that there are now, it is one of the reach from
--- these roots, by what the certificates and verdicts tell at its time.
+-- If it was begun at the current count of changes and for the current roots, it is a table of their reach in the
+-- making, by the certificates and verdicts at its time.
 pub record IsReaching (k : Keyring) (roots : Amounts) (turn : ℕ) (r : KeptReach) : Type 0 where
   pub counted : r.count ≤ k.changes
   pub turned : r.turn ≤ turn
@@ -147,8 +147,8 @@ pub record IsReaching (k : Keyring) (roots : Amounts) (turn : ℕ) (r : KeptReac
 
 -- ---- answers by view
 
--- the answers of a view, with the roots by which they were last found good, how often these became others, and the
--- table of reach, if there is one
+-- the answers of a view, the roots by which they were last found valid, the turn of those roots, and the table of reach
+-- if one exists
 pub record OfView : Type 0 where
   pub entries : Entries
   pub roots : Amounts
@@ -159,11 +159,11 @@ pub record AreRightIn (k : Keyring) (of_view : OfView) : Type 0 where
   pub each : AreRight k of_view.roots of_view.turn of_view.entries
   pub reach : IfSome of_view.reach (IsReaching k of_view.roots of_view.turn)
 
--- answers by the names of views
+-- answers by view name
 abbrev pub AllAnswers : Type 0
 AllAnswers = List (List ℕ × OfView)
 
--- Of the views for which nothing was kept, only this one may have something kept now.
+-- only the named view may have answers that it didn't have before
 abbrev pub KeepsFor : List ℕ → AllAnswers → AllAnswers → Type 0
 KeepsFor name old new =
     (other : List ℕ) → is_name other name ≡ false → lookup (is_name other) old ≡ None

@@ -1,4 +1,5 @@
--- A basis: what the answers to some questions rest on, by which it is known without asking again that they still stand.
+-- A basis: what the answers to some questions depend on. While it is undisturbed they still hold, so they needn't be
+-- asked again.
 use Rattle.std.specs.Prelude.{◌≡◌, ◌<◌, ◌≤◌, ◌⊎◌, ℕ, Bool, true, false, List, [], Option, None}
 use Rattle.std.specs.List.{AllByRecursion, list_any}
 use Rattle.wot_types.specs.declared.fpr.Fpr.{Fpr}
@@ -16,136 +17,136 @@ use Rattle.wot_cache.specs.State.{Engine}
 use Rattle.wot_cache.specs.Turns.{IsOneClosing, IsOneTurn, Turns}
 use Rattle.wot_cache.specs.Views.{Views, is_name, view_at}
 
--- The counts of changes and of turns at which the answers were found, the fingerprints that they rest on, and whether
--- one of them rests on all that there is.
+-- the counts of changes and of turns at which the answers were found, the fingerprints that they depend on, and whether
+-- one of them depends on the whole keyring
 pub record Basis : Type 0 where
   pub changes : ℕ
   pub turns : ℕ
   pub fprs : List Fpr
   pub whole : Bool
 
--- the basis of no answers, at the counts of now
+-- the basis of no answers, at the current counts
 abbrev pub empty_at : Engine → Basis
 empty_at engine = record { changes = engine.keyring.changes; turns = engine.turns.count; fprs = []; whole = false }
 
--- Its counts are those of now.
+-- its counts are the current ones
 pub record IsPresent (engine : Engine) (basis : Basis) : Type 0 where
   pub changes : basis.changes ≡ engine.keyring.changes
   pub turns : basis.turns ≡ engine.turns.count
 
--- whether a fingerprint is among them
+-- whether the basis has a fingerprint
 abbrev pub is_in : Fpr → List Fpr → Bool
 is_in fpr fprs = list_any (is_fpr fpr) fprs
 
--- All of the first are among the others.
+-- the second list has all members of the first
 abbrev pub Includes : List Fpr → List Fpr → Type 0
 Includes old new = (fpr : Fpr) → is_in fpr old ≡ true → is_in fpr new ≡ true
 
--- All that was looked at is among them.
+-- all fingerprints that were consulted are in the list
 abbrev pub AllIn : List Fpr → List Looked → Type 0
 AllIn fprs looked = AllByRecursion (λ (l : Looked). is_in l.fpr fprs ≡ true) looked
 
--- None of them is listed as changed.
+-- none of the list's members is in the log of changes
 abbrev pub IsFreeOf : List Fpr → Logged → Type 0
 IsFreeOf fprs changed = (fpr : Fpr) → is_in fpr fprs ≡ true → is_listed fpr changed ≡ false
 
--- At the same counts it rests on all that the first one rests on.
+-- the new basis has the old counts and everything that the old one depends on
 pub record HasGrown (old new : Basis) : Type 0 where
   pub changes : new.changes ≡ old.changes
   pub turns : new.turns ≡ old.turns
   pub fprs : Includes old.fprs new.fprs
   pub whole : old.whole ≡ true → new.whole ≡ true
 
--- ---- how an engine goes on
+-- ---- how an engine develops
 
--- Nothing was altered at a fingerprint, or the stamp there is one that was never given before.
+-- A fingerprint is unaltered, or it has a stamp that was never given before.
 abbrev pub IsKeptAt : Keyring → Keyring → Fpr → Type 0
 IsKeptAt old new fpr = IsUnaltered old new fpr ⊎ (old.changes < stamp_at new fpr)
 
--- No change is forgotten and no certificate is gone. Where there was no change, nothing is another.
+-- The count of changes doesn't fall and no certificate is removed. If the count is unchanged, so is the keyring.
 pub record IsKeyringOn (old new : Keyring) : Type 0 where
   pub counted : old.changes ≤ new.changes
   pub at : (fpr : Fpr) → IsKeptAt old new fpr
   pub same : new.changes ≡ old.changes → new ≡ old
 
--- It is as it was, or closed.
+-- the view is unchanged, or closed
 abbrev pub IsSameOrClosed : Option View → Option View → Type 0
 IsSameOrClosed old new = (new ≡ old) ⊎ (new ≡ None)
 
--- No turn is forgotten. Where there was none, no view is open that wasn't, and none has become another.
+-- The count of turns doesn't fall. If it is unchanged, each view is unchanged or closed.
 pub record AreViewsOn (old : Views) (before : Turns) (new : Views) (after : Turns) : Type 0 where
   pub counted : before.count ≤ after.count
   pub each : after.count ≡ before.count → (name : List ℕ) → IsSameOrClosed (view_at old name) (view_at new name)
 
--- What an engine is after some lines of which none takes a certificate out.
+-- the engine after any number of lines that remove no certificate
 pub record IsKeptOn (old new : Engine) : Type 0 where
   pub keyring : IsKeyringOn old.keyring new.keyring
   pub views : AreViewsOn old.views old.turns new.views new.turns
 
--- The other views are as they were.
+-- all other views are unchanged
 abbrev pub OtherViewsStay : List ℕ → Views → Views → Type 0
 OtherViewsStay name old new = (other : List ℕ) → is_name name other ≡ false → view_at new other ≡ view_at old other
 
--- ---- what rests on a basis
+-- ---- what depends on a basis
 
--- None of these has a stamp above the count.
+-- no member's stamp is above the count
 abbrev pub AreCalm : Keyring → ℕ → List Fpr → Type 0
 AreCalm k count fprs = (fpr : Fpr) → is_in fpr fprs ≡ true → stamp_at k fpr ≤ count
 
--- Nothing that the answers rest on was altered since.
+-- nothing that the answers depend on was altered since
 pub record IsUndisturbed (later : Engine) (basis : Basis) : Type 0 where
   pub turns : later.turns.count ≡ basis.turns
   pub calm : AreCalm later.keyring basis.changes basis.fprs
   pub whole : basis.whole ≡ true → later.keyring.changes ≡ basis.changes
 
--- That is the amount of the answer.
+-- the amount of the answer to this question
 abbrev pub HasAmount : ℕ → ℕ → Question → Type 0
 HasAmount wanted amount q = (paths : List Path) × IsAnswer q wanted paths × (amount ≡ amount_of paths)
 
--- the question in this keyring, seen from a view
+-- the question in this keyring, from a view
 abbrev pub question_on : Keyring → View → Fpr → List ℕ → Question
 question_on k view target uid = asks (record_of (certificates_in k) k.verdicts view.time uid) view.roots target
 
--- That is the amount of the answer from a view, for as long as none of these has a stamp above the count.
+-- This is the amount of the answer from a view, as long as no member's stamp is above the count.
 abbrev pub RestsAt : Keyring → ℕ → List Fpr → View → Fpr → ℕ → List ℕ → ℕ → Type 0
 RestsAt k count fprs view target wanted uid amount =
     (later : Keyring) → IsKeyringOn k later → AreCalm later count fprs
     → HasAmount wanted amount (question_on later view target uid)
 
--- That is the amount of the answer from the view of a name for as long as it is open and the basis is undisturbed,
--- however the engine goes on.
+-- This is the amount of the answer from the named view as long as the view is open and the basis undisturbed, however
+-- the engine develops.
 abbrev pub RestsOn : Engine → Basis → List ℕ → Fpr → ℕ → List ℕ → ℕ → Type 0
 RestsOn engine basis name target wanted uid amount =
     (later : Engine) → IsKeptOn engine later → IsUndisturbed later basis
     → OfQuestion later name target uid (HasAmount wanted amount)
 
--- What rests on the one basis rests on the other, however the engine goes on.
+-- every answer that depends on the old basis depends on the new one, however the engine develops
 abbrev pub CarriesOn : Engine → Basis → Basis → Type 0
 CarriesOn engine old new = (later : Engine) → IsKeptOn engine later → IsUndisturbed later new → IsUndisturbed later old
 
 -- ---- laws
 
--- What rests on a basis rests on it whatever more rests on it.
+-- An answer that depends on a basis still depends on it after the basis grows.
 abbrev pub RestsOnMore : Type 0
 RestsOnMore =
     (engine : Engine) (old new : Basis) (name : List ℕ) (target : Fpr) (wanted : ℕ) (uid : List ℕ) (amount : ℕ)
     → HasGrown old new → RestsOn engine old name target wanted uid amount
     → RestsOn engine new name target wanted uid amount
 
--- What rests on a basis rests on it later too.
+-- An answer that depends on a basis still does in every later engine.
 abbrev pub RestsOnLater : Type 0
 RestsOnLater =
     (old new : Engine) (basis : Basis) (name : List ℕ) (target : Fpr) (wanted : ℕ) (uid : List ℕ) (amount : ℕ)
     → IsKeptOn old new → RestsOn old basis name target wanted uid amount
     → RestsOn new basis name target wanted uid amount
 
--- A view that becomes another, or is opened, has a turn.
+-- A view that is opened or changed gets a turn.
 abbrev pub TurnGoesOn : Type 0
 TurnGoesOn =
     (name : List ℕ) (old new : Views) (before after : Turns) → OtherViewsStay name old new
     → IsOneTurn name old before new after → AreViewsOn old before new after
 
--- One that is closed is open no more.
+-- A view that is closed is no longer open.
 abbrev pub ClosingGoesOn : Type 0
 ClosingGoesOn =
     (name : List ℕ) (old new : Views) (before after : Turns) → OtherViewsStay name old new

@@ -1,4 +1,4 @@
--- The commands that make a state anew.
+-- The commands that restore a state.
 use Rattle.std.specs.Prelude.{◌≡◌, ℕ, List, [], ◌∷◌, ◌++◌, map, Option, Some, None, IsSomeAnd}
 use Rattle.std.specs.List.{AllByRecursion, flat_map}
 use Rattle.std.specs.List.Sorted.{IsStrictlySortedBy}
@@ -23,57 +23,57 @@ use Rattle.wot_cache.specs.State.{Engine, State, start, state_of, with_held, roo
 abbrev pub root_of : List ℕ → Fpr × ℕ → Command
 root_of view root = Root view root.0 root.1
 
--- a view's time, then its roots
+-- a view's time, followed by its roots
 abbrev pub view_commands : List ℕ × View → List Command
 view_commands e = Time e.0 e.1.time ∷ map (root_of e.0) e.1.roots
 
--- what is held, then the views by name with their roots by fingerprint
+-- the keyring's commands, followed by the views by name, each with its roots by fingerprint
 abbrev pub commands_of : State → List Command
 commands_of s = keyrings.commands_of s.held ++ flat_map view_commands s.views
 
--- ---- what the commands do in a fresh engine
+-- ---- running the commands in a fresh engine
 
 abbrev pub unless_refused : Option ViewFault → State → Option State
 unless_refused (Some fault) new = None
 unless_refused None new = Some new
 
--- the state after a command that isn't refused
+-- the state after a command; None if the command is refused
 abbrev pub after : PolicyRows → Limits → Command → State → Option State
 after rows l (Time view t) s = unless_refused (time_fault l s.views view) (timing view t s)
 after rows l (Root view fpr amount) s =
     unless_refused (root_fault l (view_at s.views view) fpr amount) (rooting view fpr amount s)
 after rows l command s = option_map (with_held s) (keyrings.after rows l command s.held)
 
--- The new state has all of the old one that a dump carries over: what is held, judged by the rows, and the views.
+-- The new state is the old one, with certificates and verdicts judged by the new policy rows.
 pub record CarriesOver (rows : PolicyRows) (old new : State) : Type 0 where
   pub held : new.held ≡ judged_by rows old.held
   pub views : new.views ≡ old.views
 
--- an engine with this keyring and these views, of which nothing was asked
+-- an engine with this keyring and these views that hasn't been asked anything
 abbrev pub engine_of : Keyring → Views → Engine
 engine_of keyring views = record { keyring = keyring; views = views; marks = []; turns = no_turns }
 
--- the commands of an engine with this keyring and these views
+-- the commands of such an engine
 abbrev pub commands_over : Keyring → Views → List Command
 commands_over keyring views = commands_of (state_of (engine_of keyring views))
 
--- The commands, run in a fresh engine with the same limits, carry its state over, and none is refused.
+-- No command is refused in a fresh engine with the same limits, and together they restore the engine's state.
 abbrev pub IsRestored : PolicyRows → Engine → Type 0
 IsRestored rows engine =
     IsSomeAnd (after_all (after rows engine.keyring.limits) (commands_of (state_of engine)) (Some start))
     (CarriesOver rows (state_of engine))
 
--- ---- what is true of all views
+-- ---- properties of all views
 
--- The names rise, so that none stands twice.
+-- the names are in strictly ascending order
 abbrev pub AreSortedByName : Views → Type 0
 AreSortedByName views = IsStrictlySortedBy view_name_cmp (keys_of views)
 
--- The roots of each are in order, and none has the amount 0.
+-- each view's roots are in order, with positive amounts
 abbrev pub HaveRoots : Views → Type 0
 HaveRoots views = AllByRecursion (λ (e : List ℕ × View). IsRoots e.1.roots) views
 
--- What is known of an engine from whose keyring and views the commands were made.
+-- what holds of an engine from which a dump is made
 pub record IsDumped (rows : PolicyRows) (engine : Engine) : Type 0 where
   pub keyring : keyrings.IsRestored rows engine.keyring
   pub within : IsWithin engine.keyring.limits engine.views

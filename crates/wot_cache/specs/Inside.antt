@@ -1,4 +1,4 @@
--- What is true of every engine: of its keyring, its views, and the networks that it keeps for them.
+-- What holds of every engine: its keyring, its views, and the networks that it keeps for them.
 use Rattle.std.specs.Prelude.{◌≡◌, ℕ, List, Option, None, IsSomeAnd}
 use Rattle.std.specs.List.{AllByRecursion}
 use Rattle.std.specs.Map.{lookup}
@@ -10,18 +10,18 @@ use Rattle.wot_cache.specs.Answers.{AllAnswers, AreAllRight}
 use Rattle.wot_cache.specs.Turns.{Turns, AreTurnsOf}
 use Rattle.wot_cache.specs.Views.{Views, IsWithin, is_name, view_at}
 
--- networks by the names of views
+-- networks by view name
 abbrev pub Networks : Type 0
 Networks = List (List ℕ × Net)
 
 abbrev pub AllFit : Networks → Keyring → Type 0
 AllFit networks k = AllByRecursion (λ (e : List ℕ × Net). Fits e.1 k) networks
 
--- the network that is kept for a view
+-- the network of a view
 abbrev pub network_at : Networks → List ℕ → Option Net
 network_at networks name = lookup (is_name name) networks
 
--- What is kept by the names of views is kept for open views alone.
+-- only open views have an entry
 abbrev pub AreOfOpen : {X : Type 0} → Views → List (List ℕ × X) → Type 0
 AreOfOpen views kept = (name : List ℕ) → view_at views name ≡ None → lookup (is_name name) kept ≡ None
 
@@ -35,7 +35,7 @@ pub record IsEngine (k : Keyring) (views : Views) (networks : Networks) (answers
   pub right : AreAllRight k answers
   pub turned : AreTurnsOf views turns
 
--- There is one for an open view: that of the keyring as it is, at the view's time.
+-- the view is open and its network is up to date: it is for the current keyring at the view's time
 abbrev pub IsReady : Keyring → Views → Networks → List ℕ → Type 0
 IsReady k views networks name =
     IsSomeAnd (view_at views name) (λ (v : View).

@@ -1,4 +1,5 @@
--- Marks: for which certificates a view's network has lines, and until when they stand. No answer depends on them.
+-- Marks: which certificates have records in a view's network, and until when these are valid. No answer depends on
+-- them.
 use Rattle.std.specs.Prelude.{◌≡◌, ◌≤◌, ◌+◌, ◌-◌, ◌^◌, ℕ, false, cond, min, List, [], map}
 use Rattle.std.specs.Prelude.{Result, Option, None, IfSome, OnOk}
 use Rattle.std.specs.Map.{lookup}
@@ -15,7 +16,7 @@ use Rattle.wot_cache.specs.Views.{Views, is_name, view_at}
 abbrev pub marks_by : Option Net → Marks
 marks_by found = option_map_or (λ (n : Net). marks_of n.lines) found []
 
--- the marks of a view; a view of which nothing was asked yet has none
+-- the marks of a view's network; none before the first question
 abbrev pub marks_in : Networks → List ℕ → Marks
 marks_in networks name = marks_by (network_at networks name)
 
@@ -23,20 +24,20 @@ marks_in networks name = marks_by (network_at networks name)
 abbrev pub marks_shown : Networks → ViewMarks
 marks_shown networks = map (λ (e : List ℕ × Net). (e.0, marks_of e.1.lines)) networks
 
--- what an engine that keeps these is seen as
+-- what contracts see of an engine that keeps these
 abbrev pub shown : Keyring → Views → Networks → Turns → Engine
 shown k views networks turns = record { keyring = k; views = views; marks = marks_shown networks; turns = turns }
 
--- What is kept by that name is gone, and the rest is as it was.
+-- the entry of this name is gone, and the others are unchanged
 abbrev pub IsForgotten : {X : Type 0} → List ℕ → List (List ℕ × X) → List (List ℕ × X) → Type 0
 IsForgotten name old new =
     (other : List ℕ) → lookup (is_name other) new ≡ cond (is_name name other) None (lookup (is_name other) old)
 
--- The networks of other views are as they were.
+-- the networks of other views are unchanged
 abbrev pub OthersStay : List ℕ → Networks → Networks → Type 0
 OthersStay name old new = (other : List ℕ) → is_name name other ≡ false → network_at new other ≡ network_at old other
 
--- Edges were made of the certificates that were stale, and of no others.
+-- edges were made exactly for the certificates that were stale
 pub record IsMadeFor {T E : Type 0}
     (result : Result T E) (k : Keyring) (t : ℕ) (old new : Marks) (before after : ℕ) : Type 0 where
   pub marks : OnOk result (AreMarksOf new k t)
@@ -45,29 +46,29 @@ pub record IsMadeFor {T E : Type 0}
   pub most : after ≤ before + stale_signatures old t k
   pub never_less : before ≤ after
 
--- So it is of the network of a view among these.
+-- the network of the named view was refreshed so
 abbrev pub IsMadeIn : {T E : Type 0} → Result T E → List ℕ → Keyring → ℕ → Networks → Networks → ℕ → ℕ → Type 0
 IsMadeIn result name k t old new before after =
     IsMadeFor result k t (marks_in old name) (marks_in new name) before after
 
--- So it is at the view's time, where it is open.
+-- it was refreshed at the view's time, if the view is open
 abbrev pub IsMadeOver : {T E : Type 0} → Result T E → List ℕ → Networked → Networked → ℕ → ℕ → Type 0
 IsMadeOver result name old new before after =
     IfSome (view_at old.views.entries name) (λ (v : View).
     IsMadeIn result name old.keyring v.time old.networks.entries new.networks.entries before after)
 
--- Where the view isn't open nothing is made.
+-- nothing is made if the view isn't open
 abbrev pub IsUnmade : List ℕ → Networked → Networked → ℕ → ℕ → Type 0
 IsUnmade name old new before after =
     view_at old.views.entries name ≡ None → (new.networks.entries ≡ old.networks.entries) × (after ≡ before)
 
--- Edges were made for a view, where it is open.
+-- edges were made for the view, if it is open
 abbrev pub IsMadeFrom : {T E : Type 0} → Result T E → List ℕ → Engine → Engine → ℕ → ℕ → Type 0
 IsMadeFrom result name old new before after =
     IfSome (view_at old.views name) (λ (v : View).
     IsMadeFor result old.keyring v.time (marks_at old name) (marks_at new name) before after)
 
--- What a question from a view does to an engine, whatever it answers. Where the view isn't open nothing is made.
+-- What a question from a view does to an engine, whatever its answer. If the view isn't open, nothing is made.
 pub record IsRefreshed {T E : Type 0}
     (result : Result T E) (name : List ℕ) (old new : Engine) (before after : ℕ) : Type 0 where
   pub stays : StaysButMarks old new

@@ -1,4 +1,4 @@
--- What is asked from a view, and what is said of an answer.
+-- The question from a view, and what is claimed of its answer.
 use Rattle.std.specs.Prelude.{◌≡◌, ◌≤◌, ◌↔◌, ℕ, List, [], IfSome}
 use Rattle.wot_types.specs.declared.fpr.Fpr.{Fpr}
 use Rattle.wot_edge.specs.declared.path.Path.{Path}
@@ -17,12 +17,12 @@ use Rattle.wot_cache.specs.declared.view.View.{View}
 use Rattle.wot_cache.specs.State.{Engine, State, state_of}
 use Rattle.wot_cache.specs.Views.{view_at}
 
--- The question how far a user ID belongs to the target, seen from a view: by the certification network of the present
--- certificates and verdicts at the view's time, and by the view's roots.
+-- The question with which confidence a user ID belongs to the target, from a view: over the certification network of
+-- the current certificates and verdicts at the view's time, from the view's roots.
 abbrev pub question_in : State → View → Fpr → List ℕ → Question
 question_in s view target uid = asks (record_of s.held.certs s.held.verdicts view.time uid) view.roots target
 
--- That is so of the question from this view, where it is open.
+-- P holds of the question from this view, if it is open
 abbrev pub OfQuestion : Engine → List ℕ → Fpr → List ℕ → (Question → Type 0) → Type 0
 OfQuestion engine name target uid P =
     IfSome (view_at engine.views name) (λ (v : View). P (question_in (state_of engine) v target uid))
@@ -31,33 +31,34 @@ OfQuestion engine name target uid P =
 abbrev pub asked_over : Present → List (Fpr × ℕ) → Fpr → List ℕ → Question
 asked_over p roots target uid = asks (told_of p uid) roots target
 
--- the keyring and the time of these parts
+-- the keyring and the time of the parts
 abbrev pub present_in : Parts → Present
 present_in p = record { keyring = p.keyring.now; time = p.t }
 
--- the question over these parts
+-- the question over the parts
 abbrev pub asked_of : Parts → Fpr → List ℕ → Question
 asked_of p target uid = asked_over (present_in p) p.roots.now target uid
 
--- What the roads tell is told by the keyring's certificates and verdicts at a time, each part by a few of them.
+-- the network that the roads show is that of the keyring's certificates and verdicts at a time, and each part of it
+-- depends on a few of them
 abbrev pub IsLocalTo : Keyring → ℕ → Present → Type 0
 IsLocalTo k t p = IsLocal (certificates_in k) k.verdicts t (told_of p)
 
 -- ---- answers
 
--- No other list of paths is an answer.
+-- no other list of paths is an answer
 abbrev pub IsOnlyAnswer : Question → ℕ → List Path → Type 0
 IsOnlyAnswer q wanted paths = (others : List Path) → IsAnswer q wanted others → others ≡ paths
 
--- The amount is 0 exactly where there is no valid path of positive amount at all.
+-- The amount is 0 exactly if no valid path of positive amount exists.
 abbrev pub TellsSpent : Question → ℕ → Type 0
 TellsSpent q amount = (amount ≡ 0) ↔ IsSpent q (use_of [])
 
--- All paths together take no more of a root than its amount.
+-- all paths together take from each root at most its amount
 abbrev pub AreWithinRoots : List (Fpr × ℕ) → List Path → Type 0
 AreWithinRoots roots paths = (fpr : Fpr) → (use_of paths).root fpr ≤ root_amount roots fpr
 
--- All that is said of an answer.
+-- everything that is claimed of an answer
 pub record IsTold (q : Question) (wanted : ℕ) (a : Answer) : Type 0 where
   pub answer : IsAnswer q wanted a.paths
   pub one : IsOnlyAnswer q wanted a.paths
@@ -66,6 +67,6 @@ pub record IsTold (q : Question) (wanted : ℕ) (a : Answer) : Type 0 where
   pub pairs : AllFit [] a.paths
   pub roots : AreWithinRoots q.roots a.paths
 
--- They are the answer to each question that agrees with this one on a set of fingerprints.
+-- these paths answer every question that agrees with this one on the set
 abbrev pub IsAnswerAround : Question → ℕ → List Path → List Fpr → Type 0
 IsAnswerAround q wanted paths set = (other : Question) → Agree q other set → IsAnswer other wanted paths

@@ -1,4 +1,4 @@
--- The state: what is kept between two lines, and what changes it.
+-- The state: what lasts from one line to the next, and how it changes.
 use Rattle.std.specs.Prelude.{◌≡◌, ℕ, false, List, []}
 use Rattle.std.specs.List.{AllByRecursion}
 use Rattle.std.specs.Map.{lookup}
@@ -14,8 +14,8 @@ use Rattle.wot_network.specs.Net.{Marks}
 use Rattle.wot_cache.specs.Turns.{Turns, no_turns}
 use Rattle.wot_cache.specs.Views.{Views, is_name, with_time, with_root, without_view}
 
--- What is held, and the open views by name. Stamps, counts of changes and kept rows are no part of it: no answer
--- depends on them.
+-- What is held, and the open views by name. Stamps, counts of changes and cached policy rows aren't part of it, since
+-- no answer depends on them.
 pub record State : Type 0 where
   pub held : Held
   pub views : Views
@@ -24,42 +24,42 @@ pub record State : Type 0 where
 abbrev pub start : State
 start = record { held = nothing; views = [] }
 
--- A state that can be: each certificate stands under the fingerprint of its key.
+-- a well-formed state: each certificate is filed under the fingerprint of its primary key
 abbrev pub IsState : State → Type 0
 IsState s = AllByRecursion (λ (e : Fpr × Certificate). e.0 ≡ fpr_of e.1.key) s.held.certs
 
 -- ---- changes
 
--- with this held
+-- the state with what is held replaced
 abbrev pub with_held : State → Held → State
 with_held s held = record s { held = held }
 
--- with a view open and at this time
+-- the state with a view open at this time
 abbrev pub timing : List ℕ → ℕ → State → State
 timing view t s = record s { views = with_time s.views view t }
 
--- with this root amount in a view
+-- the state with this root amount in a view
 abbrev pub rooting : List ℕ → Fpr → ℕ → State → State
 rooting view fpr amount s = record s { views = with_root s.views view fpr amount }
 
--- without a view
+-- the state without a view
 abbrev pub closing : List ℕ → State → State
 closing view s = record s { views = without_view s.views view }
 
 -- ---- engines
 
--- marks by the names of views
+-- marks by view name
 abbrev pub ViewMarks : Type 0
 ViewMarks = List (List ℕ × Marks)
 
--- what an engine is seen as: its keyring, its views, the marks of each view of which something was asked, and turns
+-- what contracts see of an engine: its keyring, its views, the marks of each view that was asked something, and turns
 pub record Engine : Type 0 where
   pub keyring : Keyring
   pub views : Views
   pub marks : ViewMarks
   pub turns : Turns
 
--- an engine that holds nothing
+-- an empty engine
 abbrev pub empty : Limits → Engine
 empty limits = record { keyring = keyrings.empty limits; views = []; marks = []; turns = no_turns }
 
@@ -71,17 +71,17 @@ marks_at engine name = unwrap_or (lookup (is_name name) engine.marks) []
 abbrev pub state_of : Engine → State
 state_of engine = record { held = held_of engine.keyring; views = engine.views }
 
--- All but marks is as it was: the certificates with their marks of admission, the verdicts, stamps and the count of
--- changes, and the open views with their times, roots and turns.
+-- All but the marks is unchanged: certificates with their stamps of admission, verdicts, the count of changes, and the
+-- open views with their times, roots and turns.
 pub record StaysButMarks (old new : Engine) : Type 0 where
   pub keyring : new.keyring ≡ old.keyring
   pub views : new.views ≡ old.views
   pub turns : new.turns ≡ old.turns
 
--- The marks of other views are as they were.
+-- the marks of other views are unchanged
 abbrev pub OtherMarksStay : List ℕ → Engine → Engine → Type 0
 OtherMarksStay name old new = (other : List ℕ) → is_name name other ≡ false → marks_at new other ≡ marks_at old other
 
--- What this change makes of what was held is held now; the views stay.
+-- what is held changes so; the views stay
 abbrev pub IsStateAfter : (Held → Held) → Engine → Engine → Type 0
 IsStateAfter change old new = state_of new ≡ with_held (state_of old) (change (held_of old.keyring))

@@ -30,13 +30,13 @@ use wot_keyring::laws::later_is_order;
 use wot_search::{Consulted, Making, Reach};
 use wot_types::{Fpr, Memory, UserId};
 
-/// How many answers a view keeps.
+/// The most answers that a view keeps.
 const MOST: usize = 1024;
 
-/// How many consulted fingerprints they have together.
+/// The most consulted fingerprints that a view keeps with its answers.
 const MOST_LOOKED: usize = 1_048_576;
 
-/// A consulted fingerprint, with its stamp in the keyring and its amount as a root.
+/// A consulted fingerprint, with its stamp in the keyring and its amount as a root (0 if it is none).
 #[derive(Clone, Copy)]
 pub struct Looked {
     pub fpr: Fpr,
@@ -44,8 +44,8 @@ pub struct Looked {
     pub amount: u8,
 }
 
-/// A question from a view at a time, its answer, and the fingerprints that were consulted for it; none where it was
-/// found within a table of reach, which rests on all that there is.
+/// A question from a view at a time, its answer, and the fingerprints that were consulted for it. `looked` is None if a
+/// table of reach was used: then the answer depends on the whole keyring.
 #[derive(Drop)]
 pub struct KeptAnswer {
     pub key: u64,
@@ -55,14 +55,14 @@ pub struct KeptAnswer {
     pub time: u32,
     pub looked: Option<Vec<Looked>>,
     pub answer: Answer,
-    /// The count of changes at which it was last found good.
+    /// The count of changes at which the answer was last found valid.
     pub count: u64,
-    /// The turn of the view's roots by which it was.
+    /// The turn of the view's roots at which it was.
     pub turn: u64,
 }
 
 impl KeptAnswer {
-    /// Whether this is the question.
+    /// Whether this is its question.
     pub fn is_of(&self, target: &Fpr, wanted: u32, uid: &[u8], time: u32) -> bool
         ensures same { result ≡ true → IsOf self.now target.now wanted uid.now time }
     {
@@ -72,8 +72,8 @@ impl KeptAnswer {
             && self.uid.octets() == uid
     }
 
-    /// Whether it still stands: the stamps and the root amounts are what they were. Nothing is compared where no change
-    /// was counted and no root became another one since this was last found so.
+    /// Whether the answer still holds: no stamp and no root amount changed. Nothing is compared if neither the count of
+    /// changes nor the turn of the roots changed since it was last found valid.
     fn is_good(&mut self, keyring: &Keyring, roots: &Roots, turn: u64) -> bool
         requires right { IsRight keyring.now self.old }
         requires good { IsGood keyring.now roots.now turn self.old }
@@ -94,8 +94,8 @@ impl KeptAnswer {
         true
     }
 
-    /// The answer, where it is one to this question and all that it rests on is as it was. None also where no memory
-    /// is found.
+    /// The answer, if it is for this question and everything that it depends on is unchanged. None also when out of
+    /// memory.
     fn give(
         &mut self,
         parts: &Parts<'_>,
@@ -124,7 +124,7 @@ impl KeptAnswer {
     }
 }
 
-/// Whether there are such fingerprints, and their stamps and root amounts are what they were.
+/// Whether the answer depends on some fingerprints only, with unchanged stamps and root amounts.
 fn all_still(grounds: &Option<Vec<Looked>>, keyring: &Keyring, roots: &Roots) -> bool
     ensures still { result ≡ true → AllStill keyring.now roots.now grounds.now }
 {
@@ -134,7 +134,7 @@ fn all_still(grounds: &Option<Vec<Looked>>, keyring: &Keyring, roots: &Roots) ->
     }
 }
 
-/// Whether the stamps and the root amounts are what they were.
+/// Whether all stamps and root amounts are unchanged.
 pub fn are_still(looked: &[Looked], keyring: &Keyring, roots: &Roots) -> bool
     ensures still { result ≡ true → AreStill keyring.now roots.now looked.now }
 {
@@ -148,7 +148,7 @@ pub fn are_still(looked: &[Looked], keyring: &Keyring, roots: &Roots) -> bool
     true
 }
 
-/// The consulted fingerprints, with what is found at each.
+/// The consulted fingerprints, each with its stamp and its amount as a root.
 pub fn look_at(
     alloc: Global,
     consulted: &Consulted,
@@ -168,7 +168,7 @@ pub fn look_at(
 
 type Table = BTreeMap<u64, KeptAnswer, Global>;
 
-/// How many fingerprints are kept with an answer.
+/// The number of fingerprints that are kept with an answer.
 fn count_looked(answer: &KeptAnswer) -> usize
     ensures count { result ≡ looked_in answer.now }
 {
@@ -178,7 +178,7 @@ fn count_looked(answer: &KeptAnswer) -> usize
     }
 }
 
-/// Keeps an answer under its key, in place of an earlier one. Tells how many fingerprints that had.
+/// Keeps an answer under its key, where it replaces an earlier one. Returns the number of that one's fingerprints.
 fn replace(table: &mut Table, answer: KeptAnswer) -> Result<usize, Memory>
     ensures entries { OnOk result (table.new.entries ≡ insert_entry nat_cmp table.old.entries answer.key answer) }
     ensures earlier { IfOk result (λ count. count ≡ looked_by (lookup (is_at (nat_cmp answer.key)) table.old.entries)) }
@@ -193,8 +193,8 @@ fn replace(table: &mut Table, answer: KeptAnswer) -> Result<usize, Memory>
     }
 }
 
-/// Makes room for an answer with so many fingerprints: where it is one too many, or they are, all go. Tells how many
-/// fingerprints are left.
+/// Makes room for an answer with `count` fingerprints: if a limit would be passed, all answers are dropped. Returns the
+/// number of fingerprints that are left.
 fn make_room(table: &mut Table, looked: usize, count: usize) -> usize
     requires few { AreFew table.old.entries looked }
     requires count { count ≤ 1048576 }
@@ -210,7 +210,7 @@ fn make_room(table: &mut Table, looked: usize, count: usize) -> usize
     0
 }
 
-/// Adds an answer for which there is room. Tells how many fingerprints there are now.
+/// Adds an answer for which there is room. Returns the new number of fingerprints.
 fn add(table: &mut Table, looked: usize, answer: KeptAnswer) -> usize
     requires few { AreFew table.old.entries looked }
     requires room { length table.old.entries < 1024 }
@@ -246,7 +246,7 @@ fn give(
     }
 }
 
-/// How far the making of a table of reach has come, and when it was begun.
+/// A table of reach, or its making as far as it has come, and the count, turn and time for which it was begun.
 #[derive(Drop)]
 pub struct KeptReach {
     pub count: u64,
@@ -256,7 +256,7 @@ pub struct KeptReach {
 }
 
 impl KeptReach {
-    /// One that is of now, for the roots of this turn.
+    /// A making for the current keyring and time, and for the roots of this turn.
     fn new(parts: &Parts<'_>, turn: u64, making: Making) -> KeptReach
         requires making { IsMaking (told_of (present_in parts.now)) parts.now.roots.now making }
         ensures reaching { IsReaching parts.now.keyring.now parts.now.roots.now turn result }
@@ -269,7 +269,7 @@ impl KeptReach {
         }
     }
 
-    /// Whether it is of now, for the roots of this turn.
+    /// Whether it is for the current keyring and time, and for the roots of this turn.
     fn is_now(&self, parts: &Parts<'_>, turn: u64) -> bool
         requires reaching { IsReaching parts.now.keyring.now parts.now.roots.now turn self.now }
         ensures now { result ≡ true → IsMaking (told_of (present_in parts.now)) parts.now.roots.now self.now.making }
@@ -280,7 +280,7 @@ impl KeptReach {
         self.time == parts.t
     }
 
-    /// The table, where it is made and of now, for the roots of this turn.
+    /// The table, if it is finished, current, and for the roots of this turn.
     fn give(&self, parts: &Parts<'_>, turn: u64) -> Option<&Reach>
         requires reaching { IsReaching parts.now.keyring.now parts.now.roots.now turn self.now }
         ensures reach { IfSome result (λ r. IsReach (told_of (present_in parts.now)) parts.now.roots.now r.now) }
@@ -293,15 +293,14 @@ impl KeptReach {
     }
 }
 
-/// The answers of one view, each under the key of its question. Where one more answer, or its fingerprints, would be
-/// too many, all earlier ones go. Beside them a table of reach, within which more are
-/// found, or how far its making has come.
+/// The answers of one view, by the key of the question. When a limit would be passed, all earlier ones are dropped. The
+/// view's table of reach, or its making, is kept with them.
 #[derive(Drop)]
 pub struct Answers {
     table: Table,
-    // How many fingerprints they have together.
+    // The number of consulted fingerprints of all answers together.
     looked: usize,
-    // The roots by which answers were found good last, and how often they became others.
+    // The roots for which answers were last found valid, and how often they changed.
     roots: Vec<(Fpr, u8)>,
     turn: u64,
     reach: Option<KeptReach>,
@@ -334,8 +333,8 @@ impl Answers {
         }
     }
 
-    /// Makes these the roots by which answers are found good. Whether they are; not where no memory is found. Each call
-    /// below is for the roots that were settled last.
+    /// Makes these the roots for which answers are found valid. False when out of memory. All calls below are for the
+    /// roots that were last settled.
     pub fn settle(&mut self, alloc: Global, roots: &Roots) -> bool
         ensures roots { result ≡ true → self.new.roots ≡ roots.now }
         ensures right { (k : Held) → AreRightIn k self.old → AreRightIn k self.new }
@@ -354,8 +353,8 @@ impl Answers {
         true
     }
 
-    /// The answer to a question that was answered before, where all that it rests on is as it was then. None also where
-    /// no memory is found.
+    /// The answer that is kept for a question, if everything that it depends on is unchanged. None also when out of
+    /// memory.
     pub fn give(
         &mut self,
         parts: &Parts<'_>,
@@ -373,7 +372,7 @@ impl Answers {
         give(&mut self.table, parts, self.turn, target, wanted, uid)
     }
 
-    /// How many answers are kept.
+    /// The number of kept answers.
     pub fn len(&self) -> usize
         ensures count { result ≡ length self.now.entries }
         ensures few { result ≤ 1024 }
@@ -381,7 +380,7 @@ impl Answers {
         self.table.len()
     }
 
-    /// The answer that is kept under the key of a question, to whatever question.
+    /// The answer under a question's key, which may be another question's.
     pub fn kept(&self, target: &Fpr, wanted: u32, uid: &[u8]) -> Option<&KeptAnswer>
         ensures right { (k : Held) → AreRightIn k self.now → IfSome result (λ kept. IsRight k kept.now) }
     {
@@ -391,7 +390,7 @@ impl Answers {
         }
     }
 
-    /// Keeps an answer that is good by the roots, unless it consulted too much or no memory is found.
+    /// Keeps an answer that is valid for the roots, unless it consulted too many fingerprints or memory runs out.
     pub fn keep(&mut self, answer: KeptAnswer)
         ensures right { (k : Held) → AreRightIn k self.old → IsRight k answer → IsFound k self.old.roots answer →
             AreRightIn k self.new }
@@ -406,7 +405,7 @@ impl Answers {
         self.looked = add(&mut self.table, self.looked, KeptAnswer { turn, ..answer });
     }
 
-    /// The table of reach, where it is of the keyring as it is, of these roots and of this time.
+    /// The table of reach, if it is for the current keyring, these roots and this time.
     pub fn reach(&self, parts: &Parts<'_>) -> Option<&Reach>
         requires right { AreRightIn parts.now.keyring.now self.now }
         requires settled { self.now.roots ≡ parts.now.roots.now }
@@ -418,7 +417,7 @@ impl Answers {
         }
     }
 
-    /// Keeps how far the making of a table of reach has come in place of an earlier one.
+    /// Keeps the making of a table of reach, in place of an earlier one.
     pub fn keep_making(&mut self, parts: &Parts<'_>, making: Making)
         requires making { IsMaking (told_of (present_in parts.now)) parts.now.roots.now making }
         requires right { AreRightIn parts.now.keyring.now self.old }
@@ -430,8 +429,8 @@ impl Answers {
         self.reach = Some(KeptReach::new(parts, self.turn, making));
     }
 
-    /// Gives away how far the making of a table of reach has come, where it is one of the keyring as it is, of these
-    /// roots and of this time. None is kept then.
+    /// Takes out the making of a table of reach, if it is for the current keyring, these roots and this time. Otherwise
+    /// it is dropped.
     pub fn take_making(&mut self, parts: &Parts<'_>) -> Option<Making>
         requires right { AreRightIn parts.now.keyring.now self.old }
         requires settled { self.old.roots ≡ parts.now.roots.now }
@@ -461,7 +460,7 @@ impl Answers {
         self.budget.most(parts.keyring)
     }
 
-    /// Notes how many looks are left after a search.
+    /// Notes how many looks a search left.
     pub fn leave_looks(&mut self, parts: &Parts<'_>, left: u64)
         ensures same { self.new ≡ self.old }
     {

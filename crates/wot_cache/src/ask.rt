@@ -21,7 +21,7 @@ use wot_edge::laws::{answer_is_one, paths_fit, zero_is_no_path};
 use wot_search::{LookFault, Making, Metered, Reach, make_reach};
 use wot_types::{Fpr, Memory, ViewName};
 
-/// How far issuers reach, over these parts.
+/// The reach of issuers over these parts.
 fn made_reach(alloc: Global, parts: &Parts<'_>) -> Result<Reach, Memory>
     requires present { present_of parts.now.roads ≡ present_in parts.now }
     ensures reach { IfOk result (λ reach. IsReach (told_of (present_in parts.now)) parts.now.roots.now reach) }
@@ -30,7 +30,7 @@ fn made_reach(alloc: Global, parts: &Parts<'_>) -> Result<Reach, Memory>
     make_reach(alloc, &parts.roads, parts.roots, &fprs)
 }
 
-/// The answer within a table of reach.
+/// The answer, by a search within a table of reach.
 fn search_within(
     alloc: Global,
     parts: &Parts<'_>,
@@ -50,8 +50,8 @@ fn search_within(
     Ok(answer)
 }
 
-/// The same within the table that is kept for the view. None where there is none that is of now, and where no memory is
-/// found.
+/// The answer, by a search within the table that is kept for the view. None if no current table is kept, or when out of
+/// memory.
 fn search_kept(
     alloc: Global,
     of_view: &Answers,
@@ -77,7 +77,7 @@ fn search_kept(
     }
 }
 
-/// The answer within a table of reach that is made for it, and kept for the view with the answer.
+/// The answer, by a search within a table of reach that is made now. The table and the answer are kept for the view.
 fn search_far(
     alloc: Global,
     of_view: &mut Answers,
@@ -107,11 +107,10 @@ fn search_far(
     Ok(answer)
 }
 
-/// The answer over these parts, by a search that looks at what leads to the target alone; where that would look at more
-/// than a table of reach takes, within such a table. It is kept for the view. What was looked at since the last change
-/// is counted, with the edges that were made, and once a table pays, each search makes a part of one. The edges don't
-/// count against this search: so a view's first question, before which all edges are made, doesn't make a table that no
-/// further question may use.
+/// The answer over these parts, by a search that looks only at what leads to the target, or within a table of reach if
+/// that search would look at more than making a table takes. The answer is kept for the view. Looks and made edges are
+/// counted, and once a table pays off, each search makes a part of it. The edges don't count against this search:
+/// otherwise a view's first question, which makes all edges, would make a table that no later question may need.
 fn search(
     alloc: Global,
     of_view: &mut Answers,
@@ -163,7 +162,7 @@ fn search(
     }
 }
 
-/// The same answer, within the table that is kept for the view where there is one.
+/// The answer, by a new search: within the view's table if it has a current one.
 fn find_new(
     alloc: Global,
     of_view: &mut Answers,
@@ -192,7 +191,7 @@ fn find_new(
     }
 }
 
-/// The same answer, from the kept ones where it is there.
+/// The answer: a kept one, or by a new search.
 fn find(
     alloc: Global,
     of_view: &mut Answers,
@@ -220,7 +219,7 @@ fn find(
     }
 }
 
-/// The first answer from a view. With it the answers of the view are kept, if memory is found for them.
+/// The first answer from a view. From now on the view's answers are kept, unless memory runs out.
 fn find_first(
     alloc: Global,
     answers: &mut AllAnswers,
@@ -247,7 +246,7 @@ fn find_first(
     found
 }
 
-/// The answer from a view, whether or not answers are kept for it.
+/// The answer from a view, whether or not it keeps answers yet.
 fn find_any(
     alloc: Global,
     answers: &mut AllAnswers,
@@ -274,7 +273,7 @@ fn find_any(
     }
 }
 
-/// The answer from a view, over the parts that are seen from it. So many edges were made for it.
+/// The answer from a view, over the parts that it shows. `made` edges were made for this question.
 pub fn answer(
     alloc: Global,
     answers: &mut AllAnswers,

@@ -14,18 +14,18 @@ use std::marker::Model;
 use wot_keyring::Keyring;
 use wot_types::{Fpr, ViewName};
 
-/// Where more was changed than this, it isn't looked whether the answers stand.
+/// If more fingerprints than this changed, the answers aren't checked one by one.
 const MOST_CHANGED: usize = 64;
 
 type Set = BTreeSet<Fpr, Global>;
 
-/// The counts of changes and of turns at which some answers were found, and the fingerprints that they rest on.
+/// The counts of changes and of turns at which some answers were found, and the fingerprints that they depend on.
 #[derive(Drop)]
 pub struct Basis {
     changes: u64,
     turns: u64,
     fprs: Set,
-    // Whether one rests on all that there is.
+    // Whether one of them depends on the whole keyring.
     whole: bool,
 }
 
@@ -38,7 +38,7 @@ impl Model for Basis {
 }
 
 impl Basis {
-    /// The basis of no answers, at the engine's present counts. Takes no memory.
+    /// The basis of no answers, at the engine's current counts. Takes no memory.
     pub fn new(alloc: Global, engine: &Engine) -> Basis
         ensures empty { result ≡ empty_at engine.now }
     {
@@ -50,14 +50,14 @@ impl Basis {
         }
     }
 
-    /// From now on it rests on all that there is.
+    /// From now on it depends on the whole keyring.
     pub(crate) fn rest_on_all(&mut self)
         ensures whole { self.new ≡ record self.old { whole = true } }
     {
         self.whole = true;
     }
 
-    /// Rests on these fingerprints too. Where that is false no memory was found, and it rests on some of them.
+    /// Adds these fingerprints. False when out of memory: then only some of them are added.
     #[tactic(auto, using(crate::proofs::Resting::grown_by))]
     fn rest_on(&mut self, looked: &[Looked]) -> bool
         ensures all { result ≡ true → AllIn self.new.fprs looked.now }
@@ -66,7 +66,7 @@ impl Basis {
         add_all(&mut self.fprs, looked)
     }
 
-    /// Whether no fingerprint that it rests on has a stamp above its count of changes.
+    /// Whether no fingerprint of the basis has a stamp above its count of changes.
     #[tactic(auto, using(crate::proofs::Resting::calm_by))]
     fn is_calm(&self, keyring: &Keyring) -> bool
         ensures calm { result ≡ true → AreCalm keyring.now self.now.changes self.now.fprs }
@@ -77,8 +77,8 @@ impl Basis {
         }
     }
 
-    /// Whether nothing that it rests on was altered since its count of changes. Then that becomes the present one, so
-    /// that there is little to look at the next time.
+    /// Whether nothing that it depends on was altered since its count of changes. If so, the count becomes the current
+    /// one, so that the next call has less to look at.
     pub(crate) fn stands(&mut self, keyring: &Keyring, turns: u64) -> bool
         ensures turns { result ≡ true → self.old.turns ≡ turns }
         ensures calm { result ≡ true → AreCalm keyring.now self.old.changes self.old.fprs }
@@ -87,7 +87,7 @@ impl Basis {
         ensures moved { result ≡ true → self.new ≡ record self.old { changes = keyring.now.changes } }
         ensures kept { result ≡ false → self.new ≡ self.old }
     {
-        // That stamps are counts of changes.
+        // Its contract says that stamps are at most the count of changes.
         let _count = keyring.len();
         let changes = keyring.changes();
         if self.turns != turns {
@@ -110,7 +110,7 @@ fn has(set: &Set, fpr: &Fpr) -> bool
     set.contains(fpr)
 }
 
-/// Puts a fingerprint in. False where no memory was found.
+/// Adds a fingerprint. False when out of memory.
 fn add(set: &mut Set, fpr: Fpr) -> bool
     ensures has { result ≡ true → is_in fpr set.new.keys ≡ true }
     ensures grows { Includes set.old.keys set.new.keys }
@@ -121,7 +121,7 @@ fn add(set: &mut Set, fpr: Fpr) -> bool
     }
 }
 
-/// Puts these fingerprints in. Where that is false no memory was found, and some are in.
+/// Adds these fingerprints. False when out of memory: then only some of them are added.
 #[tactic(auto, using(crate::proofs::Resting::put_in))]
 fn add_all(set: &mut Set, looked: &[Looked]) -> bool
     ensures all { result ≡ true → AllIn set.new.keys looked.now }
@@ -137,7 +137,7 @@ fn add_all(set: &mut Set, looked: &[Looked]) -> bool
     true
 }
 
-/// Whether none of these is in it.
+/// Whether none of these is in the set.
 #[tactic(auto, using(crate::proofs::Resting::free_more))]
 fn is_free_of(set: &Set, changed: &[(u64, Fpr)]) -> bool
     ensures free { result ≡ true → IsFreeOf set.now.keys changed.now }
@@ -152,8 +152,8 @@ fn is_free_of(set: &Set, changed: &[(u64, Fpr)]) -> bool
     true
 }
 
-/// The sum of a kept answer, where it is one to this question and all that it rests on is as it was. Then the basis
-/// rests on that too.
+/// The sum of a kept answer, if it is for this question and everything that it depends on is unchanged. The basis then
+/// depends on that too.
 #[tactic(auto, using(crate::proofs::Resting::sum_rests))]
 fn sum_of(
     kept: &KeptAnswer,
@@ -183,7 +183,7 @@ fn sum_of(
     Some(kept.answer.sum)
 }
 
-/// The same of the answer that is kept for a question, seen from an open view.
+/// The sum of the answer that is kept for a question from an open view, if it is still valid.
 pub(crate) fn kept_sum(
     answers: &AllAnswers,
     keyring: &Keyring,

@@ -3,19 +3,19 @@
 use wot_keyring::Keyring;
 use wot_search::Making;
 
-/// How many looks a table costs, for each certificate, where none was made yet.
+/// The assumed looks per certificate for making a table, until one was made.
 const LOOKS: u64 = 8;
 
-/// The looks that searches may take after a change, until a table of reach is made: as many as making it takes, so that
-/// no more than twice is spent.
+/// The looks that searches may take after a change until a table of reach is made. There are as many as making the
+/// table takes, so at most twice the least possible number is spent.
 #[derive(Drop)]
 pub struct Budget {
-    // For which keyring, roots and time.
+    // The keyring's count of changes, the turn of the roots and the time for which `left` holds.
     count: u64,
     turn: u64,
     time: u32,
     left: u64,
-    // How many edges the last table had; 0 where there was none yet.
+    // The number of edges of the last table; 0 before the first one.
     edges: u64,
 }
 
@@ -30,7 +30,7 @@ impl Budget {
         }
     }
 
-    /// How many looks are left, at this count of changes and turn of the roots, and at this time.
+    /// How many looks are left at this count of changes, this turn of the roots and this time.
     pub fn left(&self, keyring: &Keyring, turn: u64, time: u32) -> u64 {
         if self.count == keyring.changes() && self.turn == turn && self.time == time {
             return self.left;
@@ -48,7 +48,7 @@ impl Budget {
             .saturating_mul(LOOKS)
     }
 
-    /// Notes how many are left.
+    /// Notes how many looks are left.
     pub fn leave(&mut self, count: u64, turn: u64, time: u32, left: u64) {
         self.count = count;
         self.turn = turn;
@@ -56,7 +56,7 @@ impl Budget {
         self.left = left;
     }
 
-    /// Notes how many edges a table has, once it is made.
+    /// Notes the number of edges of a table, once it is finished.
     pub fn learn(&mut self, making: &Making) {
         if let Some(reach) = making.reach() {
             self.edges = reach.edges() as u64;

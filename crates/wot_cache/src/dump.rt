@@ -19,13 +19,13 @@ use wot_keyring::{Keyring, put_line};
 use wot_script::Command;
 use wot_types::{Fpr, Memory, ViewName};
 
-/// A law: where the keyring's commands give what it holds, those of the engine give its state.
+/// A law: if the keyring's commands restore what it holds, the engine's commands restore its state.
 pub fn replayed()
     ensures { (rows : Rows) (engine : Seen) → IsDumped rows engine → IsRestored rows engine }
 {}
 
-/// Appends the command that opens a view at its time. Like each call of this file it leaves `out` as before after
-/// `Memory`.
+/// Appends the command that opens a view at its time. After `Memory`, this and every other call of this file leaves
+/// `out` unchanged.
 fn put_time(alloc: Global, view: &ViewName, t: u32, out: &mut Vec<u8>) -> Result<(), Memory>
     ensures appended { OnOk result (out.new.items ≡ out.old.items ++ command_line_of (Command.Time view.now t)) }
     ensures line { OnOk result (IsLine (Command.Time view.now t)) }
@@ -52,7 +52,7 @@ fn put_root(
     put_line(&Command::Root(view, fpr, amount), out)
 }
 
-/// Appends the command that sets it for each root.
+/// Appends such a command for each root.
 fn put_roots(alloc: Global, view: &ViewName, roots: &Roots, out: &mut Vec<u8>) -> Result<(), Memory>
     ensures appended { OnOk result (out.new.items ≡ out.old.items ++ lines_of (map (root_of view.now) roots.now)) }
     ensures lines { OnOk result (AreLines (map (root_of view.now) roots.now)) }
@@ -69,7 +69,7 @@ fn put_roots(alloc: Global, view: &ViewName, roots: &Roots, out: &mut Vec<u8>) -
     Ok(())
 }
 
-/// Appends the commands that make a view.
+/// Appends the commands that restore a view.
 fn put_view(alloc: Global, name: &ViewName, view: &View, out: &mut Vec<u8>) -> Result<(), Memory>
     ensures appended { OnOk result (out.new.items ≡ out.old.items ++ lines_of (view_commands (name.now, view.now))) }
     ensures lines { OnOk result (AreLines (view_commands (name.now, view.now))) }
@@ -87,7 +87,7 @@ fn put_view(alloc: Global, name: &ViewName, view: &View, out: &mut Vec<u8>) -> R
     }
 }
 
-/// Appends the commands that make each view. Tells their number.
+/// Appends the commands that restore each view. Returns their number.
 pub fn put_views(alloc: Global, views: &Views, out: &mut Vec<u8>) -> Result<u64, Memory>
     requires few { length (flat_map view_commands views.now.entries) < 2 ^ 32 }
     ensures appended { OnOk result (out.new.items
@@ -110,7 +110,7 @@ pub fn put_views(alloc: Global, views: &Views, out: &mut Vec<u8>) -> Result<u64,
     Ok(count)
 }
 
-/// Appends the commands that make the keyring and the views. Tells their number.
+/// Appends the commands that restore the keyring and the views. Returns their number.
 pub fn put_engine(
     alloc: Global,
     keyring: &Keyring,

@@ -54,7 +54,7 @@ use wot_policy::{Ask, Policy};
 use wot_types::{Fpr, Limit, Limits, Memory, SigNumber, Steps, ViewName};
 use wot_verdict::Verdict;
 
-/// One keyring, and views over it. A call that changes the keyring leaves the views, and the other way round.
+/// One keyring and the views over it. Calls that change the keyring leave the views unchanged, and the converse.
 #[derive(Drop)]
 pub struct Engine {
     alloc: Global,
@@ -80,7 +80,7 @@ impl Engine {
     ghost use Rattle.std.specs.Borrow.{sem};
     ghost use Rattle.wot_cache.specs.Lent.{RestsRefreshed};
 
-    /// An engine with no certificates, no verdicts and no views. Takes no memory.
+    /// An engine with no certificates, verdicts or views. Takes no memory.
     pub fn new(alloc: Global, limits: Limits) -> Engine
         requires small { AreSmall limits }
         ensures empty { result ≡ empty limits }
@@ -97,14 +97,14 @@ impl Engine {
         }
     }
 
-    /// The keyring.
+    /// The engine's keyring.
     pub fn keyring(&self) -> &Keyring
         ensures keyring { result.now ≡ self.now.keyring }
     {
         &self.networked.keyring
     }
 
-    /// `Keyring::import`, over the engine's keyring.
+    /// `Keyring::import` on the engine's keyring.
     pub fn import<F: Fn(Ask) -> bool>(
         &mut self,
         bytes: &[u8],
@@ -133,7 +133,7 @@ impl Engine {
         self.networked.keyring.import(self.alloc, bytes, policy)
     }
 
-    /// `Keyring::remove`, over the engine's keyring. Takes no memory.
+    /// `Keyring::remove` on the engine's keyring. Takes no memory.
     pub fn remove(&mut self, fpr: &Fpr) -> Result<(), Absent>
         requires countable { self.old.keyring.changes < 2 ^ 64 - 1 }
         ensures removed { OnOk result (self.new.keyring ≡ without_cert fpr.now self.old.keyring) }
@@ -152,7 +152,7 @@ impl Engine {
         self.networked.keyring.remove(fpr)
     }
 
-    /// `Keyring::set_verdict`, over the engine's keyring.
+    /// `Keyring::set_verdict` on the engine's keyring.
     pub fn set_verdict(&mut self, number: SigNumber, verdict: Verdict) -> Result<(), Refusal>
         requires countable { self.old.keyring.changes < 2 ^ 64 - 1 }
         ensures same { verdict_on self.old.keyring number ≡ Some verdict → (result ≡ Ok tt) × (self.new ≡ self.old) }
@@ -172,7 +172,7 @@ impl Engine {
         self.networked.keyring.set_verdict(number, verdict)
     }
 
-    /// `Keyring::clear_verdict`, over the engine's keyring. Takes no memory.
+    /// `Keyring::clear_verdict` on the engine's keyring. Takes no memory.
     pub fn clear_verdict(&mut self, number: &SigNumber) -> Result<(), Absent>
         requires countable { self.old.keyring.changes < 2 ^ 64 - 1 }
         ensures cleared { OnOk result (self.new.keyring ≡ without_verdict_on number.now self.old.keyring) }
@@ -191,8 +191,9 @@ impl Engine {
         self.networked.keyring.clear_verdict(number)
     }
 
-    /// Opens a view with this time and no roots, or moves the time of an open one, which keeps its roots. A view that
-    /// is opened, or whose time becomes another, has one turn more.
+    /// Opens a view without roots at this time (in seconds since 1970), or moves the time of an open view, which keeps
+    /// its roots. A view that is opened, or whose time changes, gets a new turn. `Full` comes if the number of views is
+    /// at its limit.
     pub fn view_time(&mut self, view: &ViewName, t: u32) -> Result<(), ViewFault>
         requires turnable { self.old.turns.count < 2 ^ 64 - 1 }
         ensures timed { OnOk result (self.new.views ≡ with_time self.old.views view.now t) }
@@ -201,7 +202,7 @@ impl Engine {
         ensures kept { OnErr result (self.new ≡ self.old) }
         ensures keyring { self.new.keyring ≡ self.old.keyring }
         ensures marks { self.new.marks ≡ self.old.marks }
-        // A view that is opened has none.
+        // A view that is opened has no marks.
         ensures unmarked { view_at self.old.views view.now ≡ None → marks_at self.new view.now ≡ [] }
     {
         if self.time(view) == Some(t) {
@@ -242,8 +243,9 @@ impl Engine {
         }
     }
 
-    /// Sets the amount of a root in an open view; 0 takes the root away. A root needs no certificate in the keyring. A
-    /// view whose roots become others has one turn more.
+    /// Sets the amount of a root in an open view; 0 removes the root. A root needs no certificate in the keyring. A
+    /// view whose roots change gets a new turn. `View` comes if the view isn't open, `Absent` if there is no root to
+    /// remove, and `Full` if the number of the view's roots is at its limit.
     pub fn view_root(&mut self, view: &ViewName, fpr: &Fpr, amount: u8) -> Result<(), ViewFault>
         requires turnable { self.old.turns.count < 2 ^ 64 - 1 }
         ensures rooted { OnOk result (self.new.views ≡ with_root self.old.views view.now fpr.now amount) }
@@ -281,7 +283,7 @@ impl Engine {
         }
     }
 
-    /// Why a root's amount isn't set, other than want of memory.
+    /// Why a root's amount can't be set, other than out of memory.
     fn root_fault(&self, view: &ViewName, fpr: &Fpr, amount: u8) -> Option<ViewFault>
         ensures fault { result ≡ root_fault self.now.keyring.limits (view_at self.now.views view.now) fpr.now amount }
         ensures roots { IfSome (view_at self.now.views view.now) (λ v. IsRoots v.roots) }
@@ -302,7 +304,7 @@ impl Engine {
         None
     }
 
-    /// Closes a view and forgets its roots. Takes no memory. The count of turns stays.
+    /// Closes a view and forgets its roots. Takes no memory. The counter of turns doesn't change.
     pub fn view_close(&mut self, view: &ViewName) -> Result<(), NoView>
         ensures closed { OnOk result (self.new.views ≡ without_view self.old.views view.now) }
         ensures turned { OnOk result
@@ -323,14 +325,14 @@ impl Engine {
         Ok(())
     }
 
-    /// How often views were opened, or their time or roots became others.
+    /// How often views were opened, or changed their time or roots.
     pub fn turns(&self) -> u64
         ensures turns { result ≡ self.now.turns.count }
     {
         self.turns.count()
     }
 
-    /// At which of these turns an open view was last opened or changed. `None` exactly where it isn't open.
+    /// The turn at which a view was last opened or changed. `None` exactly if it isn't open.
     pub fn turn(&self, view: &ViewName) -> Option<u64>
         ensures turn { result ≡ turn_at self.now.turns view.now }
         ensures open { is_some result ≡ is_some (view_at self.now.views view.now) }
@@ -338,7 +340,7 @@ impl Engine {
         self.turns.of(view)
     }
 
-    /// The time of an open view.
+    /// The time of an open view, in seconds since 1970.
     pub fn time(&self, view: &ViewName) -> Option<u32>
         ensures time { result ≡ option_map (λ v. v.time) (view_at self.now.views view.now) }
     {
@@ -358,10 +360,9 @@ impl Engine {
         }
     }
 
-    /// The answer to the question how far a user ID belongs to a target, seen from an open view: next paths until
-    /// their sum reaches what is wanted, or no valid path of positive amount is left. Before that the view's network
-    /// is made anew where certificates are stale, and each edge made is counted in `steps`. All but the view's marks
-    /// stays as it was.
+    /// How confident one can be that a user ID belongs to a target, from an open view: the next paths until their sum
+    /// reaches `wanted`, or until no valid path of positive amount is left. Before that the view's network is refreshed
+    /// for stale certificates, and each edge made is counted in `steps`. Only the view's marks change.
     pub fn ask(
         &mut self,
         view: &ViewName,
@@ -373,14 +374,14 @@ impl Engine {
         requires wanted { 1 ≤ wanted }
         ensures answer { IfOk result (λ a. OfQuestion self.old view.now target.now uid.now
             (λ q. IsAnswer q wanted a.paths)) }
-        // No other list of paths is an answer to it.
+        // No other list of paths is an answer to the question.
         ensures one { IfOk result (λ a. OfQuestion self.old view.now target.now uid.now
             (λ q. IsOnlyAnswer q wanted a.paths)) }
         ensures sum { IfOk result (λ a. a.sum ≡ amount_of a.paths) }
-        // The amount is 0 exactly where there is no valid path of positive amount at all.
+        // The amount is 0 exactly if no valid path of positive amount exists.
         ensures zero { IfOk result (λ a. OfQuestion self.old view.now target.now uid.now (λ q. TellsSpent q a.sum)) }
-        // No path takes more of an edge than those before it left, and all together take no more of a root than its
-        // amount.
+        // Each path takes from an edge at most what the paths before it left, and all paths together take from a root
+        // at most its amount.
         ensures pairs { IfOk result (λ a. AllFit [] a.paths) }
         ensures roots { IfOk result (λ a. IfSome (view_at self.old.views view.now)
             (λ v. AreWithinRoots v.roots a.paths)) }
@@ -405,8 +406,8 @@ impl Engine {
         )
     }
 
-    /// The roads that a question from an open view is asked over: those of the keyring as it is, at the view's time.
-    /// The view's network is made anew first, as `ask` makes it. All but the view's marks stays as it was.
+    /// The roads that a question from an open view is asked over: those of the current keyring at the view's time. The
+    /// view's network is refreshed first, as in `ask`. Only the view's marks change.
     pub fn roads(&mut self, view: &ViewName, steps: &mut Steps) -> Result<NetRoads<'_>, AskFault>
         ensures* refreshed { sem 𝓛 (RestsRefreshed self.entry result view.now steps.old.made steps.new.made) }
         ensures keyring { IfOk result (λ r. (present_of r).keyring ≡ self.old.keyring) }
@@ -423,9 +424,8 @@ impl Engine {
         Ok(self.networked.parts(view).roads)
     }
 
-    /// What listing and explaining take, seen from an open view: the keyring, its roads at the view's time, the view's
-    /// roots and its time. The view's network is made anew first, as `ask` makes it. All but the view's marks stays as
-    /// it was.
+    /// What listings and explanations need from an open view: the keyring, its roads at the view's time, the view's
+    /// roots and its time. The view's network is refreshed first, as in `ask`. Only the view's marks change.
     pub fn parts(&mut self, view: &ViewName, steps: &mut Steps) -> Result<Parts<'_>, AskFault>
         ensures* refreshed { sem 𝓛 (RestsRefreshed self.entry result view.now steps.old.made steps.new.made) }
         ensures parts { IfOk result (λ p. IsSomeAnd (view_at self.old.views view.now)
@@ -443,17 +443,17 @@ impl Engine {
         Ok(self.networked.parts(view))
     }
 
-    /// Appends a line for each certificate, each verdict, and each view with its roots: the commands that make this
-    /// state anew. Tells their number. After `Memory` `out` is as before.
+    /// Appends a line for each certificate, each verdict, and each view with its roots: the commands that restore this
+    /// state. Returns their number. After `Memory`, `out` is unchanged.
     pub fn dump(&self, out: &mut Vec<u8>) -> Result<u64, Memory>
         ensures lines { OnOk result (out.new.items ≡ out.old.items ++ lines_of (commands_of (state_of self.now))) }
         ensures count { IfOk result (λ count. count ≡ length (commands_of (state_of self.now))) }
         ensures kept { OnErr result (out.new.items ≡ out.old.items) }
-        // Each command is printed as one line, which is read as that command.
+        // Each command is printed as one line, from which it is read back.
         ensures read_back { OnOk result (AreLines (commands_of (state_of self.now))) }
-        // So one run reads it.
+        // So one run can read the whole dump.
         ensures size { OnOk result (length (lines_of (commands_of (state_of self.now))) < 2 ^ 30) }
-        // By whatever rows the fresh engine judges.
+        // The fresh engine may judge by any policy rows.
         ensures restored { OnOk result ((rows : Rows) → IsRestored rows self.now) }
     {
         put_engine(

@@ -2,8 +2,8 @@
 //! other's answer, which costs time and nothing else.
 use wot_types::Fpr;
 
-/// The key under which an answer is kept: two questions that have one key take each other's place. It is Fowler, Noll
-/// and Vo's hash (1a, of 64 bits) of what is wanted, the target and the user ID.
+/// The key under which an answer is kept: the 64-bit hash of Fowler, Noll and Vo (FNV-1a) of what is wanted, the target
+/// and the user ID. Questions with the same key replace each other's answer.
 pub fn key_of(target: &Fpr, wanted: u32, uid: &[u8]) -> u64 {
     let key: u64 = 0xcbf29ce484222325 ^ (wanted as u64);
     mixed(mixed(key, target.octets()), uid)

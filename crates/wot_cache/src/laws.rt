@@ -9,19 +9,19 @@ ghost use Rattle.wot_cache.specs.Basis.{RestsOnLater, RestsOnMore};
 ghost use Rattle.wot_cache.specs.State.{Engine, StaysButMarks};
 ghost use Rattle.wot_cache.specs.Views.{Views, with_root, with_time};
 
-/// An engine is kept on where nothing but marks is another, and what follows on what follows on it follows on it.
+/// If only marks change, the engine only develops; and developing is transitive.
 pub fn kept_on_is_order()
     ensures itself { (engine : Engine) → IsKeptOn engine engine }
     ensures still { (old new : Engine) → StaysButMarks old new → IsKeptOn old new }
     ensures further { (old mid new : Engine) → IsKeptOn old mid → IsKeptOn mid new → IsKeptOn old new }
 {}
 
-/// A change after which no fewer certificates are kept takes none out.
+/// A change that doesn't reduce the number of certificates removes none.
 pub fn change_goes_on()
     ensures { (old new : Keyring) → IsOneChange old new → length old.certs ≤ length new.certs → IsKeyringOn old new }
 {}
 
-/// A view that becomes another, or is opened, has a turn; one that is closed is open no more. The others stay.
+/// A view that is opened or changed gets a turn, and a closed view is no longer open.
 pub fn views_go_on()
     ensures turned { TurnGoesOn }
     ensures closed { ClosingGoesOn }
@@ -30,7 +30,7 @@ pub fn views_go_on()
         OtherViewsStay name views (with_root views name fpr amount) }
 {}
 
-/// What rests on a basis rests on it whatever more rests on it, and later too.
+/// What depends on a basis still does after the basis grows, and later.
 pub fn rests_on()
     ensures grown { RestsOnMore }
     ensures later { RestsOnLater }

@@ -14,10 +14,10 @@ use wot_keyring::Keyring;
 use wot_search::Making;
 use wot_types::{Fpr, Memory};
 
-/// For how many looks a table is made at least.
+/// The least number of looks for which the making of a table is continued.
 const LEAST: u64 = 4096;
 
-/// The fingerprints of the kept certificates.
+/// The primary fingerprints of the keyring's certificates.
 pub fn fprs_of(alloc: Global, keyring: &Keyring) -> Result<Vec<Fpr>, Memory> {
     let mut fprs = Vec::new(alloc);
     for cert in keyring.certs() {
@@ -26,7 +26,7 @@ pub fn fprs_of(alloc: Global, keyring: &Keyring) -> Result<Vec<Fpr>, Memory> {
     Ok(fprs)
 }
 
-/// A making that is taken further for so many looks, or a new one.
+/// A making, taken further by `looks` looks. A new one is begun if there is none.
 fn advanced(
     alloc: Global,
     parts: &Parts<'_>,
@@ -46,7 +46,7 @@ fn advanced(
     }
 }
 
-/// Makes more of the view's table of reach, for so many looks, if memory is found.
+/// Continues the making of the view's table of reach by `looks` looks, unless memory runs out.
 fn make_more(alloc: Global, of_view: &mut Answers, parts: &Parts<'_>, looks: u64)
     requires present { present_of parts.now.roads ≡ present_in parts.now }
     requires right { AreRightIn parts.now.keyring.now of_view.old }
@@ -60,9 +60,9 @@ fn make_more(alloc: Global, of_view: &mut Answers, parts: &Parts<'_>, looks: u64
     }
 }
 
-/// Takes away so many looks of those that searches from a view may take before a table of reach is made. Where none are
-/// left, as much of the table is made as was looked at: so a question takes about twice its search, and a table costs
-/// about what the searches beside it do.
+/// Subtracts `looked` looks from the view's budget. Once the budget is spent, each call also makes as much of the table
+/// as was looked at. So a question takes about twice its search, and a table costs about as much as the searches next
+/// to it.
 pub fn spend(alloc: Global, of_view: &mut Answers, parts: &Parts<'_>, looked: u64)
     requires present { present_of parts.now.roads ≡ present_in parts.now }
     requires right { AreRightIn parts.now.keyring.now of_view.old }

@@ -44,7 +44,7 @@ fn keep(networks: &mut Networks, view: ViewName, network: Network) -> Result<(),
     Ok(())
 }
 
-/// Makes the network of a view that of this keyring at `t`.
+/// Brings the network of a view up to date with this keyring at `t`, or makes its first one.
 pub fn refresh(
     alloc: Global,
     networks: &mut Networks,

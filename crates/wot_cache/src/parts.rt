@@ -4,8 +4,8 @@ use wot_edge::Roots;
 use wot_keyring::Keyring;
 use wot_network::NetRoads;
 
-/// What listing and explaining take, seen from an open view: the keyring, its roads at the view's time, the view's
-/// roots, and its time in seconds since 1970.
+/// What listings and explanations need from an open view: the keyring, its roads at the view's time, the view's roots,
+/// and its time in seconds since 1970.
 #[derive(Drop)]
 pub struct Parts<'a> {
     pub keyring: &'a Keyring,

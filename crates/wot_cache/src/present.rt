@@ -20,7 +20,7 @@ use wot_keyring::Keyring;
 use wot_network::laws::stale_are_some;
 use wot_types::{Memory, Steps, ViewName};
 
-/// A keyring, the views over it, and the networks that were made of it for them. Parts borrow of all three.
+/// A keyring, the views over it, and the networks that are kept for them. Parts borrow from all three.
 #[derive(Drop)]
 pub struct Networked {
     pub keyring: Keyring,
@@ -29,7 +29,7 @@ pub struct Networked {
 }
 
 impl Networked {
-    /// Makes the network of an open view that of the keyring as it is, at the view's time.
+    /// Brings the network of an open view up to date with the current keyring, at the view's time.
     pub fn refresh(
         &mut self,
         alloc: Global,
@@ -66,7 +66,7 @@ impl Networked {
         }
     }
 
-    /// The parts that are seen from a view whose network was refreshed.
+    /// The parts of a view whose network was refreshed.
     pub fn parts(&self, view: &ViewName) -> Parts<'_>
         requires ready { IsReady self.now.keyring self.now.views.entries self.now.networks.entries view.now }
         ensures parts { IsSomeAnd (view_at self.now.views.entries view.now)

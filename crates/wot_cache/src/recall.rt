@@ -23,7 +23,7 @@ use wot_types::{Fpr, Memory, UserId, ViewName};
 
 pub type AllAnswers = BTreeMap<ViewName, Answers, Global>;
 
-/// An answer with its question and with what it rests on.
+/// An answer with its question and the fingerprints that it depends on.
 fn with_grounds(
     alloc: Global,
     parts: &Parts<'_>,
@@ -42,7 +42,7 @@ fn with_grounds(
 {
     records_agree();
     later_is_order();
-    // That stamps are counts of changes.
+    // Its contract says that stamps are at most the count of changes.
     let _count = parts.keyring.len();
     let looked = look_at(alloc, consulted, parts.keyring, parts.roots)?;
     let key = key_of(target, wanted, uid);
@@ -61,7 +61,7 @@ fn with_grounds(
     })
 }
 
-/// An answer with its question, which rests on all that there is.
+/// An answer with its question, which depends on the whole keyring.
 fn without_grounds(
     alloc: Global,
     parts: &Parts<'_>,
@@ -91,7 +91,7 @@ fn without_grounds(
     })
 }
 
-/// Keeps the answer to a question, if memory is found for it.
+/// Keeps the answer to a question, unless memory runs out.
 pub fn remember(
     alloc: Global,
     of_view: &mut Answers,
@@ -117,7 +117,7 @@ pub fn remember(
     }
 }
 
-/// Keeps the answer to a question until the next change, if memory is found for it.
+/// Keeps the answer to a question until the next change, unless memory runs out.
 pub fn remember_now(
     alloc: Global,
     of_view: &mut Answers,
@@ -145,11 +145,11 @@ fn put(answers: &mut AllAnswers, view: ViewName, of_view: Answers)
         AreAllRight k answers.new.entries }
     ensures others { KeepsFor view answers.old.entries answers.new.entries }
 {
-    // Without memory nothing is kept.
+    // When out of memory, nothing is kept.
     let _ = answers.insert(view, of_view);
 }
 
-/// Begins to keep the answers of a view, if memory is found for it.
+/// Begins to keep the answers of a view, unless memory runs out.
 pub fn begin(alloc: Global, answers: &mut AllAnswers, view: &ViewName, of_view: Answers)
     ensures right { (k : Held) → AreAllRight k answers.old.entries → AreRightIn k of_view →
         AreAllRight k answers.new.entries }

@@ -9,7 +9,7 @@ use std::collections::BTreeMap;
 use std::marker::Model;
 use wot_types::{Memory, ViewName};
 
-/// The count of turns, and at which of them each open view was last opened or changed.
+/// The counter of turns, and for each open view its value when the view was last opened or changed.
 #[derive(Drop)]
 pub struct Turns {
     count: u64,
@@ -25,7 +25,7 @@ impl Model for Turns {
 }
 
 impl Turns {
-    /// Before the first turn.
+    /// No turns yet.
     pub fn new(alloc: Global) -> Turns
         ensures none { result ≡ no_turns }
     {
@@ -35,14 +35,14 @@ impl Turns {
         }
     }
 
-    /// How many there were.
+    /// The counter's value.
     pub fn count(&self) -> u64
         ensures count { result ≡ self.now.count }
     {
         self.count
     }
 
-    /// The turn of a view.
+    /// The turn of a view; `None` if it has none.
     pub fn of(&self, view: &ViewName) -> Option<u64>
         ensures turn { result ≡ turn_at self.now view.now }
     {
@@ -52,7 +52,7 @@ impl Turns {
         }
     }
 
-    /// The first turn of a view.
+    /// The first turn of a view, when it is opened. After `Memory` nothing changed.
     pub fn begin(&mut self, view: ViewName) -> Result<(), Memory>
         requires countable { self.old.count < 2 ^ 64 - 1 }
         requires first { turn_at self.old view ≡ None }
@@ -64,7 +64,7 @@ impl Turns {
         Ok(())
     }
 
-    /// Takes the turn back with which a view began.
+    /// Undoes the first turn of a view, whose opening failed.
     pub fn take_back(&mut self, view: &ViewName)
         requires some { 0 < self.old.count }
         ensures back { (before : TheTurns) → turn_at before view.now ≡ None → self.old ≡ turned view.now before →
@@ -74,7 +74,7 @@ impl Turns {
         self.count -= 1;
     }
 
-    /// A further turn of a view.
+    /// The next turn of an open view.
     pub fn raise(&mut self, view: &ViewName)
         requires countable { self.old.count < 2 ^ 64 - 1 }
         requires further { is_some (turn_at self.old view.now) ≡ true }

@@ -5,23 +5,23 @@ ghost use Rattle.wot_cache.specs.declared.view.ViewFault.TheVariants as faults;
 use wot_edge::Roots;
 use wot_types::{Limit, Memory};
 
-/// From where and when is looked: a time in seconds since 1970, and trust roots with their amounts.
+/// A point of view: a time in seconds since 1970, and trust roots with their amounts.
 #[derive(Drop)]
 pub struct View {
     pub time: u32,
     pub roots: Roots,
 }
 
-/// Why a view is left as it was.
+/// Why a view wasn't changed.
 #[derive(Clone, Copy, Debug, PartialEq, Eq)]
 pub enum ViewFault {
-    /// It isn't open.
+    /// The view isn't open.
     View,
-    /// There is no such root to take away.
+    /// There is no such root to remove.
     Absent,
-    /// One more would pass this limit.
+    /// This limit is reached.
     Full(Limit),
-    /// No memory was found.
+    /// Out of memory.
     Memory,
 }
 
@@ -42,6 +42,6 @@ pub struct NoView;
 pub enum AskFault {
     /// The view isn't open.
     View,
-    /// No memory was found.
+    /// Out of memory.
     Memory,
 }

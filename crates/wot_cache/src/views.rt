@@ -13,7 +13,7 @@ use wot_types::{Fpr, Memory, ViewName};
 
 pub type Views = BTreeMap<ViewName, View, Global>;
 
-/// The view of a name.
+/// The view of this name, if it is open.
 pub fn find<'a>(views: &'a Views, name: &ViewName) -> Option<&'a View>
     ensures found { option_copied result ≡ view_at views.now.entries name.now }
 {
@@ -29,7 +29,7 @@ pub fn open(alloc: Global, views: &mut Views, name: &ViewName, view: View) -> Re
     Ok(())
 }
 
-/// Moves the time of a view; whether it is open.
+/// Moves the time of an open view; false if it isn't open.
 pub fn move_time(views: &mut Views, name: &ViewName, t: u32) -> bool
     ensures moved { MovesTime result name.now t views.old.entries views.new.entries }
 {
@@ -42,7 +42,7 @@ pub fn move_time(views: &mut Views, name: &ViewName, t: u32) -> bool
     }
 }
 
-/// Sets a root's amount in an open view.
+/// Sets a root's amount in an open view; 0 removes the root.
 pub fn set_amount(views: &mut Views, name: &ViewName, fpr: Fpr, amount: u8) -> Result<(), Memory>
     requires open { is_some (view_at views.old.entries name.now) ≡ true }
     ensures set { OnOk result (SetsAmount name.now fpr amount views.old.entries views.new.entries) }

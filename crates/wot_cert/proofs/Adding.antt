@@ -55,7 +55,8 @@ bound_alone : (acc u u' a t l l' x j p : ℕ) → u ≡ j + u' → l ≡ x + l' 
     → j < p
 bound_alone acc u u' a t l l' x j p q r s v h k = omega arith
 
-module _ {A : Type 0} (R : A → A → Ordering) (join : A → A → A) (o : IsTotalOrder R) (same : (x y : A) → R x y ≡ Equal → (z : A) → R z (join x y) ≡ R z x) (m : A → ℕ) where
+module _ {A : Type 0} (R : A → A → Ordering) (join : A → A → A) (o : IsTotalOrder R)
+    (same : (x y : A) → R x y ≡ Equal → (z : A) → R z (join x y) ≡ R z x) (m : A → ℕ) where
   abbrev total : List A → ℕ
   total = sum_of m
 
@@ -136,7 +137,8 @@ module _ {A : Type 0} (R : A → A → Ordering) (join : A → A → A) (o : IsT
         bound_alone acc _ _ _ _ _ _ (m x) (m (join x y)) p (united_equal x xs y ys left right l r rr h) (ap total l)
         (united_more R join m least xs ys) w.inside w.sum k
 
-module _ {A : Type 0} (R : A → A → Ordering) (join : A → A → A) (o : IsTotalOrder R) (same : (x y : A) → R x y ≡ Equal → (z : A) → R z (join x y) ≡ R z x)
+module _ {A : Type 0} (R : A → A → Ordering) (join : A → A → A) (o : IsTotalOrder R)
+    (same : (x y : A) → R x y ≡ Equal → (z : A) → R z (join x y) ≡ R z x)
     (wi ws wo : A → ℕ) (Fits : A → Type 0) where
   abbrev W : Adds → List A → List A → List A → List A → Type 0
   W = Adding R join wi ws wo Fits

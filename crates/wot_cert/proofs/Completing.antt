@@ -106,7 +106,7 @@ cert-same : (key : List ℕ) (a b : List Signature) (u v w x y z : List Componen
     → cert-with key a u w y ≡ cert-with key b v x z
 cert-same key a b u v w x y z e f g h = λ i. cert-with key (e i) (f i) (g i) (h i)
 
--- what the packets behind a key draft, with the key, is the certificate
+-- what the packets after a key draft, with the key, is the certificate
 pub completed-is : (key : List ℕ) (packets : List Spelled)
     → completed key (sketched packets) ≡ certificate_with key (cut_at begins_component packets)
 completed-is key packets =
@@ -120,7 +120,8 @@ completed-is key packets =
 
 -- ---- short bodies stay short
 
-module _ {A : Type 0} (R : A → A → Ordering) (join : A → A → A) (P : A → Type 0) (joins : (x y : A) → P x → P y → P (join x y)) where
+module _ {A : Type 0} (R : A → A → Ordering) (join : A → A → A) (P : A → Type 0)
+    (joins : (x y : A) → P x → P y → P (join x y)) where
   all-placed : (o : Ordering) (x y : A) (ys rest : List A) → P x → P y → AllByRecursion P ys → AllByRecursion P rest
       → AllByRecursion P (placed o join x y ys rest)
   all-placed Less x y ys rest p q a b = (p, (q, a))

@@ -88,7 +88,7 @@ found_none k es e =
     sym (ap (λ (o : Option (List (List ℕ))). unwrap_or o [])
     (found_seen k es ∙ ap (option_map {U = List (List ℕ)} (λ s. bodies_in s)) (sym e)))
 
--- a group is put in where there is none of its body
+-- a group is inserted if there is none with its body
 abbrev placed_group : Ordering → Group → Group → List Group → List Group → List Group
 placed_group r g h hs rest = match_ordering r (g ∷ h ∷ hs) ((h.0, g.1) ∷ hs) (h ∷ rest)
 
@@ -121,7 +121,7 @@ bodies_same x y e z = refl
 abbrev IsUnder : List ℕ → List Group → Type 0
 IsUnder body gs = AllByRecursion (λ (g : Group). body_cmp body g.0 ≡ Less) gs
 
--- what is below all of the others is none of them
+-- what is below all others is none of them
 absent : (body : List ℕ) (gs : List Group) → IsUnder body gs → (without body gs ≡ gs) × (sigs_at body gs ≡ [])
 absent body [] h = (refl, refl)
 absent body (g ∷ gs) h =
@@ -143,7 +143,7 @@ in_front : (g : Group) (gs : List Group) → IsUnder g.0 gs → insert_group g g
 in_front g [] h = refl
 in_front g (x ∷ gs) h = rw h.0 refl
 
--- The group that is there is taken out, and put in again with more signatures.
+-- The group is removed, and inserted again with more signatures.
 pub put_again : (body : List ℕ) (sigs : List (List ℕ)) (gs : List Group) → IsRising group_cmp gs
     → IsRising body_cmp sigs
     → insert_group (body, unite_bodies (sigs_at body gs) sigs) (without body gs) ≡ put_group (body, sigs) gs

@@ -22,7 +22,7 @@ use Rattle.wot_cert.proofs.Wholes.{marked_whole, unite_whole}
 zero_more : (n d : ℕ) → n ≤ d → 0 + n ≤ d
 zero_more n d h = omega arith
 
--- a merged list has at least as many sound signatures as the first one
+-- a merged list has at least as many well-formed signatures as the first one
 pub no_fewer : (w : Certificate → ℕ) (a u : Certificate) → w a ≤ w u → 0 + w a ≤ w u
 no_fewer w a u h = zero_more (w a) (w u) h
 

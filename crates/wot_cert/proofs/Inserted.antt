@@ -1,4 +1,4 @@
--- What an item that is put in at a place changes.
+-- What inserting an item at an index changes.
 use Rattle.std.proofs.Common.{◌≡◌, ℕ, zero, suc, ◌+◌, ◌-◌, ◌<◌, ◌≤◌, ◌^◌, min, List, [], ◌∷◌, ◌++◌, length, refl, sym}
 use Rattle.std.proofs.Common.{ap, ◌∙◌, arith}
 use Rattle.std.specs.Prelude.{slice_set}
@@ -44,7 +44,7 @@ sum_insert m xs zero y h = refl
 sum_insert m [] (suc at) y h = absurd (none_le at h)
 sum_insert m (x ∷ xs) (suc at) y h = swapped (m x) (m y) _ _ (sum_insert m xs at y (lower_le at (length xs) h))
 
--- the log of one put in leads back
+-- the log of one insertion undoes it
 pub put_back : {A : Type 0} (log log' : List ℕ) (at : ℕ) (xs ys : List A) (y : A) → at ≤ length xs
     → log' ≡ log ++ at ∷ [] → ys ≡ insert xs at y → without_all log' ys ≡ without_all log xs
 put_back log log' at xs ys y h e f =
@@ -62,7 +62,7 @@ follows : (a e b n m w s : ℕ) → a ≡ min (n + s) (2 ^ 64 - 1) → e ≡ min
 follows a e b n m w s h k l f = omega arith
 
 module _ {A : Type 0} (wi ws wo : A → ℕ) where
-  -- totals with what an item weighs follow the list in which it, or one as heavy, was put in
+  -- totals with what an item weighs follow the list in which it, or one as heavy, was inserted
   pub follow_insert : (a more b : Adds) (x y : A) (xs ys : List A) (at : ℕ) → WeighsCapped wi ws wo more x
       → IsCappedSum b a more → at ≤ length xs → ys ≡ insert xs at y → wi y ≡ wi x → ws y ≡ ws x → wo y ≡ wo x
       → Follow wi ws wo a b xs ys

@@ -38,3 +38,4 @@ pub mod Changed
 pub mod Fresh
 pub mod AllPlaces
 pub mod Grown
+pub mod Uncounted

@@ -122,7 +122,7 @@ four : (p q r s a b c d w x y z : ℕ) → p + a ≡ w → q + b ≡ x → r + c
     → (p + q + r + s) + (a + b + c + d) ≡ w + x + y + z
 four p q r s a b c d w x y z e f g h = omega arith
 
--- The policy is asked as many times as the merged certificate has more sound signatures.
+-- The policy is asked as many times as the merged certificate has more well-formed signatures.
 pub merged_sound : (a b : Certificate) → IsCertificate a → IsCertificate b
     → sound_beside a (unite a b) + sound_of a ≡ sound_of (unite a b)
 merged_sound a b h k =

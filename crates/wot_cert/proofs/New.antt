@@ -34,7 +34,8 @@ pub all_new : {A : Type 0} (R : A → A → Ordering) (both : A → A → A) (on
 all_new R both only [] = refl
 all_new R both only (y ∷ ys) = ap (λ zs. only y ∷ zs) (all_new R both only ys)
 
-module _ {A : Type 0} (R : A → A → Ordering) (join : A → A → A) (o : IsTotalOrder R) (same : (x y : A) → R x y ≡ Equal → (z : A) → R z (join x y) ≡ R z x)
+module _ {A : Type 0} (R : A → A → Ordering) (join : A → A → A) (o : IsTotalOrder R)
+    (same : (x y : A) → R x y ≡ Equal → (z : A) → R z (join x y) ≡ R z x)
     (both : A → A → A) (only : A → A) (P : A → Type 0)
     (stays : (x : A) → P x → both x x ≡ x)
     (joined : (x y : A) → R x y ≡ Equal → P x → P y → both x (join x y) ≡ join x (only y))
@@ -98,7 +99,8 @@ module _ {A : Type 0} (R : A → A → Ordering) (join : A → A → A) (o : IsT
 
 -- ---- weights
 
-module _ {A : Type 0} (R : A → A → Ordering) (join : A → A → A) (o : IsTotalOrder R) (same : (x y : A) → R x y ≡ Equal → (z : A) → R z (join x y) ≡ R z x)
+module _ {A : Type 0} (R : A → A → Ordering) (join : A → A → A) (o : IsTotalOrder R)
+    (same : (x y : A) → R x y ≡ Equal → (z : A) → R z (join x y) ≡ R z x)
     (both : A → A → ℕ) (only : A → ℕ) (m : A → ℕ) (P : A → Type 0)
     (stays : (x : A) → P x → both x x + m x ≡ m x)
     (joined : (x y : A) → R x y ≡ Equal → P x → P y → both x (join x y) + m x ≡ m (join x y))

@@ -13,7 +13,8 @@ use Rattle.wot_cert.proofs.Follows.{totals_same}
 use Rattle.wot_cert.proofs.TextSize.{size_is}
 use Rattle.wot_cert.proofs.Weights.{sigs_weight, parts_weight}
 
-module _ (r1 r2 r3 r4 : PolicyRows) (o1 : List Signature) (o2 o3 o4 : List Component) (c : Certificate) (d : List Signature) (u t s : List Component)
+module _ (r1 r2 r3 r4 : PolicyRows) (o1 : List Signature) (o2 o3 o4 : List Component) (c : Certificate)
+    (d : List Signature) (u t s : List Component)
     (ed : d ≡ judged_sigs r1 c.direct o1) (eu : u ≡ judged_parts r2 c.user_ids o2)
     (et : t ≡ judged_parts r3 c.attributes o3) (es : s ≡ judged_parts r4 c.subkeys o4) where
   abbrev new : Certificate

@@ -69,7 +69,7 @@ judged_of rows key kind ys old h =
           (λ y p. part_keeps rows key kind [] y p) ys old h.1,
     )
 
--- lists of which each was judged by rows, beside old ones
+-- lists of which each was judged by rows, next to old ones
 pub lists_whole : (r1 r2 r3 r4 : PolicyRows) (o1 : List Signature) (o2 o3 o4 : List Component) (c : Certificate)
     (d : List Signature) (u t s : List Component)
     → d ≡ judged_sigs r1 c.direct o1 → u ≡ judged_parts r2 c.user_ids o2 → t ≡ judged_parts r3 c.attributes o3

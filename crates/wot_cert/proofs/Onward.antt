@@ -42,12 +42,13 @@ counted_up_to i j a b c d h k l = omega arith
 pub least_sum : (n : ℕ) → n ≤ n
 least_sum n = omega arith
 
-module _ {A : Type 0} (R : A → A → Ordering) (join : A → A → A) (m : A → ℕ) (least : (x y : A) → m x ≤ m (join x y)) where
-  chain : (a b c : ℕ) → a ≤ b → b ≤ c → a ≤ c
-  chain a b c h k = omega arith
+module _ {A : Type 0} (R : A → A → Ordering) (join : A → A → A) (m : A → ℕ) (least : (x y : A) → m x ≤ m (join x y))
+  where
+    chain : (a b c : ℕ) → a ≤ b → b ≤ c → a ≤ c
+    chain a b c h k = omega arith
 
-  pub put_then : (x : A) (xs : List A) (d : ℕ) → sum_of m (put R join x xs) ≤ d → sum_of m xs ≤ d
-  put_then x xs d h = chain _ _ _ (put_more R join m least x xs) h
+    pub put_then : (x : A) (xs : List A) (d : ℕ) → sum_of m (put R join x xs) ≤ d → sum_of m xs ≤ d
+    put_then x xs d h = chain _ _ _ (put_more R join m least x xs) h
 
 pub no_less : (i j a b c d : ℕ) → i + a ≡ b → j + b ≡ c → c ≡ b → b ≤ d → (i + j) + a ≤ d
 no_less i j a b c d h k l m = omega arith
@@ -55,7 +56,8 @@ no_less i j a b c d h k l m = omega arith
 zero_more : (n d : ℕ) → n ≤ d → 0 + n ≤ d
 zero_more n d h = omega arith
 
-module _ {A : Type 0} (R : A → A → Ordering) (join : A → A → A) (m : A → ℕ) (least : (x y : A) → m x ≤ m (join x y)) where
-  -- Where nothing was asked, nothing was asked too often.
-  pub none_asked : (x : A) (xs : List A) → 0 + sum_of m xs ≤ sum_of m (put R join x xs)
-  none_asked x xs = zero_more _ _ (put_more R join m least x xs)
+module _ {A : Type 0} (R : A → A → Ordering) (join : A → A → A) (m : A → ℕ) (least : (x y : A) → m x ≤ m (join x y))
+  where
+    -- asking nothing stays within the bound
+    pub none_asked : (x : A) (xs : List A) → 0 + sum_of m xs ≤ sum_of m (put R join x xs)
+    none_asked x xs = zero_more _ _ (put_more R join m least x xs)

@@ -108,7 +108,8 @@ sigs-behind key kind component (s ∷ sigs) h = (
   sigs-behind key kind component sigs h.1,
 )
 
-module _ (type : ℕ) (other : is_key type ≡ false) (fine : (body : List ℕ) (at : ℕ) → fault_at true (record { kind = type; body = body; at = at }) ≡ None) (few : type < 64) where
+module _ (type : ℕ) (other : is_key type ≡ false) (fine : (body : List ℕ) (at : ℕ)
+    → fault_at true (record { kind = type; body = body; at = at }) ≡ None) (few : type < 64) where
   parts-behind : (key : List ℕ) (kind : ℕ) (ps : List Component) → AllByRecursion (IsPartOf key kind) ps
       → AllByRecursion IsBehind (parts_packets type ps)
   parts-behind key kind [] h = tt
@@ -181,7 +182,7 @@ faultless at (x ∷ xs) h = rw (h.0.fine x.1 at) (faultless (at + length (writte
 pub no-fault : (c : Certificate) → IsCertificate c → first_fault (placed 0 (cert_packets c)) ≡ None
 no-fault c h = faultless (0 + length (written 6 c.key)) (behind_key c) (all-behind c h)
 
--- ---- they are one key and what is behind it
+-- ---- they are one key and what follows it
 
 no-key : (at : ℕ) (xs : List Plain) → AllByRecursion IsBehind xs → cut_at is_key (placed at xs) ≡ (placed at xs, [])
 no-key at [] h = refl

@@ -1,4 +1,4 @@
--- One step of a loop that changes a list in place, beside another list of which a part is left.
+-- One step of a loop that changes a list in place, next to another list of which a part is left.
 use Rattle.std.proofs.Common.{◌≡◌, ℕ, ◌+◌, ◌<◌, List, [], ◌∷◌, ◌++◌, take, drop, get_or, set, length, sym, ap, ◌∙◌}
 use Rattle.std.proofs.Common.{add-one, append_assoc, arith}
 use Rattle.std.proofs.Math.Seq.{drop-cons}

@@ -115,7 +115,8 @@ total_plain m p q d e f g s1 s2 s3 s4 u1 u2 u3 u4 x a b h i j l = omega arith
 sized : (m n l k w v : ℕ) → m + (k + w) ≡ k + v → n ≡ k + w → l ≡ k + v → m + n ≡ l
 sized m n l k w v h e f = omega arith
 
-module _ (a b : Certificate) (d e f g p q m : Adds) (h : Brought a (unite a b) d e f g) (s : IsSum p d e) (t : IsSum q f g) (r : IsSum m p q) where
+module _ (a b : Certificate) (d e f g p q m : Adds) (h : Brought a (unite a b) d e f g) (s : IsSum p d e)
+    (t : IsSum q f g) (r : IsSum m p q) where
   pub all_items : m.items + items_of a ≡ items_of (unite a b)
   all_items = total 1 _ _ _ _ _ _ _ _ _ _ _ _ _ _ _ r.items s.items t.items h.direct.items h.user_ids.items
       h.attributes.items h.subkeys.items

@@ -18,7 +18,8 @@ use Rattle.wot_cert.proofs.Uniting.{commutes}
 use Rattle.wot_cert.proofs.Weights.{put_more, united_more, unite_less, unite_more}
 use Rattle.wot_cert.proofs.Wholes.{marked_as}
 
-module _ {A : Type 0} (R : A → A → Ordering) (join : A → A → A) (m : A → ℕ) (some : (x : A) → 1 ≤ m x) (least : (x y : A) → m x ≤ m (join x y)) (stays : (x y : A) → m (join x y) ≡ m x → join x y ≡ x) where
+module _ {A : Type 0} (R : A → A → Ordering) (join : A → A → A) (m : A → ℕ) (some : (x : A) → 1 ≤ m x)
+    (least : (x y : A) → m x ≤ m (join x y)) (stays : (x y : A) → m (join x y) ≡ m x → join x y ≡ x) where
   placed-same : (r : Ordering) (x y : A) (ys rest : List A) → sum_of m ys ≤ sum_of m rest
       → sum_of m (placed r join x y ys rest) ≡ m y + sum_of m ys → (sum_of m rest ≡ sum_of m ys → rest ≡ ys)
       → placed r join x y ys rest ≡ y ∷ ys
@@ -44,7 +45,8 @@ module _ {A : Type 0} (R : A → A → Ordering) (join : A → A → A) (m : A �
       let stands : united R join xs ys ≡ xs = united-same xs ys same in
       ap (put R join y) stands ∙ put-same y xs (ap (λ (zs : List A). sum_of m (put R join y zs)) (sym stands) ∙ e)
 
-module _ (sig : Signature → ℕ) (own : Component → ℕ) (sig-some : (s : Signature) → 1 ≤ sig s) (own-some : (p : Component) → 1 ≤ own p) (own-same : (x y : Component) → own (unite_part x y) ≡ own x) where
+module _ (sig : Signature → ℕ) (own : Component → ℕ) (sig-some : (s : Signature) → 1 ≤ sig s)
+    (own-some : (p : Component) → 1 ≤ own p) (own-same : (x y : Component) → own (unite_part x y) ≡ own x) where
   at-least : (n : ℕ) → n ≤ n
   at-least n = omega arith
 
@@ -86,7 +88,9 @@ module _ (sig : Signature → ℕ) (own : Component → ℕ) (sig-some : (s : Si
 
 -- ---- marks
 
-module _ (mark : Signature → Bool) (sig : Signature → ℕ) (own : Component → ℕ) (sig-as : (s : Signature) → sig (marked_as mark s) ≡ sig s) (own-as : (p : Component) → own (part_with (marked_as mark) p) ≡ own p) where
+module _ (mark : Signature → Bool) (sig : Signature → ℕ) (own : Component → ℕ)
+    (sig-as : (s : Signature) → sig (marked_as mark s) ≡ sig s)
+    (own-as : (p : Component) → own (part_with (marked_as mark) p) ≡ own p) where
   mapped-sum : {A : Type 0} (m : A → ℕ) (f : A → A) → ((x : A) → m (f x) ≡ m x) → (xs : List A)
       → sum_of m (map f xs) ≡ sum_of m xs
   mapped-sum m f e [] = refl

@@ -11,29 +11,31 @@ use Rattle.wot_cert.specs.New.{met, marked_on, marked_new, stays, judged_sigs, j
 
 -- ---- merging
 
-module _ {A : Type 0} (R : A → A → Ordering) (join : A → A → A) (m : A → ℕ) (least : (x y : A) → m x ≤ m (join x y)) where
-  placed_more : (r : Ordering) (x y : A) (ys rest : List A) → sum_of m ys ≤ sum_of m rest
-      → m y + sum_of m ys ≤ sum_of m (placed r join x y ys rest)
-  placed_more Less x y ys rest h = omega arith
-  placed_more Equal x y ys rest h = omega (arith, least y x)
-  placed_more Greater x y ys rest h = omega arith
+module _ {A : Type 0} (R : A → A → Ordering) (join : A → A → A) (m : A → ℕ) (least : (x y : A) → m x ≤ m (join x y))
+  where
+    placed_more : (r : Ordering) (x y : A) (ys rest : List A) → sum_of m ys ≤ sum_of m rest
+        → m y + sum_of m ys ≤ sum_of m (placed r join x y ys rest)
+    placed_more Less x y ys rest h = omega arith
+    placed_more Equal x y ys rest h = omega (arith, least y x)
+    placed_more Greater x y ys rest h = omega arith
 
-  pub put_more : (x : A) (ys : List A) → sum_of m ys ≤ sum_of m (put R join x ys)
-  put_more x [] = omega arith
-  put_more x (y ∷ ys) = placed_more (R x y) x y ys (put R join x ys) (put_more x ys)
+    pub put_more : (x : A) (ys : List A) → sum_of m ys ≤ sum_of m (put R join x ys)
+    put_more x [] = omega arith
+    put_more x (y ∷ ys) = placed_more (R x y) x y ys (put R join x ys) (put_more x ys)
 
-  chain : (a b c : ℕ) → a ≤ b → b ≤ c → a ≤ c
-  chain a b c h k = omega arith
+    chain : (a b c : ℕ) → a ≤ b → b ≤ c → a ≤ c
+    chain a b c h k = omega arith
 
-  reach : (a : ℕ) → a ≤ a
-  reach a = omega arith
+    reach : (a : ℕ) → a ≤ a
+    reach a = omega arith
 
-  -- A merged list weighs no less than the first one.
-  pub united_more : (xs ys : List A) → sum_of m xs ≤ sum_of m (united R join xs ys)
-  united_more xs [] = reach (sum_of m xs)
-  united_more xs (y ∷ ys) = chain _ _ _ (united_more xs ys) (put_more y (united R join xs ys))
+    -- A merged list weighs no less than the first one.
+    pub united_more : (xs ys : List A) → sum_of m xs ≤ sum_of m (united R join xs ys)
+    united_more xs [] = reach (sum_of m xs)
+    united_more xs (y ∷ ys) = chain _ _ _ (united_more xs ys) (put_more y (united R join xs ys))
 
-module _ {A : Type 0} (R : A → A → Ordering) (join : A → A → A) (m : A → ℕ) (most : (x y : A) → m (join x y) ≤ m x + m y) where
+module _ {A : Type 0} (R : A → A → Ordering) (join : A → A → A) (m : A → ℕ)
+    (most : (x y : A) → m (join x y) ≤ m x + m y) where
   placed_less : (r : Ordering) (x y : A) (ys rest : List A) → sum_of m rest ≤ m x + sum_of m ys
       → sum_of m (placed r join x y ys rest) ≤ m x + (m y + sum_of m ys)
   placed_less Less x y ys rest h = omega arith
@@ -99,7 +101,8 @@ module _ (sig : Signature → ℕ) (own : Component → ℕ) (own_same : (x y : 
 
 -- ---- marks
 
-module _ {A : Type 0} (R : A → A → Ordering) (both : A → A → A) (only : A → A) (m : A → ℕ) (both_as : (x y : A) → m (both x y) ≡ m y) (only_as : (y : A) → m (only y) ≡ m y) where
+module _ {A : Type 0} (R : A → A → Ordering) (both : A → A → A) (only : A → A) (m : A → ℕ)
+    (both_as : (x y : A) → m (both x y) ≡ m y) (only_as : (y : A) → m (only y) ≡ m y) where
   pub marked_sum : (ys old : List A) → sum_of m (marked_new R both only ys old) ≡ sum_of m ys
   marked_sum [] old = refl
   marked_sum (y ∷ ys) old =
@@ -109,7 +112,9 @@ module _ {A : Type 0} (R : A → A → Ordering) (both : A → A → A) (only : 
         | None ↦ (λ i. only_as y i + marked_sum ys old i)
       ]
 
-module _ (sig : Signature → ℕ) (own : Component → ℕ) (rows : PolicyRows) (sig_as : (s : Signature) → sig (judged_sig rows s) ≡ sig s) (own_as : (old : List Signature) (p : Component) → own (judged_part rows old p) ≡ own p) where
+module _ (sig : Signature → ℕ) (own : Component → ℕ) (rows : PolicyRows)
+    (sig_as : (s : Signature) → sig (judged_sig rows s) ≡ sig s)
+    (own_as : (old : List Signature) (p : Component) → own (judged_part rows old p) ≡ own p) where
   pub sigs_weight : (ys old : List Signature) → sum_of sig (judged_sigs rows ys old) ≡ sum_of sig ys
   sigs_weight = marked_sum sig_cmp stays (judged_sig rows) sig (λ x y. refl) sig_as
 

@@ -69,7 +69,8 @@ marked_whole mark c h = record {
 
 -- ---- merging
 
-module _ {A : Type 0} (R : A → A → Ordering) (join : A → A → A) (P : A → Type 0) (closed : (x y : A) → R y x ≡ Equal → P x → P y → P (join x y)) where
+module _ {A : Type 0} (R : A → A → Ordering) (join : A → A → A) (P : A → Type 0)
+    (closed : (x y : A) → R y x ≡ Equal → P x → P y → P (join x y)) where
   placed_all : (r : Ordering) (x y : A) (ys rest : List A) → R x y ≡ r → P x → P y → AllByRecursion P ys
       → AllByRecursion P rest → AllByRecursion P (placed r join x y ys rest)
   placed_all Less x y ys rest e a b c d = (a, (b, c))

@@ -8,7 +8,7 @@ use Rattle.wot_cert.specs.Certificate.{on_key, on_user_id, on_attribute, on_subk
 
 -- ---- cutting a list of packets
 
--- a packet that begins a part, and those behind it
+-- a packet that begins a part, and those after it
 abbrev pub Section : Type 0
 Section = Spelled × List Spelled
 
@@ -16,7 +16,7 @@ abbrev pub cut_on : Bool → Spelled → List Spelled × List Section → List S
 cut_on true p cut = ([], (p, cut.0) ∷ cut.1)
 cut_on false p cut = (p ∷ cut.0, cut.1)
 
--- the packets before the first that begins a part, and each that does with those behind it
+-- the packets before the first that begins a part, and each that does with those after it
 abbrev pub cut_at : (ℕ → Bool) → List Spelled → List Spelled × List Section
 cut_at begins [] = ([], [])
 cut_at begins (p ∷ ps) = cut_on (begins p.kind) p (cut_at begins ps)

@@ -22,7 +22,7 @@ sum_of weight (x ∷ xs) = weight x + sum_of weight xs
 abbrev pub part_weight : (Signature → ℕ) → (Component → ℕ) → Component → ℕ
 part_weight sig own p = own p + sum_of sig p.sigs
 
--- what a certificate weighs beside its key, by the weight of a signature and of a component by itself
+-- what a certificate weighs without its key, by the weight of a signature and of a component by itself
 abbrev pub weight_of : (Signature → ℕ) → (Component → ℕ) → Certificate → ℕ
 weight_of sig own c =
     sum_of sig c.direct + sum_of (part_weight sig own) c.user_ids

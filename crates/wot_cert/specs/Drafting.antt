@@ -68,7 +68,7 @@ sketch_of cut = record {
   subkeys = groups_of 14 cut.1;
 }
 
--- what the packets behind a key draft
+-- what the packets after a key draft
 abbrev pub sketched : List Spelled → Sketch
 sketched packets = sketch_of (cut_at begins_component packets)
 

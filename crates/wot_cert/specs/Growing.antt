@@ -86,7 +86,7 @@ parts_grown rows old more = unite_parts old (map (part_with (judged_sig rows)) m
 
 -- ---- asking
 
--- how many signatures of a list are sound, and how many on a part
+-- how many signatures of a list are well-formed, and how many on a part
 abbrev pub sound_sigs : List Signature → ℕ
 sound_sigs sigs = sum_of if_sound sigs
 

@@ -23,8 +23,8 @@ abbrev pub issuer_with : Option SigFacts → Bool → Option Fpr → Option Fpr
 issuer_with (Some facts) true (Some fpr) = if facts.sound && allows facts.issuer fpr then Some fpr else None
 issuer_with _ _ _ = None
 
--- The key whose signature this counts as: it can be parsed and is sound, its verdict is good with that key, its hashed
--- issuer fingerprint is absent or that key's, and the policy admitted it.
+-- The key whose signature this counts as: it can be parsed and is well-formed, its verdict is good with that key, its
+-- hashed issuer fingerprint is absent or that key's, and the policy admitted it.
 abbrev pub issuer_of : Entries → Signature → Option Fpr
 issuer_of verdicts s = issuer_with (said_by s) s.admitted (good_by (verdict_at verdicts s.number))
 

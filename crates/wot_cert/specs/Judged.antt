@@ -20,7 +20,7 @@ is_sound s = is_true_of (λ f. f.sound) s
 abbrev pub ask_of : SigFacts → Ask
 ask_of f = record { kind = f.kind; hash = f.hash; made = f.made }
 
--- whether a signature is sound and the rows admit it
+-- whether a signature is well-formed and the rows admit it
 abbrev pub is_admitted_by : PolicyRows → Signature → Bool
 is_admitted_by rows s = is_true_of (λ f. f.sound && admits rows (ask_of f)) s
 
@@ -31,7 +31,7 @@ judged_sig rows s = record { body = s.body; number = s.number; admitted = is_adm
 abbrev pub judged : PolicyRows → Certificate → Certificate
 judged rows c = with_each (judged_sig rows) c
 
--- A sound signature is admitted if and only if the rows say so.
+-- A well-formed signature is admitted if and only if the rows say so.
 abbrev pub IsJudgedSig : PolicyRows → Signature → Type 0
 IsJudgedSig rows s = is_sound s ≡ true → s.admitted ≡ is_admitted_by rows s
 
@@ -44,10 +44,10 @@ pub record IsJudged (rows : PolicyRows) (c : Certificate) : Type 0 where
   pub attributes : AllByRecursion (IsJudgedPart rows) c.attributes
   pub subkeys : AllByRecursion (IsJudgedPart rows) c.subkeys
 
--- one where a signature is sound
+-- 1 if a signature is well-formed
 abbrev pub if_sound : Signature → ℕ
 if_sound s = if is_sound s then 1 else 0
 
--- how many signatures are sound
+-- how many signatures are well-formed
 abbrev pub sound_of : Certificate → ℕ
 sound_of c = weight_of if_sound (λ _. 0) c

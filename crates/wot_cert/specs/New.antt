@@ -6,7 +6,7 @@ use Rattle.wot_policy.specs.declared.rows.PolicyRows.{PolicyRows}
 use Rattle.wot_cert.specs.Certificate.{Signature, Component, Certificate, sig_cmp, part_cmp}
 use Rattle.wot_cert.specs.Judged.{judged_sig, if_sound}
 
--- the first of the old ones and the others, where the first has this one's rank
+-- the first of the old ones and the rest, if the first has this one's rank
 abbrev pub met : {A : Type 0} → (A → A → Ordering) → A → List A → Option (A × List A)
 met R y [] = None
 met R y (x ∷ xs) = if is_eq (R x y) then Some (x, xs) else None
@@ -41,7 +41,7 @@ judged_sigs rows = marked_new sig_cmp stays (judged_sig rows)
 abbrev pub none : Signature → Signature → ℕ
 none old new = 0
 
--- how many of the new ones are sound
+-- how many of the new ones are well-formed
 abbrev pub sound_new : List Signature → List Signature → ℕ
 sound_new = weighed_new sig_cmp none if_sound
 
@@ -57,11 +57,11 @@ sound_new_on =
     weighed_new part_cmp (λ (old : Component) (new : Component). sound_new new.sigs old.sigs)
     (λ (p : Component). sound_new p.sigs [])
 
--- Where this is the first of the new ones it is marked so, and these of the old ones are left for those behind it.
+-- If `first` is the first of the new items it becomes `made`, and `left` of the old items are left for those after it.
 abbrev pub MarksFirst : {A : Type 0} → (List A → List A → List A) → A → A → List A → List A → Type 0
 MarksFirst {A} marked first made old left = (rest : List A) → marked (first ∷ rest) old ≡ made ∷ marked rest left
 
--- The same, where it weighs so much.
+-- If `first` is the first of the new items it weighs `k`, and `left` of the old items are left for those after it.
 abbrev pub WeighsFirst : {A : Type 0} → (List A → List A → ℕ) → A → List A → List A → ℕ → Type 0
 WeighsFirst {A} weighed first old left k = (rest : List A) → weighed (first ∷ rest) old ≡ k + weighed rest left
 
@@ -75,7 +75,7 @@ judged_beside rows old c = record {
   subkeys = judged_parts rows c.subkeys old.subkeys;
 }
 
--- how many of those are sound
+-- how many of those are well-formed
 abbrev pub sound_beside : Certificate → Certificate → ℕ
 sound_beside old c =
     sound_new c.direct old.direct + sound_new_on c.user_ids old.user_ids

@@ -22,7 +22,7 @@ of_places key p = of_parts key p.direct.items p.user_ids.items p.attributes.item
 abbrev pub IsCertOf : Key → Fpr → Certificate → Type 0
 IsCertOf key fpr c = (Some key ≡ key_of c.key) × (fpr ≡ fpr_of c.key) × IsCertificate c
 
--- ---- where nothing stands, and what is put there
+-- ---- empty places, and what is put there
 
 pub record AreBare (p : Places) : Type 0 where
   pub direct : p.direct.items ≡ []

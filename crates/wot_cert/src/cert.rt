@@ -291,7 +291,7 @@ impl Cert {
         }
     }
 
-    /// Merges a certificate of the same key into this one, and asks the policy about each new signature that is sound.
+    /// Merges a certificate of the same key into this one, and asks the policy about each new well-formed signature.
     /// Returns how many components and signatures were added. After an error the certificate is unchanged, and the
     /// policy wasn't asked. The clause `asked` says how many questions there were, not which.
     pub fn merge<F: Fn(Ask) -> bool>(

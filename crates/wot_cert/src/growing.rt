@@ -1,4 +1,4 @@
-//! Merging in place: what is new is inserted at its place, and logged, so that it can be taken out again.
+//! Merging in place: what is new is inserted at its place, and logged, so that it can be undone.
 //!
 //! It stands on `specs/Growing.antt`. `places` calls it for each list; `shrinking` undoes the log. What is already
 //! there is neither copied nor walked over.

@@ -2,7 +2,9 @@
 //!
 //! It stands on `sig` and the verdicts, and on `specs/Issuer.antt`. Every rule about certifications, revocations and
 //! self-signatures above starts with it.
-ghost use Rattle.std.specs.Prelude.{◌≡◌};
+ghost use Rattle.std.specs.Prelude.{◌≡◌, ◌&&◌, false};
+ghost use Rattle.std.specs.Option.{option_map_or};
+ghost use Rattle.wot_cert.specs.Certificate.{said_by};
 ghost use Rattle.wot_cert.specs.Issuer.{issuer_of as issuer_in, allows, good_by, issuer_with};
 
 use crate::Sig;
@@ -45,11 +47,24 @@ fn counted(facts: Option<SigFacts>, admitted: bool, by: Option<Fpr>) -> Option<F
     }
 }
 
-/// The key whose signature this counts as: the signature can be parsed, is sound and admitted by the policy, its
+/// Whether it counts if its verdict is good. Only then is its verdict looked up.
+fn may_count(sig: &Sig) -> bool
+    ensures { result ≡ option_map_or (λ f. f.sound && sig.now.admitted) (said_by sig.now) false }
+{
+    match sig.facts() {
+        Some(facts) => facts.sound && sig.admitted(),
+        None => false,
+    }
+}
+
+/// The key whose signature this counts as: the signature can be parsed, is well-formed and admitted by the policy, its
 /// verdict is good with that key, and its hashed issuer fingerprint is absent or that key's.
 pub fn issuer_of(sig: &Sig, verdicts: &Verdicts) -> Option<Fpr>
     ensures issuer { result ≡ issuer_in verdicts.now sig.now }
 {
+    if !may_count(sig) {
+        return None;
+    }
     let by = maker(verdicts.get(&sig.number()));
     counted(sig.facts(), sig.admitted(), by)
 }

@@ -27,7 +27,7 @@ struct Held {
     admitted: bool,
 }
 
-/// A signature of a certificate. The value itself is small, since an insertion moves all signatures behind it.
+/// A signature of a certificate. The value itself is small, since an insertion moves all signatures after it.
 #[derive(Drop)]
 pub struct Sig {
     held: Box<Held>,
@@ -127,7 +127,7 @@ impl Sig {
         Ok(Sig { held })
     }
 
-    /// Sets the mark by the policy, which is asked only about a sound signature.
+    /// Sets the mark by the policy, which is asked only about a well-formed signature.
     pub(crate) fn judge<F: Fn(Ask) -> bool>(&mut self, policy: &mut Policy<F>)
         requires { IsFaithful F.Fn policy.old }
         ensures judged { self.new ≡ judged_sig (rows_of policy.old) self.old }
@@ -139,7 +139,7 @@ impl Sig {
     }
 }
 
-/// Whether a signature that says so is sound and admitted.
+/// Whether a signature with these facts is well-formed and admitted.
 fn judge_facts<F: Fn(Ask) -> bool>(facts: Option<SigFacts>, policy: &mut Policy<F>) -> bool
     requires { IsFaithful F.Fn policy.old }
     ensures mark { result ≡ mark_by (rows_of policy.old) facts }

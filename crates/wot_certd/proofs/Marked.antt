@@ -1,4 +1,4 @@
--- The mark of a new file, `_`, is in no entry's place.
+-- The mark of a new file, `_`, occurs in no entry's place.
 use Rattle.std.proofs.Common.{zero, suc, arith, refl, subst, sym, ◌∙◌, Result, Ok, Err}
 use Rattle.std.specs.Prelude.{◌≡◌, ◌≢◌, IfOk, ℕ, ◌/◌, ◌%◌, List, [], ◌∷◌, ◌++◌, take, drop, slice_index, codes}
 use Rattle.std.specs.List.{AllByRecursion}
@@ -40,7 +40,7 @@ dropped (suc n) (x ∷ xs) h = dropped n xs h.1
 
 -- ---- the place of an entry
 
--- each place of a table, and what is behind it
+-- each entry of a table, and what follows it
 of_table : (table : List ℕ) (k : ℕ) → Unmarked table → slice_index table k ≢ 95
 of_table [] k h e = absurd (omega (arith, e))
 of_table (octet ∷ octets) zero h e = h.0 e
@@ -71,7 +71,7 @@ unmarked (Cert fpr) =
     (dropped 2 (digits_of fpr) (digits fpr))
 unmarked TrustRoot = trust_root
 
--- ---- the place beside one
+-- ---- the place next to an entry
 
 marked : (name : Name) (number : ℕ) → Unmarked (place_beside name number) → ⊥
 marked name number h =
@@ -86,7 +86,7 @@ is_no_entry : (name entry : Name) (number : ℕ) → place_beside name number �
 is_no_entry name entry number e =
     marked name number (let P : List ℕ → Type 0 = Unmarked in subst P (sym e) (unmarked entry))
 
--- so no text that spells it is one
+-- so no text that spells the mark is a place
 pub text_is_no_entry : {T E : Type 0} (result : Result T E) (bytes : T → List ℕ) (name : Name) (number : ℕ)
     → IfOk result (λ text. bytes text ≡ place_beside name number)
     → IfOk result (λ text. (entry : Name) → bytes text ≢ place_of entry)

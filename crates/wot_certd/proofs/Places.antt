@@ -31,7 +31,7 @@ pub some_octets : (fpr : Fpr) → length (octets_of fpr) ≡ octets_in fpr → 0
 some_octets (V4 octets) h = omega (arith, h)
 some_octets (V6 octets) h = omega (arith, h)
 
--- digits of another number of octets are not read
+-- digits of another number of octets aren't read
 unread : (count : ℕ) (octets : List ℕ) → (length octets ≡ count → ⊥)
     → array_of_digits count (encode_lower octets) ≡ None
 unread count octets apart = by (length (encode_lower octets) % 2 == 1) (length (encode_lower octets) / 2 == count) refl

@@ -1,4 +1,4 @@
--- A shelf in memory, as contracts see it.
+-- A certificate directory in memory, as contracts see it.
 use Rattle.std.specs.Prelude.{ℕ, List}
 use Rattle.wot_types.specs.declared.name.Name.{Name}
 use Rattle.wot_io.specs.Counts.{next_count}

@@ -17,7 +17,7 @@ name_cmp (Cert a) TrustRoot = Less
 name_cmp TrustRoot (Cert b) = Greater
 name_cmp TrustRoot TrustRoot = Equal
 
--- The first two of these digits name the folder, and the others the file.
+-- the first two of these digits name the folder, the others the file
 abbrev pub split_digits : List ℕ → List ℕ
 split_digits digits = take 2 digits ++ codes "/" ++ drop 2 digits
 
@@ -26,7 +26,7 @@ abbrev pub place_of : Name → List ℕ
 place_of (Cert fpr) = split_digits (digits_of fpr)
 place_of TrustRoot = codes "trust-root"
 
--- The folder of an entry in the directory, with a slash behind it. The trust root lies in the directory itself.
+-- The folder of an entry in the directory, with a slash at its end. The trust root is in the directory itself.
 abbrev pub folder_of : Name → List ℕ
 folder_of (Cert fpr) = take 2 (digits_of fpr) ++ codes "/"
 folder_of TrustRoot = []

@@ -1,4 +1,4 @@
--- What a call does to a shelf's world, and what it returns.
+-- What a call does to the world of a certificate directory, and what it returns.
 use Rattle.std.specs.Prelude.{◌≡◌, ◌≢◌, ◌≤◌, ◌⊎◌, ℕ, Bool, true, false, List, length, Option, Some, None, Result, Ok}
 use Rattle.std.specs.Prelude.{Err}
 use Rattle.wot_types.specs.declared.name.Name.{Name}

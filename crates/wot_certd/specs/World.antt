@@ -1,4 +1,5 @@
--- The world of a shelf: what it holds, what each call returns, and what it leaves. Calls are numbered from 1.
+-- The world of a certificate directory: its entries, what each call returns, and what it leaves. Calls are numbered
+-- from 1.
 use Rattle.std.specs.Prelude.{ℕ, ◌==◌, ◌&&◌, Bool, not, if◌then◌else◌, nat_lt, List, length, Option, Some, None}
 use Rattle.std.specs.List.{list_any}
 use Rattle.std.specs.BTreeMap.{is_at, insert_entry}
@@ -19,12 +20,12 @@ is_name name = is_at (name_cmp name)
 abbrev pub entry_at : Entries → Name → Option (List ℕ)
 entry_at entries name = lookup (is_name name) entries
 
--- with these octets under the name, and all other entries as they are
+-- these octets under the name, and all other entries unchanged
 abbrev pub with_entry : Entries → Name → List ℕ → Entries
 with_entry entries name octets = insert_entry name_cmp entries name octets
 
--- The entries, how many calls were made, the numbers of the calls that fail, and the numbers of the replaces that store
--- their octets although they fail.
+-- The entries, the number of calls so far, the numbers of the calls that fail, and the numbers of the replaces that
+-- store their octets although they fail.
 pub record World : Type 0 where
   pub entries : Entries
   pub calls : ℕ

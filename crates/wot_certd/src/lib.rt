@@ -1,8 +1,5 @@
-//! The certificate directory: the trait `Shelf`, a shelf in memory and one in the file system, and where each entry
-//! lies.
-//!
-//! It stands on `wot_io`, whose counts of faults it uses, and `hex`. `load` and `store` of `wot_machine` read and
-//! replace entries through `Shelf`; `main` opens the directory.
+//! The certificate directory: the trait `Shelf`, a directory in memory and one in the file system, and the places of
+//! entries.
 #![tactic(auto)]
 
 mod folder;

@@ -60,7 +60,7 @@ fn copy_of(alloc: Global, octets: &[u8]) -> Result<Given, Memory>
     Ok(Given::Bytes(Vec::from_slice(alloc, octets)?))
 }
 
-/// A shelf in memory.
+/// A certificate directory in memory.
 #[derive(Drop)]
 pub struct MemoryShelf {
     alloc: Global,
@@ -88,7 +88,7 @@ impl Model for MemoryShelf {
 }
 
 impl MemoryShelf {
-    /// An empty shelf. The calls whose numbers, counted from 1, are in `fails` fail. A replace whose number is in
+    /// An empty directory. The calls whose numbers, counted from 1, are in `fails` fail. A replace whose number is in
     /// `late` too stores its octets although it fails.
     pub fn new(alloc: Global, fails: Vec<u64>, late: Vec<u64>) -> MemoryShelf
         ensures { result ≡ record {
@@ -106,7 +106,7 @@ impl MemoryShelf {
         }
     }
 
-    /// Sets an entry without a call of the shelf. After `Memory` nothing changed.
+    /// Sets an entry without counting a call. After `Memory` nothing changed.
     pub fn put(&mut self, name: Name, bytes: Vec<u8>) -> Result<(), Memory>
         ensures set { OnOk result (self.new ≡ entered self.old name bytes.items) }
         ensures kept { OnErr result (self.new ≡ self.old) }
@@ -177,7 +177,7 @@ impl Shelf for MemoryShelf {
         ensures later { self.old.faults ≤ self.new.faults }
         ensures cause { IsErrOf result ShelfFault.Failed → Rose self.old.faults self.new.faults }
 
-        // What the trait leaves open: the count rises in these calls only.
+        // The trait leaves this open: the count rises in these calls only.
         ensures counted { IsErrOf result ShelfFault.Failed → self.new.faults ≡ next_count self.old.faults }
         ensures given { OnOk result (self.new.faults ≡ self.old.faults) }
         ensures wanting { IsErrOf result ShelfFault.Memory → self.new.faults ≡ self.old.faults }
@@ -195,7 +195,7 @@ impl Shelf for MemoryShelf {
         ensures later { self.old.faults ≤ self.new.faults }
         ensures cause { IsErrOf result ShelfFault.Failed → Rose self.old.faults self.new.faults }
 
-        // What the trait leaves open: the count rises in these calls only, and out of memory changes no entry.
+        // The trait leaves this open: the count rises in these calls only, and out of memory changes no entry.
         ensures counted { IsErrOf result ShelfFault.Failed → self.new.faults ≡ next_count self.old.faults }
         ensures done { OnOk result (self.new.faults ≡ self.old.faults) }
         ensures wanting { IsErrOf result ShelfFault.Memory

@@ -1,7 +1,5 @@
 //! The places of entries in a directory, and the place next to an entry where its new file is written. Both are pure
 //! functions of the name, defined in `specs/Names.antt`. A change here changes what other programs find in a directory.
-// The places of entries in a directory, and the place beside an entry where its new file is written. Both are pure
-// functions of the name, defined in `specs/Names.antt`. A change changes what other programs find in a directory.
 ghost use Rattle.std.specs.Prelude.{◌≡◌, ◌≢◌, ◌↔◌, ◌⊎◌, ◌+◌, ◌≤◌, ◌++◌, Some, take, drop, slice_index, codes, length};
 ghost use Rattle.std.specs.Prelude.{string_bytes, IsTrue, IfOk, IfSome};
 ghost use Rattle.hex.specs.Hex.{encode_lower};
@@ -47,7 +45,7 @@ fn text_beside(alloc: Global, name: &Name, number: u32) -> Result<String, Memory
     Ok(text)
 }
 
-/// The folder of an entry, with a slash behind it.
+/// The folder of an entry, with a slash at its end.
 fn folder_text(alloc: Global, name: &Name) -> Result<String, Memory>
     ensures { IfOk result (λ text. string_bytes text ≡ folder_of name.now) }
 {

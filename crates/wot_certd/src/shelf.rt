@@ -26,7 +26,7 @@ pub enum Given {
 /// Why a call failed.
 #[derive(Clone, Copy, PartialEq, Eq)]
 pub enum ShelfFault {
-    /// The shelf failed.
+    /// The directory failed.
     Failed,
     /// Out of memory.
     Memory,
@@ -34,10 +34,10 @@ pub enum ShelfFault {
 
 /// A certificate directory, whose entries can be read and replaced.
 pub trait Shelf {
-    /// The entries, how many calls were made, and which calls fail, if the shelf shows them to contracts.
+    /// The entries, the number of calls so far, and which calls fail, if the directory shows them to contracts.
     ghost world: { Self → Option World };
 
-    /// How often the shelf has failed. The count stays at its last value.
+    /// How often the directory failed. The count stays at its last value.
     ghost faults: { Self → ℕ };
 
     /// Reads the entry under a name. No entry changes.

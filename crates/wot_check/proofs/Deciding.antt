@@ -1,4 +1,4 @@
--- Whether claims are good, and whether a table is one of absence, can be decided: each check comes to something.
+-- Whether claims are right, and whether a table proves absence, is decidable: each check has a result.
 use Rattle.std.proofs.Common.{◌≡◌, ◌⊎◌, inl, inr, ℕ, ◌+◌, ◌<◌, ◌≤◌, Bool, true, false, List, [], ◌∷◌, ◌++◌, length}
 use Rattle.std.proofs.Common.{refl, sym, ap, subst, ◌∙◌, arith}
 use Rattle.std.proofs.lemmas.Bool.{cases_eq, cases_lt}
@@ -52,7 +52,7 @@ are_distinct (x ∷ xs) = by (has_fpr xs x) (are_distinct xs)
 -- ---- steps
 
 module _ (q : Question) (used : Use) where
-  -- a step that is claimed, of which more is so
+  -- a claimed step for which something more holds
   record Stepped (item : ClaimedStep) (later : List ClaimedStep) (L : Step → Type 0) : Type 0 where
     step : Step
     follows : Follows q used item later step
@@ -113,13 +113,13 @@ module _ (q : Question) (used : Use) where
       decided (stepped_by item later L) (by_stepped item later L)
       (find (Here item later L) (here item later L dec) (rows_into q.told (begin_of q.target later)))
 
-  -- steps that are claimed, of which more is so
+  -- claimed steps for which something more holds
   record Traced (items : List ClaimedStep) (K : List Step → Type 0) : Type 0 where
     steps : List Step
     traces : Traces q used items steps
     so : K steps
 
-  -- the first step, behind the others
+  -- the first step, before the others
   abbrev First : ClaimedStep → List ClaimedStep → (List Step → Type 0) → List Step → Type 0
   First item later K rest = Stepped item later (λ step. K (step ∷ rest))
 
@@ -146,7 +146,7 @@ module _ (q : Question) (used : Use) where
 
   -- ---- paths
 
-  -- a path that a claim shows, of which more is so
+  -- a path that a claim shows, for which something more holds
   record PathFound (claim : Claim) (K : Path → Type 0) : Type 0 where
     path : Path
     shows : Shows q used claim path
@@ -155,7 +155,7 @@ module _ (q : Question) (used : Use) where
   abbrev path_by : Claim → List Step → Path
   path_by claim steps = record { amount = claim.amount; root = start q.target steps; steps = steps }
 
-  -- steps with which a claim shows that path
+  -- the steps with which a claim shows the path
   record AreShown (claim : Claim) (K : Path → Type 0) (steps : List Step) : Type 0 where
     sizes : Both (1 ≤ length steps) (length steps ≤ 255)
     distinct : Distinct (issuers steps)
@@ -228,14 +228,14 @@ module _ (q : Question) (used : Use) where
 
 -- ---- claims
 
--- paths that claims show after earlier ones, of which more is so
+-- paths that claims show after earlier ones, for which something more holds
 record PathsFound (q : Question) (earlier : List Path) (claims : List Claim) (K : List Path → Type 0) : Type 0 where
   paths : List Path
   each : EachShows q earlier claims paths
   so : K paths
 
 module _ (q : Question) where
-  -- the others, behind the first path
+  -- the other paths, after the first one
   abbrev Others : List Path → List Claim → (List Path → Type 0) → Path → Type 0
   Others earlier claims K path = PathsFound q (earlier ++ path ∷ []) claims (λ paths. K (path ∷ paths))
 
@@ -313,7 +313,7 @@ module _ (q : Question) (used : Use) (table : Labels) (good : IsTable table) whe
 
 -- ---- checks
 
--- each check comes to something
+-- each check has a result
 pub check_some : (q : Question) (claims : List Claim) (table : Labels) → IsTable table
     → (checked : Checked) × IsChecked q claims table checked
 check_some q claims table good =

@@ -47,7 +47,7 @@ suc-zero n = by (nat_eq (suc n) 0) refl
 pub demand_some : (q : Question) (n : ℕ) → demand_of q (suc n) ≡ Before (suc n)
 demand_some q n = ap (λ (b : Bool). cond b (On (entry_at q.told q.target).place) (Before (suc n))) (suc-zero n)
 
--- a usable edge of which something is left
+-- a usable edge with a positive residual amount
 pub record IsOpenRow (used : Use) (row : Row) : Type 0 where
   pub usable : row.usable ≡ true
   pub left : 0 < step_left used (step_of row.edge)

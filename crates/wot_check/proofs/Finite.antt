@@ -1,9 +1,9 @@
--- What can be decided, by going through finite lists.
+-- What is decidable by trying all elements of finite lists.
 use Rattle.std.proofs.Common.{◌≡◌, ◌⊎◌, inl, inr, ℕ, ◌≤◌, Bool, true, false, List, [], ◌∷◌, refl, sym, subst, arith}
 use Rattle.std.proofs.lemmas.Bool.{cases_lt}
 use Rattle.wot_edge.specs.Record.{Has}
 
--- It is so, or it isn't.
+-- it holds, or it doesn't
 abbrev pub Dec : Type 0 → Type 0
 Dec P = P ⊎ (P → ⊥)
 
@@ -28,7 +28,7 @@ is_so false = inr (λ e. absurd cc)
 pub at_most : (a b : ℕ) → Dec (a ≤ b)
 at_most a b = elim (cases_lt b a) [ inl lt ↦ inr (λ le. omega (arith, le, lt)) | inr le ↦ inl le ]
 
--- an element of a list for which it is so
+-- an element of the list for which it holds
 pub record Found {X : Type 0} (P : X → Type 0) (xs : List X) : Type 0 where
   pub it : X
   pub there : Has xs it
@@ -46,7 +46,7 @@ find {X} P dec (x ∷ xs) = by (dec x) (find P dec xs)
         none : Found P (x ∷ xs) → ⊥
         none f = elim f.there [ inl e ↦ n (subst P e f.so) | inr h ↦ m (record { it = f.it; there = h; so = f.so }) ]
 
--- it is so for each element
+-- it holds for each element
 pub all : {X : Type 0} (P : X → Type 0) → ((x : X) → Dec (P x)) → (xs : List X) → Dec ((x : X) → Has xs x → P x)
 all P dec [] = inl (λ x h. absurd h)
 all {X} P dec (x ∷ xs) = by (dec x) (all P dec xs)

@@ -76,7 +76,7 @@ module _ (q : Question) (used : Use) where
         there = l.there;
       }
 
-  -- where steps lead from has their number as its label
+  -- the start of steps has their number as its label
   pub leads_label : (table : Labels) (n : ℕ) (fpr : Fpr) → Leads q used table (suc n) fpr
       → label_at table fpr ≡ Some (suc n)
   leads_label table n fpr l = by l.steps l.labelled l.long l.there
@@ -107,7 +107,8 @@ module _ (q : Question) (used : Use) where
 
   -- ---- one edge
 
-  module _ (size : ℕ) (old new : Growth) (fpr : Fpr) (given : IsGiven old new fpr (size + 1)) (none : label_at old.table fpr ≡ None) where
+  module _ (size : ℕ) (old new : Growth) (fpr : Fpr) (given : IsGiven old new fpr (size + 1))
+      (none : label_at old.table fpr ≡ None) where
     given_keeps : (other : Fpr) (label : ℕ) → label_at old.table other ≡ Some label
         → label_at new.table other ≡ Some label
     given_keeps other label e = by (same_fpr fpr other) refl (given.labels other)
@@ -166,8 +167,7 @@ module _ (q : Question) (used : Use) where
               s.1.left,
               labelled_keeps size old.table new.table given_extends from.steps from.labelled,
             );
-            long =
-                e;
+            long = e;
             there = issuer;
           }
 
@@ -187,8 +187,7 @@ module _ (q : Question) (used : Use) where
                 record {
                   leads = subst (λ (f : Fpr). Leads q used new.table label f) (sym s.0)
                       (subst (λ (m : ℕ). Leads q used new.table m fpr) n given_leads);
-                  some =
-                      omega (arith, n);
+                  some = omega (arith, n);
                   few = omega (arith, n);
                 }
           ];
@@ -230,7 +229,7 @@ module _ (q : Question) (used : Use) where
   some_label None e = absurd cc
   some_label (Some x) e = (x, refl)
 
-  -- ONE EDGE: the layer grew, and the labels cover its row.
+  -- One edge: the layer grew, and the labels cover its row.
   module _ (size : ℕ) (old new : Growth) (at : Fpr) (row : Row) (h : Has (rows_into q.told at) row)
       (given : GivesIf (is_new q.target used (demand_of q size) old.table row) old new row.edge.issuer (size + 1))
       (from : Leads q used old.table size at) (layered : IsLayered q used (suc size) old) where
@@ -274,7 +273,7 @@ module _ (q : Question) (used : Use) where
 -- ---- edge by edge
 
 module _ (q : Question) (used : Use) (size : ℕ) where
-  -- the layer grew, and each edge into a fingerprint is covered or still to be gone through
+  -- the layer grew, and each edge into a fingerprint is covered or still to be considered
   pub record GrewInto (at : Fpr) (old new : Growth) (rest : List EdgeFacts) : Type 0 where
     pub advances : Advances q used size old new
     pub covered : (row : Row) → Has (rows_into q.told at) row

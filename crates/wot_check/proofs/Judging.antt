@@ -1,4 +1,4 @@
--- What each answer of a check comes to.
+-- What each result of a check means.
 use Rattle.std.proofs.Common.{◌≡◌, ◌↔◌, true, false, List, [], ◌∷◌, Some, inl, inr, refl, sym, subst}
 use Rattle.wot_edge.specs.declared.path.Path.{Path}
 use Rattle.wot_edge.specs.Record.{IsRecord}
@@ -46,7 +46,7 @@ pub disordered_yes : (q : Question) (claims : List Claim) (table : Labels) → i
     → Accepts q claims table
 disordered_yes q claims table f e = subst (λ (cs : List Claim). Accepts q cs table) (sym e) ([], tt, inl f)
 
--- where the target isn't in order, no claim shows a path
+-- if the target isn't valid, no claim shows a path
 pub disordered_bad : (q : Question) (claims : List Claim) → is_in_order q ≡ false → (claims ≡ [] → ⊥) → AreGood q claims
     → ⊥
 disordered_bad q [] f some good = some refl
@@ -65,7 +65,7 @@ module _ (q : Question) (claims : List Claim) (used : Sums) (table : Labels) (u 
   rejected ok n =
       (u.0, u.1, λ a. elim a [ inl f ↦ cc | inr x ↦ n (subst (λ (w : Use). Excludes q w table) (sym u.2) x) ])
 
--- each check comes to one thing
+-- each check has exactly one result
 pub check_one : (q : Question) (claims : List Claim) (table : Labels) (a b : Checked) → IsRecord q.told
     → IsChecked q claims table a → IsChecked q claims table b → a ≡ b
 check_one q claims table Yes b good m n = sym ((checked_yes q good claims table b n).1 m)

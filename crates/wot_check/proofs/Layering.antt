@@ -1,4 +1,4 @@
--- What is known after a layer, and what comes of it.
+-- What is known after a layer, and what follows from it.
 use Rattle.std.proofs.Common.{◌≡◌, ◌⊎◌, inl, inr, ℕ, suc, ◌<◌, ◌≤◌, Bool, true, false, List, [], ◌∷◌, ◌++◌, length, map}
 use Rattle.std.proofs.Common.{Option, Some, None, refl, sym, ap, subst, ◌∙◌, arith}
 use Rattle.std.proofs.lemmas.Bool.{cases_lt}
@@ -39,7 +39,7 @@ module _ (q : Question) (used : Use) where
       by fpr [] e there = sym there
       by fpr (x ∷ steps) e there = absurd (omega (arith, e))
 
-  -- the layer is taken out
+  -- the layer is taken out of the growth
   pub taken_out : (size : ℕ) (old now : Growth) → now.table ≡ old.table → now.layer.items ≡ [] → IsAfter q used size old
       → IsLayered q used (suc size) now
   taken_out size old now t l a = record {
@@ -64,7 +64,7 @@ module _ (q : Question) (used : Use) where
       subst (λ (x : Labels). Leads q used x size at) (sym t)
       (a.layered.each at (subst (λ (xs : List Fpr). Has xs at) l h))
 
-  -- one layer more is known
+  -- one more layer is known
   pub goes_on : (size : ℕ) (old now new : Growth) (layer : List Fpr) → layer ≡ old.layer.items → now.table ≡ old.table
       → IsAfter q used size old → Advances q used size now new → CoversLayer q used size layer new.table
       → IsAfter q used (suc size) new
@@ -93,7 +93,7 @@ module _ (q : Question) (used : Use) where
 
   -- ---- the end
 
-  -- Nothing is left to go through: the layer is empty, or all labels are given.
+  -- Nothing is left to consider: the layer is empty, or all labels are given.
   pub settled : (size : ℕ) (growth : Growth) → 0 < size → size ≤ 255 → (length growth.layer.items ≡ 0) ⊎ (size ≡ 255)
       → IsAfter q used size growth → IsSettled q used growth.table
   settled size growth pos le done a = record {
@@ -124,7 +124,7 @@ module _ (q : Question) (used : Use) where
 
   -- ---- what labels say
 
-  labelled_trail : (table : Labels) (steps : List Step) → Labelled q used table steps → Trail q used steps
+  pub labelled_trail : (table : Labels) (steps : List Step) → Labelled q used table steps → Trail q used steps
   labelled_trail table [] l = tt
   labelled_trail table (x ∷ rest) l = (l.1, l.2, labelled_trail table rest l.3)
 
@@ -149,7 +149,7 @@ module _ (q : Question) (used : Use) where
     labelled_distinct table rest l.3,
   )
 
-  -- A labelled fingerprint of which something is left as a root begins a valid path of positive amount.
+  -- A labelled fingerprint that is a root with a residual amount begins a valid path of positive amount.
   pub rooted_left : (table : Labels) → is_in_order q ≡ true → IsSettled q used table → IsRooted q used table
       → IsLeft q used
   rooted_left table ok s r =

@@ -1,4 +1,4 @@
--- After whatever is used there is a least table, and only one.
+-- After any use there is exactly one least table.
 use Rattle.std.proofs.Common.{◌≡◌, ◌⊎◌, inl, inr, ℕ, suc, zero, ◌+◌, ◌<◌, ◌≤◌, Bool, true, false, cond, List, [], ◌∷◌}
 use Rattle.std.proofs.Common.{◌++◌, length, map, Ordering, Option, Some, None, refl, sym, ap, subst, ◌∙◌, arith}
 use Rattle.std.proofs.lemmas.Bool.{cases_lt}
@@ -52,7 +52,7 @@ all_above : (a b : Fpr) (keys : List Fpr) → fpr_cmp a b ≡ Less → Above b k
 all_above a b [] less above = tt
 all_above a b (k ∷ keys) less above = (fpr_total.trans a b k less above.0, all_above a b keys less above.1)
 
--- what is above all stays so where something above is put in
+-- what is above all keys stays so after an insertion above
 above_insert : (low : Fpr) (table : Labels) (fpr : Fpr) (label : ℕ) → fpr_cmp low fpr ≡ Less → Above low (keys_of table)
     → Above low (keys_of (insert_entry fpr_cmp table fpr label))
 above_insert low [] fpr label less above = (less, tt)
@@ -96,7 +96,7 @@ table_insert table fpr label good some few = record {
   labels = labels_insert table fpr label good.labels (omega (arith, some), few);
 }
 
--- what a table says where one label was put in
+-- what a table says after one label is inserted
 label_insert : (table : Labels) (fpr : Fpr) (label : ℕ) (other : Fpr)
     → label_at (insert_entry fpr_cmp table fpr label) other ≡ cond (same_fpr other fpr) (Some label)
     (label_at table other)
@@ -227,7 +227,7 @@ module _ (q : Question) (used : Use) where
     long : length steps ≡ size
     there : start q.target steps ≡ fpr
 
-  -- one step more
+  -- one more step
   led_on : (size : ℕ) (at : Fpr) (row : Row) → Has (rows_into q.told at) row → Led size at
       → may_stand q.target used (demand_of q size) row ≡ true
       → Led (suc size) row.edge.issuer
@@ -248,7 +248,7 @@ module _ (q : Question) (used : Use) where
         there = refl;
       }
 
-  -- a row by which one step more is made
+  -- a row that makes the trail one step longer
   abbrev Leads : ℕ → Fpr → Fpr → Row → Type 0
   Leads size fpr at row =
       Both (may_stand q.target used (demand_of q size) row ≡ true) (same_fpr row.edge.issuer fpr ≡ true)
@@ -535,7 +535,7 @@ module _ (q : Question) (used : Use) where
               few = small.1;
             }
 
-    -- where nothing is left, nothing is left of a labelled root
+    -- if no path is left, no labelled root has a residual amount
     roots_spent : is_in_order q ≡ true → IsSpent q used → RootsSpent q used b.table
     roots_spent ok spent fpr label e = elim (cases_lt 0 (root_left q used fpr)) [
       | inl left ↦
@@ -545,6 +545,19 @@ module _ (q : Question) (used : Use) where
       | inr le ↦ omega (arith, le)
     ]
 
+  -- what was built is the least table
+  built_is : (b : Built all_issuers) (table : Labels) → IsTable table → IsLeast q used table → b.table ≡ table
+  built_is b table good l =
+      let other = built_least b in
+      tables_same b.table table b.good good
+      (λ fpr. same_labels (label_at b.table fpr) (label_at table fpr) (other.least table good l.closes fpr)
+      (l.least b.table b.good other.closes fpr))
+
+  -- Each label of the least table says how many steps lead from there.
+  pub least_settled : (table : Labels) → IsTable table → IsLeast q used table → IsSettled q used table
+  least_settled table good l =
+      let b = built all_issuers in subst (IsSettled q used) (built_is b table good l) (settled b)
+
   -- The least table shows that no path is left, if none is.
   pub least_shows : (table : Labels) → IsTable table → IsLeastTable q used table → IsSpent q used
       → IsAbsence q used table
@@ -552,12 +565,10 @@ module _ (q : Question) (used : Use) where
     where
       shows : is_in_order q ≡ true → (b : Built all_issuers) → IsLeast q used table → IsAbsence q used table
       shows ok b l =
-          let other = built_least b in
-          let same : b.table ≡ table =
-          tables_same b.table table b.good good
-          (λ fpr. same_labels (label_at b.table fpr) (label_at table fpr) (other.least table good l.closes fpr)
-          (l.least b.table b.good other.closes fpr)) in
-          inr (record { closes = l.closes; roots = subst (RootsSpent q used) same (roots_spent b ok spent) })
+          inr (record {
+            closes = l.closes;
+            roots = subst (RootsSpent q used) (built_is b table good l) (roots_spent b ok spent);
+          })
 
       by : (o : Bool) → is_in_order q ≡ o → IsAbsence q used table
       by false e = inl e
@@ -574,7 +585,7 @@ module _ (q : Question) (used : Use) where
       by false = ([], empty_table, refl)
       by true = of_built (built all_issuers)
 
--- What is printed for an answer that misses is accepted.
+-- the proof that is printed for an answer that isn't reached is accepted
 pub least_accepted : (q : Question) (wanted : ℕ) (paths : List Path) (table : Labels) → IsTable table
     → IsAnswer q wanted paths → amount_of paths < wanted
     → IsLeastTable q (use_of paths) table → Accepts q (map claim_of paths) table

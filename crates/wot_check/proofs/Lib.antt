@@ -14,3 +14,5 @@ pub mod Growing
 pub mod Layering
 pub mod Least
 pub mod Judging
+pub mod Checks
+pub mod Leading

@@ -1,4 +1,4 @@
--- The rows of an edge, and lists that are gone through from the front.
+-- The rows of an edge, and lists that are processed from the front.
 use Rattle.std.proofs.Common.{◌≡◌, ◌⊎◌, inl, inr, ℕ, List, [], ◌∷◌, length, map, refl, sym, ap, subst, ◌∙◌, arith}
 use Rattle.wot_types.specs.declared.fpr.Fpr.{Fpr}
 use Rattle.wot_edge.specs.declared.edge.EdgeFacts.{EdgeFacts}
@@ -22,7 +22,7 @@ row_edge told fpr row h = by (rows_into told fpr) h
     by (x ∷ rows) (inl e) = inl (ap (λ (r : Row). r.edge) e)
     by (x ∷ rows) (inr h) = inr (by rows h)
 
--- all of one list are in another
+-- all elements of one list are in another
 abbrev pub Within : {X : Type 0} → List X → List X → Type 0
 Within {X} rest all = (x : X) → Has rest x → Has all x
 

@@ -35,7 +35,7 @@ module _ (q : Question) (used : Use) where
       let e = s.amount in let p = s.positive in
       chain_trail q used (root_left q used (start q.target path.steps)) path.steps s.valid.chain (omega (arith, e, p))
 
-  -- the steps of a path that is shown are those that are claimed
+  -- the steps of a path that is shown are the claimed ones
   pub shows_traces : (claim : Claim) (path : Path) → Shows q used claim path → Traces q used claim.steps path.steps
   shows_traces claim path s =
       subst (λ (c : Claim). Traces q used c.steps path.steps) (sym s.same)
@@ -70,7 +70,8 @@ module _ (q : Question) (used : Use) where
 
   -- ---- from traced steps
 
-  module _ (good : IsRecord q.told) (items : List ClaimedStep) (steps : List Step) (t : Traces q used items steps) (amount : ℕ) where
+  module _ (good : IsRecord q.told) (items : List ClaimedStep) (steps : List Step) (t : Traces q used items steps)
+      (amount : ℕ) where
     abbrev stated : Claim
     stated = record { amount = amount; steps = items }
 

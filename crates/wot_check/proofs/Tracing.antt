@@ -40,7 +40,7 @@ named_edge item row e = (ap (λ (x : ClaimedStep). x.issuer) (sym e), ap (λ (x 
 pub edge_named : (item : ClaimedStep) (edge : EdgeFacts) → IsNamed item edge → item ≡ claimed_step (step_of edge)
 edge_named item edge n = λ i. record { issuer = sym n.0 i; place = sym n.1 i }
 
--- these steps were found, and the items are still to be gone through
+-- these steps were found, and the items are still to be processed
 pub record Traced (q : Question) (used : Use) (items : List ClaimedStep) (steps : List Step)
     (rest : List ClaimedStep) : Type 0 where
   pub goes : (more : List Step) → Traces q used rest more → Traces q used items (steps ++ more)
@@ -82,7 +82,8 @@ module _ (q : Question) (used : Use) (good : IsRecord q.told) where
       (row_edge q.told (begin_of q.target later) f.row f.into) in
       none f.row.edge (subst (λ (xs : List EdgeFacts). Has xs f.row.edge) (sym e) h) (follows_named item later step f)
 
-  module _ (item : ClaimedStep) (later : List ClaimedStep) (row : Row) (into : Has (rows_into q.told (begin_of q.target later)) row) (named : IsNamed item row.edge) where
+  module _ (item : ClaimedStep) (later : List ClaimedStep) (row : Row)
+      (into : Has (rows_into q.told (begin_of q.target later)) row) (named : IsNamed item row.edge) where
     pub row_follows : may_stand q.target used (demand_of q (length later)) row ≡ true
         → IsFollower q used item later (Some (step_of row.edge))
     row_follows s = record { row = row; into = into; shown = refl; same = edge_named item row.edge named; stands = s }

@@ -41,7 +41,7 @@ carries_step q used step rest s pos =
 issuer_is : (q : Question) (step : Step) (rest : List Step) (s : Stands q step rest) → s.row.edge.issuer ≡ step.issuer
 issuer_is q step rest s = ap (λ (x : Step). x.issuer) s.shown
 
--- Where a trail begins, a table that meets the first two points has a label of at most its length.
+-- A table that meets the first two points has a label at the start of a trail, of at most its length.
 pub trail_within : (q : Question) (used : Use) (table : Labels) → Closes q used table → (steps : List Step)
     → Trail q used steps → 1 ≤ length steps → length steps ≤ 255
     → IsWithin (length steps) (label_at table (start q.target steps))

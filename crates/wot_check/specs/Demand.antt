@@ -41,16 +41,16 @@ abbrev pub is_within : ℕ → Option ℕ → Bool
 is_within most None = false
 is_within most (Some label) = nat_le label most
 
--- the issuer has a label of at most this, or the edge may not come there
+-- the issuer has at most this label, or the edge may not come there
 abbrev pub is_covered : Fpr → Use → Demand → ℕ → Labels → Row → Bool
 is_covered target used demand most table row =
     is_within most (label_at table row.edge.issuer) || not (may_stand target used demand row)
 
--- the same, for a target and what is used
+-- whether an edge is covered, by its target and what is used
 abbrev pub is_covered_by : Demand → ℕ → Labels → Fpr → Use → Row → Bool
 is_covered_by demand most table target used row = is_covered target used demand most table row
 
--- that holds for each edge into a fingerprint that is this many edges from the target
+-- each edge into a fingerprint that is this many edges from the target is covered
 abbrev pub Covers : Question → Use → ℕ → Labels → Fpr → Type 0
 Covers q used size table at =
     (row : Row) → Has (rows_into q.told at) row

@@ -1,4 +1,4 @@
--- From what is claimed of the steps of a path to the steps.
+-- From claimed steps to steps.
 use Rattle.std.specs.Prelude.{◌≡◌, ◌≤◌, ◌&&◌, nat_eq, ℕ, Bool, true, List, [], ◌∷◌, length, Option, Some, None, Vec}
 use Rattle.std.specs.declared.alloc.Global.{Global}
 use Rattle.wot_types.specs.declared.fpr.Fpr.{Fpr}
@@ -14,7 +14,7 @@ use Rattle.wot_check.specs.Absence.{is_in_order}
 use Rattle.wot_check.specs.Claim.{Claim, Shows, EachShows, AreGood, claimed_step}
 use Rattle.wot_check.specs.Demand.{demand_of, may_stand}
 
--- where claimed steps begin: the first issuer, or the target itself
+-- the start of claimed steps: the first issuer, or the target itself
 abbrev pub begin_of : Fpr → List ClaimedStep → Fpr
 begin_of target [] = target
 begin_of target (item ∷ later) = item.issuer
@@ -39,7 +39,7 @@ Traces q used [] (step ∷ steps) = ⊥
 Traces q used (item ∷ later) [] = ⊥
 Traces q used (item ∷ later) (step ∷ steps) = Follows q used item later step × Traces q used later steps
 
--- the steps that were found, if any, are those that are claimed
+-- the steps that were found, if any, are the claimed ones
 abbrev pub IsTrace : Question → Use → List ClaimedStep → Option (Vec Step Global) → Type 0
 IsTrace q used items None = (steps : List Step) → Traces q used items steps → ⊥
 IsTrace q used items (Some steps) = Traces q used items steps.items
@@ -70,7 +70,7 @@ IsPathBy q used amount steps found =
     → (items : List ClaimedStep) → Traces q used items steps
     → IsShown q used (record { amount = amount; steps = items }) found
 
--- what the paths use that claims show, if they are good
+-- what the paths use that right claims show
 abbrev pub AreUsedBy : Question → List Claim → Option Sums → Type 0
 AreUsedBy q claims None = AreGood q claims → ⊥
 AreUsedBy q claims (Some used) = (paths : List Path) × EachShows q [] claims paths × (use_in used ≡ use_of paths)

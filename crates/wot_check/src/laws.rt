@@ -9,6 +9,7 @@ ghost use Rattle.wot_edge.specs.Roots.{IsRoots};
 ghost use Rattle.wot_check.specs.declared.checking.Checked.{Checked};
 ghost use Rattle.wot_check.specs.Absence.{Accepts, AcceptsLeast, AreOne, AreSpent, HasAnswer, IsLeastTable};
 ghost use Rattle.wot_check.specs.Claim.{Claim};
+ghost use Rattle.wot_check.specs.Leading.{DoChecksAgree, DoPathsLead, DoTablesAgree, IsLeadingShared};
 ghost use Rattle.wot_check.specs.Table.{IsTable, Labels};
 
 use wot_edge::laws::paths_fit;
@@ -47,4 +48,18 @@ pub fn answers_are_few()
 pub fn accepted_paths_leave_nothing()
     ensures spent { (q : Question) (claims : List Claim) (table : Labels) → IsRecord q.told → Accepts q claims table
         → AreSpent q claims }
+{}
+
+/// The least table depends only on the target and on all that leads to it: questions that agree on these have the same
+/// table. All issuers on valid paths are among these.
+pub fn tables_rest_on_what_leads()
+    ensures within { DoPathsLead }
+    ensures shared { IsLeadingShared }
+    ensures tables { DoTablesAgree }
+{}
+
+/// The result of a check depends only on the target, the keys that certified it, the claimed issuers, the fingerprints
+/// with a label, and their introducers: questions that agree on these have the same result.
+pub fn checks_rest_on_what_they_name()
+    ensures { DoChecksAgree }
 {}

@@ -91,7 +91,8 @@ grown_complete q used least size old new pos founds complete keeps grown (row �
           let c = Covers-has q.target old rest (complete rest (omega arith) (omega arith) t.1) in
           let f = found c.0 old c.1 founds in
           let le' = AtMost-le c.0 rest c.3 in
-          let s : Serves q used least row c.0 = serves_shorter q used least row rest c.0 (omega arith) f.some le' c.2 t.0 in
+          let s : Serves q used least row c.0 = serves_shorter q used least row rest c.0 (omega arith) f.some le' c.2
+          t.0 in
           elim (cases_lt (length c.0) size) [
             | inl lt ↦ Covers-trans q.target new (row ∷ c.0) (row ∷ rest)
                 (keeps (row ∷ c.0) (complete (row ∷ c.0) (omega arith) (omega arith) (s, f.trail))) refl

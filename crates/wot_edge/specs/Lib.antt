@@ -7,6 +7,7 @@ pub mod Sums
 pub mod Answer
 pub mod Capacity
 pub mod Agree
+pub mod AgreeLaws
 pub mod Leads
 pub mod Lawful
 pub mod Plain

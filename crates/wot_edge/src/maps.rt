@@ -2,7 +2,6 @@
 //!
 //! They stand on std's map and on `specs/Sums.antt`. `used` keeps the sums of roots in one, and `roots` and `plain`
 //! their entries.
-// Maps by fingerprint, by the order of fingerprints.
 ghost use Rattle.std.specs.Prelude.{◌≡◌, ◌+◌, ◌<◌, ◌^◌, OnOk, OnErr, IsSome, Some, None};
 ghost use Rattle.std.specs.BTreeMap.{insert_entry, is_at};
 ghost use Rattle.std.specs.Map.{remove_entry};

@@ -2,7 +2,6 @@
 //! it.
 //!
 //! It stands on `sums` and on `specs/Sums.antt`. `Used::add` calls it.
-// What a path uses of its pairs.
 ghost use Rattle.std.specs.Prelude.{◌≡◌, ◌+◌, ◌<◌, ◌^◌, OnOk};
 ghost use Rattle.std.specs.List.{list_any};
 ghost use Rattle.wot_types.specs.Fpr.{same_fpr};

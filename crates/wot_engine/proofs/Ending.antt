@@ -1,4 +1,4 @@
--- What an exit status tells of the end of a run.
+-- What each exit status says about the end of a run.
 use Rattle.std.proofs.Common.{◌≡◌, ◌⊎◌, inl, inr, ℕ, List, Option, Some, None, Result, Ok, Err, OnOk, refl, sym, ap}
 use Rattle.std.proofs.Common.{subst, ◌∙◌, rules, arith}
 use Rattle.std.specs.Prelude.{IfErr, IfSome, IsErrOf}
@@ -81,7 +81,7 @@ module _ {T : Type 0} where
   not_two (Err Memory) status is e = absurd (omega (arith, is, e))
   not_two (Err TooMuch) status is e = absurd (omega (arith, is, e))
 
-  -- ---- a run, where nothing fails
+  -- ---- a run in which nothing fails
 
   complete : (r : Result T Stop) (left : Option (List ℕ)) (form source sink : Type 0)
       → (IsErrOf r Read → source) → (IsErrOf r Write → sink) → (IsErrOf r TooMuch → HasMost left)
@@ -142,7 +142,7 @@ module _ {T : Type 0} where
       by (Err Memory) is p write b = inr is
       by (Err TooMuch) is p write b = elim p [ inl f ↦ absurd cc | inr f ↦ absurd cc ]
 
-  -- what is said of one script is said of the script of these words
+  -- a claim about a single script holds of the script of these words
   pub generated_whole : (r : Result T Stop) (status : ℕ) (rows : PolicyRows) (words : List (List ℕ)) (start count : ℕ)
       (written after : Option (List ℕ))
       → status ≡ status_at r → IsGenerated words start count →

@@ -19,7 +19,7 @@ most = 18446744073709551615
 own : IsNumeralModel (λ digits. all_ascii_digits digits ≡ true) (digits_value 10)
 own = numerals_by_value (λ digits. all_ascii_digits digits ≡ true) tells_all_ascii_digits
 
--- digits of which the first isn't `0`, or which are one
+-- digits whose first isn't `0`, or a single digit
 decimal_from : (digits : List ℕ) → all_ascii_digits digits ≡ true → 0 < length digits →
     (2 ≤ length digits → get_or digits 0 0 ≢ 48)
     → is_decimal digits ≡ true
@@ -48,7 +48,7 @@ if_some : (b : Bool) (n m : ℕ) → (if b then Some n else None) ≡ Some m →
 if_some true n m e = (refl, cc)
 if_some false n m e = absurd cc
 
--- what `parse` reads of digits without a sign or a leading zero
+-- what `parse` returns for digits without a sign or a leading zero
 module _ {E : Type 0} where
   pub parsed : (digits : List ℕ) (r : Result ℕ E) → ParsesUnsigned 64 10 digits r → get_or digits 0 0 ≢ 43
       → (2 ≤ length digits → get_or digits 0 0 ≢ 48) → result_ok r ≡ decimal_up_to most digits
@@ -91,7 +91,7 @@ leading_plus (digit ∷ digits) one plus =
     let low = and_parts (nat_le 48 digit) (nat_le digit 57) first.0 in
     absurd (omega (arith, leb-true 48 digit low.0, plus)))
 
--- ---- how many keys
+-- ---- the number of keys
 
 abbrev count_test : List ℕ → Bool
 count_test digits = is_decimal digits && nat_lt 0 (digits_value 10 digits) && nat_le (digits_value 10 digits) 2000
@@ -138,7 +138,7 @@ count_some digits number is some few =
     (le-leb (digits_value 10 digits) 2000 (omega (arith, got.1, few))))
     ∙ ap (λ n. Some n) got.1
 
--- a count is one of a script
+-- a parsed count is within the bounds of a script
 pub count_bounds : (digits : List ℕ) (count : ℕ) → positive_up_to 2000 digits ≡ Some count →
     (1 ≤ count) × (count ≤ 2000)
 unfolding positive_up_to
@@ -149,7 +149,7 @@ count_bounds digits count is =
 
 -- ---- forms
 
--- No words are of both forms.
+-- no words are of both forms
 pub one_form : (words : List (List ℕ)) (start count : ℕ) → IsRun words → IsGenerated words start count → ⊥
 one_form [] start count run generated = run
 one_form (word ∷ []) start count run generated = generated
@@ -157,7 +157,7 @@ one_form (word ∷ first ∷ []) start count run generated = generated
 one_form (word ∷ first ∷ second ∷ []) start count run generated = run
 one_form (word ∷ first ∷ second ∷ third ∷ words) start count run generated = run
 
--- Words of a generated run are those of one script.
+-- the words of a generated run determine its script
 pub one_script : (words : List (List ℕ)) (start count other more : ℕ) → IsGenerated words start count →
     IsGenerated words other more
     → (other ≡ start) × (more ≡ count)

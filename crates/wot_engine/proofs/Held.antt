@@ -1,4 +1,4 @@
--- A run between two lines, where replies are held back: they stand behind what was written.
+-- A run between two lines, with buffered replies: they follow what was written.
 use Rattle.std.proofs.Common.{◌≡◌, ◌≢◌, ℕ, ◌<◌, length, drop, List, [], ◌++◌, Option, Some, None, Result, Ok, ◌⊎◌, inl}
 use Rattle.std.proofs.Common.{inr, refl, sym, ap, subst, ◌∙◌, append_assoc, arith}
 use Rattle.std.proofs.lemmas.List.{append-nil}
@@ -18,13 +18,14 @@ use Rattle.wot_machine.specs.Law.{OneOutcome}
 use Rattle.wot_machine.specs.Entry.{MayPut}
 use Rattle.wot_machine.specs.Transcript.{AllTold, AnsweredMost, Begun, octets_of}
 use Rattle.wot_machine.proofs.Giving.{all_told, all_weaker}
+use Rattle.wot_engine.specs.Asking.{command_by}
 use Rattle.wot_engine.specs.Held.{Moves, MovesOf}
 use Rattle.wot_engine.specs.Ended.{Reached, ReachedWhole}
 use Rattle.wot_engine.specs.Turn.{Replies, use_by}
 use Rattle.wot_engine.proofs.Progress.{Stands, puts_nothing, reaches, starts, takes_more, took_on}
-use Rattle.wot_engine.proofs.Turns.{First-here, Stood, Turned, cut_by, cut_most, turned, wrote}
+use Rattle.wot_engine.proofs.Turns.{First-here, Stood, cut_by, cut_most, turned, wrote}
 
--- ---- what is held
+-- ---- the buffer
 
 pub moves_all : (written after : Option (List ℕ)) (held left : List ℕ) →
     Becomes written (λ before. before ++ held) after → left ≡ [] → Moves written held after left
@@ -36,7 +37,7 @@ moves_all (Some before) after held left b none = record {
       sym (ap (λ (x : List ℕ). held ++ x) none ∙ append-nil held);
 }
 
--- nothing is held where the next line isn't at hand
+-- nothing is buffered if the next line isn't available yet
 pub nothing_held : (r : Result Line LinesFault) (held out : List ℕ) → HasNoFeed held ⊎ ((r ≡ Ok Text) ⊎ (r ≡ Ok Long)) →
     (r ≡ Ok Text → ⊥) → (r ≡ Ok Long → ⊥) → (HasNoFeed held → out ≡ [])
     → out ≡ []
@@ -47,7 +48,7 @@ some_is : (x y : List ℕ) → Some x ≡ Some y → x ≡ y
 some_is x y e = cc
 
 module _ (rows : PolicyRows) where
-  -- the replies to the lines given are those octets that were written, and those that are held
+  -- the replies to the lines read so far are the written octets and the buffered ones
   pub record IsHeld (origin : Option World) (world : World) (input before held : List ℕ) (taken : ℕ)
       (left written : Option (List ℕ)) (out : List ℕ) (shelf : Option World) (state : Whole) : Type 0 where
     pub done : List ℕ
@@ -88,7 +89,7 @@ module _ (rows : PolicyRows) where
             h.stands;
       }) h
 
-  -- where nothing is held
+  -- if nothing is buffered
   pub Held-none : (left0 written0 : Option (List ℕ)) (origin : Option World) (held : List ℕ) (taken : ℕ)
       (left written : Option (List ℕ)) (out : List ℕ) (shelf : Option World) (state : Whole)
       → Held left0 written0 origin held taken left written out shelf state → out ≡ [] →
@@ -101,7 +102,7 @@ module _ (rows : PolicyRows) where
       subst (λ (w : Option (List ℕ)). Stands rows origin world input before held taken left w shelf state) same
       h.stands) h
 
-  -- a line was given, and its reply is held behind the others
+  -- a line was read, and its reply is appended to the buffer
   pub Held-reply : (left0 written0 : Option (List ℕ)) (origin : Option World) (old : ReaderState)
       (left written : Option (List ℕ)) (out : List ℕ) (shelf : Option World) (state : Whole) (new : ReaderState)
       (left' : Option (List ℕ)) (shelf' : Option World) (state' : Whole) (line : Line) (octets more : List ℕ)
@@ -112,24 +113,22 @@ module _ (rows : PolicyRows) where
   Held-reply left0 written0 origin old left written out shelf state new left' shelf' state' line octets more h a r
       behind =
       all_weaker left0 written0 origin _ _ (λ input before world uncalled h.
-      let t : Turned rows origin world input before new.held new.taken left' (Some ((before ++ h.done) ++ out)) octets
-      shelf' state' =
-      turned rows origin world input before old left (Some ((before ++ h.done) ++ out)) shelf state new left' shelf'
-      state' line octets uncalled h.stands a r in
-      let now : (before ++ h.done) ++ out ≡ before ++ octets_of t.stands.replies = some_is ((before ++ h.done) ++ out)
-      (before ++ octets_of t.stands.replies) t.stands.written_is in
-      let same : (before ++ h.done) ++ more ≡ (before ++ octets_of t.stands.replies) ++ octets =
+      let t = turned rows origin world input before old left (Some ((before ++ h.done) ++ out)) shelf state new left'
+      shelf' state' line octets uncalled h.stands a r in
+      let now : (before ++ h.done) ++ out ≡ before ++ octets_of h.stands.replies = some_is ((before ++ h.done) ++ out)
+      (before ++ octets_of h.stands.replies) h.stands.written_is in
+      let same : (before ++ h.done) ++ more ≡ (before ++ octets_of h.stands.replies) ++ octets =
       ap (λ (x : List ℕ). (before ++ h.done) ++ x) behind ∙ sym (append_assoc (before ++ h.done) out octets)
       ∙ ap (λ (x : List ℕ). x ++ octets) now in
       record {
         done = h.done;
         written_is = h.written_is;
-        stands = wrote rows origin world input before new.held new.taken left' (Some ((before ++ h.done) ++ out)) octets
-            shelf' state' (Some ((before ++ h.done) ++ more)) t
-            (ap (λ (x : List ℕ). Some x) same);
+        stands = (wrote rows origin world input before old.held old.taken left (Some ((before ++ h.done) ++ out)) shelf
+            state (command_by line new.text) new.held new.taken left' octets shelf' state'
+            (Some ((before ++ h.done) ++ more)) h.stands t (ap (λ (x : List ℕ). Some x) same)).0;
       }) h
 
-  -- all that was held is written
+  -- the whole buffer was written
   pub Held-written : (left0 written0 : Option (List ℕ)) (origin : Option World) (held : List ℕ) (taken : ℕ)
       (left written : Option (List ℕ)) (out : List ℕ) (shelf : Option World) (state : Whole) (after : Option (List ℕ))
       → Held left0 written0 origin held taken left written out shelf state → Becomes written (λ old. old ++ out) after →
@@ -139,7 +138,7 @@ module _ (rows : PolicyRows) where
       (Held-moves left0 written0 origin held taken left written out shelf state after [] h
       (moves_all written after out [] b refl)) refl
 
-  -- what was written, whatever is held
+  -- what was written is a prefix, whatever is buffered
   pub Held-begun : OneOutcome rows → (left0 written0 : Option (List ℕ)) (origin : Option World) (held : List ℕ)
       (taken : ℕ) (left written : Option (List ℕ)) (out : List ℕ) (shelf : Option World) (state : Whole)
       → Held left0 written0 origin held taken left written out shelf state →
@@ -150,7 +149,7 @@ module _ (rows : PolicyRows) where
       (omega arith)
       (h.written_is ∙ ap (λ (x : List ℕ). Some x) (sym (append-nil (before ++ h.done))))) h
 
-  -- a write of what is held was cut short
+  -- what was written is a prefix, if a write of the buffer was cut short
   pub Held-cut : OneOutcome rows → (left0 written0 : Option (List ℕ)) (origin : Option World) (held : List ℕ)
       (taken : ℕ) (left written : Option (List ℕ)) (out : List ℕ) (shelf : Option World) (state : Whole)
       (after : Option (List ℕ))
@@ -164,7 +163,7 @@ module _ (rows : PolicyRows) where
       takes_more rows origin world law input before held taken left shelf state h.done out g'.0 after h.stands
       (omega (arith, g'.1)) g'.2) h
 
-  -- the same of 2 ^ 30 octets, also after more was taken
+  -- all complete lines of 2 ^ 30 octets are answered, even if more was read
   pub Held-most : OneOutcome rows → (left0 written0 : Option (List ℕ)) (origin : Option World) (held : List ℕ)
       (taken : ℕ) (left written : Option (List ℕ)) (out : List ℕ) (shelf : Option World) (state : Whole)
       (after left' : Option (List ℕ)) (taken' : ℕ)
@@ -180,7 +179,7 @@ module _ (rows : PolicyRows) where
       cut_most rows law origin world input before (held ++ t.gone) taken' left' shelf state h.done out g'.0 after s g'.1
       g'.2) h
 
-  -- how far the run has come, whatever is held
+  -- how far the run has come, whatever is buffered
   pub Held-reached : (left0 written0 : Option (List ℕ)) (origin : Option World) (held : List ℕ) (taken : ℕ)
       (left written : Option (List ℕ)) (out : List ℕ) (shelf : Option World) (state : Whole)
       → Held left0 written0 origin held taken left written out shelf state →
@@ -193,7 +192,7 @@ module _ (rows : PolicyRows) where
       (puts_nothing rows origin world shelf h.stands.now state (drop (length h.stands.done) (lines_of input))
       h.stands.is_now)) h
 
-  -- the same where a write of what is held was cut short
+  -- how far the run has come if a write of the buffer was cut short
   pub Held-reached_cut : (left0 written0 : Option (List ℕ)) (origin : Option World) (held : List ℕ) (taken : ℕ)
       (left written : Option (List ℕ)) (out : List ℕ) (shelf : Option World) (state : Whole) (after : Option (List ℕ))
       → Held left0 written0 origin held taken left written out shelf state →
@@ -208,7 +207,7 @@ module _ (rows : PolicyRows) where
       (puts_nothing rows origin world shelf h.stands.now state (drop (length h.stands.done) (lines_of input))
       h.stands.is_now)) h
 
-  -- the same behind a line for which no memory was found
+  -- how far the run has come if memory ran out for a line
   pub Held-reached_next : (left0 written0 : Option (List ℕ)) (origin : Option World) (old : ReaderState)
       (left written : Option (List ℕ)) (out : List ℕ) (shelf : Option World) (state : Whole) (after : Option (List ℕ))
       (new : ReaderState) (left' : Option (List ℕ)) (shelf' : Option World) (line : Line)
@@ -226,7 +225,7 @@ module _ (rows : PolicyRows) where
       reaches rows origin world input before old.held old.taken left shelf state h.done out g'.0 after shelf' h.stands
       g'.2 cut.puts) h
 
-  -- what is held was written at last, behind a line for which no memory was found
+  -- the buffer was written after memory ran out for a line
   pub Held-first : (left0 written0 : Option (List ℕ)) (origin : Option World) (old : ReaderState)
       (left written : Option (List ℕ)) (out : List ℕ) (shelf : Option World) (state : Whole) (after : Option (List ℕ))
       (new : ReaderState) (left' : Option (List ℕ)) (shelf' : Option World) (line : Line)

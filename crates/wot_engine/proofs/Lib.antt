@@ -3,6 +3,7 @@ mod Turns
 mod Held
 mod Taking
 mod Replying
+mod Asking
 pub mod Rules
 mod Forms
 mod Ending

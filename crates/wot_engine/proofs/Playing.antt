@@ -26,7 +26,7 @@ use Rattle.wot_engine.specs.Played.{Adds, AddsReply, AddsTold, IsPlayed}
 
 -- ---- watch lines
 
--- Of all these the rest is still to be added.
+-- all of these are added but the rest
 pub record AddsUpTo (first now : Tally) (all rest : List Reply) : Type 0 where
   pub done : List Reply
   pub parts : done ++ rest ≡ all
@@ -56,7 +56,7 @@ adds_last first now all rest s none told t =
     (sym (nil_from_length rest none)) ∙ s.parts in
     subst (λ (ls : List Reply). Tells now (told ++ ls)) whole (s.tells told t)
 
--- A watch line tells no answer's amount.
+-- a watch line isn't the amount of an answer
 pub nothing_told : (line : Reply) → watching.IsWatchLine line → amount_in line ≡ 0
 nothing_told line (inl is) = ap amount_in is.2
 nothing_told line (inr is) = ap amount_in is.1
@@ -64,7 +64,7 @@ nothing_told line (inr is) = ap amount_in is.1
 module _ (rows : PolicyRows) where
   -- ---- one line
 
-  -- what was replied over a shelf that tells its world, and the watch lines behind it, are the line's step
+  -- The reply and the watch lines after it, with a directory whose world is known, are the line's step.
   pub step_over : (line : List ℕ) (old mid new : Whole) (before after : World) (faults later : ℕ) (reply : Option Reply)
       (told : List Reply)
       → Replied rows line old (record { world = Some before; faults = faults }) reply mid
@@ -89,7 +89,7 @@ module _ (rows : PolicyRows) where
     tells = λ replies t. subst (Tells tally) (sym (append-nil replies)) t;
   }
 
-  -- the reply and the watch lines behind it were added
+  -- the reply and the watch lines after it were added
   pub adds_both : (line : List ℕ) (old mid new : Whole) (before after : World) (faults later : ℕ)
       (had has total : Tally)
       → AddsReply rows line old (record { world = Some before; faults = faults }) had mid
@@ -105,7 +105,7 @@ module _ (rows : PolicyRows) where
 
   -- ---- so far
 
-  -- These lines were answered, and the rest of the text is still to come.
+  -- these lines were answered, and the rest of the text is still to come
   pub record Plays (text rest : List ℕ) (scene : Scene) (tally : Tally) : Type 0 where
     pub done : List (List ℕ)
     pub replies : List Reply
@@ -116,7 +116,7 @@ module _ (rows : PolicyRows) where
   pub starts : (text : List ℕ) (tally : Tally) → Tells tally [] → Plays text text (opening no_entries) tally
   starts text tally tells = record { done = []; replies = []; lines = refl; run = (refl, refl); tells = tells }
 
-  -- by a machine that was told no line
+  -- a fresh machine has answered no line
   pub starts_with : (text : List ℕ) (machine : Machine) (world : World) (tally : Tally) →
       machine.engine ≡ empty standard_limits → machine.cursors ≡ [] → machine.watches ≡ []
       → world ≡ no_entries → Tells tally [] → Plays text text (over (kept machine) world) tally

@@ -1,4 +1,4 @@
--- Where a run stands between two lines.
+-- How far a run has come between two lines.
 use Rattle.std.proofs.Common.{◌≡◌, ◌⊎◌, inl, inr, ℕ, ◌+◌, ◌<◌, ◌≤◌, ◌^◌, List, [], ◌∷◌, ◌++◌, length, take, drop}
 use Rattle.std.proofs.Common.{Option, Some, None, refl, sym, ap, subst, ◌∙◌, append_assoc, arith, length-append}
 use Rattle.std.proofs.lemmas.List.{append-nil, take_at, take-append-le, append_cancel_left}
@@ -15,8 +15,9 @@ use Rattle.wot_machine.specs.Law.{OneOutcome}
 use Rattle.wot_machine.specs.Scene.{Scene, Step, opening}
 use Rattle.wot_machine.specs.Entry.{MayPut, MayPutIn, Use, use_of}
 use Rattle.wot_machine.specs.Lines.{heard}
-use Rattle.wot_machine.specs.Transcript.{Run, RepliesTo, Answered, Begun, IsNow, Leaves, listed, octets_of}
-use Rattle.wot_engine.specs.Ended.{FinishedMost, FinishedTaken, IsLastTaken, MayPutNext, Reached, ReachedWhole}
+use Rattle.wot_machine.specs.Transcript.{Run, RepliesTo, Answered, Begun, IsNow, IsTaken, Leaves, listed, octets_of}
+use Rattle.wot_engine.specs.Ended.{Finished, FinishedMost, FinishedTaken, IsLastTaken, MayPutNext, Reached}
+use Rattle.wot_engine.specs.Ended.{ReachedWhole}
 use Rattle.wot_machine.proofs.Giving.{over}
 use Rattle.wot_machine.proofs.Runs.{Run-some, Run-append}
 use Rattle.wot_machine.proofs.CutLines.{lines_of-feed, whole_lines_of-feed, whole_lines_of-none, lines_of-last}
@@ -29,12 +30,12 @@ joined before some others =
     (sym (flat_map-append reply_text some others))
 
 module _ (rows : PolicyRows) (origin : Option World) (world : World) where
-  -- whatever follows these octets, these are the lines in front
+  -- these are the first lines, whatever follows the octets
   pub record IsPrefix (gone : List ℕ) (done : List (List ℕ)) : Type 0 where
     pub lines : (x : List ℕ) → lines_of (gone ++ x) ≡ done ++ lines_of x
     pub whole : (x : List ℕ) → whole_lines_of (gone ++ x) ≡ done ++ whole_lines_of x
 
-  -- the lines were given, and their replies were written
+  -- these lines were read, and their replies were written
   pub record Stands (input before held : List ℕ) (taken : ℕ) (left written : Option (List ℕ)) (shelf : Option World)
       (state : Whole) : Type 0 where
     pub gone : List ℕ
@@ -67,6 +68,13 @@ module _ (rows : PolicyRows) (origin : Option World) (world : World) where
     written_is = f ∙ ap (λ (x : List ℕ). Some x) (sym (append-nil before));
     lines = inl (record { lines = λ x. refl; whole = λ x. refl });
   }
+
+  -- no line was read by then
+  pub starts_first : (input before : List ℕ) (left written : Option (List ℕ)) (shelf : Option World) →
+      left ≡ Some input → written ≡ Some before → IsNow origin shelf world
+      → (s : Stands input before [] 0 left written shelf beginning) × (s.done ≡ []) × (s.now ≡ world)
+  unfolding starts
+  starts_first input before left written shelf e f is = (starts input before left written shelf e f is, refl, refl)
 
   Run-push : (lines : List (List ℕ)) (line : List ℕ) (replies : List Reply) (reply : Option Reply) (told : List Reply)
       (old mid new : Scene)
@@ -106,7 +114,7 @@ module _ (rows : PolicyRows) (origin : Option World) (world : World) where
   nil-both [] ys e = (refl, e)
   nil-both (x ∷ xs) ys e = absurd cc
 
-  -- more octets were taken, and are held
+  -- more octets were read, and are buffered
   pub took_on : (input before held : List ℕ) (taken : ℕ) (left written : Option (List ℕ)) (shelf : Option World)
       (state : Whole) (left' : Option (List ℕ)) (taken' : ℕ) → Stands input before held taken left written shelf state →
       (t : Took left taken left' taken')
@@ -140,7 +148,7 @@ module _ (rows : PolicyRows) (origin : Option World) (world : World) where
         ];
       }
 
-  -- the line that is given is the next of all
+  -- the line just read is the next one of all
   pub comes_next : (input before held : List ℕ) (taken : ℕ) (left written : Option (List ℕ)) (shelf : Option World)
       (state : Whole) (held' : List ℕ) (taken' : ℕ) (left' : Option (List ℕ)) (line : List ℕ)
       → (s : Stands input before held taken left written shelf state) →
@@ -164,7 +172,13 @@ module _ (rows : PolicyRows) (origin : Option World) (world : World) where
         ]
       ]
 
-  -- one line on
+  -- where a run stands after one more line, which is the last one read, and the world after it
+  abbrev pub StandsOn : (done : List (List ℕ)) (line : List ℕ) (next : World) (input before held : List ℕ) (taken : ℕ)
+      (left written : Option (List ℕ)) (shelf : Option World) (state : Whole) → Type 0
+  StandsOn done line next input before held taken left written shelf state =
+      (s : Stands input before held taken left written shelf state) × (s.done ≡ done ++ line ∷ []) × (s.now ≡ next)
+
+  -- one line further
   pub goes_on : (input before held : List ℕ) (taken : ℕ) (left written : Option (List ℕ)) (shelf : Option World)
       (state : Whole) (held' : List ℕ) (taken' : ℕ) (left' written' : Option (List ℕ)) (shelf' : Option World)
       (state' : Whole) (line : List ℕ) (reply : Option Reply) (told : List Reply)
@@ -172,48 +186,58 @@ module _ (rows : PolicyRows) (origin : Option World) (world : World) where
       GivesOf held s.rest taken held' left' taken' line → (next : World) → IsNow origin shelf' next
       → Step rows (over state s.now) line reply told (over state' next) →
       written' ≡ Some ((before ++ octets_of s.replies) ++ octets_of (listed reply ++ told))
-      → Stands input before held' taken' left' written' shelf' state'
+      → StandsOn s.done line next input before held' taken' left' written' shelf' state'
   goes_on input before held taken left written shelf state held' taken' left' written' shelf' state' line reply told s g
       next is step w =
       elim s.lines [
         | inl prefix ↦ elim g.cuts.parts [
-          | inl feed ↦ record {
-            gone = s.gone ++ (line ++ 10 ∷ []);
-            rest = g.rest;
-            done = s.done ++ line ∷ [];
-            replies = s.replies ++ (listed reply ++ told);
-            now = next;
-            is_now = is;
-            left_is = g.left_is;
-            count = omega (arith, g.count, s.count);
-            parts = s.parts ∙ ap (λ (x : List ℕ). s.gone ++ x) feed ∙ regroup s.gone line (held' ++ g.rest);
-            run = Run-push s.done line s.replies reply told (opening world) (over state s.now) (over state' next) s.run
-                step;
-            written_is = w ∙ ap (λ (x : List ℕ). Some x) (joined before s.replies (listed reply ++ told));
-            lines = inl (IsPrefix-push s.gone s.done line g.cuts.no_feed prefix);
-          }
-          | inr last ↦ record {
-            gone = s.gone ++ line;
-            rest = g.rest;
-            done = s.done ++ line ∷ [];
-            replies = s.replies ++ (listed reply ++ told);
-            now = next;
-            is_now = is;
-            left_is = g.left_is;
-            count = omega (arith, g.count, s.count);
-            parts = s.parts ∙ ap (λ (x : List ℕ). s.gone ++ x) last.1
-                ∙ sym (ap (λ (x : List ℕ). (s.gone ++ line) ++ x) last.2 ∙ append-nil (s.gone ++ line));
-            run = Run-push s.done line s.replies reply told (opening world) (over state s.now) (over state' next) s.run
-                step;
-            written_is = w ∙ ap (λ (x : List ℕ). Some x) (joined before s.replies (listed reply ++ told));
-            lines = inr (
-              last.0,
-              last.2,
-              ap lines_of (s.parts ∙ ap (λ (x : List ℕ). s.gone ++ x) last.1)
-                  ∙ prefix.lines line ∙ ap (λ (ls : List (List ℕ)). s.done ++ ls)
-                  (lines_of-last line last.3 g.cuts.no_feed),
-            );
-          }
+          | inl feed ↦ (
+            record {
+              gone = s.gone ++ (line ++ 10 ∷ []);
+              rest = g.rest;
+              done = s.done ++ line ∷ [];
+              replies = s.replies ++ (listed reply ++ told);
+              now = next;
+              is_now = is;
+              left_is = g.left_is;
+              count = omega (arith, g.count, s.count);
+              parts = s.parts ∙ ap (λ (x : List ℕ). s.gone ++ x) feed ∙ regroup s.gone line (held' ++ g.rest);
+              run = Run-push s.done line s.replies reply told (opening world) (over state s.now) (over state' next)
+                  s.run
+                  step;
+              written_is = w ∙ ap (λ (x : List ℕ). Some x) (joined before s.replies (listed reply ++ told));
+              lines = inl (IsPrefix-push s.gone s.done line g.cuts.no_feed prefix);
+            },
+            refl,
+            refl,
+          )
+          | inr last ↦ (
+            record {
+              gone = s.gone ++ line;
+              rest = g.rest;
+              done = s.done ++ line ∷ [];
+              replies = s.replies ++ (listed reply ++ told);
+              now = next;
+              is_now = is;
+              left_is = g.left_is;
+              count = omega (arith, g.count, s.count);
+              parts = s.parts ∙ ap (λ (x : List ℕ). s.gone ++ x) last.1
+                  ∙ sym (ap (λ (x : List ℕ). (s.gone ++ line) ++ x) last.2 ∙ append-nil (s.gone ++ line));
+              run = Run-push s.done line s.replies reply told (opening world) (over state s.now) (over state' next)
+                  s.run
+                  step;
+              written_is = w ∙ ap (λ (x : List ℕ). Some x) (joined before s.replies (listed reply ++ told));
+              lines = inr (
+                last.0,
+                last.2,
+                ap lines_of (s.parts ∙ ap (λ (x : List ℕ). s.gone ++ x) last.1)
+                    ∙ prefix.lines line ∙ ap (λ (ls : List (List ℕ)). s.done ++ ls)
+                    (lines_of-last line last.3 g.cuts.no_feed),
+              );
+            },
+            refl,
+            refl,
+          )
         ]
         | inr ended ↦ elim g.cuts.parts [
           | inl feed ↦ absurd (nil-feed line (held' ++ g.rest) (sym ended.1 ∙ feed))
@@ -224,7 +248,7 @@ module _ (rows : PolicyRows) (origin : Option World) (world : World) where
       regroup : (gone line x : List ℕ) → gone ++ (line ++ 10 ∷ x) ≡ (gone ++ (line ++ 10 ∷ [])) ++ x
       regroup gone line x = simp append_assoc
 
-  -- the lines given are first ones of all
+  -- the lines read so far are the first ones of all
   pub begins : (input before held : List ℕ) (taken : ℕ) (left written : Option (List ℕ)) (shelf : Option World)
       (state : Whole) → (s : Stands input before held taken left written shelf state) →
       (more : List (List ℕ)) × (lines_of input ≡ s.done ++ more)
@@ -234,10 +258,10 @@ module _ (rows : PolicyRows) (origin : Option World) (world : World) where
         | inr ended ↦ ([], ended.2 ∙ sym (append-nil s.done))
       ]
 
-  take-prefix : (lines done more : List (List ℕ)) → lines ≡ done ++ more → take (length done) lines ≡ done
+  pub take-prefix : (lines done more : List (List ℕ)) → lines ≡ done ++ more → take (length done) lines ≡ done
   take-prefix lines done more e = ap (take (length done)) e ∙ take_at done more (length done) refl
 
-  -- the lines given are answered, and each reply is whole
+  -- the lines read so far are answered, and each reply is complete
   pub at_first : (input before held : List ℕ) (taken : ℕ) (left written : Option (List ℕ)) (shelf : Option World)
       (state : Whole) (source : Option (List ℕ)) (shelf' : Option World)
       → (s : Stands input before held taken left written shelf state) →
@@ -255,7 +279,7 @@ module _ (rows : PolicyRows) (origin : Option World) (world : World) where
         left = puts;
       }
 
-  -- The replies to the lines given, and to all others.
+  -- the replies to the lines read so far are a prefix of all replies
   told_all : OneOutcome rows → (lines done more : List (List ℕ)) (replies : List Reply) (last : Scene) →
       lines ≡ done ++ more → Run rows (opening world) done replies last →
       (others : List Reply) × RepliesTo rows world lines (replies ++ others)
@@ -269,7 +293,7 @@ module _ (rows : PolicyRows) (origin : Option World) (world : World) where
         },
       )
 
-  -- all of the replies so far, and nothing else
+  -- exactly the replies so far
   pub so_far : OneOutcome rows → (input before held : List ℕ) (taken : ℕ) (left written : Option (List ℕ))
       (shelf : Option World) (state : Whole) → Stands input before held taken left written shelf state →
       Begun rows world (lines_of input) before written
@@ -289,7 +313,7 @@ module _ (rows : PolicyRows) (origin : Option World) (world : World) where
           ∙ take_at (octets_of some) (octets_of others) (length (octets_of some)) refl
 
   -- the end
-  done_all : (input before held : List ℕ) (taken : ℕ) (left written : Option (List ℕ)) (shelf : Option World)
+  pub done_all : (input before held : List ℕ) (taken : ℕ) (left written : Option (List ℕ)) (shelf : Option World)
       (state : Whole) → (s : Stands input before held taken left written shelf state) → held ≡ [] → s.rest ≡ [] →
       lines_of input ≡ s.done
   done_all input before held taken left written shelf state s e f =
@@ -317,12 +341,19 @@ module _ (rows : PolicyRows) (origin : Option World) (world : World) where
       let whole : lines_of input ≡ s.done = done_all input before held taken left written shelf state s e f in
       record { replies = s.replies; told = record { last = over state s.now; run = rw whole s.run }; left = s.is_now }
 
-  -- the octets taken that are in no line given have no line feed
-  pub at_stop : (input before held : List ℕ) (taken : ℕ) (left written : Option (List ℕ)) (shelf : Option World)
+  -- The octets that were taken. The lines read are all whole lines of them. If nothing is left, a last line without a
+  -- line feed may count as whole.
+  pub record HasTaken (input : List ℕ) (left : Option (List ℕ)) (done : List (List ℕ)) : Type 0 where
+    pub octets : List ℕ
+    pub taken : IsTaken input octets left
+    pub lines : (whole_lines_of octets ≡ done) ⊎ ((taken.rest ≡ []) × (lines_of octets ≡ done))
+
+  -- the octets that were read but are in no line yet have no line feed
+  pub has_taken : (input before held : List ℕ) (taken : ℕ) (left written : Option (List ℕ)) (shelf : Option World)
       (state : Whole) (left' : Option (List ℕ)) (taken' : ℕ) →
       (s : Stands input before held taken left written shelf state) → StopsOf held s.rest taken left' taken'
-      → FinishedTaken rows world input before left' written origin shelf
-  at_stop input before held taken left written shelf state left' taken' s t =
+      → HasTaken input left' s.done
+  has_taken input before held taken left written shelf state left' taken' s t =
       elim s.lines [
         | inl prefix ↦ record {
           octets = s.gone ++ t.passed;
@@ -332,16 +363,8 @@ module _ (rows : PolicyRows) (origin : Option World) (world : World) where
                 ∙ sym (append_assoc s.gone t.passed t.rest);
             left_is = t.left_is;
           };
-          finished = inl (record {
-            replies = s.replies;
-            told = record {
-              last = over state s.now;
-              run =
-                  rw (whole s.gone t.passed s.done prefix t.no_feed) s.run;
-            };
-            written = s.written_is;
-            left = s.is_now;
-          });
+          lines = inl (prefix.whole t.passed ∙ ap (λ (ls : List (List ℕ)). s.done ++ ls)
+              (whole_lines_of-none t.passed t.no_feed) ∙ append-nil s.done);
         }
         | inr ended ↦
             let both = nil-both t.passed t.rest (sym t.parts ∙ ended.1) in
@@ -349,30 +372,35 @@ module _ (rows : PolicyRows) (origin : Option World) (world : World) where
               octets = input;
               taken = record {
                 rest = t.rest;
-                input_is =
-                    sym (ap (λ (x : List ℕ). input ++ x) both.1 ∙ append-nil input);
+                input_is = sym (ap (λ (x : List ℕ). input ++ x) both.1 ∙ append-nil input);
                 left_is = t.left_is;
               };
-              finished = inr (
-                both.1,
-                record {
-                  replies = s.replies;
-                  told = record {
-                    last = over state s.now;
-                    run =
-                        rw ended.2 s.run;
-                  };
-                  written = s.written_is;
-                  left = s.is_now;
-                },
-              );
+              lines = inr (both.1, ended.2);
             }
       ]
+
+  pub at_stop : (input before held : List ℕ) (taken : ℕ) (left written : Option (List ℕ)) (shelf : Option World)
+      (state : Whole) (left' : Option (List ℕ)) (taken' : ℕ) →
+      (s : Stands input before held taken left written shelf state) → StopsOf held s.rest taken left' taken'
+      → FinishedTaken rows world input before left' written origin shelf
+  at_stop input before held taken left written shelf state left' taken' s t =
+      let h = has_taken input before held taken left written shelf state left' taken' s t in
+      record {
+        octets = h.octets;
+        taken = h.taken;
+        finished = elim h.lines [
+          | inl whole ↦ inl (finished whole)
+          | inr ended ↦ inr (ended.0, finished ended.1)
+        ];
+      }
     where
-      whole : (gone passed : List ℕ) (done : List (List ℕ)) → IsPrefix gone done → HasNoFeed passed →
-          whole_lines_of (gone ++ passed) ≡ done
-      whole gone passed done f h = f.whole passed ∙ ap (λ (ls : List (List ℕ)). done ++ ls)
-          (whole_lines_of-none passed h) ∙ append-nil done
+      finished : {lines : List (List ℕ)} → lines ≡ s.done → Finished rows world lines before written origin shelf
+      finished e = record {
+        replies = s.replies;
+        told = record { last = over state s.now; run = rw e s.run };
+        written = s.written_is;
+        left = s.is_now;
+      }
 
   pub at_most : (input before held : List ℕ) (taken : ℕ) (left written : Option (List ℕ)) (shelf : Option World)
       (state : Whole) (left' : Option (List ℕ)) (taken' : ℕ) →
@@ -443,9 +471,9 @@ module _ (rows : PolicyRows) (origin : Option World) (world : World) where
           ∙ take-append-add replies (reply ++ octets_of others) n
           ∙ ap (λ (x : List ℕ). replies ++ x) (take-append-le n reply (octets_of others) le)
 
-  -- ---- what the next line puts
+  -- ---- what the next line writes to the certificate directory
 
-  -- nothing is put
+  -- nothing is written
   pub puts_nothing : (shelf : Option World) (now : World) (state : Whole) (lines : List (List ℕ)) →
       IsNow origin shelf now
       → MayPutNext (over state now) lines origin shelf
@@ -456,7 +484,7 @@ module _ (rows : PolicyRows) (origin : Option World) (world : World) where
       by (Some o) [] is = is
       by (Some o) (line ∷ ls) is = inl is
 
-  -- no memory was found for it
+  -- memory ran out for the line
   pub puts_next : (shelf shelf' : Option World) (now : World) (state : Whole) (line : List ℕ) (lines : List (List ℕ))
       (use_ : Use) → use_of (heard line) ≡ use_
       → IsNow origin shelf now → MayPut state.state use_ shelf shelf' →
@@ -470,7 +498,7 @@ module _ (rows : PolicyRows) (origin : Option World) (world : World) where
           subst (λ (w : Option World). MayPut state.state use_ w shelf') is m in
           inr (subst (λ (u : Use). MayPutIn state.state u now shelf') (sym e) there)
 
-  -- What the line that was taken last may have put, and that it is the last one.
+  -- What the last line read may have written to the directory, and that it was the last one read.
   pub record IsCutShort (unanswered : List (List ℕ)) (last : Scene) (held' : List ℕ) (left' : Option (List ℕ))
       (shelf' : Option World) : Type 0 where
     pub puts : MayPutNext last unanswered origin shelf'
@@ -502,7 +530,7 @@ module _ (rows : PolicyRows) (origin : Option World) (world : World) where
         };
       }
 
-  -- ---- where the run stands, whatever was written last
+  -- ---- how far the run has come, whatever was written last
 
   pub reaches : (input before held : List ℕ) (taken : ℕ) (left : Option (List ℕ)) (shelf : Option World) (state : Whole)
       (replies reply : List ℕ) (n : ℕ) (written : Option (List ℕ)) (shelf' : Option World)
@@ -532,7 +560,7 @@ module _ (rows : PolicyRows) (origin : Option World) (world : World) where
       some-same : (x y : List ℕ) → Some x ≡ Some y → x ≡ y
       some-same x y e = cc
 
-  -- where all replies are whole
+  -- if all replies are complete
   pub reaches_whole : (input before : List ℕ) (source written : Option (List ℕ)) (shelf' : Option World) →
       ReachedWhole rows world input before source written origin shelf'
       → Reached rows world (lines_of input) before written origin shelf'

@@ -1,4 +1,4 @@
--- A reply stays one by equal rows, and to an equal text.
+-- Replies are the same for equal policy rows and equal texts.
 use Rattle.std.proofs.Common.{◌≡◌, ◌≢◌, ℕ, ◌+◌, ◌-◌, ◌≤◌, ◌^◌, List, [], length, Option, None, ap, sym, subst, arith}
 use Rattle.wot_types.specs.Limits.{standard_limits}
 use Rattle.wot_io.specs.ReaderState.{ReaderState}
@@ -22,7 +22,7 @@ answered a b line text other old before had new after has e f r =
     subst (λ (x : List ℕ). RepliesBehind b line x old before had new after has) f
     (subst (λ (rows : PolicyRows). RepliesBehind rows line text old before had new after has) e r)
 
--- a line that has a reply isn't the end
+-- a line that has a reply isn't the end of the input
 pub not_end : (rows : PolicyRows) (line : Line) (text : List ℕ) (old : Whole) (before : Option World) (reply : List ℕ)
     (new : Whole) (after : Option World) → Replies rows line text old before reply new after → line ≢ End
 not_end rows line text old before reply new after r =

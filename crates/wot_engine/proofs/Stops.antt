@@ -1,10 +1,10 @@
--- Which stop a run ended with, and that a count of faults rose.
+-- The stop with which a run ended, and that a count of faults rose.
 use Rattle.std.proofs.Common.{◌≡◌, ℕ, ◌≤◌, Result, Ok, Err, IsErrAnd, OnOk, sym, subst, arith}
 use Rattle.wot_io.specs.Counts.{Rose}
 use Rattle.wot_engine.specs.declared.run.Stop.{Stop}
 use Rattle.wot_engine.specs.declared.run.Stop.TheVariants.{Read, Write, Memory, TooMuch}
 
--- The two stops differ.
+-- the two stops differ
 abbrev pub AreApart : Stop → Stop → Type 0
 AreApart Read Read = ⊥
 AreApart Write Write = ⊥
@@ -19,12 +19,12 @@ never_itself Memory h = h
 never_itself TooMuch h = h
 
 module _ {T : Type 0} where
-  -- what a `?` hands on
+  -- an error that `?` returns
   pub stopped : (r : Result T Stop) (stop : Stop) → IsErrAnd r (λ (e : Stop). e ≡ stop) → r ≡ Err stop
   stopped (Ok value) stop h = absurd h
   stopped (Err e) stop h = cc
 
-  -- nothing is promised of what failed
+  -- a claim about success holds trivially of an error
   pub on_err : (r : Result T Stop) (stop : Stop) (P : Type 0) → r ≡ Err stop → OnOk r P
   on_err r stop P is = subst (λ (x : Result T Stop). OnOk x P) (sym is) tt
 
@@ -35,15 +35,15 @@ module _ {T : Type 0} where
   pub never : (r : Result T Stop) (a b : Stop) → r ≡ Err a → AreApart a b → r ≡ Err b → ⊥
   never r a b e apart f = never_itself b (subst (λ (x : Stop). AreApart x b) (one_stop r a b e f) apart)
 
-  -- a run that was ended by no stop
+  -- a run that succeeded didn't stop
   pub never_ok : (r : Result T Stop) (value : T) (stop : Stop) → r ≡ Ok value → r ≡ Err stop → ⊥
   never_ok r value stop e f = absurd (cc (e, f))
 
--- nothing is promised of what a `?` hands on
+-- a claim about success holds trivially of an error that `?` returns
 pub unless_ok : {T E : Type 0} (r : Result T E) (Q : E → Type 0) (P : Type 0) → IsErrAnd r Q → OnOk r P
 unless_ok (Ok value) Q P h = absurd h
 unless_ok (Err e) Q P h = tt
 
--- a count rose that had not sunk before
+-- a count rose if it rose at the end and never fell before
 pub rose_on : (first mid last : ℕ) → first ≤ mid → mid ≤ last → Rose mid last → Rose first last
 rose_on first mid last a b rose = λ lt. grind (arith, a, b, rose, lt)

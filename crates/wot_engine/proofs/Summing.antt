@@ -1,4 +1,4 @@
--- The three lines that are told of a generated run.
+-- The three lines about a generated run.
 use Rattle.std.proofs.Common.{◌≡◌, ℕ, suc, List, [], ◌∷◌, ◌++◌, length, Option, Some, None, Result, Err, OnOk, refl}
 use Rattle.std.proofs.Common.{sym, ap, subst, ◌∙◌, append_assoc}
 use Rattle.std.proofs.lemmas.List.{append-nil}
@@ -32,7 +32,7 @@ lines_counted (command ∷ commands) all =
     let first = lines_of-feed (spelling command) (text_of commands) all.0.line.no_feed in
     ap (λ (x : List ℕ). length (lines_of x)) text ∙ ap length first ∙ ap (λ n. suc n) (lines_counted commands all.1)
 
--- nothing is promised of what failed
+-- a claim about success holds trivially of an error
 pub never : {T E : Type 0} (r : Result T E) (fault : E) (written : Option (List ℕ)) (P : List ℕ → Type 0) →
     r ≡ Err fault
     → IfSome written (λ before. OnOk r (P before))
@@ -64,7 +64,7 @@ module _ (rows : PolicyRows) (start count : ℕ) where
         record { replies = all.0; told = all.1; text_is = refl },
       )
 
-  -- nothing was written yet
+  -- nothing is written yet
   pub not_begun : OneOutcome rows → (written : Option (List ℕ)) →
       IfSome written (λ before. SummaryBegun rows start count before written)
   not_begun law None = tt

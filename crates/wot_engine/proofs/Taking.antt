@@ -1,4 +1,4 @@
--- How many octets of the source a run takes.
+-- How many octets of the source a run reads.
 use Rattle.std.proofs.Common.{◌≡◌, ℕ, ◌≤◌, ◌^◌, List, [], length, ◌++◌, Option, Some, None, refl, sym, ap, subst, ◌∙◌}
 use Rattle.std.proofs.Common.{append_assoc, arith, length-append}
 use Rattle.wot_io.specs.Fill.{Took}
@@ -50,7 +50,7 @@ took_both first second third low mid high a b = record {
   count = omega (arith, a.count, b.count, length-append a.gone b.gone);
 }
 
--- what was taken is within the bound
+-- what was read is within the bound
 pub takes_at_most : (first last : Option (List ℕ)) (taken : ℕ) → Took first 0 last taken → taken ≤ 2 ^ 30 →
     TakesAtMost first last
 takes_at_most None last taken t le = tt
@@ -60,19 +60,19 @@ takes_at_most (Some input) last taken t le = record {
   few = omega (arith, t.count, le);
 }
 
--- one call more
+-- one more call
 pub takes_more : (first second third : Option (List ℕ)) (mid high : ℕ) → Took first 0 second mid →
     Took second mid third high → high ≤ 2 ^ 30
     → TakesAtMost first third
 takes_more first second third mid high a b le =
     takes_at_most first third high (took_both first second third 0 mid high a b) le
 
--- nothing is taken
+-- nothing is read
 pub takes_nothing : (left : Option (List ℕ)) → TakesAtMost left left
 takes_nothing left = takes_at_most left left 0 (record { gone = []; loses = loses_nothing left; count = refl })
     (omega arith)
 
--- where the most was taken, there was as much
+-- if the limit was reached, the source had that much
 pub has_most : (first last : Option (List ℕ)) (taken : ℕ) → Took first 0 last taken → taken ≡ 2 ^ 30 → HasMost first
 has_most None last taken t most = tt
 has_most (Some input) last taken t most = omega (
@@ -83,7 +83,7 @@ has_most (Some input) last taken t most = omega (
   length-append t.gone t.loses.rest,
 )
 
--- where the most was taken, it was
+-- if the limit was reached, that much was read
 pub takes_most : (first last : Option (List ℕ)) (taken : ℕ) → Took first 0 last taken → taken ≡ 2 ^ 30 →
     TakesMost first last
 takes_most None last taken t most = tt

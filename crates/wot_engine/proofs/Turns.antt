@@ -1,5 +1,6 @@
--- The turns of a run, where input, output and shelf are told.
+-- One line of a run after another, if input, output and certificate directory are known.
 use Rattle.std.proofs.Common.{◌≡◌, ◌≢◌, inl, inr, ℕ, ◌+◌, ◌<◌, ◌^◌, List, [], ◌++◌, length, take, drop, Option, Some}
+use Rattle.std.proofs.Common.{None}
 use Rattle.std.proofs.Common.{refl, sym, ap, subst, ◌∙◌, append_assoc, arith, length-append}
 use Rattle.std.proofs.lemmas.List.{append_cancel_left, append_cancel_right, length-take}
 use Rattle.std.proofs.lemmas.Grind.{flat_map-append}
@@ -9,6 +10,7 @@ use Rattle.wot_io.specs.ReaderState.{ReaderState}
 use Rattle.wot_io.specs.Given as given
 use Rattle.wot_io.specs.declared.lines.Line.{Line}
 use Rattle.wot_io.specs.declared.lines.Line.TheVariants.{Text, Long, End}
+use Rattle.wot_script.specs.declared.command.Command.{Command}
 use Rattle.wot_script.specs.declared.reply.Reply.{Reply}
 use Rattle.wot_script.specs.Replies.{reply_text}
 use Rattle.wot_certd.specs.World.{World}
@@ -24,9 +26,11 @@ use Rattle.wot_machine.specs.Transcript.{Run, Answered, Begun, AnsweredMost, All
 use Rattle.wot_machine.proofs.Giving.{IsUncalled, all_told, all_weaker, goes, may_call, over}
 use Rattle.wot_machine.proofs.Runs.{Run-one, Run-prefix}
 use Rattle.wot_machine.proofs.Stepping.{heard_long}
+use Rattle.wot_engine.specs.Asking.{command_by}
 use Rattle.wot_engine.specs.Ended.{FinishedMost, FinishedTaken, Reached, ReachedWhole}
 use Rattle.wot_engine.specs.Turn.{Replies, use_by}
-use Rattle.wot_engine.proofs.Progress.{IsCutShort, Stands, starts, goes_on, so_far, comes_next, cut_short, at_end}
+use Rattle.wot_engine.proofs.Progress.{IsCutShort, Stands, StandsOn, starts, goes_on, so_far, comes_next, cut_short}
+use Rattle.wot_engine.proofs.Progress.{at_end}
 use Rattle.wot_engine.proofs.Progress.{leaves, at_first, at_stop, at_most, puts_nothing, reaches_whole}
 use Rattle.wot_policy.specs.declared.rows.PolicyRows.{PolicyRows}
 
@@ -42,16 +46,14 @@ module _ (rows : PolicyRows) where
   Stood-init left written origin = all_told left written origin _ (λ input before world e f is. starts rows origin world
       input before left written origin e f is)
 
-  -- a line was given, and its reply is there
-  pub record Turned (origin : Option World) (world : World) (input before : List ℕ) (held' : List ℕ) (taken' : ℕ)
-      (left' written : Option (List ℕ)) (octets : List ℕ) (shelf' : Option World) (state' : Whole) : Type 0 where
-    pub held : List ℕ
-    pub taken : ℕ
-    pub left : Option (List ℕ)
-    pub shelf : Option World
-    pub state : Whole
+  -- a line was read: its command, its step, and its reply in the buffer
+  pub record Turned (origin : Option World) (world : World) (input before held : List ℕ) (taken : ℕ)
+      (left written : Option (List ℕ)) (shelf : Option World) (state : Whole)
+      (stands : Stands rows origin world input before held taken left written shelf state) (command : Option Command)
+      (held' : List ℕ) (taken' : ℕ) (left' : Option (List ℕ)) (octets : List ℕ) (shelf' : Option World)
+      (state' : Whole) : Type 0 where
     pub line : List ℕ
-    pub stands : Stands rows origin world input before held taken left written shelf state
+    pub heard_is : heard line ≡ command
     pub gives : GivesOf held stands.rest taken held' left' taken' line
     pub reply : Option Reply
     pub told : List Reply
@@ -60,33 +62,29 @@ module _ (rows : PolicyRows) where
     pub step : Step rows (over state stands.now) line reply told (over state' next)
     pub octets_are : octets ≡ octets_of (listed reply ++ told)
 
-  -- the line is known, and what it was given
+  -- the line that was read, and what it was answered
   turned_by : (origin : Option World) (world : World) (input before : List ℕ) (old : ReaderState)
       (left written : Option (List ℕ)) (shelf : Option World) (state : Whole) (new : ReaderState)
-      (left' : Option (List ℕ)) (shelf' : Option World) (state' : Whole) (line : List ℕ) (use_ : Use) (what : Served)
-      (reply : Option Reply) (mid : Whole) (told : List Reply) (octets : List ℕ)
+      (left' : Option (List ℕ)) (shelf' : Option World) (state' : Whole) (line : List ℕ) (command : Option Command)
+      (use_ : Use) (what : Served) (reply : Option Reply) (mid : Whole) (told : List Reply) (octets : List ℕ)
       → IsUncalled origin input →
       (s : Stands rows origin world input before old.held old.taken left written shelf state) →
       GivesOf old.held s.rest old.taken new.held left' new.taken line
-      → use_of (heard line) ≡ use_ → IsServed state.state use_ shelf what shelf' →
+      → heard line ≡ command → use_of command ≡ use_ → IsServed state.state use_ shelf what shelf' →
       LineStep rows state line what reply mid → Tells mid told state'
-      → octets ≡ octets_of (listed reply ++ told) → Turned origin world input before new.held new.taken left' written
+      → octets ≡ octets_of (listed reply ++ told)
+      → Turned origin world input before old.held old.taken left written shelf state s command new.held new.taken left'
       octets shelf' state'
-  turned_by origin world input before old left written shelf state new left' shelf' state' line use_ what reply mid told
-      octets uncalled s g e served does tells same =
+  turned_by origin world input before old left written shelf state new left' shelf' state' line command use_ what reply
+      mid told octets uncalled s g is e served does tells same =
       let next = comes_next rows origin world input before old.held old.taken left written shelf state new.held
       new.taken left' line s g in
-      let went = goes rows origin shelf shelf' s.now state mid state' line use_ what reply told e
+      let went = goes rows origin shelf shelf' s.now state mid state' line use_ what reply told (ap use_of is ∙ e)
       (may_call origin input s.done line (lines_of (new.held ++ g.rest)) next uncalled) s.is_now served does
       tells in
       record {
-        held = old.held;
-        taken = old.taken;
-        left = left;
-        shelf = shelf;
-        state = state;
         line = line;
-        stands = s;
+        heard_is = is;
         gives = g;
         reply = reply;
         told = told;
@@ -99,33 +97,38 @@ module _ (rows : PolicyRows) where
   pub turned : (origin : Option World) (world : World) (input before : List ℕ) (old : ReaderState)
       (left written : Option (List ℕ)) (shelf : Option World) (state : Whole) (new : ReaderState)
       (left' : Option (List ℕ)) (shelf' : Option World) (state' : Whole) (line : Line) (octets : List ℕ)
-      → IsUncalled origin input → Stands rows origin world input before old.held old.taken left written shelf state →
+      → IsUncalled origin input →
+      (s : Stands rows origin world input before old.held old.taken left written shelf state) →
       given.Answers line old left new left' → Replies rows line new.text state shelf octets state' shelf'
-      → Turned origin world input before new.held new.taken left' written octets shelf' state'
+      → Turned origin world input before old.held old.taken left written shelf state s (command_by line new.text)
+      new.held new.taken left' octets shelf' state'
   turned origin world input before old left written shelf state new left' shelf' state' Text octets uncalled s a r =
       let a' = rw s.left_is at a in
       turned_by origin world input before old left written shelf state new left' shelf' state' new.text
-      (use_of (heard new.text)) r.given r.reply r.mid r.told octets uncalled s a'.0 refl r.served r.does r.tells
-      r.octets_are
+      (heard new.text) (use_of (heard new.text)) r.given r.reply r.mid r.told octets uncalled s a'.0 refl refl r.served
+      r.does r.tells r.octets_are
   turned origin world input before old left written shelf state new left' shelf' state' Long octets uncalled s a r =
       let a' = rw s.left_is at a in
-      turned_by origin world input before old left written shelf state new left' shelf' state' a'.0 unused r.given
-      r.reply r.mid r.told octets uncalled s a'.2 (ap use_of (heard_long a'.0 a'.1)) r.served (r.does a'.0 a'.1)
+      turned_by origin world input before old left written shelf state new left' shelf' state' a'.0 None unused r.given
+      r.reply r.mid r.told octets uncalled s a'.2 (heard_long a'.0 a'.1) refl r.served (r.does a'.0 a'.1)
       r.tells r.octets_are
   turned origin world input before old left written shelf state new left' shelf' state' End octets uncalled s a r =
       absurd r.does
 
   -- the reply that was due is written
-  pub wrote : (origin : Option World) (world : World) (input before : List ℕ) (held' : List ℕ) (taken' : ℕ)
-      (left' written : Option (List ℕ)) (octets : List ℕ) (shelf' : Option World) (state' : Whole)
-      (written' : Option (List ℕ))
-      → (t : Turned origin world input before held' taken' left' written octets shelf' state') →
-      written' ≡ Some ((before ++ octets_of t.stands.replies) ++ octets)
-      → Stands rows origin world input before held' taken' left' written' shelf' state'
-  wrote origin world input before held' taken' left' written octets shelf' state' written' t w =
-      goes_on rows origin world input before t.held t.taken t.left written t.shelf t.state held' taken' left' written'
-      shelf' state' t.line t.reply t.told t.stands t.gives t.next t.is_next t.step
-      (w ∙ ap (λ (x : List ℕ). Some ((before ++ octets_of t.stands.replies) ++ x)) t.octets_are)
+  pub wrote : (origin : Option World) (world : World) (input before held : List ℕ) (taken : ℕ)
+      (left written : Option (List ℕ)) (shelf : Option World) (state : Whole) (command : Option Command)
+      (held' : List ℕ) (taken' : ℕ) (left' : Option (List ℕ)) (octets : List ℕ) (shelf' : Option World)
+      (state' : Whole) (written' : Option (List ℕ))
+      → (s : Stands rows origin world input before held taken left written shelf state)
+      → (t : Turned origin world input before held taken left written shelf state s command held' taken' left' octets
+      shelf' state') → written' ≡ Some ((before ++ octets_of s.replies) ++ octets)
+      → StandsOn rows origin world s.done t.line t.next input before held' taken' left' written' shelf' state'
+  wrote origin world input before held taken left written shelf state command held' taken' left' octets shelf' state'
+      written' s t w =
+      goes_on rows origin world input before held taken left written shelf state held' taken' left' written'
+      shelf' state' t.line t.reply t.told s t.gives t.next t.is_next t.step
+      (w ∙ ap (λ (x : List ℕ). Some ((before ++ octets_of s.replies) ++ x)) t.octets_are)
 
   pub Begun-here : OneOutcome rows → (left0 written0 : Option (List ℕ)) (origin : Option World) (held : List ℕ)
       (taken : ℕ) (left written : Option (List ℕ)) (shelf : Option World) (state : Whole) →
@@ -135,7 +138,7 @@ module _ (rows : PolicyRows) where
       all_weaker left0 written0 origin _ _ (λ input before world uncalled s. so_far rows origin world law input before
       held taken left written shelf state s) s
 
-  -- the line that was given last had no reply
+  -- the last line that was read got no reply
   pub cut_by : (origin : Option World) (world : World) (input before : List ℕ) (old : ReaderState)
       (left written : Option (List ℕ)) (shelf : Option World) (state : Whole) (new : ReaderState)
       (left' : Option (List ℕ)) (shelf' : Option World) (line : Line)
@@ -236,7 +239,7 @@ module _ (rows : PolicyRows) where
         length-take n reply,
       ))
 
-  -- where a reply was cut, not all of them were written
+  -- if a reply was cut short, not all replies were written
   pub cut_most : OneOutcome rows → (origin : Option World) (world : World) (input before held : List ℕ) (taken : ℕ)
       (left : Option (List ℕ)) (shelf : Option World) (state : Whole) (replies reply : List ℕ) (n : ℕ)
       (written : Option (List ℕ))
@@ -280,7 +283,7 @@ module _ (rows : PolicyRows) where
         | inr ended ↦ absurd (omega (arith, ended.0, size))
       ]
 
-  -- when 2 ^ 30 octets were taken
+  -- when 2 ^ 30 octets were read
   most_size : (origin : Option World) (world : World) (input before held : List ℕ) (taken : ℕ)
       (left written : Option (List ℕ)) (shelf : Option World) (state : Whole) (rest : List ℕ)
       (left' written' : Option (List ℕ)) (taken' : ℕ)
@@ -330,7 +333,7 @@ module _ (rows : PolicyRows) where
         lt,
       ))) s
 
-  -- where nothing was taken, whatever was written
+  -- if nothing was read, whatever was written
   pub Most-untouched : (left0 written0 : Option (List ℕ)) (origin : Option World) (written : Option (List ℕ)) →
       AllTold left0 written0 origin (λ input before world. AnsweredMost rows world input before left0 written → ⊥)
   Most-untouched left0 written0 origin written =
@@ -338,7 +341,7 @@ module _ (rows : PolicyRows) where
       let same : input ≡ a.taken.rest = some-is input a.taken.rest (sym e ∙ a.taken.left_is) in
       absurd (omega (arith, a.size, ap length same, ap length a.taken.input_is, length-append a.octets a.taken.rest)))
 
-  -- where nothing was taken and nothing written
+  -- if nothing was read and nothing written
   pub Begun-nothing : OneOutcome rows → (left0 written0 : Option (List ℕ)) (origin : Option World) →
       AllTold left0 written0 origin (λ input before world. Begun rows world (lines_of input) before written0)
   Begun-nothing law left0 written0 origin = Begun-here law left0 written0 origin [] 0 left0 written0 origin beginning

@@ -1,4 +1,4 @@
--- Where a run ended: which lines were answered, what was written for them, and how the shelf is left.
+-- How far a run came: which lines were answered, what was written for them, and how the certificate directory is left.
 use Rattle.std.specs.Prelude.{◌≡◌, ◌⊎◌, ◌<◌, ◌^◌, ℕ, List, [], ◌∷◌, ◌++◌, length, take, drop, Option, Some, None}
 use Rattle.wot_io.specs.Input.{lines_of, whole_lines_of}
 use Rattle.wot_policy.specs.declared.rows.PolicyRows.{PolicyRows}
@@ -11,20 +11,20 @@ use Rattle.wot_machine.specs.Transcript.{IsNow, IsTaken, RepliesTo, octets_of}
 
 -- ---- the source
 
--- 2 ^ 30 octets were taken from the source.
+-- 2 ^ 30 octets were taken from the source
 pub record IsMost (input : List ℕ) (left : Option (List ℕ)) : Type 0 where
   pub octets : List ℕ
   pub taken : IsTaken input octets left
   pub size : length octets ≡ 2 ^ 30
 
--- The same where the source tells what it has left.
+-- 2 ^ 30 octets were taken, if the source's octets are known
 abbrev pub TakesMost : Option (List ℕ) → Option (List ℕ) → Type 0
 TakesMost None left = Unit {0}
 TakesMost (Some input) left = IsMost input left
 
--- ---- all lines that were taken
+-- ---- all lines
 
--- The octets of the replies to these lines were written, and the shelf is in the world to which the lines lead.
+-- The octets of the replies to these lines were written, and the directory is in the world to which the lines lead.
 pub record Finished (rows : PolicyRows) (world : World) (lines : List (List ℕ)) (before : List ℕ)
     (after : Option (List ℕ)) (origin shelf : Option World) : Type 0 where
   pub replies : List Reply
@@ -32,8 +32,8 @@ pub record Finished (rows : PolicyRows) (world : World) (lines : List (List ℕ)
   pub written : after ≡ Some (before ++ octets_of replies)
   pub left : IsNow origin shelf told.last.world
 
--- That is so of all whole lines of the octets taken. Where nothing is left, a last line without a line feed may count
--- as whole.
+-- All complete lines of the octets that were taken are finished. At the end of the source, a last line without a line
+-- feed may count as complete.
 pub record FinishedTaken (rows : PolicyRows) (world : World) (input before : List ℕ) (left after : Option (List ℕ))
     (origin shelf : Option World) : Type 0 where
   pub octets : List ℕ
@@ -41,7 +41,7 @@ pub record FinishedTaken (rows : PolicyRows) (world : World) (input before : Lis
   pub finished : Finished rows world (whole_lines_of octets) before after origin shelf
       ⊎ ((taken.rest ≡ []) × Finished rows world (lines_of octets) before after origin shelf)
 
--- That is so of all whole lines of 2 ^ 30 octets, which were taken.
+-- 2 ^ 30 octets were taken, and all complete lines of them are finished
 pub record FinishedMost (rows : PolicyRows) (world : World) (input before : List ℕ) (left after : Option (List ℕ))
     (origin shelf : Option World) : Type 0 where
   pub octets : List ℕ
@@ -49,17 +49,17 @@ pub record FinishedMost (rows : PolicyRows) (world : World) (input before : List
   pub size : length octets ≡ 2 ^ 30
   pub finished : Finished rows world (whole_lines_of octets) before after origin shelf
 
--- ---- some first lines
+-- ---- the first of the lines
 
--- The shelf is as the lines before left it; or its entries are those, or with what the next of these lines puts.
+-- The directory is as the answered lines leave it, except that the next line may have written its entry.
 abbrev pub MayPutNext : Scene → List (List ℕ) → Option World → Option World → Type 0
 MayPutNext scene lines None shelf = Unit {0}
 MayPutNext scene [] (Some origin) shelf = shelf ≡ Some scene.world
 MayPutNext scene (line ∷ lines) (Some origin) shelf =
     (shelf ≡ Some scene.world) ⊎ MayPutIn scene.whole.state (use_of (heard line)) scene.world shelf
 
--- Some first ones of these lines were answered, and of the octets of their replies a prefix was written. The next line
--- put no more than is its own: all other entries of the shelf are as the answered lines leave them.
+-- The first lines were answered up to some line, and a prefix of the octets of their replies was written. The next line
+-- wrote at most its own entry: all others are as the answered lines leave them.
 pub record Reached (rows : PolicyRows) (world : World) (lines : List (List ℕ)) (before : List ℕ)
     (after : Option (List ℕ)) (origin shelf : Option World) : Type 0 where
   pub count : ℕ
@@ -69,7 +69,7 @@ pub record Reached (rows : PolicyRows) (world : World) (lines : List (List ℕ))
   pub written : after ≡ Some (before ++ take size (octets_of replies))
   pub left : MayPutNext told.last (drop count lines) origin shelf
 
--- The first of the lines that weren't answered was taken, and fewer than 65,536 octets behind it.
+-- The first unanswered line was taken, and fewer than 65,536 octets after it.
 pub record IsLastTaken (lines : List (List ℕ)) (left : Option (List ℕ)) : Type 0 where
   pub line : List ℕ
   pub behind : List ℕ
@@ -78,8 +78,8 @@ pub record IsLastTaken (lines : List (List ℕ)) (left : Option (List ℕ)) : Ty
   pub lines_are : lines ≡ line ∷ lines_of (behind ++ rest)
   pub few : length behind < 65536
 
--- The same, with the octets of all replies written: those to the lines before the last one that was taken, or before
--- the first one where nothing was taken.
+-- The complete replies were written: those to the lines before the last one that was taken, or none if nothing was
+-- taken. The next line wrote at most its own entry.
 pub record ReachedWhole (rows : PolicyRows) (world : World) (input before : List ℕ) (source after : Option (List ℕ))
     (origin shelf : Option World) : Type 0 where
   pub count : ℕ

@@ -11,6 +11,6 @@ status_at (Err Write) = 4
 status_at (Err Memory) = 5
 status_at (Err TooMuch) = 6
 
--- 2 ^ 30 octets were taken before the end came, or no memory was found.
+-- 2 ^ 30 octets were taken before the input ended, or memory ran out
 abbrev pub IsMuchOrMemory : {T : Type 0} → Result T Stop → Type 0
 IsMuchOrMemory result = IsErrOf result TooMuch ⊎ IsErrOf result Memory

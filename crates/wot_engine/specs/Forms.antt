@@ -4,7 +4,7 @@ use Rattle.wot_script.specs.Decimal.{decimal_up_to, positive_up_to}
 use Rattle.wot_engine.specs.declared.form.Form.{Form}
 use Rattle.wot_engine.specs.declared.form.Form.TheVariants.{Run, Generate}
 
--- the words of a run: alone, or with the folder of the certificate directory
+-- the words of a run: `run` alone, or with the path of the certificate directory
 abbrev pub IsRun : List (List ℕ) → Type 0
 IsRun [] = ⊥
 IsRun (word ∷ []) = word ≡ codes "run"
@@ -21,7 +21,7 @@ IsGenerated (word ∷ first ∷ second ∷ []) start count =
     × (positive_up_to 2000 second ≡ Some count)
 IsGenerated (word ∷ first ∷ second ∷ fourth ∷ words) start count = ⊥
 
--- a fact on the script of a generated run, where these are its words
+-- P holds of the script if these are the words of a generated run
 abbrev pub OnGenerated : List (List ℕ) → (ℕ → ℕ → Type 0) → Type 0
 OnGenerated words P = (start count : ℕ) → IsGenerated words start count → P start count
 
@@ -29,7 +29,7 @@ OnGenerated words P = (start count : ℕ) → IsGenerated words start count → 
 abbrev pub IsForm : List (List ℕ) → Type 0
 IsForm words = IsRun words ⊎ ((start count : ℕ) × IsGenerated words start count)
 
--- the form that words have, or none
+-- the form that words have, or None
 abbrev pub IsFormOf : List (List ℕ) → Option Form → Type 0
 IsFormOf words None = ¬ IsForm words
 IsFormOf words (Some Run) = IsRun words

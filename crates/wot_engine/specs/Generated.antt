@@ -9,7 +9,7 @@ use Rattle.wot_gen.specs.Summary.{amounts_in, summary, transcript_digest}
 use Rattle.wot_machine.specs.Both.{Ends}
 use Rattle.wot_machine.specs.Transcript.{RepliesTo}
 
--- the world of a shelf in memory without entries, no call of which fails
+-- an empty certificate directory in memory, none of whose calls fails
 abbrev pub no_entries : World
 no_entries = record { entries = []; calls = 0; fails = []; late = [] }
 
@@ -17,28 +17,28 @@ no_entries = record { entries = []; calls = 0; fails = []; late = [] }
 abbrev pub script_lines : ℕ → ℕ → List (List ℕ)
 script_lines start count = lines_of (text_of (commands_of start count))
 
--- Three lines: how many lines the script has, the sum of the amounts that its questions are told, and the digest of its
--- transcript, which is that of the plain machine over an empty shelf.
+-- Three lines: the number of the script's lines, the sum of the amounts in the answers to its questions, and the digest
+-- of its transcript, by the abstract machine with an empty directory.
 pub record IsSummary (rows : PolicyRows) (start count : ℕ) (text : List ℕ) : Type 0 where
   pub replies : List Reply
   pub told : RepliesTo rows no_entries (script_lines start count) replies
   pub text_is :
       text ≡ summary start count (length (script_lines start count)) (amounts_in replies) (transcript_digest replies)
 
--- The three lines were written.
+-- the three lines were written
 pub record Summarized (rows : PolicyRows) (start count : ℕ) (before : List ℕ) (after : Option (List ℕ)) : Type 0 where
   pub text : List ℕ
   pub is_summary : IsSummary rows start count text
   pub written : after ≡ Some (before ++ text)
 
--- What was written is a prefix of the three lines.
+-- what was written is a prefix of the three lines
 pub record SummaryBegun (rows : PolicyRows) (start count : ℕ) (before : List ℕ) (after : Option (List ℕ)) : Type 0 where
   pub text : List ℕ
   pub is_summary : IsSummary rows start count text
   pub size : ℕ
   pub written : after ≡ Some (before ++ take size text)
 
--- The same of a sink, where it tells what was written to it.
+-- the three lines were written, if what was written to the sink is known
 abbrev pub WritesSummary : PolicyRows → Ends (Option (List ℕ)) → ℕ → ℕ → Type 0
 WritesSummary rows output start count = IfSome output.old (λ before. Summarized rows start count before output.new)
 

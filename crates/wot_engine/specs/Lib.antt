@@ -4,5 +4,6 @@ pub mod Generated
 pub mod Ends
 pub mod Ended
 pub mod Turn
+pub mod Asking
 pub mod Held
 pub mod Played

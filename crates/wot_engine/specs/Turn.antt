@@ -1,4 +1,4 @@
--- The reply to a line that the reader of lines gave.
+-- The reply to a line from the reader of lines.
 use Rattle.std.specs.Prelude.{◌≡◌, ℕ, ◌<◌, List, [], ◌++◌, length, Option, None}
 use Rattle.wot_io.specs.ReaderState.{ReaderState}
 use Rattle.wot_io.specs.declared.lines.Line.{Line}
@@ -15,24 +15,24 @@ use Rattle.wot_machine.specs.Watching.{Tells}
 use Rattle.wot_machine.specs.Whole.{Whole}
 use Rattle.wot_machine.specs.Transcript.{listed, octets_of}
 
--- the reader of lines before the first one
+-- the reader before the first line
 abbrev pub unread : ReaderState
 unread = record { held = []; text = []; taken = 0; fault = None }
 
--- what the line does with the shelf; one that is too long leaves it alone
+-- what the line does with the certificate directory; nothing if it is too long
 abbrev pub use_by : Line → List ℕ → Use
 use_by Text text = use_of (heard text)
 use_by Long text = unused
 use_by End text = unused
 
--- This is the reply to the line that was given; of one that was too long the octets are gone.
+-- the reply to the line; the octets of a line that is too long aren't kept
 abbrev pub IsReply : PolicyRows → Line → List ℕ → Whole → Served → Option Reply → Whole → Type 0
 IsReply rows Text text old given reply new = LineStep rows old text given reply new
 IsReply rows Long text old given reply new =
     (line : List ℕ) → longest < length line → LineStep rows old line given reply new
 IsReply rows End text old given reply new = ⊥
 
--- The octets of the reply to the line that was given are behind those that were held before.
+-- the octets of the line's reply were appended to the buffer
 pub record SaidBehind (rows : PolicyRows) (line : Line) (text : List ℕ) (old : Whole) (before : Option World)
     (had : List ℕ) (mid : Whole) (after : Option World) (has : List ℕ) : Type 0 where
   pub given : Served
@@ -41,8 +41,7 @@ pub record SaidBehind (rows : PolicyRows) (line : Line) (text : List ℕ) (old :
   pub served : IsServed old.state (use_by line text) before given after
   pub behind : has ≡ had ++ octets_of (listed reply)
 
--- These are the octets of the reply to the line that was given and of the watch lines behind it, and the shelf tells
--- these worlds before and after.
+-- The octets of the line's reply and of the watch lines after it, with these worlds of the directory before and after.
 pub record Replies (rows : PolicyRows) (line : Line) (text : List ℕ) (old : Whole) (before : Option World)
     (octets : List ℕ) (new : Whole) (after : Option World) : Type 0 where
   pub given : Served
@@ -54,19 +53,19 @@ pub record Replies (rows : PolicyRows) (line : Line) (text : List ℕ) (old : Wh
   pub served : IsServed old.state (use_by line text) before given after
   pub octets_are : octets ≡ octets_of (listed reply ++ told)
 
--- The octets of the reply are behind those that were held before.
+-- these octets were appended to the buffer
 pub record RepliesBehind (rows : PolicyRows) (line : Line) (text : List ℕ) (old : Whole) (before : Option World)
     (had : List ℕ) (new : Whole) (after : Option World) (has : List ℕ) : Type 0 where
   pub octets : List ℕ
   pub replies : Replies rows line text old before octets new after
   pub behind : has ≡ had ++ octets
 
--- The line that was given was replied to: the reply stands behind what was held.
+-- the octets of the reply were appended, by the values before and after the call
 abbrev pub Says : PolicyRows → Line → List ℕ → Ends Whole → Ends (Option World) → Ends (List ℕ) → Type 0
 Says rows line text machine shelf out =
     SaidBehind rows line text machine.old shelf.old out.old machine.new shelf.new out.new
 
--- The same, with the watch lines behind the reply.
+-- the octets of the reply and of the watch lines after it were appended
 abbrev pub SaysAll : PolicyRows → Line → List ℕ → Ends Whole → Ends (Option World) → Ends (List ℕ) → Type 0
 SaysAll rows line text machine shelf out =
     RepliesBehind rows line text machine.old shelf.old out.old machine.new shelf.new out.new

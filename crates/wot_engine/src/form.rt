@@ -5,19 +5,19 @@ ghost use Rattle.std.specs.Prelude.{string_bytes, IsTrue, Some, None, if◌then�
 ghost use Rattle.wot_script.specs.Decimal.{decimal_up_to, positive_up_to};
 ghost use Rattle.wot_engine.specs.Forms.{IsFormOf};
 
-/// The most keys of a script.
+/// The largest number of keys in a script.
 const MOST_KEYS: u64 = 2000;
 
 /// What the words ask for.
 #[derive(Clone, Copy)]
 pub enum Form {
-    /// To answer the lines of the input.
+    /// Answer the lines of the input.
     Run,
-    /// To answer the generated script of a start and a count.
+    /// Answer the generated script of a start and a number of keys.
     Generate(u64, u32),
 }
 
-/// The form that words have: `run`, or `run FOLDER` with any text that isn't empty, or `gen X N`.
+/// The form of the words: `run`, `run DIRECTORY` with any text that isn't empty, or `gen X N`.
 pub fn form_of(words: &[String]) -> Option<Form>
     ensures form { IsFormOf (map string_bytes words.now) result }
 {
@@ -47,7 +47,7 @@ fn is_folder(word: &String) -> bool
     !word.is_empty()
 }
 
-/// `gen X N`.
+/// The form `gen X N`.
 fn generated(word: &String, start: &String, count: &String) -> Option<Form>
     ensures form { IsFormOf (string_bytes word.now ∷ string_bytes start.now ∷ string_bytes count.now ∷ []) result }
 {
@@ -60,7 +60,7 @@ fn generated(word: &String, start: &String, count: &String) -> Option<Form>
     }
 }
 
-/// A decimal: `0`, or digits without a leading zero or a sign.
+/// A decimal number: `0`, or digits without a sign or a leading zero.
 fn number_in(word: &String) -> Option<u64>
     ensures number { result ≡ decimal_up_to 18446744073709551615 (string_bytes word.now) }
 {
@@ -71,7 +71,7 @@ fn number_in(word: &String) -> Option<u64>
     digits.parse().ok()
 }
 
-/// Whether a text begins with a sign, or with a zero that isn't all of it.
+/// Whether a text begins with a sign, or with a leading zero.
 fn begins_wrongly(digits: &[u8]) -> bool
     ensures wrong { result ≡ true → decimal_up_to 18446744073709551615 digits.now ≡ None }
     ensures sign { result ≡ false → slice_index digits.now 0 ≢ 43 }
@@ -84,7 +84,7 @@ fn begins_wrongly(digits: &[u8]) -> bool
     }
 }
 
-/// How many keys a script has.
+/// The number of keys in a script.
 fn count_in(word: &String) -> Option<u32>
     ensures count { result ≡ positive_up_to 2000 (string_bytes word.now) }
 {

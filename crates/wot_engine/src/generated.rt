@@ -27,8 +27,8 @@ use wot_policy::{Ask, Policy};
 use wot_script::Reply;
 use wot_types::Memory;
 
-/// Makes the script of a start and a count, answers its lines over an empty shelf in memory, and writes what that run
-/// comes to.
+/// Makes the script of a start and a number of keys, answers its lines with an empty certificate directory in memory,
+/// and writes a summary of three lines.
 pub fn generate<K: Sink, F: Fn(Ask) -> bool>(
     alloc: Global,
     start: u64,
@@ -52,7 +52,7 @@ pub fn generate<K: Sink, F: Fn(Ask) -> bool>(
     Ok(())
 }
 
-/// The three lines that are told of a generated run.
+/// The three lines about a generated run.
 fn summary_of<F: Fn(Ask) -> bool>(
     alloc: Global,
     start: u64,
@@ -77,7 +77,7 @@ fn summary_of<F: Fn(Ask) -> bool>(
     Ok(out)
 }
 
-/// Answers the lines of a text by a machine of its own, over an empty shelf, by a tally of nothing.
+/// Answers the lines of a text with a fresh machine and an empty directory, and returns the tally of the replies.
 fn play<F: Fn(Ask) -> bool>(
     alloc: Global,
     text: &[u8],
@@ -97,7 +97,7 @@ fn play<F: Fn(Ask) -> bool>(
     add_lines(&mut machine, text, &mut shelf, policy, tally)
 }
 
-/// The same by a machine that was told no line, over a shelf without entries.
+/// Answers the lines of a text. The machine has to be fresh, the directory empty and the tally zero.
 fn add_lines<F: Fn(Ask) -> bool>(
     machine: &mut Machine,
     text: &[u8],
@@ -126,7 +126,7 @@ fn add_lines<F: Fn(Ask) -> bool>(
     Ok(())
 }
 
-/// Answers a line, and adds its reply and the watch lines behind it.
+/// Answers a line, and adds its reply and the watch lines after it to the tally.
 fn add_line<F: Fn(Ask) -> bool>(
     machine: &mut Machine,
     line: &[u8],
@@ -152,7 +152,7 @@ fn add_line<F: Fn(Ask) -> bool>(
     add_told(machine, tally)
 }
 
-/// Answers a line, and adds its reply.
+/// Answers a line, and adds its reply to the tally.
 fn add_reply<F: Fn(Ask) -> bool>(
     machine: &mut Machine,
     line: &[u8],
@@ -184,7 +184,7 @@ fn add_reply<F: Fn(Ask) -> bool>(
     }
 }
 
-/// Tells the watch lines, and adds them.
+/// Reports the watch lines, and adds them to the tally.
 fn add_told(machine: &mut Machine, tally: &mut Tally) -> Result<(), Memory>
     requires room { tally.old.amounts < 2 ^ 63 }
     ensures added { OnOk result (AddsTold (kept machine.old) tally.old (kept machine.new) tally.new) }
@@ -197,7 +197,7 @@ fn add_told(machine: &mut Machine, tally: &mut Tally) -> Result<(), Memory>
     Ok(())
 }
 
-/// Adds watch lines, which tell no answer's amount.
+/// Adds watch lines to the tally. They aren't amounts of answers.
 fn add_all(lines: &[Reply], tally: &mut Tally) -> Result<(), Memory>
     requires each { AllByRecursion IsWatchLine lines.now }
     requires room { tally.old.amounts < 2 ^ 63 }

@@ -1,7 +1,7 @@
 //! A run: the lines of a source are answered by one machine, and their replies are written to a sink.
 //!
-//! It stands on the reader of lines of `wot_io` and on `Machine::line` and `Machine::tell`. Replies are held back until
-//! more would be read. `run_words` hands its clauses on (`specs/Told.antt`, `specs/Ended.antt`).
+//! It stands on the reader of lines of `wot_io` and on `Machine::line` and `Machine::tell`. Replies are buffered until
+//! more input would be read. `run_words` hands its clauses on (`specs/Told.antt`, `specs/Ended.antt`).
 ghost use Rattle.std.specs.Prelude.{◌≡◌, ◌≢◌, ◌<◌, ◌≤◌, ◌+◌, ◌-◌, ◌^◌, [], length};
 ghost use Rattle.std.specs.Prelude.{IfSome, OnErr, OnOk, IsErrOf, vec_items};
 ghost use Rattle.wot_types.specs.Limits.{standard_limits};
@@ -13,10 +13,11 @@ ghost use Rattle.wot_io.specs.Input.{HasNoFeed};
 ghost use Rattle.wot_io.specs.Sink.{GainsPrefix};
 ghost use Rattle.wot_cache.specs.State.{empty, state_of};
 ghost use Rattle.wot_machine.specs.Machine.{kept};
-ghost use Rattle.wot_machine.specs.Both.{ends};
+ghost use Rattle.wot_machine.specs.Both.{ends, itself};
 ghost use Rattle.wot_machine.specs.Entry.{MayPutTo};
 ghost use Rattle.wot_machine.specs.Transcript.{HasMost, TakesAtMost};
-ghost use Rattle.wot_engine.specs.Ends.{IsMuchOrMemory};
+ghost use Rattle.wot_engine.specs.Asking.{MayAsk, ReadAsks, RunAsks, command_by, done};
+ghost use Rattle.wot_engine.specs.Ends.{IsMuchOrMemory, status_at};
 ghost use Rattle.wot_engine.specs.Ended.{TakesMost};
 ghost use Rattle.wot_engine.specs.Told.{MovesShelf, OnMost, ReachesSome, WritesAll, WritesMost, WritesPrefix};
 ghost use Rattle.wot_engine.specs.Told.{WritesSome, WritesTaken};
@@ -40,9 +41,9 @@ pub enum Stop {
     Read,
     /// The sink failed.
     Write,
-    /// No memory was found.
+    /// Out of memory.
     Memory,
-    /// 2^30 octets were taken, and the end had not come.
+    /// 2^30 octets were taken, and the input had not ended.
     TooMuch,
 }
 
@@ -62,10 +63,10 @@ impl From<Failed> for Stop {
     }
 }
 
-/// So many octets of replies are held back at most, but for the last reply.
+/// The buffer is written once it has this many octets. Only the last reply may go beyond.
 const MOST_HELD: usize = 65_536;
 
-/// Appends the reply to a line that was given. After `Memory` what is held is as before.
+/// Appends the reply to a line to the buffer. After `Memory` the buffer is unchanged.
 fn say<D: Shelf, F: Fn(Ask) -> bool>(
     machine: &mut Machine,
     line: Line,
@@ -86,6 +87,7 @@ fn say<D: Shelf, F: Fn(Ask) -> bool>(
     ensures kept { OnErr result (out.new.items ≡ out.old.items) }
     ensures counted { machine.new.engine.keyring.changes ≤ machine.old.engine.keyring.changes + 1 }
     ensures turned { machine.new.engine.turns.count ≤ machine.old.engine.turns.count + 1 }
+    ensures asked { ReadAsks result line text.now (ends kept machine) (ends itself policy) }
     ensures judged { IsJudgedBy (rows_of policy.old) machine.new.engine.keyring }
     ensures faithful { IsFaithful F.Fn policy.new }
     ensures rows { rows_of policy.new ≡ rows_of policy.old }
@@ -97,8 +99,7 @@ fn say<D: Shelf, F: Fn(Ask) -> bool>(
     }
 }
 
-/// Holds back the reply to a line that was given, and the watch lines behind it. After `Memory` what is held is as
-/// before.
+/// Appends the reply to a line and the watch lines after it to the buffer. After `Memory` the buffer is unchanged.
 fn reply_to<D: Shelf, F: Fn(Ask) -> bool>(
     machine: &mut Machine,
     line: Line,
@@ -119,6 +120,8 @@ fn reply_to<D: Shelf, F: Fn(Ask) -> bool>(
     ensures kept { OnErr result (out.new.items ≡ out.old.items) }
     ensures counted { machine.new.engine.keyring.changes ≤ machine.old.engine.keyring.changes + 1 }
     ensures turned { machine.new.engine.turns.count ≤ machine.old.engine.turns.count + 1 }
+    ensures asked { OnOk result (ReadAsks done line text.now (ends kept machine) (ends itself policy)) }
+    ensures may_ask { OnErr result (MayAsk (command_by line text.now) policy.old policy.new) }
     ensures judged { IsJudgedBy (rows_of policy.old) machine.new.engine.keyring }
     ensures faithful { IsFaithful F.Fn policy.new }
     ensures rows { rows_of policy.new ≡ rows_of policy.old }
@@ -132,7 +135,7 @@ fn reply_to<D: Shelf, F: Fn(Ask) -> bool>(
     Ok(())
 }
 
-/// Writes what is held back, unless a further line is at hand, for which nothing has to be read, and little is held.
+/// Writes the buffer, unless it is short and the next line is available without reading.
 fn flush<K: Sink>(lines: &Lines, output: &mut K, out: &mut Vec<u8>) -> Result<(), Failed>
     ensures moves { OnOk result (Moves (K.written output.old) out.old.items (K.written output.new) out.new.items) }
     ensures none { OnOk result (HasNoFeed lines.now.held → out.new.items ≡ []) }
@@ -150,8 +153,8 @@ fn flush<K: Sink>(lines: &Lines, output: &mut K, out: &mut Vec<u8>) -> Result<()
     Ok(())
 }
 
-/// Answers the lines of an input. The replies to all whole lines that are at hand are written together, before more is
-/// read. Where no memory is found for a line, the replies to those before it are written.
+/// Answers the lines of an input. The replies to all complete lines that are available are written together, before
+/// more is read. If memory runs out for a line, the replies to the lines before it are written.
 pub fn run<S: Source, K: Sink, D: Shelf, F: Fn(Ask) -> bool>(
     alloc: Global,
     input: &mut S,
@@ -182,6 +185,8 @@ pub fn run<S: Source, K: Sink, D: Shelf, F: Fn(Ask) -> bool>(
     ensures ended { OnOk result (IsAtEnd (S.left input.old) (S.left input.new)) }
     ensures took { IsErrOf result TooMuch → TakesMost (S.left input.old) (S.left input.new) }
     ensures at_most { TakesAtMost (S.left input.old) (S.left input.new) }
+    ensures asked { RunAsks (status_at result)
+        (ends S.left input) (ends K.written output) (ends D.world shelf) (ends itself policy) }
     ensures faithful { IsFaithful F.Fn policy.new }
     ensures rows { rows_of policy.new ≡ rows_of policy.old }
 {
@@ -200,7 +205,7 @@ pub fn run<S: Source, K: Sink, D: Shelf, F: Fn(Ask) -> bool>(
     )
 }
 
-/// The same by a reader that has read nothing, a machine that was told no line, and a list that holds nothing.
+/// Answers the lines of an input, starting with a fresh reader, a fresh machine and an empty buffer.
 #[tactic(auto, using(crate::proofs::Rules::turning))]
 fn answer_lines<S: Source, K: Sink, D: Shelf, F: Fn(Ask) -> bool>(
     lines: &mut Lines,
@@ -239,6 +244,8 @@ fn answer_lines<S: Source, K: Sink, D: Shelf, F: Fn(Ask) -> bool>(
     ensures ended { OnOk result (IsAtEnd (S.left input.old) (S.left input.new)) }
     ensures took { IsErrOf result TooMuch → TakesMost (S.left input.old) (S.left input.new) }
     ensures at_most { TakesAtMost (S.left input.old) (S.left input.new) }
+    ensures asked { RunAsks (status_at result)
+        (ends S.left input) (ends K.written output) (ends D.world shelf) (ends itself policy) }
     ensures faithful { IsFaithful F.Fn policy.new }
     ensures rows { rows_of policy.new ≡ rows_of policy.old }
 {

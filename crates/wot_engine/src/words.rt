@@ -5,8 +5,9 @@ ghost use Rattle.std.specs.Prelude.{◌≡◌, ◌⊎◌, ◌↔◌, map, string
 ghost use Rattle.wot_policy.specs.Kept.{IsFaithful, rows_of};
 ghost use Rattle.wot_io.specs.Counts.{Rose};
 ghost use Rattle.wot_io.specs.Filled.{IsAtEnd};
-ghost use Rattle.wot_machine.specs.Both.{ends};
+ghost use Rattle.wot_machine.specs.Both.{ends, itself};
 ghost use Rattle.wot_machine.specs.Transcript.{TakesAtMost};
+ghost use Rattle.wot_engine.specs.Asking.{RunAsks};
 ghost use Rattle.wot_engine.specs.Ends.{status_at};
 ghost use Rattle.wot_engine.specs.Forms.{IsForm};
 ghost use Rattle.wot_engine.specs.Generated.{BeginsSummary, WritesSummary};
@@ -24,15 +25,16 @@ use wot_io::{Sink, Source};
 use wot_machine::each_line_has_one_outcome;
 use wot_policy::{Ask, Policy};
 
-/// Runs the program on the words after its name, and answers its exit status:
-/// 0 where the input was read to its end and every reply was written, 2 where the arguments are wrong,
-/// 3 after a failed read, 4 after a failed write, 5 for want of memory, and 6 where 2^30 octets were taken before the
-/// end. For each line the reply is written whole before more is read; the replies to the lines that one read brought
-/// are written together. The shelf is the certificate directory, from which `load` reads and where `store` writes. The
-/// policy says which signatures are admitted; it is asked once for each sound signature that an import or a load adds.
+/// Runs the program with the words after its name, and returns its exit status: 0 if the input was read to its end and
+/// every reply was written, 2 if the arguments are wrong, 3 after a failed read, 4 after a failed write, 5 if memory
+/// ran out, and 6 if 2^30 octets were taken before the input ended.
 ///
-/// With `gen X N` neither input nor shelf is called. A script is made of X and N and answered over an empty shelf in
-/// memory, and three lines on it are written; the status is 0, 4 or 5.
+/// Each reply is written completely before more is read. The replies to the lines that one read brought are written
+/// together. `shelf` is the certificate directory, from which `load` reads and to which `store` writes. The policy says
+/// which signatures are admitted, and is asked once for each well-formed signature that an import or a load adds.
+///
+/// `gen X N` uses neither the input nor the certificate directory. It makes a script from X and N, answers it with an
+/// empty directory in memory, and writes three lines about it. The status is 0, 4 or 5.
 pub fn run_words<S: Source, K: Sink, D: Shelf, F: Fn(Ask) -> bool>(
     alloc: Global,
     words: &[String],
@@ -43,11 +45,11 @@ pub fn run_words<S: Source, K: Sink, D: Shelf, F: Fn(Ask) -> bool>(
 ) -> u8
     requires faithful { IsFaithful F.Fn policy.old }
 
-    // The headline: an input read to its end has its whole transcript written.
+    // The headline: if the input was read to its end, its whole transcript was written.
     ensures whole { Done 0 words.now result → WritesAll (rows_of policy.old)
         (ends S.left input) (ends K.written output) (ends D.world shelf) }
 
-    // The shelf is left as the lines of the input leave it.
+    // The certificate directory is left as the lines of the input leave it.
     ensures shelf { Done 0 words.now result → MovesShelf (rows_of policy.old)
         (ends S.left input) (ends K.written output) (ends D.world shelf) }
 
@@ -55,28 +57,35 @@ pub fn run_words<S: Source, K: Sink, D: Shelf, F: Fn(Ask) -> bool>(
     ensures prefix { AreOfRun words.now → WritesPrefix (rows_of policy.old)
         (ends S.left input) (ends K.written output) (ends D.world shelf) }
 
-    // Whatever the status, the shelf is as some first lines leave it, whose replies begin with what was written; the
-    // line after them puts no more than its own entry.
+    // Whatever the status, what was written begins the replies to some first lines, and the certificate directory is as
+    // these lines leave it. The line after them writes at most its own entry.
     ensures reached { AreOfRun words.now → ReachesSome (rows_of policy.old)
         (ends S.left input) (ends K.written output) (ends D.world shelf) }
 
-    // For want of memory no reply is cut: all lines before the last one that was taken are answered whole.
+    // If memory runs out, no reply is cut short: all lines before the last one that was taken have complete replies.
     ensures first { Done 5 words.now result → WritesSome (rows_of policy.old)
         (ends S.left input) (ends K.written output) (ends D.world shelf) }
 
-    // A generated run writes its three lines, and whatever the status a prefix of them. It leaves source and shelf
-    // alone.
+    // A generated run writes its three lines, and whatever the status a prefix of them. It uses neither the source nor
+    // the certificate directory.
     ensures generated { result ≡ 0 → OnScript words.now (WritesSummary (rows_of policy.old) (ends K.written output)) }
     ensures begun { OnScript words.now (BeginsSummary (rows_of policy.old) (ends K.written output)) }
     ensures alone { OnScript words.now (λ start count. (input.new ≡ input.old) × (shelf.new ≡ shelf.old)) }
     ensures ends { OnScript words.now (λ start count. (result ≡ 0) ⊎ (result ≡ 4) ⊎ (result ≡ 5)) }
 
-    // Whatever the status, the source gives no more than 2^30 octets, and the policy comes back with the same rows.
+    // Whatever the status, at most 2^30 octets are taken from the source, and the policy keeps its rows.
     ensures at_most { TakesAtMost (S.left input.old) (S.left input.new) }
     ensures faithful { IsFaithful F.Fn policy.new }
     ensures rows { rows_of policy.new ≡ rows_of policy.old }
 
-    // Whatever sink and shelf tell: with status 0 the source has nothing left, with 6 it gave 2^30 octets.
+    // The policy is asked once for each well-formed signature that an import or a load adds, and for nothing else. With
+    // status 0 this covers all lines, with 3 and 6 all complete lines that were taken, and with 4 and 5 the first lines
+    // up to some line.
+    ensures asked { AreOfRun words.now → RunAsks result
+        (ends S.left input) (ends K.written output) (ends D.world shelf) (ends itself policy) }
+
+    // Whatever is known of the sink and the directory: with status 0 nothing is left in the source, and with status 6
+    // it gave 2^30 octets.
     ensures ended { Done 0 words.now result → IsAtEnd (S.left input.old) (S.left input.new) }
     ensures took { result ≡ 6 → TakesMost (S.left input.old) (S.left input.new) }
 
@@ -93,7 +102,7 @@ pub fn run_words<S: Source, K: Sink, D: Shelf, F: Fn(Ask) -> bool>(
     ensures most_only { OnMost (rows_of policy.old)
         (ends S.left input) (ends K.written output) (ends D.world shelf) (IsEither 6 5 result) }
 
-    // Where nothing fails and memory is found, the input is read to its end.
+    // If nothing fails and memory suffices, the input is read to its end.
     ensures complete { IsUnfailed words.now (ends S.faults input) (ends K.faults output) →
         ReadsFew (S.left input.old) result }
 {

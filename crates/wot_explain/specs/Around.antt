@@ -1,4 +1,4 @@
--- On what an explanation rests: the certificate, those who certified it, and the verdicts on all their signatures.
+-- What an explanation depends on: the certificate, those who certified it, and the verdicts on all their signatures.
 use Rattle.std.specs.Prelude.{◌≡◌, ℕ, List, Some}
 use Rattle.std.specs.List.{AllByRecursion}
 use Rattle.std.specs.Map.{lookup}

@@ -62,7 +62,7 @@ HasOneList told roots wanted pairs =
     (a b : List Bind) → ((u : List ℕ) → IsRecord (told u))
     → IsListed told roots wanted pairs a → IsListed told roots wanted pairs b → a ≡ b
 
--- These are so listed, and nothing else is.
+-- Exactly these are listed.
 pub record IsTheList (told : List ℕ → Record) (roots : List (Fpr × ℕ)) (wanted : ℕ) (pairs : List Pair)
     (binds : List Bind) : Type 0 where
   pub listed : IsListed told roots wanted pairs binds

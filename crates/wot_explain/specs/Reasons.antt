@@ -41,7 +41,7 @@ names_other s issuer = is_true_of (λ f. not (allows f.issuer issuer)) s
 abbrev pub is_revoked_by : Entries → ℕ → Component → Signature → Fpr → Bool
 is_revoked_by verdicts t uid s issuer = not (is_unrevoked verdicts issuer t uid.sigs s)
 
--- The newest of the issuer's certifications on the user ID that count, are live and unrevoked is another one.
+-- The newest of the issuer's certifications on the user ID that count, are live and unrevoked is a different one.
 abbrev pub is_older_by : Entries → ℕ → Component → Signature → Fpr → Bool
 is_older_by verdicts t uid s issuer =
     not (is_so (λ newest. is_eq (sig_cmp s newest)) (newest_certification verdicts issuer t uid))

@@ -29,7 +29,7 @@ pub fn list_is_one()
     answer_is_one();
 }
 
-/// An explanation rests on the certificate, on those of the issuers of its signatures by their verdicts, and on the
+/// An explanation depends on the certificate, on those of the issuers of its signatures by their verdicts, and on the
 /// verdicts on all their signatures.
 pub fn explanations_rest_on_issuers()
     ensures alike { AreExplainedAlike }

@@ -57,7 +57,7 @@ fn issuer_word(made: u32, issuer: Option<Standing>) -> u8
     if is_after(made, issuer.soft) { 0 } else { 15 }
 }
 
-/// Whether an issuer's newest certification on a user ID is another one.
+/// Whether an issuer's newest certification on a user ID is a different one.
 fn is_older(sig: &Sig, uid: &Part, certifiers: &Certifiers, issuer: &Fpr) -> bool
     ensures { result ≡ not (is_so (λ newest. is_eq (sig_cmp sig.now newest))
         (kept_for certifiers.now uid.now.sigs issuer.now)) }

@@ -60,7 +60,7 @@ impl Buffer {
         &self.octets[self.text_start..self.text_end]
     }
 
-    /// Makes the first `size` octets the current line, and drops the line feed behind them.
+    /// Makes the first `size` octets the current line, and drops the line feed after them.
     pub fn give(&mut self, size: usize)
         requires { size < length self.old.held }
         ensures text { self.new.text ≡ take size self.old.held }
@@ -71,7 +71,7 @@ impl Buffer {
         self.start = self.text_end + 1;
     }
 
-    /// Drops the first `size` octets and the line feed behind them.
+    /// Drops the first `size` octets and the line feed after them.
     pub fn skip(&mut self, size: usize)
         requires { size < length self.old.held }
         ensures text { self.new.text ≡ [] }

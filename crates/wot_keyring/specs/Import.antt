@@ -128,7 +128,7 @@ importing rows octets held = record held { certs = united_in rows held.certs oct
 abbrev pub imported : PolicyRows → Keyring → List ℕ → Keyring
 imported rows old octets = holding old (united_in rows (certificates_in old) octets)
 
--- how often the policy is asked: once for each valid signature that is new
+-- how often the policy is asked: once for each well-formed signature that is new
 abbrev pub asked_in : PolicyRows → Certificates → List ℕ → ℕ
 asked_in rows certs octets = weigh sound_of (united_in rows certs octets) - weigh sound_of certs
 

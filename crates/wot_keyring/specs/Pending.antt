@@ -1,4 +1,4 @@
--- The valid signatures that have no verdict.
+-- The well-formed signatures that have no verdict.
 use Rattle.std.specs.Prelude.{◌&&◌, Bool, List, map, is_none}
 use Rattle.std.specs.List.{filter, flat_map}
 use Rattle.std.specs.Option.{option_and_then}
@@ -11,7 +11,7 @@ use Rattle.wot_cert.specs.Judged.{is_sound}
 use Rattle.wot_keyring.specs.declared.pending.Pending.{Pending}
 use Rattle.wot_keyring.specs.Held.{Held}
 
--- whether a signature is valid and has no verdict
+-- whether a signature is well-formed and has no verdict
 abbrev pub is_pending : verdicts.Entries → Signature → Bool
 is_pending said s = is_sound s && is_none (verdicts.verdict_at said s.number)
 

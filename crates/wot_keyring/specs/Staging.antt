@@ -137,7 +137,7 @@ abbrev pub found_by : (Certificate → ℕ) → Option Kept → ℕ
 found_by measure None = 0
 found_by measure (Some kept) = measure kept.cert
 
--- How often the policy was asked: never, or at most once for each valid signature that is new.
+-- How often the policy was asked: never, or at most once for each well-formed signature that is new.
 abbrev pub AskedOnFault : Fault → ℕ → ℕ → ℕ → Type 0
 AskedOnFault fault old new k = (k ≡ 0) ⊎ (old + k ≤ new)
 
@@ -154,11 +154,11 @@ abbrev pub AskedInAll : {T : Type 0} → Result T Fault → ℕ → ℕ → ℕ 
 AskedInAll (Ok done) old new k = old + k ≡ new
 AskedInAll (Err fault) old new k = AskedUpTo fault old new k
 
--- how many valid signatures are kept
+-- how many well-formed signatures are kept
 abbrev pub sound_in : Entries → ℕ
 sound_in es = weigh_kept sound_of es
 
--- how many valid signatures of this certificate are kept
+-- how many well-formed signatures of this certificate are kept
 abbrev pub sound_found : Entries → Certificate → ℕ
 sound_found es c = found_by sound_of (found_for es c)
 

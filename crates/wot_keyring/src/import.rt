@@ -27,7 +27,7 @@ pub struct Imported {
 
 impl Keyring {
     /// Merges the certificates in these octets (RFC 9580, sections 4 and 10.1) with the kept ones: all of them, or none
-    /// if anything is refused. The policy is asked once for each valid signature that is new.
+    /// if anything is refused. The policy is asked once for each well-formed signature that is new.
     pub fn import<F: Fn(Ask) -> bool>(
         &mut self,
         alloc: Global,

@@ -468,8 +468,8 @@ impl Keyring {
         }
     }
 
-    /// The valid signatures without a verdict, of all types and in all places, by certificate and then in the order in
-    /// which `export` writes them.
+    /// The well-formed signatures without a verdict, of all types and in all places, by certificate and then in the
+    /// order in which `export` writes them.
     pub fn pending(&self, alloc: Global) -> Result<Vec<Pending>, Memory>
         ensures pending { IfOk result (λ list. list.items ≡ pending_in (held_of self.now)) }
     {
@@ -488,7 +488,8 @@ impl Keyring {
         ensures sorted { AreSortedByNumber self.now.verdicts }
     {
         let count = self.verdicts.len() as u64;
-        self.verdicts.get(number).is_none() && self.limits.verdicts <= count
+        // The number is looked up only if the limit is reached.
+        self.limits.verdicts <= count && self.verdicts.get(number).is_none()
     }
 
     /// Counts a change of the verdict on a number.

@@ -1,5 +1,5 @@
-//! The valid signatures without a verdict: what an outside verifier has to check. It walks over all certificates, and
-//! stands on what wot_signature reads from a signature. A change of `Pending` reaches the reply to `pending` in
+//! The well-formed signatures without a verdict: what an outside verifier has to check. It walks over all certificates,
+//! and stands on what wot_signature reads from a signature. A change of `Pending` reaches the reply to `pending` in
 //! wot_machine, and the verifier.
 ghost use Rattle.std.specs.Prelude.{◌≡◌, ◌++◌, ◌∷◌, [], IfOk, OnOk};
 ghost use Rattle.std.specs.List.{flat_map};
@@ -15,7 +15,7 @@ use wot_signature::hint;
 use wot_types::{Fpr, Memory, SigNumber};
 use wot_verdict::Verdicts;
 
-/// A valid signature without a verdict, with what a verifier needs to find the key that made it.
+/// A well-formed signature without a verdict, with what a verifier needs to find the key that made it.
 #[derive(Clone, Copy, PartialEq, Eq)]
 pub struct Pending {
     /// The signature number that waits for a verdict.
@@ -28,7 +28,7 @@ pub struct Pending {
     pub hint: Option<[u8; 8]>,
 }
 
-/// Whether a signature is valid and has no verdict.
+/// Whether a signature is well-formed and has no verdict.
 fn waits(sig: &Sig, verdicts: &Verdicts) -> bool
     ensures { result ≡ is_pending verdicts.now sig.now }
 {

@@ -1,5 +1,6 @@
 -- Signatures and user IDs by their places.
-use Rattle.std.proofs.Common.{◌≡◌, ℕ, zero, suc, ◌+◌, false, cond, List, [], ◌∷◌, Some, None, refl, sym, ap, ◌∙◌, arith}
+use Rattle.std.proofs.Common.{◌≡◌, ℕ, zero, suc, ◌+◌, false, cond, List, [], ◌∷◌, ◌++◌, length, Some, None, refl, sym, ap}
+use Rattle.std.proofs.Common.{◌∙◌, arith}
 use Rattle.std.specs.declared.cmp.Ordering.TheVariants.{Less}
 use Rattle.std.specs.Cmp.{IsTotalOrder}
 use Rattle.std.specs.List.{slice_get}
@@ -41,6 +42,11 @@ place_at s (x ∷ xs) zero h e =
 place_at s (x ∷ xs) (suc k) h e =
     ap (λ b. cond b 0 (place_of s xs + 1)) (not_tied x s (below_at x s xs k h.0 e))
     ∙ (let rest = place_at s xs k h.1 e in omega (arith, rest))
+
+-- the signature behind these
+pub behind : (ss rest : List Signature) (s : Signature) → slice_get (ss ++ s ∷ rest) (length ss) ≡ Some s
+behind [] rest s = refl
+behind (x ∷ ss) rest s = behind ss rest s
 
 -- The edge by the places that are kept is that of the newest certification.
 pub kept_is : (verdicts : Entries) (target : Fpr) (t uid : ℕ) (p : Component) (places : List (Fpr × ℕ)) →

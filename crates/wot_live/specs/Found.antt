@@ -53,6 +53,6 @@ edge_kept verdicts target uid p places s =
     option_and_then (λ issuer. option_and_then (edge_by issuer target uid p.sigs) (kept_for places p.sigs issuer))
     (issuer_of verdicts s)
 
--- so few signatures that their places fit
+-- few enough signatures for their indices
 abbrev pub HasFew : Component → Type 0
 HasFew p = length p.sigs < 2 ^ 32

@@ -3,6 +3,7 @@
 //! `edges_of`.
 ghost use Rattle.std.specs.Prelude.{◌≡◌, ◌<◌, ◌^◌, [], length, OnOk, IfOk};
 ghost use Rattle.std.specs.List.{AllByRecursion, cons_option};
+ghost use Rattle.wot_standing.specs.Certifiers.{StandsAt};
 ghost use Rattle.wot_live.specs.Found.{Becomes, Gains, HasFew, by_place, edge_kept, with_edge};
 ghost use Rattle.wot_live.specs.Found.{edge_at_place as edge_at_place_spec};
 ghost use Rattle.wot_live.specs.Rows.{edges_of, edges_on};
@@ -10,7 +11,7 @@ ghost use Rattle.wot_live.specs.Rows.{edges_of, edges_on};
 use crate::terms::terms;
 use std::alloc::Global;
 use std::collections::BTreeMap;
-use wot_cert::{Cert, Part, Sig, issuer_of};
+use wot_cert::{Cert, Part, Sig};
 use wot_edge::EdgeFacts;
 use wot_standing::Certifiers;
 use wot_types::{Fpr, Memory};
@@ -45,18 +46,20 @@ fn edge_at_place(part: &Part, place: u32, issuer: Fpr, target: Fpr, uid: u32) ->
     Some(terms(issuer, target, uid, place, said))
 }
 
-/// The edge that the issuer of a signature has on the user ID.
+/// The edge that the issuer of the signature at this place has on the user ID.
 fn edge_with(
     sig: &Sig,
+    at: u32,
     part: &Part,
     uid: u32,
     target: Fpr,
     verdicts: &Verdicts,
     certifiers: &Certifiers,
 ) -> Option<EdgeFacts>
+    requires stands { StandsAt verdicts.now certifiers.now at sig.now }
     ensures { result ≡ edge_kept verdicts.now target uid part.now certifiers.now sig.now }
 {
-    let issuer = issuer_of(sig, verdicts)?;
+    let issuer = certifiers.issuer(sig, at, verdicts)?;
     let place = certifiers.place(&issuer)?;
     edge_at_place(part, place, issuer, target, uid)
 }
@@ -87,7 +90,8 @@ fn put_edges_on(
     let mut rest = part.sigs();
     'back: while let Some((sig, prefix)) = rest.split_last() {
         rest = prefix;
-        let edge = edge_with(sig, part, uid, target, verdicts, &certifiers);
+        let at = prefix.len() as u32;
+        let edge = edge_with(sig, at, part, uid, target, verdicts, &certifiers);
         put_some(found, edge)?;
     }
     Ok(())

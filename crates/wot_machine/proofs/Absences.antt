@@ -1,4 +1,4 @@
--- Claims of absence: each line that asks for one, or makes one, has one reply.
+-- Claims of absence: each line that asks for one or makes one has exactly one reply.
 use Rattle.std.proofs.Common.{◌≡◌, ℕ, ◌<◌, ◌≤◌, Bool, true, false, List, [], ◌∷◌, ◌++◌, map, Ordering, Option, Some}
 use Rattle.std.proofs.Common.{None, Result, Ok, Err, refl, sym, ap, ◌∙◌, subst, arith}
 use Rattle.std.specs.Prelude.{nat_le, IfOk, IsSomeAnd}
@@ -72,12 +72,12 @@ are_labels : (labels : List LabelLine) → AllByRecursion IsLabelSpelled labels 
 are_labels [] all = tt
 are_labels (label ∷ labels) all = let some = all.0.0 in ((omega (arith, some), all.0.1), are_labels labels all.1)
 
--- what a line claims as a table is one
+-- the labels in a line form a table
 pub spelled_table : (claims : List ClaimLine) (labels : List LabelLine) → IsClaimSpelled claims labels →
     IsTable (table_in labels)
 spelled_table claims labels s = record { order = rising_sorted labels s.rise; labels = are_labels labels s.numbers }
 
--- a label put behind all others
+-- a label that follows all others is inserted at the end
 insert_last : (table rest : Labels) (fpr : Fpr) (label : ℕ) →
     IsStrictlySortedBy fpr_cmp (keys_of (table ++ (fpr, label) ∷ rest))
     → insert_entry fpr_cmp table fpr label ≡ table ++ (fpr, label) ∷ []
@@ -93,7 +93,7 @@ insert_last (e ∷ table) rest fpr label s =
     below [] above = above.0
     below (x ∷ es) above = below es above.1
 
--- one label more is put in
+-- one more label is inserted
 table_more : (labels later : List LabelLine) (label : LabelLine) (table new : Labels) → IsTable (table_in labels)
     → table ++ table_in (label ∷ later) ≡ table_in labels → new ≡ insert_entry fpr_cmp table label.0 label.1 →
     new ++ table_in later ≡ table_in labels
@@ -107,7 +107,7 @@ table_more labels later label table new good so e =
     put_back [] x rest = refl
     put_back (e ∷ es) x rest = ap (λ (t : Labels). e ∷ t) (put_back es x rest)
 
--- each label that is put in is at least 1
+-- each inserted label is at least 1
 label_some : (labels later : List LabelLine) (label : LabelLine) (table : Labels) → IsTable (table_in labels)
     → table ++ table_in (label ∷ later) ≡ table_in labels → 1 ≤ label.1
 label_some labels later label table good so = by table (subst AreLabels (sym so) good.labels)
@@ -116,7 +116,7 @@ label_some labels later label table good so = by table (subst AreLabels (sym so)
     by [] all = let some = all.0.0 in omega (arith, some)
     by (e ∷ es) all = by es all.1
 
--- the same of the first label that is left
+-- the labels inserted so far and those left are those of the line
 abbrev Left : Labels → List LabelLine → List LabelLine → Type 0
 Left table left labels = table ++ table_in left ≡ table_in labels
 
@@ -132,7 +132,7 @@ pub first_some : (labels left later : List LabelLine) (label : LabelLine) (table
 first_some labels left later label table good e so =
     label_some labels later label table good (subst (λ (ls : List LabelLine). Left table ls labels) e so)
 
--- ---- what a check comes to
+-- ---- the result of a check
 
 pub verdicts_worded : (claims : List ClaimLine) (checked : Checked) → HasWords (verdict_on claims checked)
 verdicts_worded claims answers.Yes = tt
@@ -144,7 +144,7 @@ pub tells_worded : (reached : Bool) (q : Question) (paths : List Path) (reply : 
 tells_worded true q paths reply tells = subst HasWords (sym tells) tt
 tells_worded false q paths reply tells = subst HasWords (sym tells.3) tt
 
--- ---- what is told of an absence
+-- ---- the reply to `absence`
 
 pub tells_one : ((q : Question) (used : Use) (a b : Labels) → IsTable a → IsTable b → IsLeastTable q used a →
     IsLeastTable q used b → a ≡ b)
@@ -166,7 +166,7 @@ tells_some some false q paths = by (some q (use_of paths))
         (r : Reply) × TellsAbsence false q paths r
     by t = (missed paths t.0, tells t.0 t.1 t.2)
 
--- the reply to a question that missed
+-- the reply to a question whose amount isn't reached
 pub told_misses : (q : Question) (wanted sum : ℕ) (paths shown : List Path) (made : Option Labels) (table : Labels)
     (result : Result Reply Memory)
     → IsAnswer q wanted paths → sum ≡ amount_of paths → sum < wanted → shown ≡ paths → IsMade q (use_of shown) made →
@@ -189,7 +189,7 @@ told_misses q wanted sum paths shown made table (Ok reply) answer e lt same m so
         → (x : List Path) × IsAnswer q wanted x × TellsAbsence (nat_le wanted (amount_of x)) q x reply
     by f a good least = (shown, a, tells (nat_le wanted (amount_of shown)) f good least)
 
--- what is checked over the parts that are seen from a view is checked from that view
+-- a check over the parts of a view is a check from that view
 pub checks_shown : (engine : Engine) (o : Option View) (parts : Parts) (target : Fpr) (claims : List ClaimLine)
     (labels : List LabelLine) (uid : List ℕ)
     (result : Result Reply Memory) → IsSomeAnd o (λ v. ArePartsOf engine.keyring v parts)

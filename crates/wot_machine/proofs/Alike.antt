@@ -1,4 +1,4 @@
--- An answer depends on certificates, verdicts and the asking view alone.
+-- An answer depends only on certificates, verdicts and the asking view.
 use Rattle.std.proofs.Common.{◌≡◌, inl, ℕ, Bool, true, false, List, [], ◌∷◌, length, map, Option, Some, None, refl, sym}
 use Rattle.std.proofs.Common.{ap, subst, ◌∙◌}
 use Rattle.std.specs.Prelude.{MatchBool, nat_lt}
@@ -6,10 +6,6 @@ use Rattle.wot_types.specs.declared.fpr.Fpr.{Fpr}
 use Rattle.wot_policy.specs.declared.rows.PolicyRows.{PolicyRows}
 use Rattle.wot_verdict.specs.Verdicts as verdicts
 use Rattle.wot_script.specs.declared.command.Command.{Command}
-use Rattle.wot_script.specs.declared.command.Command.TheVariants.{Import, Load, Store, Remove, Good, Bad, Unjudge, Time}
-use Rattle.wot_script.specs.declared.command.Command.TheVariants.{Root, Close, Ask, Explain, Pending, Keys, Export}
-use Rattle.wot_script.specs.declared.command.Command.TheVariants.{Dump, Absence, Check, CursorOver, CursorNext}
-use Rattle.wot_script.specs.declared.command.Command.TheVariants.{CursorClose, WatchOn, WatchOff}
 use Rattle.wot_script.specs.declared.reply.Reply.{Reply}
 use Rattle.wot_script.specs.declared.reply.Reply.TheVariants as replies
 use Rattle.wot_script.specs.Grammar.{command_of}
@@ -22,6 +18,12 @@ use Rattle.wot_cache.specs.declared.view.View.{View}
 use Rattle.wot_certd.specs.World.{World}
 use Rattle.wot_cache.specs.State.{State}
 use Rattle.wot_cache.specs.Views.{view_at}
+use Rattle.wot_machine.specs.declared.class.Class.{Class}
+use Rattle.wot_machine.specs.declared.class.Class.TheVariants.{State as OfState}
+use Rattle.wot_machine.specs.declared.class.StateCommand.TheVariants as kinds
+use Rattle.wot_machine.specs.declared.class.ViewQuestion.{ViewQuestion}
+use Rattle.wot_machine.specs.declared.class.ViewQuestion.TheVariants as questions
+use Rattle.wot_machine.specs.Classes.{AnswersQuestion, class_of}
 use Rattle.wot_machine.specs.Absent.{Checks, Misses}
 use Rattle.wot_machine.specs.Answer.{Asks}
 use Rattle.wot_machine.specs.Depends.{AsksFrom, bare, IsAsk}
@@ -41,7 +43,7 @@ use Rattle.wot_machine.specs.Transcript.{Run}
 -- ---- marks
 
 module _ (rows : PolicyRows) (forgets : (c : Certificate) → judged rows (unmarked c) ≡ judged rows c) where
-  -- Judging looks at no mark.
+  -- judging ignores earlier marks
   anew_bare : (certs : Certificates) → map (judged_anew rows) (bare certs) ≡ map (judged_anew rows) certs
   anew_bare [] = refl
   anew_bare (e ∷ es) =
@@ -49,7 +51,7 @@ module _ (rows : PolicyRows) (forgets : (c : Certificate) → judged rows (unmar
       ap (λ (x : Fpr × Certificate). x ∷ map (judged_anew rows) (bare es)) (ap Entry (forgets e.1))
       ∙ ap (λ (xs : Certificates). judged_anew rows e ∷ xs) (anew_bare es)
 
-  -- Where each mark is the one that the rows give, equal certificates but for marks are equal.
+  -- certificates with the marks that the rows give are equal if they are equal apart from marks
   pub same_certs : (one other : State) → judged_by rows one.held ≡ one.held → judged_by rows other.held ≡ other.held →
       bare one.held.certs ≡ bare other.held.certs
       → one.held.certs ≡ other.held.certs
@@ -58,13 +60,13 @@ module _ (rows : PolicyRows) (forgets : (c : Certificate) → judged rows (unmar
       let second : map (judged_anew rows) other.held.certs ≡ other.held.certs = ap (λ (h : Held). h.certs) q in
       sym first ∙ sym (anew_bare one.held.certs) ∙ ap (map (judged_anew rows)) e ∙ anew_bare other.held.certs ∙ second
 
--- ---- one question in two states
+-- ---- a question in two states
 
--- the state of these certificates and verdicts alone
+-- the state with these certificates and verdicts and no views
 abbrev held_alone : Certificates → verdicts.Entries → State
 held_alone certs entries = record { held = record { certs = certs; verdicts = entries }; views = [] }
 
--- What is so by certificates, verdicts and the asking view is so in both states.
+-- a fact about certificates, verdicts and the asking view holds in both states
 alike : (P : State → Option View → Type 0) (one other : State) (name : List ℕ) → one.held.certs ≡ other.held.certs →
     one.held.verdicts ≡ other.held.verdicts
     → view_at one.views name ≡ view_at other.views name → P (held_alone one.held.certs one.held.verdicts)
@@ -75,86 +77,46 @@ alike P one other name c v w asks =
     (subst (λ (entries : verdicts.Entries). P (held_alone other.held.certs entries) (view_at one.views name)) v
     (subst (λ (certs : Certificates). P (held_alone certs one.held.verdicts) (view_at one.views name)) c asks))
 
--- The views are no part of what decides a reply but the one that asks.
-does_alike : (rows : PolicyRows) (one other : State) (name : List ℕ) (command : Command) (given told : Served)
+-- Of the views, only the asking one matters to the reply.
+question_alike : (one other : State) (name : List ℕ) (question : ViewQuestion) (reply : Reply) →
+    one.held.certs ≡ other.held.certs → one.held.verdicts ≡ other.held.verdicts
+    → view_at one.views name ≡ view_at other.views name
+    → AnswersQuestion one (view_at one.views name) question reply
+    → AnswersQuestion other (view_at other.views name) question reply
+question_alike one other name (questions.Ask target wanted uid) reply c v w a =
+    alike (λ s shown. Asks s shown target wanted uid reply) one other name c v w a
+question_alike one other name (questions.List wanted) reply c v w a =
+    alike (λ s shown. Lists s shown wanted reply) one other name c v w a
+question_alike one other name (questions.Explain fpr uid) reply c v w a =
+    alike (λ s shown. reply ≡ explained_from s shown fpr uid) one other name c v w a
+question_alike one other name (questions.Absence target wanted uid) reply c v w a =
+    alike (λ s shown. Misses s shown target wanted uid reply) one other name c v w a
+question_alike one other name (questions.Check target claims labels uid) reply c v w a =
+    alike (λ s shown. Checks s shown target claims labels uid reply) one other name c v w a
+
+does_alike : (rows : PolicyRows) (one other : State) (name : List ℕ) (class : Class) (given told : Served)
     (reply : Reply) (new : State) → one.held.certs ≡ other.held.certs
     → one.held.verdicts ≡ other.held.verdicts → view_at one.views name ≡ view_at other.views name →
-    AsksFrom name command
-    → Does rows one command given reply new → Does rows other command told reply other
-does_alike rows one other name (Ask view target wanted uid) given told reply new c v w a does =
+    AsksFrom name class
+    → Does rows one class given reply new → Does rows other class told reply other
+does_alike rows one other name (OfState (kinds.Question view question)) given told reply new c v w a does =
     let W : view_at one.views view ≡ view_at other.views view =
     subst (λ (n : List ℕ). view_at one.views n ≡ view_at other.views n) (sym a) w in
-    (alike (λ s shown. Asks s shown target wanted uid reply) one other view c v W does.0, refl)
-does_alike rows one other name (Command.List view wanted) given told reply new c v w a does =
-    let W : view_at one.views view ≡ view_at other.views view =
-    subst (λ (n : List ℕ). view_at one.views n ≡ view_at other.views n) (sym a) w in
-    (alike (λ s shown. Lists s shown wanted reply) one other view c v W does.0, refl)
-does_alike rows one other name (Explain view fpr uid) given told reply new c v w a does =
-    let W : view_at one.views view ≡ view_at other.views view =
-    subst (λ (n : List ℕ). view_at one.views n ≡ view_at other.views n) (sym a) w in
-    (alike (λ s shown. reply ≡ explained_from s shown fpr uid) one other view c v W does.0, refl)
-does_alike rows one other name (Absence view target wanted uid) given told reply new c v w a does =
-    let W : view_at one.views view ≡ view_at other.views view =
-    subst (λ (n : List ℕ). view_at one.views n ≡ view_at other.views n) (sym a) w in
-    (alike (λ s shown. Misses s shown target wanted uid reply) one other view c v W does.0, refl)
-does_alike rows one other name (Check view target claims labels uid) given told reply new c v w a does =
-    let W : view_at one.views view ≡ view_at other.views view =
-    subst (λ (n : List ℕ). view_at one.views n ≡ view_at other.views n) (sym a) w in
-    (alike (λ s shown. Checks s shown target claims labels uid reply) one other view c v W does.0, refl)
-does_alike rows one other name (Import octets) given told reply new c v w a does = absurd a
-does_alike rows one other name (Load entry) given told reply new c v w a does = absurd a
-does_alike rows one other name (Store fpr) given told reply new c v w a does = absurd a
-does_alike rows one other name (Remove fpr) given told reply new c v w a does = absurd a
-does_alike rows one other name (Good number fpr) given told reply new c v w a does = absurd a
-does_alike rows one other name (Bad number) given told reply new c v w a does = absurd a
-does_alike rows one other name (Unjudge number) given told reply new c v w a does = absurd a
-does_alike rows one other name (Time view t) given told reply new c v w a does = absurd a
-does_alike rows one other name (Root view fpr amount) given told reply new c v w a does = absurd a
-does_alike rows one other name (Close view) given told reply new c v w a does = absurd a
-does_alike rows one other name Pending given told reply new c v w a does = absurd a
-does_alike rows one other name Keys given told reply new c v w a does = absurd a
-does_alike rows one other name (Export fpr) given told reply new c v w a does = absurd a
-does_alike rows one other name Dump given told reply new c v w a does = absurd a
-does_alike rows one other name (CursorOver cursor view wanted) given told reply new c v w a does = absurd a
-does_alike rows one other name (CursorNext cursor count) given told reply new c v w a does = absurd a
-does_alike rows one other name (CursorClose cursor) given told reply new c v w a does = absurd a
-does_alike rows one other name (WatchOn watch view target wanted uid) given told reply new c v w a does = absurd a
-does_alike rows one other name (WatchOff watch) given told reply new c v w a does = absurd a
+    (question_alike one other view question reply c v W does.0, refl)
+does_alike rows one other name class given told reply new c v w a does = absurd a
 
--- Such a command leaves turns, cursors and watches.
-asking : (name : List ℕ) (command : Command) (s : Whole) (reply : Reply) → AsksFrom name command
-    → IsTurnedBy command s.state.views s.turns s.state.views s.turns × Paces s command reply s.cursors × Watching s
-    command reply s.watches
-asking name (Ask view target wanted uid) s reply a = (refl, refl, refl)
-asking name (Command.List view wanted) s reply a = (refl, refl, refl)
-asking name (Explain view fpr uid) s reply a = (refl, refl, refl)
-asking name (Absence view target wanted uid) s reply a = (refl, refl, refl)
-asking name (Check view target claims labels uid) s reply a = (refl, refl, refl)
-asking name (Import octets) s reply a = absurd a
-asking name (Load entry) s reply a = absurd a
-asking name (Store fpr) s reply a = absurd a
-asking name (Remove fpr) s reply a = absurd a
-asking name (Good number fpr) s reply a = absurd a
-asking name (Bad number) s reply a = absurd a
-asking name (Unjudge number) s reply a = absurd a
-asking name (Time view t) s reply a = absurd a
-asking name (Root view fpr amount) s reply a = absurd a
-asking name (Close view) s reply a = absurd a
-asking name Pending s reply a = absurd a
-asking name Keys s reply a = absurd a
-asking name (Export fpr) s reply a = absurd a
-asking name Dump s reply a = absurd a
-asking name (CursorOver cursor view wanted) s reply a = absurd a
-asking name (CursorNext cursor count) s reply a = absurd a
-asking name (CursorClose cursor) s reply a = absurd a
-asking name (WatchOn watch view target wanted uid) s reply a = absurd a
-asking name (WatchOff watch) s reply a = absurd a
+-- a question changes no turns, cursors or watches
+asking : (name : List ℕ) (class : Class) (s : Whole) (reply : Reply) → AsksFrom name class
+    → IsTurnedBy class s.state.views s.turns s.state.views s.turns × Paces s class reply s.cursors × Watching s
+    class reply s.watches
+asking name (OfState (kinds.Question view question)) s reply a = (refl, refl, refl)
+asking name class s reply a = absurd a
 
--- A step of a question in the one state is one in the other, where what the command does is.
+-- a step of a question in one state is a step in the other, if the command has the same outcome
 pub step_as : (rows : PolicyRows) (one other : Whole) (name line : List ℕ) (given told : Served) (reply : Option Reply)
     (new : Whole) (ask : IsAsk name line)
-    → ((r : Reply) (s : State) → Does rows one.state ask.command given r s →
-    Does rows other.state ask.command told r other.state)
+    → ((r : Reply) (s : State) → Does rows one.state (class_of ask.command) given r s →
+    Does rows other.state (class_of ask.command) told r other.state)
     → LineStep rows one line given reply new → LineStep rows other line told reply other
 step_as rows one other name line given told reply new ask does step = long (nat_lt longest (length line)) step
   where
@@ -163,9 +125,9 @@ step_as rows one other name line given told reply new ask does step = long (nat_
     answers o e None s = absurd s
     answers o e (Some r) s =
         let Told : Option Command → Type 0 = λ o. Answers rows other o told r other in
-        let s' : Obeys rows one ask.command given r new = subst (λ (o : Option Command). Answers rows one o given r new)
+        let s' : Obeys rows one (class_of ask.command) given r new = subst (λ (o : Option Command). Answers rows one o given r new)
         e s in
-        let rest = asking name ask.command other r ask.asks in
+        let rest = asking name (class_of ask.command) other r ask.asks in
         subst Told (sym e) (record {
           does = does r new.state s'.does;
           counted = inl (refl, refl);
@@ -202,9 +164,9 @@ pub step_alike : (rows : PolicyRows) (one other : Whole) (name line : List ℕ) 
     → LineStep rows one line given reply new → LineStep rows other line told reply other
 step_alike rows one other name line given told reply new c v w ask step =
     step_as rows one other name line given told reply new ask
-    (λ r s does. does_alike rows one.state other.state name ask.command given told r s c v w ask.asks does) step
+    (λ r s does. does_alike rows one.state other.state name (class_of ask.command) given told r s c v w ask.asks does) step
 
--- What is reached can be.
+-- reached states are well-formed
 pub reached_can_be : (rows : PolicyRows) (world : World) (lines : List (List ℕ)) (replies : List Reply) (s : Scene) →
     Run rows (opening world) lines replies s → AreNamed s.whole.state.held.certs
 reached_can_be rows world lines replies s run = run_stays rows AreNamed (named_all rows) named_without lines

@@ -1,4 +1,4 @@
--- The lines of a dump, answered from the start on.
+-- The lines of a dump, answered by a fresh machine.
 use Rattle.std.proofs.Common.{◌≡◌, ℕ, suc, Bool, true, false, List, [], ◌∷◌, length, map, Option, Some, None, Result}
 use Rattle.std.proofs.Common.{Ok, Err, refl, sym, ap, ◌∙◌, subst, append_assoc}
 use Rattle.std.specs.Prelude.{if◌then◌else◌, IsSomeAnd}
@@ -13,10 +13,7 @@ use Rattle.wot_types.specs.Limits.{standard_limits}
 use Rattle.wot_io.specs.Input as inputs
 use Rattle.wot_policy.specs.declared.rows.PolicyRows.{PolicyRows}
 use Rattle.wot_script.specs.declared.command.Command.{Command}
-use Rattle.wot_script.specs.declared.command.Command.TheVariants.{Import, Load, Store, Remove, Good, Bad, Unjudge, Time}
-use Rattle.wot_script.specs.declared.command.Command.TheVariants.{Root, Close, Ask, Explain, Pending, Keys, Export}
-use Rattle.wot_script.specs.declared.command.Command.TheVariants.{Dump, Absence, Check, CursorOver, CursorNext}
-use Rattle.wot_script.specs.declared.command.Command.TheVariants.{CursorClose, WatchOn, WatchOff}
+use Rattle.wot_script.specs.declared.command.Command.TheVariants as commands
 use Rattle.wot_script.specs.declared.reply.Reply.{Reply}
 use Rattle.wot_script.specs.declared.reply.Reply.TheVariants as replies
 use Rattle.wot_script.specs.Replies.{is_refusal}
@@ -35,12 +32,14 @@ use Rattle.wot_cache.specs.declared.view.ViewFault.{ViewFault}
 use Rattle.wot_cache.specs.Views.{root_fault, time_fault, view_at}
 use Rattle.wot_cache.specs.State.{Engine, State, start, state_of, with_held, rooting, timing}
 use Rattle.wot_cache.specs.Dump.{CarriesOver, IsRestored, after, commands_of, unless_refused}
-use Rattle.wot_machine.specs.Entry.{unused, use_of}
+use Rattle.wot_machine.specs.declared.class.Class.{Class}
+use Rattle.wot_machine.specs.declared.class.Class.TheVariants.{State as OfState, Cursor as OfCursor, Watch as OfWatch}
+use Rattle.wot_machine.specs.Classes.{class_of}
+use Rattle.wot_machine.specs.GoesOn.{is_own}
+use Rattle.wot_machine.specs.Entry.{unused, use_by, use_of}
 use Rattle.wot_machine.specs.Lines.{is_silent}
 use Rattle.wot_machine.specs.Outcome.{Outcome, done, imports, set_verdict, only, unless}
 use Rattle.wot_machine.specs.LineStep.{Answers, Does, Gives, Obeys}
-use Rattle.wot_machine.specs.Pacing.{is_pacing}
-use Rattle.wot_machine.specs.Watching.{is_watching}
 use Rattle.wot_machine.specs.Whole.{Whole, beginning}
 use Rattle.wot_machine.specs.Scene.{Step}
 use Rattle.wot_machine.specs.Served.{unserved}
@@ -48,8 +47,7 @@ use Rattle.wot_machine.specs.Transcript.{Run}
 use Rattle.wot_machine.specs.Fresh.{IsMadeAnew, dumped}
 use Rattle.wot_machine.proofs.CutLines.{lines_of-feed}
 use Rattle.wot_machine.proofs.Giving.{over, uncalled_step}
-use Rattle.wot_machine.proofs.Paced.{paces_plain}
-use Rattle.wot_machine.proofs.Watched.{tells_nothing, watching_plain}
+use Rattle.wot_machine.proofs.Watched.{tells_nothing}
 use Rattle.wot_machine.proofs.Stepping.{heard_read, looked_at}
 use Rattle.wot_machine.proofs.Wholes.{counted_some, turned_some}
 
@@ -92,118 +90,40 @@ judged_so s number verdict new e =
     chosen (is_over standard_limits s.held.verdicts number) (only s (replies.Full words.Verdicts)) s new
     (verdict_set number verdict s.held) e
 
--- a command that isn't refused does what the machine does
+-- A command of a dump that isn't refused does what the machine does. It doesn't call the certificate directory, and
+-- isn't about a cursor or a watch.
+record Accepts (rows : PolicyRows) (class : Class) (s new : State) : Type 0 where
+  takes : Takes (Does rows s class unserved) new
+  uncalled : use_by class ≡ unused
+  own : is_own class ≡ true
+
+-- no other command is in a dump
 accepted : (rows : PolicyRows) (command : Command) (s new : State) → after rows standard_limits command s ≡ Some new →
-    Takes (Does rows s command unserved) new
-accepted rows (Import octets) s new e = taken rows s octets (answer_to rows standard_limits s.held.certs octets) new e
-accepted rows (Good number fpr) s new e = judged_so s number (said.Good fpr) new e
-accepted rows (Bad number) s new e = judged_so s number said.Bad new e
-accepted rows (Time view t) s new e = allowed s (time_fault standard_limits s.views view) (timing view t s) new e
-accepted rows (Root view fpr amount) s new e = allowed s (root_fault standard_limits (view_at s.views view) fpr amount)
-    (rooting view fpr amount s) new e
-accepted rows (Load name) s new e = absurd (cc e)
-accepted rows (Store fpr) s new e = absurd (cc e)
-accepted rows (Remove fpr) s new e = absurd (cc e)
-accepted rows (Unjudge number) s new e = absurd (cc e)
-accepted rows (Close view) s new e = absurd (cc e)
-accepted rows (Ask view fpr wanted uid) s new e = absurd (cc e)
-accepted rows (Command.List view wanted) s new e = absurd (cc e)
-accepted rows (Explain view fpr uid) s new e = absurd (cc e)
-accepted rows (Absence view fpr wanted uid) s new e = absurd (cc e)
-accepted rows (Check view fpr claims labels uid) s new e = absurd (cc e)
-accepted rows Pending s new e = absurd (cc e)
-accepted rows Keys s new e = absurd (cc e)
-accepted rows (Export fpr) s new e = absurd (cc e)
-accepted rows Dump s new e = absurd (cc e)
-accepted rows (CursorOver cursor view wanted) s new e = absurd (cc e)
-accepted rows (CursorNext cursor count) s new e = absurd (cc e)
-accepted rows (CursorClose cursor) s new e = absurd (cc e)
-accepted rows (WatchOn watch view fpr wanted uid) s new e = absurd (cc e)
-accepted rows (WatchOff watch) s new e = absurd (cc e)
-
--- nor does it call the shelf
-uncalled : (rows : PolicyRows) (command : Command) (s new : State) → after rows standard_limits command s ≡ Some new →
-    use_of (Some command) ≡ unused
-uncalled rows (Load name) s new e = absurd (cc e)
-uncalled rows (Store fpr) s new e = absurd (cc e)
-uncalled rows (Import octets) s new e = refl
-uncalled rows (Good number fpr) s new e = refl
-uncalled rows (Bad number) s new e = refl
-uncalled rows (Time view t) s new e = refl
-uncalled rows (Root view fpr amount) s new e = refl
-uncalled rows (Remove fpr) s new e = refl
-uncalled rows (Unjudge number) s new e = refl
-uncalled rows (Close view) s new e = refl
-uncalled rows (Ask view fpr wanted uid) s new e = refl
-uncalled rows (Command.List view wanted) s new e = refl
-uncalled rows (Explain view fpr uid) s new e = refl
-uncalled rows (Absence view fpr wanted uid) s new e = refl
-uncalled rows (Check view fpr claims labels uid) s new e = refl
-uncalled rows Pending s new e = refl
-uncalled rows Keys s new e = refl
-uncalled rows (Export fpr) s new e = refl
-uncalled rows Dump s new e = refl
-uncalled rows (CursorOver cursor view wanted) s new e = refl
-uncalled rows (CursorNext cursor count) s new e = refl
-uncalled rows (CursorClose cursor) s new e = refl
-uncalled rows (WatchOn watch view fpr wanted uid) s new e = refl
-uncalled rows (WatchOff watch) s new e = refl
-
--- nor is it one of a cursor
-unpaced : (rows : PolicyRows) (command : Command) (s new : State) → after rows standard_limits command s ≡ Some new →
-    is_pacing command ≡ false
-unpaced rows (Import octets) s new e = refl
-unpaced rows (Load name) s new e = refl
-unpaced rows (Store fpr) s new e = refl
-unpaced rows (Remove fpr) s new e = refl
-unpaced rows (Good number fpr) s new e = refl
-unpaced rows (Bad number) s new e = refl
-unpaced rows (Unjudge number) s new e = refl
-unpaced rows (Time view t) s new e = refl
-unpaced rows (Root view fpr amount) s new e = refl
-unpaced rows (Close view) s new e = refl
-unpaced rows (Ask view target wanted uid) s new e = refl
-unpaced rows (Command.List view wanted) s new e = refl
-unpaced rows (Explain view fpr uid) s new e = refl
-unpaced rows (Absence view target wanted uid) s new e = refl
-unpaced rows (Check view target claims labels uid) s new e = refl
-unpaced rows Pending s new e = refl
-unpaced rows Keys s new e = refl
-unpaced rows (Export fpr) s new e = refl
-unpaced rows Dump s new e = refl
-unpaced rows (CursorOver cursor view wanted) s new e = absurd (cc e)
-unpaced rows (CursorNext cursor count) s new e = absurd (cc e)
-unpaced rows (CursorClose cursor) s new e = absurd (cc e)
-unpaced rows (WatchOn watch view fpr wanted uid) s new e = refl
-unpaced rows (WatchOff watch) s new e = refl
-
--- nor is it one of a watch
-unwatched : (rows : PolicyRows) (command : Command) (s new : State) → after rows standard_limits command s ≡ Some new →
-    is_watching command ≡ false
-unwatched rows (Import octets) s new e = refl
-unwatched rows (Load name) s new e = refl
-unwatched rows (Store fpr) s new e = refl
-unwatched rows (Remove fpr) s new e = refl
-unwatched rows (Good number fpr) s new e = refl
-unwatched rows (Bad number) s new e = refl
-unwatched rows (Unjudge number) s new e = refl
-unwatched rows (Time view t) s new e = refl
-unwatched rows (Root view fpr amount) s new e = refl
-unwatched rows (Close view) s new e = refl
-unwatched rows (Ask view target wanted uid) s new e = refl
-unwatched rows (Command.List view wanted) s new e = refl
-unwatched rows (Explain view fpr uid) s new e = refl
-unwatched rows (Absence view target wanted uid) s new e = refl
-unwatched rows (Check view target claims labels uid) s new e = refl
-unwatched rows Pending s new e = refl
-unwatched rows Keys s new e = refl
-unwatched rows (Export fpr) s new e = refl
-unwatched rows Dump s new e = refl
-unwatched rows (CursorOver cursor view wanted) s new e = refl
-unwatched rows (CursorNext cursor count) s new e = refl
-unwatched rows (CursorClose cursor) s new e = refl
-unwatched rows (WatchOn watch view fpr wanted uid) s new e = absurd (cc e)
-unwatched rows (WatchOff watch) s new e = absurd (cc e)
+    Accepts rows (class_of command) s new
+accepted rows (commands.Import octets) s new e =
+    record {
+      takes = taken rows s octets (answer_to rows standard_limits s.held.certs octets) new e;
+      uncalled = refl;
+      own = refl;
+    }
+accepted rows (commands.Good number fpr) s new e =
+    record { takes = judged_so s number (said.Good fpr) new e; uncalled = refl; own = refl }
+accepted rows (commands.Bad number) s new e =
+    record { takes = judged_so s number said.Bad new e; uncalled = refl; own = refl }
+accepted rows (commands.Time view t) s new e =
+    record {
+      takes = allowed s (time_fault standard_limits s.views view) (timing view t s) new e;
+      uncalled = refl;
+      own = refl;
+    }
+accepted rows (commands.Root view fpr amount) s new e =
+    record {
+      takes =
+          allowed s (root_fault standard_limits (view_at s.views view) fpr amount) (rooting view fpr amount s) new e;
+      uncalled = refl;
+      own = refl;
+    }
+accepted rows command s new e = absurd (cc e)
 
 -- ---- lines
 
@@ -218,22 +138,21 @@ cut_lines (c ∷ commands) lines =
     ∙ lines_of-feed (spelling c) (lines_of commands) lines.0.no_feed
     ∙ ap (λ (rest : List (List ℕ)). spelling c ∷ rest) (cut_lines commands lines.1)
 
--- ---- all that is kept
+-- ---- everything that is kept
 
--- After that command all that is kept has this state, and the same cursors and watches.
-record Leads (rows : PolicyRows) (old : Whole) (c : Command) (reply : Reply) (new : State) : Type 0 where
+-- after this command the machine has this state, and the same cursors and watches
+record Leads (rows : PolicyRows) (old : Whole) (class : Class) (reply : Reply) (new : State) : Type 0 where
   whole : Whole
   state : whole.state ≡ new
   cursors : whole.cursors ≡ old.cursors
   watches : whole.watches ≡ old.watches
-  obeys : Obeys rows old c unserved reply whole
+  obeys : Obeys rows old class unserved reply whole
 
-leads : (rows : PolicyRows) (old : Whole) (c : Command) (reply : Reply) (new : State) → is_pacing c ≡ false →
-    is_watching c ≡ false
-    → Does rows old.state c unserved reply new → Leads rows old c reply new
-leads rows old c reply new plain still does =
+leads : (rows : PolicyRows) (old : Whole) (class : Class) (reply : Reply) (new : State) → is_own class ≡ true
+    → Does rows old.state class unserved reply new → Leads rows old class reply new
+leads rows old (OfState command) reply new own does =
     let count = counted_some old new.held in
-    let turns = turned_some c old.state.views new.views old.turns in
+    let turns = turned_some (OfState command) old.state.views new.views old.turns in
     record {
       whole = record { state = new; changes = count.0; turns = turns.0; cursors = old.cursors; watches = old.watches };
       state = refl;
@@ -243,14 +162,16 @@ leads rows old c reply new plain still does =
         does = does;
         counted = count.1;
         turned = turns.1;
-        paces = paces_plain old c reply plain;
-        watching = watching_plain old c reply still;
+        paces = refl;
+        watching = refl;
       };
     }
+leads rows old (OfCursor name command) reply new own does = absurd (cc own)
+leads rows old (OfWatch name command) reply new own does = absurd (cc own)
 
--- the step of a command's line, over a shelf of any world
-stepped : (rows : PolicyRows) (c : Command) (s new : Whole) (reply : Reply) → IsLine c → use_of (Some c) ≡ unused →
-    Obeys rows s c unserved reply new → new.watches ≡ [] → (world : World)
+-- the step of a command's line, in any world
+stepped : (rows : PolicyRows) (c : Command) (s new : Whole) (reply : Reply) → IsLine c →
+    use_by (class_of c) ≡ unused → Obeys rows s (class_of c) unserved reply new → new.watches ≡ [] → (world : World)
     → Step rows (over s world) (spelling c) (Some reply) [] (over new world)
 stepped rows c s new reply line none obeys unwatched world =
     let Answered : Option Command → Type 0 = λ o. Answers rows s o unserved reply new in
@@ -286,9 +207,9 @@ further : (rows : PolicyRows) (c : Command) (commands : List Command) (s : Whole
 further rows c commands s new none line rest None was e = let stays = refused_stays rows standard_limits commands in
     absurd (cc (stays, e))
 further rows c commands s new none line rest (Some mid) was e =
-    let t : Takes (Does rows s.state c unserved) mid = accepted rows c s.state mid was in
-    let l : Leads rows s c t.reply mid = leads rows s c t.reply mid (unpaced rows c s.state mid was)
-    (unwatched rows c s.state mid was) t.does in
+    let a : Accepts rows (class_of c) s.state mid = accepted rows c s.state mid was in
+    let t : Takes (Does rows s.state (class_of c) unserved) mid = a.takes in
+    let l : Leads rows s (class_of c) t.reply mid = leads rows s (class_of c) t.reply mid a.own t.does in
     let still : l.whole.watches ≡ [] = l.watches ∙ none in
     let more : Runs rows l.whole commands new =
     rest l.whole still (ap (λ (x : State). after_all (after rows standard_limits) commands (Some x)) l.state ∙ e) in
@@ -303,7 +224,7 @@ further rows c commands s new none line rest (Some mid) was e =
         [],
         over l.whole world,
         more.replies_are,
-        stepped rows c s l.whole t.reply line (uncalled rows c s.state mid was) l.obeys still world,
+        stepped rows c s l.whole t.reply line a.uncalled l.obeys still world,
         more.run world,
         refl,
       );

@@ -1,4 +1,4 @@
--- What asking watches makes, one after another.
+-- The edges that asking watches makes, one after another.
 use Rattle.std.proofs.Common.{◌≡◌, inr, ℕ, ◌≤◌, true, List, [], ◌∷◌, Option, Some, None, Result, Ok, Err, IsErrAnd}
 use Rattle.std.proofs.Common.{refl, sym, subst, ◌∙◌, arith}
 use Rattle.std.specs.Prelude.{IfSome, is_ok}
@@ -11,7 +11,7 @@ use Rattle.wot_machine.specs.Machine.{Machine}
 use Rattle.wot_machine.specs.Made.{TellingMakes, WatchMakes, WatchesMake}
 use Rattle.wot_machine.proofs.Making.{refreshed_as}
 
--- ---- what was made for one result was made for another, which is Ok at most where that one is
+-- ---- bounds for one result hold for another that is Ok only if the first one is
 
 module _ {A B T E : Type 0} (r : Result A B) (s : Result T E) (less : is_ok s ≡ true → is_ok r ≡ true) where
   pub watch_as : (watch : Watch) (old new : Engine) (before after : ℕ) → WatchMakes r watch old new before after
@@ -38,7 +38,7 @@ made_for r s less watch view wanted old new before after v w asked none = record
       (subst (λ (x : List ℕ). IsRefreshed r x old new before after) v (asked (subst (λ (n : ℕ). 1 ≤ n) (sym w) some)));
 }
 
--- ---- after an error none is asked
+-- ---- nothing is asked after an error
 
 module _ (T : Type 0) {E : Type 0} (e : E) where
   refreshed_still : (name : List ℕ) (engine : Engine) (made : ℕ)
@@ -74,7 +74,7 @@ module _ (T : Type 0) {E : Type 0} (e : E) where
 
 -- ---- one watch after another
 
--- Whatever the rest of them makes, all of them make it and what was made so far.
+-- whatever the remaining watches make, all watches make that and what was made so far
 abbrev pub MakesSoFar : Engine → ℕ → Watches → Watches → Engine → ℕ → Type 0
 MakesSoFar old before all rest now made =
     (r : Result (Unit {0}) (Unit {0})) (new : Engine) (after : ℕ) → WatchesMake r rest now new made after
@@ -95,7 +95,7 @@ module _ (old : Engine) (before : ℕ) (all : Watches) where
       let done : Result (Unit {0}) (Unit {0}) = Ok tt in
       watches_as done s (λ ok. refl) all old now before made (so done now made (rw none (refl, refl)))
 
-  -- one of them was refused memory
+  -- asking one of them ran out of memory
   pub so_far_failed : {A B T E : Type 0} (rest : Watches) (name : List ℕ) (watch : Watch) (now next : Engine)
       (made more : ℕ)
       (x : Result A B) (s : Result T E) → (is_ok s ≡ true → ⊥)
@@ -112,7 +112,7 @@ module _ (old : Engine) (before : ℕ) (all : Watches) where
       ) in
       watches_as failed s (λ ok. absurd (never ok)) all old next before more made_all
 
--- ---- telling
+-- ---- reporting amounts
 
 pub never_ok : {T E : Type 0} (r : Result T E) (Q : E → Type 0) → IsErrAnd r Q → is_ok r ≡ true → ⊥
 never_ok (Ok value) Q h ok = absurd h

@@ -1,4 +1,4 @@
--- A cursor that began in a reached state: what it gives is of the list there.
+-- What a cursor returns is from the list in the reached state in which it began.
 use Rattle.std.proofs.Common.{◌≡◌, ℕ, ◌≤◌, Bool, true, false, List, [], ◌++◌, length, map, Option, Some, None, refl}
 use Rattle.std.proofs.Common.{sym, ap, subst, ◌∙◌}
 use Rattle.std.specs.Prelude.{MatchBool}
@@ -27,6 +27,7 @@ use Rattle.wot_cursor.specs.Cursors.{Cursors, begun, cursor_at, is_full, with_cu
 use Rattle.wot_explain.specs.declared.bind.Bind.{Bind}
 use Rattle.wot_explain.specs.Listing.{HasList, HasOneList, IsOfEachList, pairs_in}
 use Rattle.wot_explain.specs.Piece.{binds_after}
+use Rattle.wot_machine.specs.Classes.{class_of}
 use Rattle.wot_machine.specs.Entry.{use_of}
 use Rattle.wot_machine.specs.Joined.{AreOfList, Exchange, IsNext, Since, pieces_in}
 use Rattle.wot_machine.specs.Lines.{heard}
@@ -58,9 +59,9 @@ reached_sound rows =
     (does_views rows old.state command answer reply new.state o.does) o.turned s)
     (λ s watches sound. sound)
 
--- ---- the line that began it
+-- ---- the line with which it began
 
--- From an seen view it began.
+-- it began from an open view
 record BeganFrom (s : Whole) (name view : List ℕ) (wanted : ℕ) (cursors : Cursors) : Type 0 where
   shown : View
   seen : view_at s.state.views view ≡ Some shown
@@ -81,7 +82,7 @@ began_from s name view wanted cursors (Some shown) e l = by (is_full s.cursors n
 
 heard_obeys : (rows : PolicyRows) (old : Whole) (o : Option Command) (command : Command) (answer : Served)
     (reply : Reply) (new : Whole) → o ≡ Some command
-    → Hears rows old o answer (Some reply) new → Obeys rows old command answer reply new
+    → Hears rows old o answer (Some reply) new → Obeys rows old (class_of command) answer reply new
 heard_obeys rows old o command answer reply new e h =
     subst (λ (c : Option Command). Hears rows old c answer (Some reply) new) e h
 
@@ -95,7 +96,7 @@ module _
     (name view : List ℕ) (wanted : ℕ) (was : Scene) (exchanges : List Exchange) (last : Scene)
     (since : Since rows name view wanted was exchanges last)
   where
-    -- the list at the beginning, and where the cursor stands now
+    -- the list at the beginning, and the cursor's current place
     record Found : Type 0 where
       shown : View
       all : List Bind
@@ -105,7 +106,7 @@ module _
     answer : Served
     answer = served_in was (use_of (heard since.line))
 
-    obeys : Obeys rows was.whole (CursorOver name view wanted) answer replies.Done since.begins.mid
+    obeys : Obeys rows was.whole (class_of (CursorOver name view wanted)) answer replies.Done since.begins.mid
     unfolding answer
     obeys =
         heard_obeys rows was.whole (heard since.line) (CursorOver name view wanted) answer replies.Done since.begins.mid
@@ -148,7 +149,7 @@ module _
               (stands_told name view wanted w from.shown list.0 began rows since.begins.mid since.behind since.mid.whole
               [] since.begins.tells (record {
                 later =
-                    later_obeys rows view w w (CursorOver name view wanted) answer replies.Done since.begins.mid obeys
+                    later_obeys rows view w w (class_of (CursorOver name view wanted)) answer replies.Done since.begins.mid obeys
                     (later_itself view w sound.order);
                 cursor = record {
                   place = None;

@@ -1,4 +1,4 @@
--- The pieces of a list that is in order: one behind the other they are the list, from the first binding on.
+-- Consecutive pieces of a sorted list, concatenated, are the list from the first binding on.
 use Rattle.std.proofs.Common.{◌≡◌, ◌⊎◌, inl, inr, ℕ, ◌<◌, Bool, true, false, List, [], ◌∷◌, ◌++◌, length, map, take}
 use Rattle.std.proofs.Common.{drop, Option, Some, None, refl, sym, ap, subst, ◌∙◌, arith, append_assoc, append-nil}
 use Rattle.std.proofs.Common.{take-append-drop}
@@ -21,7 +21,7 @@ use Rattle.wot_machine.specs.Pacing.{last_place, place_of}
 use Rattle.wot_machine.proofs.Entries.{above_is}
 use Rattle.wot_machine.proofs.Rising.{bind_cmp, bind_total}
 
--- ---- what comes after a binding of the list
+-- ---- what follows a binding of the list
 
 all_after : (b : Bind) (binds : List Bind) → IsBelow bind_cmp b binds → binds_after (Some (place_of b)) binds ≡ binds
 all_after b [] all = refl
@@ -37,7 +37,7 @@ after_it : (front : List Bind) (b : Bind) (back : List Bind) → IsRising bind_c
 after_it [] b back r = rw (tied_itself bind_total b) (all_after b back r.0)
 after_it (x ∷ xs) b back r = rw (first_below x b xs back r.0) (after_it xs b back r.1)
 
--- ---- the last of some
+-- ---- the last of some bindings
 
 record HasLast (x : Bind) (xs : List Bind) : Type 0 where
   front : List Bind
@@ -72,7 +72,7 @@ after_last front x xs back all parts r =
 
 -- ---- how far a cursor has come
 
--- What was given is the list up to the cursor's place; and nothing comes after it once a piece was shorter than asked.
+-- What was returned is the list up to the cursor's place. Nothing follows once a piece was shorter than asked for.
 pub record HasCome (all : List Bind) (place : Option Place) (given : List Given) : Type 0 where
   pub front : List Bind
   pub parts : all ≡ front ++ binds_after place all
@@ -86,7 +86,7 @@ all_of (b ∷ binds) = ap (λ (ys : List Bind). b ∷ ys) (all_of binds)
 pub at_first : (all : List Bind) → HasCome all None []
 at_first all = record { front = []; parts = sym (all_of all); lines = refl; whole = λ e. absurd (cc e) }
 
--- where a cursor stands that gave these bindings
+-- the cursor's place after it returned these bindings
 abbrev pub place_behind : Option Place → List Bind → Option Place
 place_behind place [] = place
 place_behind place (b ∷ binds) = Some (last_place b binds)
@@ -107,11 +107,11 @@ all_given given g =
     flat_map-append (λ (x : Given). x.binds) given (g ∷ []) ∙ ap (λ (ys : List BindLine). joined given ++ ys)
     (append-nil g.binds)
 
--- where a part is shorter than asked nothing is left
+-- if a piece is shorter than asked for, nothing is left
 none_left : (count : ℕ) (back : List Bind) → length (take count back) < count → drop count back ≡ []
 none_left count back short = drop_of_length-le back (omega (arith, short, length-take count back))
 
--- the piece that comes next
+-- the next piece
 module _ (all : List Bind) (place : Option Place) (given : List Given) (count : ℕ) (r : IsRising bind_cmp all)
     (h : HasCome all place given) where
   back : List Bind

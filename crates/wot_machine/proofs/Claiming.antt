@@ -1,4 +1,4 @@
--- What is told of an absence is accepted, and what is accepted leaves nothing.
+-- Replies to `absence` are accepted by `check`, and what is accepted leaves no path.
 use Rattle.std.proofs.Common.{◌≡◌, ℕ, ◌+◌, ◌<◌, Bool, true, false, List, [], ◌∷◌, map, refl, sym, ap, ◌∙◌, subst}
 use Rattle.std.specs.Prelude.{nat_le}
 use Rattle.std.proofs.lemmas.Bool.{leb-false}
@@ -21,7 +21,7 @@ use Rattle.wot_machine.specs.Absent.{TellsAbsence, claim_in, claim_line, claim_s
 use Rattle.wot_machine.specs.Absent.{sum_in, table_in, verdict_on}
 use Rattle.wot_check.specs.Claim as claims_are
 
--- ---- lines that are made are read as what they were made of
+-- ---- lines are read back as what they were made from
 
 steps_back : (steps : List Step) → map claimed_step (map claim_step steps) ≡ map claims_are.claimed_step steps
 steps_back [] = refl
@@ -68,7 +68,7 @@ missed_sum sum other claims more labels rest e = (ap sum_of e, ap claims_of e, a
     labels_of (replies.Missed n cs ls) = ls
     labels_of _ = []
 
--- the check of a claim that is told
+-- the check of a claim from a reply accepts it
 abbrev IsAccepted : Question → ℕ → List ClaimLine → List LabelLine → Type 0
 IsAccepted q sum claims labels = (checked : Checked) × IsChecked q (map claim_in claims) (table_in labels)
     checked × (replies.CheckedYes sum ≡ verdict_on claims checked)
@@ -110,7 +110,7 @@ told_accepted law q wanted sum claims labels paths answer tells = by (nat_le wan
     by true e t = absurd cc
     by false e t = made (leb-false wanted (amount_of paths) e) t.0 t.1 t.2 t.3
 
--- ---- what is accepted
+-- ---- accepted claims
 
 pub yes_spent : ((q : Question) (claims : List Claim) (table : Labels) → IsRecord q.told → Accepts q claims table →
     AreSpent q claims)

@@ -5,6 +5,7 @@ use Rattle.std.proofs.lemmas.Option.{same_Some}
 use Rattle.wot_script.specs.declared.command.Command.{Command}
 use Rattle.wot_script.specs.declared.command.Command.TheVariants.{Dump}
 use Rattle.wot_script.specs.Grammar.{command_of, single_of}
+use Rattle.wot_machine.specs.Classes.{class_of}
 use Rattle.wot_machine.specs.Fresh.{IsDump, OnDump}
 
 dump_read : command_of (codes "dump") ≡ Some Dump
@@ -15,12 +16,13 @@ read_so : (line : List ℕ) (o : Option Command) → command_of line ≡ o → I
 read_so line o e d = sym e ∙ ap command_of d ∙ dump_read
 
 -- the line is read as the command
-pub on_dump : (line : List ℕ) (command : Command) (P : Type 0) → command_of line ≡ Some command → OnDump command P →
+pub on_dump : (line : List ℕ) (command : Command) (P : Type 0) → command_of line ≡ Some command →
+    OnDump (class_of command) P →
     IsDump line → P
 on_dump line command P e p d =
     let same : command ≡ Dump = same_Some command Dump (read_so line (Some command) e d) in
-    subst (λ (c : Command). OnDump c P) same p
+    subst (λ (c : Command). OnDump (class_of c) P) same p
 
--- it has a reading
+-- it is read as some command
 pub dump_is_read : (line : List ℕ) (P : Type 0) → command_of line ≡ None → IsDump line → P
 dump_is_read line P e d = let none : None ≡ Some Dump = read_so line None e d in absurd (cc none)

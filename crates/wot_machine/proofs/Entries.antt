@@ -1,4 +1,4 @@
--- Entries by key, in the order of the keys: what stays when one is put, set or taken out.
+-- Maps as sorted lists of entries: what an insertion, an update or a removal leaves unchanged.
 use Rattle.std.proofs.Common.{◌≡◌, Bool, true, false, cond, List, [], ◌∷◌, ◌++◌, Some, None, refl, sym, ap, ◌∙◌, subst}
 use Rattle.std.specs.Prelude.{is_some}
 use Rattle.std.specs.declared.cmp.Ordering.{Ordering}
@@ -12,7 +12,7 @@ use Rattle.std.proofs.lemmas.Cmp.{tied_itself}
 use Rattle.std.proofs.lemmas.Option.{same_Some}
 use Rattle.wot_cert.specs.Ranked.{IsBelow, IsRising}
 
--- ---- lists in order
+-- ---- sorted lists
 
 module _ {A : Type 0} (R : A → A → Ordering) (total : IsTotalOrder R) where
   back : (o : Ordering) → Greater ≡ ordering_reverse o → o ≡ Less
@@ -42,14 +42,14 @@ module _ {A : Type 0} (R : A → A → Ordering) where
 
 -- ---- entries
 
--- entries by the order of their keys
+-- entries in the order of their keys
 abbrev pub by_key : {K X : Type 0} → (K → K → Ordering) → K × X → K × X → Ordering
 by_key R a b = R a.0 b.0
 
 abbrev pub AreInOrder : {K X : Type 0} → (K → K → Ordering) → List (K × X) → Type 0
 AreInOrder R es = IsRising (by_key R) es
 
--- no key that is at the one is at the other
+-- no key equals both
 abbrev pub AreApart : {K : Type 0} → (K → K → Ordering) → K → K → Type 0
 AreApart {K} R k q = (x : K) → is_at (R k) x ≡ true → is_at (R q) x ≡ false
 
@@ -78,7 +78,7 @@ module _ {K X : Type 0} (R : K → K → Ordering) (total : IsTotalOrder R) wher
     congr = λ x y z. total.congr x.0 y.0 z.0;
   }
 
-  -- ---- one put in its place
+  -- ---- insertion
 
   below_put : (k : K) (v : X) (x : K × X) (es : List (K × X)) → R x.0 k ≡ Less → IsBelow (by_key R) x es
       → IsBelow (by_key R) x (insert_entry R es k v)
@@ -111,7 +111,7 @@ module _ {K X : Type 0} (R : K → K → Ordering) (total : IsTotalOrder R) wher
       by rest Equal h = rw h (rw h refl)
       by rest Greater h = rw h (rw h rest)
 
-  -- ---- one taken out
+  -- ---- removal
 
   below_without : (test : K → Bool) (x : K × X) (es : List (K × X)) → IsBelow (by_key R) x es
       → IsBelow (by_key R) x (remove_entry test es)
@@ -136,7 +136,7 @@ module _ {K X : Type 0} (R : K → K → Ordering) (total : IsTotalOrder R) wher
   none_below k [] all = refl
   none_below k (e ∷ es) all = rw (all.0) (none_below k es all.1)
 
-  -- in entries that are in order there is no second one of its key
+  -- sorted entries have no second entry with the key
   pub gone_without : (k : K) (es : List (K × X)) → AreInOrder R es
       → lookup (is_at (R k)) (remove_entry (is_at (R k)) es) ≡ None
   gone_without k [] r = refl
@@ -191,7 +191,7 @@ module _ {K X : Type 0} (R : K → K → Ordering) (total : IsTotalOrder R) wher
       by true h rest = let other : is_at (R q) e.0 ≡ false = a e.0 h in rw other refl
       by false h rest = ap (cond (is_at (R q) e.0) (Some e.1)) rest
 
--- ---- one value set
+-- ---- updating one value
 
 module _ {K X : Type 0} (R : K → K → Ordering) where
   below_set : (test : K → Bool) (v : X) (x : K × X) (es : List (K × X)) → IsBelow (by_key R) x es

@@ -1,4 +1,4 @@
--- An explanation has the same reply in states that hold the same certificate and the same issuers.
+-- An explanation has the same reply in states that hold the same certificate and the same issuers of its signatures.
 use Rattle.std.proofs.Common.{◌≡◌, ℕ, List, Option, Some, None, refl, ap, ◌∙◌}
 use Rattle.wot_types.specs.declared.fpr.Fpr.{Fpr}
 use Rattle.wot_types.specs.PlainLaws.{all_then}
@@ -15,6 +15,7 @@ use Rattle.wot_explain.specs.Around.{AgreeAround, AgreeAtIssuer, AreExplainedAli
 use Rattle.wot_cache.specs.declared.view.View.{View}
 use Rattle.wot_cache.specs.State.{State}
 use Rattle.wot_cache.specs.Views.{view_at}
+use Rattle.wot_machine.specs.Classes.{class_of}
 use Rattle.wot_machine.specs.Law.{OneOutcome}
 use Rattle.wot_machine.specs.LineStep.{Does, LineStep}
 use Rattle.wot_machine.specs.Listing.{explained, explained_from}
@@ -60,8 +61,8 @@ module _ (local : AreExplainedAlike) (rows : PolicyRows) (forgets : (c : Certifi
       ∙ ap (λ (shown : Option View). explained_from other shown target uid) alike.view
 
   pub does_same : (uid : List ℕ) (given told : Served) (reply : Reply) (new : State) →
-      Does rows one (Explain name target uid) given reply new
-      → Does rows other (Explain name target uid) told reply other
+      Does rows one (class_of (Explain name target uid)) given reply new
+      → Does rows other (class_of (Explain name target uid)) told reply other
   does_same uid given told reply new does = (does.0 ∙ explained_same uid, refl)
 
 pub replied_same : AreExplainedAlike → (rows : PolicyRows) → OneOutcome rows →

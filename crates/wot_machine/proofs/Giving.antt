@@ -1,4 +1,4 @@
--- What the shelf gives in a line, and the step that the line has by it.
+-- What the certificate directory returns for a line, and the step that the line then has.
 use Rattle.std.proofs.Common.{◌≡◌, ℕ, List, [], ◌∷◌, ◌++◌, Option, Some, None, refl, sym, ap, subst, ◌∙◌}
 use Rattle.wot_types.specs.declared.name.Name.{Name}
 use Rattle.wot_io.specs.Input.{lines_of}
@@ -15,16 +15,16 @@ use Rattle.wot_machine.specs.Served.{Served, unserved}
 use Rattle.wot_machine.specs.Transcript.{AllTold, IsNow}
 use Rattle.wot_machine.specs.Watching.{Tells}
 
--- all that is kept, with a shelf of this world
+-- what is kept, with a directory in this world
 abbrev pub over : Whole → World → Scene
 over whole world = record { whole = whole; world = world }
 
--- No line of the input calls a shelf that tells no world.
+-- if the directory's world is unknown, no line of the input uses the directory
 abbrev pub IsUncalled : Option World → List ℕ → Type 0
 IsUncalled None input = CallNothing (lines_of input)
 IsUncalled (Some origin) input = Unit {0}
 
--- the same of one line
+-- if the directory's world is unknown, this line doesn't use the directory
 abbrev pub MayCall : Option World → List ℕ → Type 0
 MayCall None line = use_of (heard line) ≡ unused
 MayCall (Some origin) line = Unit {0}
@@ -55,7 +55,7 @@ step_by rows now old mid new line reply told use_ given e g does tells =
     let both : Both (use_of (heard line)) = subst Both (sym e) (there, refl) in
     record { mid = mid; does = both.0; tells = tells; world = both.1 }
 
--- a line that leaves the shelf alone
+-- a line that doesn't use the directory
 pub uncalled_step : (rows : PolicyRows) (now : World) (old mid new : Whole) (line : List ℕ) (reply : Option Reply)
     (told : List Reply) → use_of (heard line) ≡ unused
     → LineStep rows old line unserved reply mid → Tells mid told new → Step rows (over old now) line reply told
@@ -63,7 +63,7 @@ pub uncalled_step : (rows : PolicyRows) (now : World) (old mid new : Whole) (lin
 uncalled_step rows now old mid new line reply told e does tells = step_by rows now old mid new line reply told unused
     unserved e refl does tells
 
--- The line's step, and the world after it.
+-- the line's step, and the world after it
 pub record Goes (rows : PolicyRows) (origin after : Option World) (now : World) (old new : Whole) (line : List ℕ)
     (reply : Option Reply) (told : List Reply) : Type 0 where
   pub next : World
@@ -108,7 +108,7 @@ goes rows (Some origin) before after now old mid new line use_ given reply told 
       step = step_by rows now old mid new line reply told use_ given e g does tells;
     }
 
--- ---- where all is told
+-- ---- if everything is known
 
 pub all_told : (left written : Option (List ℕ)) (origin : Option World) (P : List ℕ → List ℕ → World → Type 0)
     → ((input before : List ℕ) (world : World) → left ≡ Some input → written ≡ Some before → IsNow origin origin world →
@@ -118,7 +118,7 @@ all_told (Some input) None origin P f = tt
 all_told (Some input) (Some before) None P f = λ nothing world. f input before world refl refl tt
 all_told (Some input) (Some before) (Some world) P f = f input before world refl refl refl
 
--- what holds of all contents holds where they are told
+-- what holds of all contents holds of known ones
 pub told_always : (left written : Option (List ℕ)) (origin : Option World) (P : List ℕ → List ℕ → World → Type 0)
     → ((input before : List ℕ) (world : World) → P input before world) → AllTold left written origin P
 told_always left written origin P f =

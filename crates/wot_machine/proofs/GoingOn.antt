@@ -1,4 +1,4 @@
--- Machines that hold the same reply the same to each line, but to the commands of cursors and of watches.
+-- Machines with the same state have the same replies, except to commands of cursors and watches.
 use Rattle.std.proofs.Common.{◌≡◌, ℕ, Bool, true, false, List, [], ◌∷◌, length, Option, Some, None, refl, sym, ap}
 use Rattle.std.proofs.Common.{subst, ◌∙◌}
 use Rattle.std.specs.Prelude.{MatchBool, nat_lt}
@@ -10,67 +10,49 @@ use Rattle.wot_script.specs.Grammar.{command_of}
 use Rattle.wot_certd.specs.World.{World}
 use Rattle.wot_keyring.specs.Dump.{judged_by}
 use Rattle.wot_cache.specs.State.{IsState, State}
+use Rattle.wot_machine.specs.declared.class.Class.{Class}
+use Rattle.wot_machine.specs.declared.class.Class.TheVariants.{State as OfState, Cursor as OfCursor, Watch as OfWatch}
+use Rattle.wot_machine.specs.declared.class.StateCommand.{StateCommand}
+use Rattle.wot_machine.specs.Classes.{class_of}
 use Rattle.wot_machine.specs.Entry.{Use, entry_for, given_by, put_for, use_of, world_after}
 use Rattle.wot_machine.specs.Fresh.{IsMadeAnew}
-use Rattle.wot_machine.specs.GoesOn.{HaveSameReplies, is_of_state}
+use Rattle.wot_machine.specs.GoesOn.{HaveSameReplies, is_of_state, is_own}
 use Rattle.wot_machine.specs.Joined.{Exchange, Passes, lines_in}
 use Rattle.wot_machine.specs.Law.{LeadToStates}
 use Rattle.wot_machine.specs.Lines.{heard, is_silent, longest}
-use Rattle.wot_machine.specs.LineStep.{Answers, Does, HasReply, LineStep, Obeys, Stays}
-use Rattle.wot_machine.specs.Pacing.{is_pacing}
+use Rattle.wot_machine.specs.LineStep.{Answers, DoesTo, HasReply, LineStep, Obeys, Stays}
 use Rattle.wot_machine.specs.Scene.{Scene, Step, opening, served_in, world_behind}
 use Rattle.wot_machine.specs.Served.{Served}
 use Rattle.wot_machine.specs.Transcript.{Run}
-use Rattle.wot_machine.specs.Watching.{is_watching}
 use Rattle.wot_machine.specs.Whole.{Whole}
 use Rattle.wot_machine.proofs.Alike.{reached_can_be}
 use Rattle.wot_machine.proofs.Outcomes.{IsOne}
-use Rattle.wot_machine.proofs.Paced.{paced_state}
-use Rattle.wot_machine.proofs.Watched.{watched_state}
 
 module _
     (rows : PolicyRows)
-    (does_one : (s : State) (command : Command) (given : Served) → IsState s → is_pacing command ≡ false →
-    is_watching command ≡ false
-    → IsOne Reply State (Does rows s command given))
+    (does_one : (s : State) (command : StateCommand) (given : Served) → IsState s
+    → IsOne Reply State (DoesTo rows s command given))
     (stays : LeadToStates rows)
   where
-    -- what two machines say and keep in a line
+    -- the outcomes of a line in two machines
     abbrev AreSame : Option Command → Option Reply → Option Reply → State → State → Type 0
     AreSame command r s m n = (is_of_state command ≡ true → r ≡ s) × (m ≡ n)
 
     -- ---- one line
 
-    same_obeyed : (a b : Whole) (command : Command) (given : Served) (r s : Reply) (m n : Whole) → IsState a.state →
+    same_obeyed : (a b : Whole) (class : Class) (given : Served) (r s : Reply) (m n : Whole) → IsState a.state →
         b.state ≡ a.state
-        → Obeys rows a command given r m → Obeys rows b command given s n →
-        AreSame (Some command) (Some r) (Some s) m.state n.state
-    same_obeyed a b command given r s m n can e p q = by (is_pacing command) refl (is_watching command) refl
-      where
-        moved : Does rows a.state command given s n.state
-        moved = subst (λ (x : State). Does rows x command given s n.state) e q.does
-
-        by : (c : Bool) → is_pacing command ≡ c → (w : Bool) → is_watching command ≡ w →
-            AreSame (Some command) (Some r) (Some s) m.state n.state
-        by true f w g = (
-          λ own. absurd (by_paced f own),
-          paced_state rows a.state command given r m.state f p.does
-              ∙ sym (paced_state rows a.state command given s n.state f moved),
-        )
-          where
-            by_paced : is_pacing command ≡ true → is_of_state (Some command) ≡ true → ⊥
-            by_paced f own = let never : false ≡ true = rw f at own in absurd cc
-        by false f true g = (
-          λ own. absurd (by_watched f g own),
-          watched_state rows a.state command given r m.state g p.does
-              ∙ sym (watched_state rows a.state command given s n.state g moved),
-        )
-          where
-            by_watched : is_pacing command ≡ false → is_watching command ≡ true → is_of_state (Some command) ≡ true → ⊥
-            by_watched f g own = let never : false ≡ true = rw g at (rw f at own) in absurd cc
-        by false f false g =
-            let both = does_one a.state command given can f g r s m.state n.state p.does moved in
-            (λ own. ap (λ (x : Reply). Some x) both.0, both.1)
+        → Obeys rows a class given r m → Obeys rows b class given s n →
+        (is_own class ≡ true → Some r ≡ Some s) × (m.state ≡ n.state)
+    same_obeyed a b (OfState command) given r s m n can e p q =
+        let moved : DoesTo rows a.state command given s n.state =
+        subst (λ (x : State). DoesTo rows x command given s n.state) e q.does in
+        let both = does_one a.state command given can r s m.state n.state p.does moved in
+        (λ own. ap (λ (x : Reply). Some x) both.0, both.1)
+    same_obeyed a b (OfCursor name command) given r s m n can e p q =
+        (λ own. absurd (cc own), p.does ∙ sym e ∙ sym q.does)
+    same_obeyed a b (OfWatch name command) given r s m n can e p q =
+        (λ own. absurd (cc own), p.does ∙ sym e ∙ sym q.does)
 
     same_answers : (a b : Whole) (command : Option Command) (given : Served) (r s : Option Reply) (m n : Whole) →
         IsState a.state → b.state ≡ a.state
@@ -83,7 +65,7 @@ module _
       ap (λ (x : Whole). x.state) p.1 ∙ sym e ∙ sym (ap (λ (x : Whole). x.state) q.1),
     )
     same_answers a b (Some command) given (Some r) (Some s) m n can e p q =
-        same_obeyed a b command given r s m n can e p q
+        same_obeyed a b (class_of command) given r s m n can e p q
 
     same_refused : (a b : Whole) (told : Reply) (command : Option Command) (r s : Option Reply) (m n : Whole) →
         b.state ≡ a.state
@@ -122,7 +104,7 @@ module _
         long true f p q = same_refused a b replies.Long (heard line) r s m n e p q
         long false f p q = silent f (is_silent line) refl p q
 
-    -- ---- over the shelf
+    -- ---- with the certificate directory
 
     same_step : (a b : Scene) (line : List ℕ) (r s : Option Reply) (told others : List Reply) (m n : Scene) →
         IsState a.whole.state

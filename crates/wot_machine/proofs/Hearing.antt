@@ -1,4 +1,4 @@
--- What a line does, by the command that it is heard as.
+-- What a line does, by the command that it is read as.
 use Rattle.std.proofs.Common.{◌≡◌, ℕ, Bool, true, false, List, [], ◌∷◌, length, Option, Some, None, sym, subst}
 use Rattle.std.specs.Prelude.{MatchBool, if◌then◌else◌, nat_lt}
 use Rattle.wot_policy.specs.declared.rows.PolicyRows.{PolicyRows}
@@ -7,6 +7,8 @@ use Rattle.wot_script.specs.declared.reply.Reply.{Reply}
 use Rattle.wot_script.specs.declared.reply.Reply.TheVariants as replies
 use Rattle.wot_script.specs.Grammar.{command_of}
 use Rattle.wot_watch.specs.Watches.{Watches}
+use Rattle.wot_machine.specs.declared.class.Class.{Class}
+use Rattle.wot_machine.specs.Classes.{class_of}
 use Rattle.wot_machine.specs.Entry.{use_of}
 use Rattle.wot_machine.specs.Lines.{heard, is_silent, longest}
 use Rattle.wot_machine.specs.LineStep.{Answers, HasReply, LineStep, Obeys, Stays}
@@ -16,10 +18,10 @@ use Rattle.wot_machine.specs.Transcript.{Run}
 use Rattle.wot_machine.specs.Watching.{told_all}
 use Rattle.wot_machine.specs.Whole.{Whole, watched}
 
--- A line that is heard as no command leaves all; another has a reply, and does what its command does.
+-- A line that isn't a command changes nothing. Any other line has a reply and does what its command does.
 abbrev pub Hears : PolicyRows → Whole → Option Command → Served → Option Reply → Whole → Type 0
 Hears rows old None given reply new = new ≡ old
-Hears rows old (Some command) given reply new = HasReply (Obeys rows old command given) reply new
+Hears rows old (Some command) given reply new = HasReply (Obeys rows old (class_of command) given) reply new
 
 pub hears : (rows : PolicyRows) (old : Whole) (line : List ℕ) (given : Served) (reply : Option Reply) (new : Whole)
     → LineStep rows old line given reply new
@@ -62,11 +64,11 @@ heard_reads line command = long (nat_lt longest (length line))
     long true e = absurd (cc e)
     long false e = silent (is_silent line) e
 
--- What every command that is answered keeps, each line keeps, and so each run.
+-- What every command preserves, every line preserves, and so every run.
 module _
     (rows : PolicyRows) (P : Whole → Type 0)
-    (kept : (old : Whole) (command : Command) (given : Served) (reply : Reply) (new : Whole) →
-    Obeys rows old command given reply new → P old → P new)
+    (kept : (old : Whole) (class : Class) (given : Served) (reply : Reply) (new : Whole) →
+    Obeys rows old class given reply new → P old → P new)
   where
     pub step_keeps : (old : Whole) (line : List ℕ) (given : Served) (reply : Option Reply) (new : Whole)
         → LineStep rows old line given reply new → P old → P new
@@ -75,9 +77,9 @@ module _
         by : (o : Option Command) (r : Option Reply) → Hears rows old o given r new → P new
         by None r e = subst P (sym e) p
         by (Some command) None g = absurd g
-        by (Some command) (Some r) g = kept old command given r new g p
+        by (Some command) (Some r) g = kept old (class_of command) given r new g p
 
-    -- the watch lines behind a reply tell watches alone
+    -- watch lines change only the watches
     pub run_keeps : ((s : Whole) (watches : Watches) → P s → P (watched s watches)) →
         (lines : List (List ℕ)) (old : Scene)
         (told : List Reply) (new : Scene) → Run rows old lines told new → P old.whole → P new.whole
@@ -87,17 +89,17 @@ module _
         run_keeps still lines r.2 r.3 new r.5
         (subst P (sym r.4.tells.left) (still r.4.mid (told_all r.4.mid.watches r.1) mid))
 
--- What holds of the replies to lines that are too long or aren't read, and of each reply to a command, holds of each
+-- What holds of the replies to lines that are too long or no commands, and of every reply to a command, holds of every
 -- reply.
 pub told_by : (rows : PolicyRows) (D : Reply → Type 0) → D replies.Long → D replies.Line
     → (old : Whole) (line : List ℕ) (given : Served) (reply : Reply) (new : Whole)
-    → ((command : Command) → Obeys rows old command given reply new → D reply)
+    → ((class : Class) → Obeys rows old class given reply new → D reply)
     → LineStep rows old line given (Some reply) new → D reply
 told_by rows D too_long unread old line given reply new obeys = long (nat_lt longest (length line))
   where
     known : (o : Option Command) → Answers rows old o given reply new → D reply
     known None g = subst D (sym g.0) unread
-    known (Some command) g = obeys command g
+    known (Some command) g = obeys (class_of command) g
 
     silent : (b : Bool)
         → MatchBool b ((Some reply ≡ None) × (new ≡ old)) (Answers rows old (command_of line) given reply new) → D reply

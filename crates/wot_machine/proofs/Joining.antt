@@ -1,4 +1,4 @@
--- A cursor since its beginning: what it rests on, and how far it has come.
+-- A cursor since it began: what it depends on, and how far it has come.
 use Rattle.std.proofs.Common.{◌≡◌, ◌≢◌, ◌⊎◌, inl, inr, ℕ, ◌<◌, ◌≤◌, ◌==◌, Bool, true, false, List, [], ◌∷◌, ◌++◌}
 use Rattle.std.proofs.Common.{length, map, Option, Some, None, refl, sym, ap, subst, ◌∙◌, arith, append_assoc}
 use Rattle.std.proofs.Common.{append-nil}
@@ -17,10 +17,6 @@ use Rattle.wot_types.specs.declared.place.Place.{Place}
 use Rattle.wot_policy.specs.declared.rows.PolicyRows.{PolicyRows}
 use Rattle.wot_cert.specs.Ranked.{IsRising}
 use Rattle.wot_script.specs.declared.command.Command.{Command}
-use Rattle.wot_script.specs.declared.command.Command.TheVariants.{Import, Load, Store, Remove, Good, Bad, Unjudge}
-use Rattle.wot_script.specs.declared.command.Command.TheVariants.{Time, Root, WatchOn, WatchOff}
-use Rattle.wot_script.specs.declared.command.Command.TheVariants.{Close, Ask, Explain, Pending, Keys, Export, Dump}
-use Rattle.wot_script.specs.declared.command.Command.TheVariants.{Absence, Check, CursorOver, CursorNext, CursorClose}
 use Rattle.wot_script.specs.declared.reply.Reply.{Reply}
 use Rattle.wot_script.specs.declared.reply.Reply.TheVariants as replies
 use Rattle.wot_cache.specs.declared.view.View.{View}
@@ -38,8 +34,12 @@ use Rattle.wot_keyring.specs.Held.{Held}
 use Rattle.wot_network.specs.Told.{record_of}
 use Rattle.wot_watch.specs.Watches.{Watches}
 use Rattle.wot_explain.specs.Listing.{IsListed, pairs_in}
+use Rattle.wot_machine.specs.declared.class.Class.{Class}
+use Rattle.wot_machine.specs.declared.class.Class.TheVariants.{State as OfState, Cursor as OfCursor, Watch as OfWatch}
+use Rattle.wot_machine.specs.declared.class.CursorCommand.TheVariants as paces
+use Rattle.wot_machine.specs.Classes.{class_of}
 use Rattle.wot_machine.specs.Joined.{Exchange, Given, IsNext, Passes, given_by, given_in, has_restart, is_done}
-use Rattle.wot_machine.specs.Joined.{is_restart, pieces_in}
+use Rattle.wot_machine.specs.Joined.{given_to, is_restart, is_restart_by, pieces_in}
 use Rattle.wot_machine.specs.Entry.{use_of}
 use Rattle.wot_machine.specs.Lines.{heard}
 use Rattle.wot_machine.specs.LineStep.{LineStep, Obeys}
@@ -57,9 +57,9 @@ use Rattle.wot_machine.proofs.Behind.{HasCome, next_piece, place_behind}
 use Rattle.wot_machine.proofs.Rising.{bind_cmp}
 use Rattle.wot_machine.proofs.Viewed.{AreViewsInOrder, IsShown, does_views, order_by, same_name, shown_by, turns_more}
 
--- ---- what a listing rests on
+-- ---- what a list depends on
 
--- What is held is as it was, and so is the count of changes; or there were changes.
+-- either what is held and the count of changes are unchanged, or the count rose
 abbrev pub IsHeld : Whole → Whole → Type 0
 IsHeld was now = ((now.state.held ≡ was.state.held) × (now.changes ≡ was.changes)) ⊎ (was.changes < now.changes)
 
@@ -84,23 +84,23 @@ later_itself view was order = record {
       inl (refl, refl);
 }
 
--- Watches are nothing to it.
+-- watches don't matter to it
 later_watched : (view : List ℕ) (was now : Whole) (watches : Watches) → IsLater view was now
     → IsLater view was (watched now watches)
 later_watched view was now watches l = record { order = l.order; turns = l.turns; held = l.held; shown = l.shown }
 
-pub later_obeys : (rows : PolicyRows) (view : List ℕ) (was old : Whole) (command : Command) (answer : Served)
+pub later_obeys : (rows : PolicyRows) (view : List ℕ) (was old : Whole) (class : Class) (answer : Served)
     (reply : Reply) (new : Whole)
-    → Obeys rows old command answer reply new → IsLater view was old → IsLater view was new
-later_obeys rows view was old command answer reply new o l =
-    let views = does_views rows old.state command answer reply new.state o.does in
-    let more = turns_more (turning_of command) old.state.views old.turns new.state.views new.turns o.turned in
+    → Obeys rows old class answer reply new → IsLater view was old → IsLater view was new
+later_obeys rows view was old class answer reply new o l =
+    let views = does_views rows old.state class answer reply new.state o.does in
+    let more = turns_more (turning_of class) old.state.views old.turns new.state.views new.turns o.turned in
     record {
-      order = order_by (turning_of command) old.state.views new.state.views views l.order;
+      order = order_by (turning_of class) old.state.views new.state.views views l.order;
       turns = omega (arith, more, l.turns);
       held = held_by was old new o.counted l.held;
       shown =
-          shown_by view was.state.views was.turns (turning_of command) old.state.views old.turns new.state.views
+          shown_by view was.state.views was.turns (turning_of class) old.state.views old.turns new.state.views
           new.turns l.order l.turns views o.turned l.shown;
     }
 
@@ -208,32 +208,11 @@ module _ (now : Whole) (name other : List ℕ) (count : ℕ) (reply : Reply) (cu
 
 -- ---- commands that aren't of cursors
 
-plain_given : (name : List ℕ) (command : Command) (reply : Option Reply) → is_pacing command ≡ false
-    → given_in name (Some command) reply ≡ []
-plain_given name (Import octets) reply e = refl
-plain_given name (Load entry) reply e = refl
-plain_given name (Store fpr) reply e = refl
-plain_given name (Remove fpr) reply e = refl
-plain_given name (Good number fpr) reply e = refl
-plain_given name (Bad number) reply e = refl
-plain_given name (Unjudge number) reply e = refl
-plain_given name (Time view t) reply e = refl
-plain_given name (Root view fpr amount) reply e = refl
-plain_given name (Close view) reply e = refl
-plain_given name (Ask view target wanted uid) reply e = refl
-plain_given name (Command.List view wanted) reply e = refl
-plain_given name (Explain view fpr uid) reply e = refl
-plain_given name (Absence view target wanted uid) reply e = refl
-plain_given name (Check view target claims labels uid) reply e = refl
-plain_given name Pending reply e = refl
-plain_given name Keys reply e = refl
-plain_given name (Export fpr) reply e = refl
-plain_given name Dump reply e = refl
-plain_given name (CursorOver cursor view wanted) reply e = absurd (cc e)
-plain_given name (CursorNext cursor count) reply e = absurd (cc e)
-plain_given name (CursorClose cursor) reply e = absurd (cc e)
-plain_given name (WatchOn watch view target wanted uid) reply e = refl
-plain_given name (WatchOff watch) reply e = refl
+plain_given : (name : List ℕ) (class : Class) (reply : Option Reply) → is_pacing class ≡ false
+    → given_to name class reply ≡ []
+plain_given name (OfState command) reply e = refl
+plain_given name (OfWatch watch command) reply e = refl
+plain_given name (OfCursor cursor command) reply e = absurd (cc e)
 
 -- ---- the cursor
 
@@ -255,7 +234,7 @@ module _ (name view : List ℕ) (wanted : ℕ) (was : Whole) (shown : View) (all
   abbrev at_place : Option Place → Cursor
   at_place place = record { view = view; wanted = wanted; stamps = stamps_in was view; place = place }
 
-  -- The cursor is there, and has come so far.
+  -- the cursor exists, and has come this far
   pub record HasCursor (cursors : Cursors) (given : List Given) : Type 0 where
     pub place : Option Place
     pub there : cursor_at cursors name ≡ Some (at_place place)
@@ -273,14 +252,14 @@ module _ (name view : List ℕ) (wanted : ℕ) (was : Whole) (shown : View) (all
   more_of cursors given more e h =
       subst (HasCursor cursors) (sym (ap (λ (gs : List Given). given ++ gs) e ∙ append-nil given)) h
 
-  -- ---- a piece of the cursor
+  -- ---- a piece of this cursor
 
   module _ (now : Whole) (count : ℕ) (reply : Reply) (cursors : Cursors) (given : List Given)
       (later : IsLater view was now) (h : HasCursor now.cursors given) where
     abbrev Goal : Type 0
     Goal = HasCursor cursors (given ++ given_by count (Some reply)) × IsNext was now view count reply
 
-    -- it doesn't move where this was replied
+    -- it doesn't move after this reply
     unmoved : (told : Reply) → given_by count (Some told) ≡ [] → IsNext was now view count told
         → Leaves told now.cursors reply cursors → Goal
     unmoved told none next l = (
@@ -373,12 +352,12 @@ module _ (name view : List ℕ) (wanted : ℕ) (was : Whole) (shown : View) (all
 
   module _ (now : Whole) (reply : Reply) (cursors : Cursors) (given : List Given) (later : IsLater view was now)
       (h : HasCursor now.cursors given) where
-    abbrev Comes : Command → Type 0
-    Comes command = is_restart name (Some command) (Some reply) ≡ false →
-        HasCursor cursors (given ++ given_in name (Some command) (Some reply))
+    abbrev Comes : Class → Type 0
+    Comes class = is_restart_by name class (Some reply) ≡ false →
+        HasCursor cursors (given ++ given_to name class (Some reply))
 
     over_comes : (other from : List ℕ) (n : ℕ) (o : Option View) → Begins now other from n o reply cursors
-        → Comes (CursorOver other from n)
+        → Comes (OfCursor other (paces.Over from n))
     over_comes other from n None l fresh = more_of cursors given [] refl (left now.cursors cursors given l.1 h)
     over_comes other from n (Some there) l fresh = by (is_full now.cursors other) l
       where
@@ -394,7 +373,7 @@ module _ (name view : List ℕ) (wanted : ℕ) (was : Whole) (shown : View) (all
             (stays now.cursors cursors given (ap (λ (cs : Cursors). cursor_at cs name) l.1
             ∙ others_begun name other now.cursors apart (begun from n (stamps_in now from))) h)
 
-    close_comes : (other : List ℕ) → Ends now other reply cursors → Comes (CursorClose other)
+    close_comes : (other : List ℕ) → Ends now other reply cursors → Comes (OfCursor other paces.Close)
     close_comes other l fresh = by (is_some (cursor_at now.cursors other)) l
       where
         by : (b : Bool)
@@ -410,7 +389,7 @@ module _ (name view : List ℕ) (wanted : ℕ) (was : Whole) (shown : View) (all
         by false l = more_of cursors given [] refl (left now.cursors cursors given l.1 h)
 
     next_comes : (other : List ℕ) (count : ℕ) → Goes (cursor_at now.cursors other) now other count reply cursors
-        → Comes (CursorNext other count)
+        → Comes (OfCursor other (paces.Next count))
     next_comes other count g fresh = by (is_name name other) refl
       where
         by : (b : Bool) → is_name name other ≡ b
@@ -424,17 +403,17 @@ module _ (name view : List ℕ) (wanted : ℕ) (was : Whole) (shown : View) (all
             (stays now.cursors cursors given (goes_other now name other count reply cursors e
             (cursor_at now.cursors other) g) h)
 
-    comes : (command : Command) → Paces now command reply cursors → Comes command
-    comes command p fresh = by (is_pacing command) refl
+    comes : (class : Class) → Paces now class reply cursors → Comes class
+    comes class p fresh = by (is_pacing class) refl
       where
-        by : (b : Bool) → is_pacing command ≡ b → HasCursor cursors (given ++ given_in name (Some command) (Some reply))
+        by : (b : Bool) → is_pacing class ≡ b → HasCursor cursors (given ++ given_to name class (Some reply))
         by true k =
-            paced_cases (λ (c : Command). Paces now c reply cursors → Comes c)
+            paced_cases (λ (c : Class). Paces now c reply cursors → Comes c)
             (λ other from n. over_comes other from n (view_at now.state.views from))
-            (λ other count. next_comes other count) (λ other. close_comes other) command k p fresh
+            (λ other count. next_comes other count) (λ other. close_comes other) class k p fresh
         by false k =
-            more_of cursors given (given_in name (Some command) (Some reply)) (plain_given name command (Some reply) k)
-            (left now.cursors cursors given (plain_paces now command reply cursors k p) h)
+            more_of cursors given (given_to name class (Some reply)) (plain_given name class (Some reply) k)
+            (left now.cursors cursors given (plain_paces now class reply cursors k p) h)
 
   -- ---- lines
 
@@ -457,13 +436,14 @@ module _ (name view : List ℕ) (wanted : ℕ) (was : Whole) (shown : View) (all
         by None r f e = more_of new.cursors given [] refl
             (left old.cursors new.cursors given (ap (λ (w : Whole). w.cursors) e) h)
         by (Some command) None f g = absurd g
-        by (Some command) (Some r) f g = comes old r new.cursors given later h command g.paces f
+        by (Some command) (Some r) f g = comes old r new.cursors given later h (class_of command)
+            g.paces f
 
     pub record Stands (now : Whole) (given : List Given) : Type 0 where
       pub later : IsLater view was now
       pub cursor : HasCursor now.cursors given
 
-    -- nor are the watch lines behind a reply
+    -- watch lines don't matter to it
     pub stands_told : (now : Whole) (told : List Reply) (new : Whole) (given : List Given) → Tells now told new
         → Stands now given → Stands new given
     stands_told now told new given t s =

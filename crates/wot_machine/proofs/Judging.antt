@@ -1,4 +1,4 @@
--- How often the policy was asked: for what was added, and not at all where nothing was.
+-- How often the policy was asked: for what was added, and not at all if nothing was.
 use Rattle.std.proofs.Common.{◌≡◌, ◌≢◌, ℕ, ◌+◌, ◌-◌, ◌≤◌, ◌^◌, true, false, List, length, Option, Some, None, Result}
 use Rattle.std.proofs.Common.{Ok, Err, OnOk, refl, sym, ap, subst, ◌∙◌, arith}
 use Rattle.std.specs.Prelude.{IfOk, is_ok, max, min}
@@ -12,15 +12,19 @@ use Rattle.wot_keyring.specs.declared.refusal.Refusal.TheVariants as refusals
 use Rattle.wot_keyring.specs.Import.{AsksFor, IsAsked, importing}
 use Rattle.wot_keyring.specs.Keyring.{Keyring}
 use Rattle.wot_script.specs.declared.command.Command.{Command}
-use Rattle.wot_script.specs.declared.command.Command.TheVariants.{Import, Load, Store, Remove, Good, Bad, Unjudge, Time}
-use Rattle.wot_script.specs.declared.command.Command.TheVariants.{Root, Close, Ask, Explain, Pending, Keys, Export}
-use Rattle.wot_script.specs.declared.command.Command.TheVariants.{Dump, Absence, Check, CursorOver, CursorNext}
-use Rattle.wot_script.specs.declared.command.Command.TheVariants.{CursorClose, WatchOn, WatchOff}
 use Rattle.wot_script.specs.declared.reply.Reply.{Reply}
 use Rattle.wot_script.specs.Grammar.{command_of}
 use Rattle.wot_cache.specs.State.{Engine, IsStateAfter, State, state_of}
+use Rattle.wot_machine.specs.declared.class.Class.{Class}
+use Rattle.wot_machine.specs.declared.class.Class.TheVariants.{State as OfState}
+use Rattle.wot_machine.specs.declared.class.StateCommand.TheVariants as kinds
+use Rattle.wot_machine.specs.declared.class.Change.{Change}
+use Rattle.wot_machine.specs.declared.class.Change.TheVariants as changes
+use Rattle.wot_machine.specs.declared.class.ShelfCall.{ShelfCall}
+use Rattle.wot_machine.specs.declared.class.ShelfCall.TheVariants as calls
+use Rattle.wot_machine.specs.Classes.{class_of}
 use Rattle.wot_machine.specs.declared.refusal.Refused.TheVariants.{Keyring as OfKeyring}
-use Rattle.wot_machine.specs.Asked.{AsksForNew, LineAsks, sound_in}
+use Rattle.wot_machine.specs.Asked.{AsksBy, AsksForNew, CallAsks, ChangeAsks, LineAsks, sound_in}
 use Rattle.wot_machine.specs.Lines.{heard, is_silent, longest}
 use Rattle.wot_machine.specs.Refused.{IsReplyTo}
 use Rattle.wot_machine.proofs.Stepping.{heard_read}
@@ -40,8 +44,8 @@ never refusals.Clash rows k octets n other a = a
 never (refusals.Full limit) rows k octets n other a = a
 never refusals.Memory rows k octets n other a = absurd (other refl)
 
--- what holds in any case
-always : {T E : Type 0} (r : Result T E) (P : Type 0) → P → OnOk r P
+-- what always holds, holds on success
+pub always : {T E : Type 0} (r : Result T E) (P : Type 0) → P → OnOk r P
 always (Ok x) P p = p
 always (Err e) P p = tt
 
@@ -56,7 +60,7 @@ module _ {F : Type 0} where
   pub not_asked : (p : Policy F) → p ≡ asked_more 0 p
   not_asked p = ap (λ (n : ℕ). record p { asked = n }) (none_more p.asked)
 
-  -- what was added was asked for
+  -- what was added was asked about
   pub asked_new : {T E : Type 0} (x : T) (rows : PolicyRows) (old new : Engine) (octets : List ℕ) (counts : Imported)
       (before after : Policy F)
       → AsksFor (Ok counts) rows old.keyring octets (λ k. after ≡ asked_more k before)
@@ -72,7 +76,7 @@ module _ {F : Type 0} where
   pub asked_still : {T E : Type 0} (r : Result T E) (s : State) (p : Policy F) → AsksForNew r s s p p
   asked_still r s p = record { times = 0; asked = not_asked p; exact = always r _ (nothing_new s) }
 
-  -- what was refused added nothing
+  -- a refused line added nothing
   pub asked_refused : (r : Result Reply Memory) (rows : PolicyRows) (old new : Engine) (octets : List ℕ)
       (told : Refusal) (before after : Policy F)
       → AsksFor (Err told) rows old.keyring octets (λ k. after ≡ asked_more k before) → new ≡ old
@@ -90,72 +94,48 @@ module _ {F : Type 0} where
           ∙ ap (λ (e : Engine). sound_in (state_of e) - sound_in (state_of old)) (sym same)
       by (Err e) is = tt
 
-  -- ---- the same for another result, which is Ok at most where that one is
+  -- ---- so for another result that is Ok only if the first one is
 
   module _ {A B T E : Type 0} (r : Result A B) (s : Result T E) (less : is_ok s ≡ true → is_ok r ≡ true) where
     new_as : (old new : State) (before after : Policy F) → AsksForNew r old new before after →
         AsksForNew s old new before after
     new_as old new before after a = record { times = a.times; asked = a.asked; exact = on_less r s less _ a.exact }
 
+    change_asks_as : (change : Change) (old new : State) (before after : Policy F) →
+        ChangeAsks r change old new before after → ChangeAsks s change old new before after
+    change_asks_as (changes.Import octets) old new before after a = new_as old new before after a
+    change_asks_as change old new before after a = a
+
+    call_asks_as : (call : ShelfCall) (old new : State) (before after : Policy F) →
+        CallAsks r call old new before after → CallAsks s call old new before after
+    call_asks_as (calls.Load name) old new before after a = new_as old new before after a
+    call_asks_as (calls.Store fpr) old new before after a = a
+
+    pub asks_by_as : (class : Class) (old new : State) (before after : Policy F) →
+        AsksBy r class old new before after → AsksBy s class old new before after
+    asks_by_as (OfState (kinds.Change change)) old new before after a = change_asks_as change old new before after a
+    asks_by_as (OfState (kinds.Shelf call)) old new before after a = call_asks_as call old new before after a
+    asks_by_as class old new before after a = a
+
     pub asks_as : (command : Option Command) (old new : State) (before after : Policy F) →
         LineAsks r command old new before after
         → LineAsks s command old new before after
     asks_as None old new before after a = a
-    asks_as (Some (Import octets)) old new before after a = new_as old new before after a
-    asks_as (Some (Load name)) old new before after a = new_as old new before after a
-    asks_as (Some (Store fpr)) old new before after a = a
-    asks_as (Some (Remove fpr)) old new before after a = a
-    asks_as (Some (Good number fpr)) old new before after a = a
-    asks_as (Some (Bad number)) old new before after a = a
-    asks_as (Some (Unjudge number)) old new before after a = a
-    asks_as (Some (Time view t)) old new before after a = a
-    asks_as (Some (Root view fpr amount)) old new before after a = a
-    asks_as (Some (Close view)) old new before after a = a
-    asks_as (Some (Ask view target wanted uid)) old new before after a = a
-    asks_as (Some (Command.List view wanted)) old new before after a = a
-    asks_as (Some (Explain view fpr uid)) old new before after a = a
-    asks_as (Some (Absence view target wanted uid)) old new before after a = a
-    asks_as (Some (Check view target claims labels uid)) old new before after a = a
-    asks_as (Some Pending) old new before after a = a
-    asks_as (Some Keys) old new before after a = a
-    asks_as (Some (Export fpr)) old new before after a = a
-    asks_as (Some Dump) old new before after a = a
-    asks_as (Some (CursorOver cursor view wanted)) old new before after a = a
-    asks_as (Some (CursorNext cursor count)) old new before after a = a
-    asks_as (Some (CursorClose cursor)) old new before after a = a
-    asks_as (Some (WatchOn watch view target wanted uid)) old new before after a = a
-    asks_as (Some (WatchOff watch)) old new before after a = a
+    asks_as (Some command) old new before after a = asks_by_as (class_of command) old new before after a
 
-  -- a line that nothing was done for
+  -- a command that did nothing
+  pub asks_nothing : {T E : Type 0} (r : Result T E) (class : Class) (s : State) (p : Policy F) → AsksBy r class s s p p
+  asks_nothing r (OfState (kinds.Change (changes.Import octets))) s p = asked_still r s p
+  asks_nothing r (OfState (kinds.Shelf (calls.Load name))) s p = asked_still r s p
+  asks_nothing r class s p = refl
+
+  -- a line that did nothing
   pub asks_not : {T E : Type 0} (r : Result T E) (command : Option Command) (s : State) (p : Policy F) →
       LineAsks r command s s p p
   asks_not r None s p = refl
-  asks_not r (Some (Import octets)) s p = asked_still r s p
-  asks_not r (Some (Load name)) s p = asked_still r s p
-  asks_not r (Some (Store fpr)) s p = refl
-  asks_not r (Some (Remove fpr)) s p = refl
-  asks_not r (Some (Good number fpr)) s p = refl
-  asks_not r (Some (Bad number)) s p = refl
-  asks_not r (Some (Unjudge number)) s p = refl
-  asks_not r (Some (Time view t)) s p = refl
-  asks_not r (Some (Root view fpr amount)) s p = refl
-  asks_not r (Some (Close view)) s p = refl
-  asks_not r (Some (Ask view target wanted uid)) s p = refl
-  asks_not r (Some (Command.List view wanted)) s p = refl
-  asks_not r (Some (Explain view fpr uid)) s p = refl
-  asks_not r (Some (Absence view target wanted uid)) s p = refl
-  asks_not r (Some (Check view target claims labels uid)) s p = refl
-  asks_not r (Some Pending) s p = refl
-  asks_not r (Some Keys) s p = refl
-  asks_not r (Some (Export fpr)) s p = refl
-  asks_not r (Some Dump) s p = refl
-  asks_not r (Some (CursorOver cursor view wanted)) s p = refl
-  asks_not r (Some (CursorNext cursor count)) s p = refl
-  asks_not r (Some (CursorClose cursor)) s p = refl
-  asks_not r (Some (WatchOn watch view target wanted uid)) s p = refl
-  asks_not r (Some (WatchOff watch)) s p = refl
+  asks_not r (Some command) s p = asks_nothing r (class_of command) s p
 
-  -- the line that was looked at
+  -- the line was read as a command
   pub asks_heard : {T E : Type 0} (s : Result T E) (line : List ℕ) (old new : State) (before after : Policy F) →
       length line ≤ longest
       → is_silent line ≡ false → LineAsks s (command_of line) old new before after →

@@ -1,4 +1,4 @@
--- What is kept under a fingerprint, and a line of each certificate.
+-- The certificate of a fingerprint, and a line for each certificate.
 use Rattle.std.proofs.Common.{◌≡◌, ℕ, ◌≤◌, List, [], ◌∷◌, length, map, refl, sym, ap, ◌∙◌}
 use Rattle.std.proofs.lemmas.List.{length-map}
 use Rattle.std.specs.List.{AllByRecursion}
@@ -17,7 +17,7 @@ use Rattle.wot_machine.specs.Outcome.{key_line_of}
 pub found : (k : Keyring) (fpr : Fpr) → cert_at k fpr ≡ lookup (is_fpr fpr) (certificates_in k)
 found k fpr = sym (lookup-map_values (λ (x : Kept). x.cert) (is_fpr fpr) k.certs)
 
--- the kept certificates are of no more than that many octets
+-- each certificate is within the limit
 pub sized : (limit : ℕ) (es : Entries) → AreSized limit es → AllByRecursion (λ (c : Certificate). size_of c ≤ limit)
     (map (λ (e : Fpr × Kept). e.1.cert) es)
 sized limit [] all = tt

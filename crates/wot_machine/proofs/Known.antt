@@ -1,4 +1,4 @@
--- Whether two things that are held are the same is decided: so each step has a count of changes and turns.
+-- Whether two held things are equal is decidable, so each step has definite counts of changes and turns.
 use Rattle.std.proofs.Common.{◌≡◌, inl, inr, ℕ, ◌==◌, Bool, true, false, List, [], ◌∷◌, Option, Some, None, refl, ap}
 use Rattle.std.specs.Prelude.{◌⊎◌}
 use Rattle.std.specs.Bool.{Decides}
@@ -18,7 +18,7 @@ use Rattle.wot_cache.specs.declared.view.View.{View}
 abbrev pub Known : Type 0 → Type 0
 Known P = P ⊎ (P → ⊥)
 
--- Of each two of these it is known whether they are the same.
+-- equality of any two of these is decidable
 abbrev pub AreKnown : Type 0 → Type 0
 AreKnown A = (x y : A) → Known (x ≡ y)
 

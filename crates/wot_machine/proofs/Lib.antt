@@ -44,3 +44,5 @@ pub mod Judging
 mod GoingOn
 mod Slices
 mod Explained
+mod Fit
+mod Leading

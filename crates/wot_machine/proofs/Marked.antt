@@ -1,4 +1,4 @@
--- Certificates whose signatures have the marks that the rows give them.
+-- Certificates whose signatures have the marks that the policy rows give them.
 use Rattle.std.proofs.Common.{◌≡◌, ℕ, Bool, true, false, cond, List, [], ◌∷◌, Some, map, refl, sym, ap, ◌∙◌}
 use Rattle.std.specs.declared.cmp.Ordering.TheVariants.{Less, Equal, Greater}
 use Rattle.std.specs.Ordering.{match_ordering}
@@ -20,7 +20,7 @@ use Rattle.wot_machine.specs.Scene.{Scene, opening}
 use Rattle.wot_machine.specs.Transcript.{Run}
 use Rattle.wot_machine.proofs.Stays.{all_without, run_stays}
 
--- Judging it anew changes nothing.
+-- judging it again changes nothing
 abbrev IsMarked : PolicyRows → Certificate → Type 0
 IsMarked rows c = judged rows c ≡ c
 

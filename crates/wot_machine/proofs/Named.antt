@@ -1,4 +1,4 @@
--- Each certificate stands under the fingerprint of its key, also after an import or a removal.
+-- Each certificate is filed under the fingerprint of its primary key, also after an import or a removal.
 use Rattle.std.proofs.Common.{◌≡◌, ℕ, Bool, true, false, cond, List, [], ◌∷◌, Option, Some, None, refl, sym, ap, ◌∙◌}
 use Rattle.std.specs.declared.cmp.Ordering.{Ordering}
 use Rattle.std.specs.declared.cmp.Ordering.TheVariants.{Less, Equal, Greater}
@@ -39,7 +39,7 @@ named_with (x ∷ xs) fpr c e all = by (named_with xs fpr c e all.1) (fpr_cmp fp
     by rest Equal f = (sym (fpr_exact fpr x.0 f) ∙ e, all.1)
     by rest Greater f = (all.0, rest)
 
--- what is kept under a fingerprint has that fingerprint
+-- a certificate found under a fingerprint has that fingerprint
 found_named : (certs : Certificates) (fpr : Fpr) (kept : Certificate) → AreNamed certs →
     lookup (is_fpr fpr) certs ≡ Some kept → fpr ≡ fpr_of kept.key
 found_named [] fpr kept all e = absurd cc

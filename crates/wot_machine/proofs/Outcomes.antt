@@ -6,7 +6,6 @@ use Rattle.std.specs.List.{AllByRecursion}
 use Rattle.wot_types.specs.declared.fpr.Fpr.{Fpr}
 use Rattle.wot_policy.specs.declared.rows.PolicyRows.{PolicyRows}
 use Rattle.wot_verdict.specs.Verdicts.{Entries}
-use Rattle.wot_verdict.specs.declared.verdict.Verdict.TheVariants as verdicts
 use Rattle.wot_key.specs.Key.{fpr_of}
 use Rattle.wot_cert.specs.Certificate.{Certificate}
 use Rattle.wot_edge.specs.declared.path.Path.{Path}
@@ -19,10 +18,6 @@ use Rattle.wot_check.specs.Claim.{Claim}
 use Rattle.wot_check.specs.Table.{IsTable, Labels}
 use Rattle.wot_keyring.specs.Keyring.{Certificates}
 use Rattle.wot_script.specs.declared.command.Command.{Command}
-use Rattle.wot_script.specs.declared.command.Command.TheVariants.{Import, Load, Store, Remove, Good, Bad, Unjudge, Time}
-use Rattle.wot_script.specs.declared.command.Command.TheVariants.{Root, Close, Ask, Explain, Pending, Keys, Export}
-use Rattle.wot_script.specs.declared.command.Command.TheVariants.{Dump, Absence, Check, CursorOver, CursorNext}
-use Rattle.wot_script.specs.declared.command.Command.TheVariants.{CursorClose, WatchOn, WatchOff}
 use Rattle.wot_script.specs.Claims.{IsClaimSpelled}
 use Rattle.wot_script.specs.declared.reply.ClaimLine.{ClaimLine}
 use Rattle.wot_script.specs.declared.reply.LabelLine.{LabelLine}
@@ -37,32 +32,35 @@ use Rattle.wot_explain.specs.Listing.{IsListed, Pair, pairs_in}
 use Rattle.wot_cache.specs.Question.{question_in}
 use Rattle.wot_cache.specs.State.{State, IsState}
 use Rattle.wot_cache.specs.Views.{view_at}
+use Rattle.wot_machine.specs.declared.class.Class.{Class}
+use Rattle.wot_machine.specs.declared.class.Class.TheVariants.{State as OfState, Cursor as OfCursor, Watch as OfWatch}
+use Rattle.wot_machine.specs.declared.class.StateCommand.{StateCommand}
+use Rattle.wot_machine.specs.declared.class.StateCommand.TheVariants as kinds
+use Rattle.wot_machine.specs.declared.class.ViewQuestion.{ViewQuestion}
+use Rattle.wot_machine.specs.declared.class.ViewQuestion.TheVariants as questions
+use Rattle.wot_machine.specs.Classes.{AnswersQuestion, IsFit, IsWanted, call_of, change_of, class_of, reading}
+use Rattle.wot_machine.specs.Classes.{view_change_of}
+use Rattle.wot_machine.proofs.Fit.{fit_of}
 use Rattle.wot_machine.specs.Lines.{is_silent, longest}
-use Rattle.wot_machine.specs.Outcome.{Outcome, load, remove, set_verdict, clear_verdict, time, root, close, keys}
-use Rattle.wot_machine.specs.Outcome.{export, dump, import}
 use Rattle.wot_machine.specs.Absent.{Checks, Misses, TellsAbsence, claim_in, table_in, verdict_on}
 use Rattle.wot_machine.specs.Answer.{Asks, told}
-use Rattle.wot_machine.specs.Listing.{Lists, bindings, explain, pending}
-use Rattle.wot_machine.specs.LineStep.{LineStep, HasReply, Answers, Does, Gives, Obeys, Stays}
+use Rattle.wot_machine.specs.Listing.{Lists, bindings, explained_from}
+use Rattle.wot_machine.specs.Outcome.{Outcome, only}
+use Rattle.wot_machine.specs.LineStep.{LineStep, HasReply, Answers, DoesTo, Gives, Obeys, Stays}
 use Rattle.wot_machine.specs.Served.{Served}
-use Rattle.wot_machine.specs.Storing.{store}
 use Rattle.wot_machine.proofs.Absences.{spelled_table, tells_one, tells_some}
-use Rattle.wot_machine.specs.Pacing.{is_pacing}
 use Rattle.wot_machine.specs.Whole.{Whole}
 use Rattle.wot_machine.proofs.Named.{AreNamed, named_all, named_without}
-use Rattle.wot_machine.proofs.Paced.{paced_state, paces_one, paces_plain, paces_some, plain_paces, state_paced}
-use Rattle.wot_machine.proofs.Paced.{turns_paced}
+use Rattle.wot_machine.proofs.Paced.{paces_one, paces_some}
 use Rattle.wot_machine.proofs.Stays.{step_stays}
-use Rattle.wot_machine.specs.Watching.{is_watching}
-use Rattle.wot_machine.proofs.Watched.{paced_unwatched, plain_watching, state_watched, turns_watched, watched_state}
-use Rattle.wot_machine.proofs.Watched.{watching_one, watching_plain, watching_some}
+use Rattle.wot_machine.proofs.Watched.{watching_one, watching_some}
 use Rattle.wot_machine.proofs.Wholes.{counted_one, counted_some, turned_one, turned_some, whole_same}
 
--- At most one reply and one state.
+-- at most one reply and state
 abbrev pub IsOne : (R M : Type 0) → (R → M → Type 0) → Type 0
 IsOne R M P = (r s : R) (m n : M) → P r m → P s n → (r ≡ s) × (m ≡ n)
 
--- Some reply and state.
+-- some reply and state
 abbrev pub IsSome : (R M : Type 0) → (R → M → Type 0) → Type 0
 IsSome R M P = (r : R) × (m : M) × P r m
 
@@ -99,7 +97,7 @@ MatchBool-some : (b : Bool) (P Q : Option Reply → Whole → Type 0) → IsSome
 MatchBool-some true P Q p q = p
 MatchBool-some false P Q p q = q
 
--- ---- states that can be
+-- ---- well-formed states
 
 pub LineStep-stays : (rows : PolicyRows) (old : Whole) (line : List ℕ) (given : Served) (reply : Option Reply)
     (new : Whole) → IsState old.state → LineStep rows old line given reply new → IsState new.state
@@ -203,73 +201,43 @@ module _
             → (r : Reply) × Checks old (Some view) target claims labels uid r
         by checked = (verdict_on claims checked.0, (checked.0, checked.1, refl))
 
-    pub Does-one : (old : State) (command : Command) (given : Served) → IsState old → is_pacing command ≡ false →
-        is_watching command ≡ false
-        → IsOne Reply State (Does rows old command given)
-    Does-one old (Import octets) given p plain still = Gives-one (import rows old octets)
-    Does-one old (Load name) given p plain still = Gives-one (load rows old name given.read)
-    Does-one old (Store fpr) given p plain still = Gives-one (store old fpr given)
-    Does-one old (Remove fpr) given p plain still = Gives-one (remove old fpr)
-    Does-one old (Good number fpr) given p plain still = Gives-one (set_verdict old number (verdicts.Good fpr))
-    Does-one old (Bad number) given p plain still = Gives-one (set_verdict old number verdicts.Bad)
-    Does-one old (Unjudge number) given p plain still = Gives-one (clear_verdict old number)
-    Does-one old (Time view t) given p plain still = Gives-one (time old view t)
-    Does-one old (Root view fpr amount) given p plain still = Gives-one (root old view fpr amount)
-    Does-one old (Close view) given p plain still = Gives-one (close old view)
-    Does-one old (Ask view target wanted uid) given p plain still =
-        λ r s m n a b. (Asks-one old (view_at old.views view) target wanted uid r s p a.0 b.0, a.1 ∙ sym b.1)
-    Does-one old (Command.List view wanted) given p plain still =
-        λ r s m n a b. (Lists-one old (view_at old.views view) wanted r s p a.0 b.0, a.1 ∙ sym b.1)
-    Does-one old (Explain view fpr uid) given p plain still = Gives-one (explain old view fpr uid)
-    Does-one old (Absence view target wanted uid) given p plain still =
-        λ r s m n a b. (Misses-one old (view_at old.views view) target wanted uid r s p a.0 b.0, a.1 ∙ sym b.1)
-    Does-one old (Check view target claims labels uid) given p plain still =
-        λ r s m n a b. (Checks-one old (view_at old.views view) target claims labels uid r s p a.0 b.0, a.1 ∙ sym b.1)
-    Does-one old Pending given p plain still = Gives-one (pending old)
-    Does-one old Keys given p plain still = Gives-one (keys old)
-    Does-one old (Export fpr) given p plain still = Gives-one (export old fpr)
-    Does-one old Dump given p plain still = Gives-one (dump old)
-    Does-one old (CursorOver cursor view wanted) given p plain still = absurd (cc plain)
-    Does-one old (CursorNext cursor count) given p plain still = absurd (cc plain)
-    Does-one old (CursorClose cursor) given p plain still = absurd (cc plain)
-    Does-one old (WatchOn watch view target wanted uid) given p plain still = absurd (cc still)
-    Does-one old (WatchOff watch) given p plain still = absurd (cc still)
+    question_one : (old : State) (view : Option View) (question : ViewQuestion) (r s : Reply) → IsState old →
+        AnswersQuestion old view question r → AnswersQuestion old view question s → r ≡ s
+    question_one old view (questions.Ask target wanted uid) r s p a b = Asks-one old view target wanted uid r s p a b
+    question_one old view (questions.List wanted) r s p a b = Lists-one old view wanted r s p a b
+    question_one old view (questions.Explain fpr uid) r s p a b = a ∙ sym b
+    question_one old view (questions.Absence target wanted uid) r s p a b =
+        Misses-one old view target wanted uid r s p a b
+    question_one old view (questions.Check target claims labels uid) r s p a b =
+        Checks-one old view target claims labels uid r s p a b
 
-    Does-some : (old : State) (command : Command) (given : Served) → HasSpelling command → is_pacing command ≡ false →
-        is_watching command ≡ false
-        → IsSome Reply State (Does rows old command given)
-    Does-some old (Import octets) given h plain still = Gives-some (import rows old octets)
-    Does-some old (Load name) given h plain still = Gives-some (load rows old name given.read)
-    Does-some old (Store fpr) given h plain still = Gives-some (store old fpr given)
-    Does-some old (Remove fpr) given h plain still = Gives-some (remove old fpr)
-    Does-some old (Good number fpr) given h plain still = Gives-some (set_verdict old number (verdicts.Good fpr))
-    Does-some old (Bad number) given h plain still = Gives-some (set_verdict old number verdicts.Bad)
-    Does-some old (Unjudge number) given h plain still = Gives-some (clear_verdict old number)
-    Does-some old (Time view t) given h plain still = Gives-some (time old view t)
-    Does-some old (Root view fpr amount) given h plain still = Gives-some (root old view fpr amount)
-    Does-some old (Close view) given h plain still = Gives-some (close old view)
-    Does-some old (Ask view target wanted uid) given h plain still =
-        let asks = Asks-some old (view_at old.views view) target wanted uid h in
-        (asks.0, old, (asks.1, refl))
-    Does-some old (Command.List view wanted) given h plain still =
-        let lists = Lists-some old (view_at old.views view) wanted h in
-        (lists.0, old, (lists.1, refl))
-    Does-some old (Explain view fpr uid) given h plain still = Gives-some (explain old view fpr uid)
-    Does-some old (Absence view target wanted uid) given h plain still =
-        let misses = Misses-some old (view_at old.views view) target wanted uid h in
-        (misses.0, old, (misses.1, refl))
-    Does-some old (Check view target claims labels uid) given h plain still =
-        let checks = Checks-some old (view_at old.views view) target claims labels uid h in
-        (checks.0, old, (checks.1, refl))
-    Does-some old Pending given h plain still = Gives-some (pending old)
-    Does-some old Keys given h plain still = Gives-some (keys old)
-    Does-some old (Export fpr) given h plain still = Gives-some (export old fpr)
-    Does-some old Dump given h plain still = Gives-some (dump old)
-    Does-some old (CursorOver cursor view wanted) given h plain still = absurd (cc plain)
-    Does-some old (CursorNext cursor count) given h plain still = absurd (cc plain)
-    Does-some old (CursorClose cursor) given h plain still = absurd (cc plain)
-    Does-some old (WatchOn watch view target wanted uid) given h plain still = absurd (cc still)
-    Does-some old (WatchOff watch) given h plain still = absurd (cc still)
+    question_some : (old : State) (view : Option View) (question : ViewQuestion) → IsWanted question →
+        (r : Reply) × AnswersQuestion old view question r
+    question_some old view (questions.Ask target wanted uid) h = Asks-some old view target wanted uid h
+    question_some old view (questions.List wanted) h = Lists-some old view wanted h
+    question_some old view (questions.Explain fpr uid) h = (explained_from old view fpr uid, refl)
+    question_some old view (questions.Absence target wanted uid) h = Misses-some old view target wanted uid h
+    question_some old view (questions.Check target claims labels uid) h =
+        Checks-some old view target claims labels uid h
+
+    pub Does-one : (old : State) (command : StateCommand) (given : Served) → IsState old →
+        IsOne Reply State (DoesTo rows old command given)
+    Does-one old (kinds.Change change) given p = Gives-one (change_of rows old change)
+    Does-one old (kinds.View view change) given p = Gives-one (view_change_of old view change)
+    Does-one old (kinds.Question view question) given p =
+        λ r s m n a b. (question_one old (view_at old.views view) question r s p a.0 b.0, a.1 ∙ sym b.1)
+    Does-one old (kinds.Read what) given p = Gives-one (only old (reading old what))
+    Does-one old (kinds.Shelf call) given p = Gives-one (call_of rows old call given)
+
+    Does-some : (old : State) (command : StateCommand) (given : Served) → IsFit (OfState command) →
+        IsSome Reply State (DoesTo rows old command given)
+    Does-some old (kinds.Change change) given h = Gives-some (change_of rows old change)
+    Does-some old (kinds.View view change) given h = Gives-some (view_change_of old view change)
+    Does-some old (kinds.Question view question) given h =
+        let answers = question_some old (view_at old.views view) question h in
+        (answers.0, old, (answers.1, refl))
+    Does-some old (kinds.Read what) given h = Gives-some (only old (reading old what))
+    Does-some old (kinds.Shelf call) given h = Gives-some (call_of rows old call given)
 
     abbrev Lawful : Type 0
     Lawful = (s : State) (t : ℕ) (u : List ℕ) → IsState s → IsRecord (record_of s.held.certs s.held.verdicts t u)
@@ -277,110 +245,84 @@ module _
     lawful_state : Lawful
     lawful_state s t u can = lawful s.held.certs s.held.verdicts t u can
 
-    -- by what is one of the reply, the state, the cursors and the watches
-    whole_one : (old : Whole) (command : Command) (given : Served) (r s : Reply) (m n : Whole) →
-        Obeys rows old command given r m → Obeys rows old command given s n
+    -- from the uniqueness of the reply, the state, the cursors and the watches
+    whole_one : (old : Whole) (class : Class) (given : Served) (r s : Reply) (m n : Whole) →
+        Obeys rows old class given r m → Obeys rows old class given s n
         → (r ≡ s) × (m.state ≡ n.state) × (m.cursors ≡ n.cursors) × (m.watches ≡ n.watches) → (r ≡ s) × (m ≡ n)
-    whole_one old command given r s m n p q same =
+    whole_one old class given r s m n p q same =
         let held = counted_one old m n (ap (λ (x : State). x.held) same.1) p.counted q.counted in
-        let turns = turned_one command old.state.views m.state.views n.state.views old.turns m.turns n.turns
+        let turns = turned_one class old.state.views m.state.views n.state.views old.turns m.turns n.turns
         (ap (λ (x : State). x.views) same.1) p.turned q.turned in
         (same.0, whole_same m n same.1 held turns same.2 same.3)
 
-    Obeys-one : (old : Whole) (command : Command) (given : Served) → IsState old.state →
-        IsOne Reply Whole (Obeys rows old command given)
-    Obeys-one old command given can r s m n p q = whole_one old command given r s m n p q
-        (by (is_pacing command) refl (is_watching command) refl)
-      where
-        by : (b : Bool) → is_pacing command ≡ b → (w : Bool) → is_watching command ≡ w
-            → (r ≡ s) × (m.state ≡ n.state) × (m.cursors ≡ n.cursors) × (m.watches ≡ n.watches)
-        by true e w f =
-            let both = paces_one lawful_state list_some list_one old command e can r s m.cursors n.cursors p.paces
-            q.paces in
-            let first = paced_state rows old.state command given r m.state e p.does in
-            let second = paced_state rows old.state command given s n.state e q.does in
-            let still = paced_unwatched command e in (
-              both.0,
-              first ∙ sym second,
-              both.1,
-              plain_watching old command r m.watches still p.watching
-                  ∙ sym (plain_watching old command s n.watches still q.watching),
-            )
-        by false e true f =
-            let both = watching_one answer_one lawful old command f can r s m.watches n.watches p.watching q.watching in
-            let first = watched_state rows old.state command given r m.state f p.does in
-            let second = watched_state rows old.state command given s n.state f q.does in (
-              both.0,
-              first ∙ sym second,
-              plain_paces old command r m.cursors e p.paces
-                  ∙ sym (plain_paces old command s n.cursors e q.paces),
-              both.1,
-            )
-        by false e false f =
-            let both = Does-one old.state command given can e f r s m.state n.state p.does q.does in (
-              both.0,
-              both.1,
-              plain_paces old command r m.cursors e p.paces ∙ sym (plain_paces old command s n.cursors e q.paces),
-              plain_watching old command r m.watches f p.watching
-                  ∙ sym (plain_watching old command s n.watches f q.watching),
-            )
+    Obeys-one : (old : Whole) (class : Class) (given : Served) → IsState old.state →
+        IsOne Reply Whole (Obeys rows old class given)
+    Obeys-one old (OfState command) given can r s m n p q =
+        let both = Does-one old.state command given can r s m.state n.state p.does q.does in
+        whole_one old (OfState command) given r s m n p q
+        (both.0, both.1, p.paces ∙ sym q.paces, p.watching ∙ sym q.watching)
+    Obeys-one old (OfCursor name command) given can r s m n p q =
+        let both = paces_one lawful_state list_some list_one old (OfCursor name command) refl can r s m.cursors
+        n.cursors p.paces q.paces in
+        whole_one old (OfCursor name command) given r s m n p q
+        (both.0, p.does ∙ sym q.does, both.1, p.watching ∙ sym q.watching)
+    Obeys-one old (OfWatch name command) given can r s m n p q =
+        let both = watching_one answer_one lawful old (OfWatch name command) refl can r s m.watches n.watches p.watching
+        q.watching in
+        whole_one old (OfWatch name command) given r s m n p q
+        (both.0, p.does ∙ sym q.does, p.paces ∙ sym q.paces, both.1)
 
-    Obeys-some : (old : Whole) (command : Command) (given : Served) → HasSpelling command →
-        IsSome Reply Whole (Obeys rows old command given)
-    Obeys-some old command given h = by (is_pacing command) refl (is_watching command) refl
-      where
-        by : (b : Bool) → is_pacing command ≡ b → (w : Bool) → is_watching command ≡ w →
-            IsSome Reply Whole (Obeys rows old command given)
-        by true e w f =
-            let there = paces_some lawful_state list_some list_one old command e in (
-              there.0,
-              record old { cursors = there.1 },
-              record {
-                does = state_paced rows old.state command given there.0 e;
-                counted = inl (refl, refl);
-                turned = turns_paced command old.state.views old.state.views old.turns old.turns e refl;
-                paces = there.2;
-                watching = watching_plain old command there.0 (paced_unwatched command e);
-              },
-            )
-        by false e true f =
-            let there = watching_some answer_some old command f in (
-              there.0,
-              record old { watches = there.1 },
-              record {
-                does = state_watched rows old.state command given there.0 f;
-                counted = inl (refl, refl);
-                turned = turns_watched command old.state.views old.state.views old.turns old.turns f refl;
-                paces = paces_plain old command there.0 e;
-                watching = there.2;
-              },
-            )
-        by false e false f =
-            let there = Does-some old.state command given h e f in
-            let count = counted_some old there.1.held in
-            let turns = turned_some command old.state.views there.1.views old.turns in (
-              there.0,
-              record {
-                state = there.1;
-                changes = count.0;
-                turns = turns.0;
-                cursors = old.cursors;
-                watches =
-                    old.watches;
-              },
-              record {
-                does = there.2;
-                counted = count.1;
-                turned = turns.1;
-                paces = paces_plain old command there.0 e;
-                watching = watching_plain old command there.0 f;
-              },
-            )
+    Obeys-some : (old : Whole) (class : Class) (given : Served) → IsFit class →
+        IsSome Reply Whole (Obeys rows old class given)
+    Obeys-some old (OfState command) given h =
+        let there = Does-some old.state command given h in
+        let count = counted_some old there.1.held in
+        let turns = turned_some (OfState command) old.state.views there.1.views old.turns in (
+          there.0,
+          record {
+            state = there.1;
+            changes = count.0;
+            turns = turns.0;
+            cursors = old.cursors;
+            watches = old.watches;
+          },
+          record {
+            does = there.2;
+            counted = count.1;
+            turned = turns.1;
+            paces = refl;
+            watching = refl;
+          },
+        )
+    Obeys-some old (OfCursor name command) given h =
+        let there = paces_some lawful_state list_some list_one old (OfCursor name command) refl in (
+          there.0,
+          record old { cursors = there.1 },
+          record {
+            does = refl;
+            counted = inl (refl, refl);
+            turned = refl;
+            paces = there.2;
+            watching = refl;
+          },
+        )
+    Obeys-some old (OfWatch name command) given h =
+        let there = watching_some answer_some old (OfWatch name command) refl in (
+          there.0,
+          record old { watches = there.1 },
+          record {
+            does = refl;
+            counted = inl (refl, refl);
+            turned = refl;
+            paces = refl;
+            watching = there.2;
+          },
+        )
 
     Answers-one : (old : Whole) (command : Option Command) (given : Served) → IsState old.state →
         IsOne Reply Whole (Answers rows old command given)
     Answers-one old None given p = Stays-one old replies.Line
-    Answers-one old (Some command) given p = Obeys-one old command given p
+    Answers-one old (Some command) given p = Obeys-one old (class_of command) given p
 
     Answers-some : (old : Whole) (line : List ℕ) (given : Served) →
         IsSome Reply Whole (Answers rows old (command_of line) given)
@@ -389,7 +331,7 @@ module _
         by : (command : Option Command) → command_of line ≡ command →
             IsSome Reply Whole (Answers rows old command given)
         by None e = Stays-some old replies.Line
-        by (Some command) e = Obeys-some old command given (wants line command e)
+        by (Some command) e = Obeys-some old (class_of command) given (fit_of command (wants line command e))
 
     pub LineStep-one : (old : Whole) (line : List ℕ) (given : Served) → IsState old.state →
         IsOne (Option Reply) Whole (LineStep rows old line given)

@@ -1,4 +1,4 @@
--- The commands of cursors: what they reply has words, and there is one reply.
+-- The commands of cursors: their replies are printable, and each has only one.
 use Rattle.std.proofs.Common.{◌≡◌, ℕ, ◌-◌, ◌≤◌, ◌==◌, Bool, true, false, List, [], ◌∷◌, length, Option, Some, None}
 use Rattle.std.proofs.Common.{refl, sym, ap, subst, ◌∙◌, arith}
 use Rattle.std.specs.Prelude.{MatchBool, is_some}
@@ -7,11 +7,6 @@ use Rattle.std.proofs.lemmas.Option.{same_Some}
 use Rattle.std.proofs.lemmas.Bool.{eqb-false}
 use Rattle.wot_types.specs.declared.fpr.Fpr.{Fpr}
 use Rattle.wot_types.specs.declared.place.Place.{Place}
-use Rattle.wot_script.specs.declared.command.Command.{Command}
-use Rattle.wot_script.specs.declared.command.Command.TheVariants.{Import, Load, Store, Remove, Good, Bad, Unjudge, Time}
-use Rattle.wot_script.specs.declared.command.Command.TheVariants.{Root, Close, Ask, Explain, Absence, Check, Pending}
-use Rattle.wot_script.specs.declared.command.Command.TheVariants.{Keys, Export, Dump, CursorOver, CursorNext}
-use Rattle.wot_script.specs.declared.command.Command.TheVariants.{CursorClose, WatchOn, WatchOff}
 use Rattle.wot_script.specs.declared.reply.Reply.{Reply}
 use Rattle.wot_script.specs.declared.reply.Reply.TheVariants as replies
 use Rattle.wot_script.specs.Replies.{HasWords}
@@ -31,82 +26,47 @@ use Rattle.wot_explain.specs.declared.bind.Bind.{Bind}
 use Rattle.wot_explain.specs.Listing.{IsListed, Pair, pairs_in}
 use Rattle.wot_explain.specs.Piece.{piece_of}
 use Rattle.wot_policy.specs.declared.rows.PolicyRows.{PolicyRows}
+use Rattle.wot_machine.specs.declared.class.Class.{Class}
+use Rattle.wot_machine.specs.declared.class.Class.TheVariants.{State as OfState, Cursor as OfCursor, Watch as OfWatch}
+use Rattle.wot_machine.specs.declared.class.CursorCommand.TheVariants as paces
 use Rattle.wot_machine.specs.LineStep.{Does}
 use Rattle.wot_machine.specs.Listing.{AreBindings}
 use Rattle.wot_machine.specs.Pacing.{Begins, Ends, GivesPiece, Goes, GoesBy, GoesFrom, Leaves, Paces, behind, is_pacing}
 use Rattle.wot_machine.specs.Pacing.{last_place, piece, place_of, stamps_in}
-use Rattle.wot_machine.specs.Entry.{unused, use_of}
+use Rattle.wot_machine.specs.Entry.{unused, use_by}
 use Rattle.wot_machine.specs.Served.{Served}
 use Rattle.wot_machine.specs.Whole.{IsTurnedBy, Whole, watched}
 
--- ---- commands that aren't of cursors
+-- ---- other commands
 
--- What holds of each command of a cursor.
-pub paced_cases : (P : Command → Type 0) → ((name view : List ℕ) (wanted : ℕ) → P (CursorOver name view wanted))
-    → ((name : List ℕ) (count : ℕ) → P (CursorNext name count)) → ((name : List ℕ) → P (CursorClose name))
-    → (command : Command) → is_pacing command ≡ true → P command
-paced_cases P over next close (CursorOver name view wanted) e = over name view wanted
-paced_cases P over next close (CursorNext name count) e = next name count
-paced_cases P over next close (CursorClose name) e = close name
-paced_cases P over next close (Import octets) e = absurd (cc e)
-paced_cases P over next close (Load name) e = absurd (cc e)
-paced_cases P over next close (Store fpr) e = absurd (cc e)
-paced_cases P over next close (Remove fpr) e = absurd (cc e)
-paced_cases P over next close (Good number fpr) e = absurd (cc e)
-paced_cases P over next close (Bad number) e = absurd (cc e)
-paced_cases P over next close (Unjudge number) e = absurd (cc e)
-paced_cases P over next close (Time view t) e = absurd (cc e)
-paced_cases P over next close (Root view fpr amount) e = absurd (cc e)
-paced_cases P over next close (Close view) e = absurd (cc e)
-paced_cases P over next close (Ask view target wanted uid) e = absurd (cc e)
-paced_cases P over next close (Command.List view wanted) e = absurd (cc e)
-paced_cases P over next close (Explain view fpr uid) e = absurd (cc e)
-paced_cases P over next close (Absence view target wanted uid) e = absurd (cc e)
-paced_cases P over next close (Check view target claims labels uid) e = absurd (cc e)
-paced_cases P over next close Pending e = absurd (cc e)
-paced_cases P over next close Keys e = absurd (cc e)
-paced_cases P over next close (Export fpr) e = absurd (cc e)
-paced_cases P over next close Dump e = absurd (cc e)
-paced_cases P over next close (WatchOn watch view target wanted uid) e = absurd (cc e)
-paced_cases P over next close (WatchOff watch) e = absurd (cc e)
+-- a claim that holds of each command of a cursor
+pub paced_cases : (P : Class → Type 0)
+    → ((name view : List ℕ) (wanted : ℕ) → P (OfCursor name (paces.Over view wanted)))
+    → ((name : List ℕ) (count : ℕ) → P (OfCursor name (paces.Next count)))
+    → ((name : List ℕ) → P (OfCursor name paces.Close))
+    → (class : Class) → is_pacing class ≡ true → P class
+paced_cases P over next close (OfCursor name (paces.Over view wanted)) e = over name view wanted
+paced_cases P over next close (OfCursor name (paces.Next count)) e = next name count
+paced_cases P over next close (OfCursor name paces.Close) e = close name
+paced_cases P over next close (OfState done) e = absurd (cc e)
+paced_cases P over next close (OfWatch name done) e = absurd (cc e)
 
 -- the other commands leave the cursors
-plain_is : (s : Whole) (command : Command) (reply : Reply) (cursors : Cursors) → is_pacing command ≡ false →
-    Paces s command reply cursors ≡ (cursors ≡ s.cursors)
-plain_is s (Import octets) reply cursors e = refl
-plain_is s (Load name) reply cursors e = refl
-plain_is s (Store fpr) reply cursors e = refl
-plain_is s (Remove fpr) reply cursors e = refl
-plain_is s (Good number fpr) reply cursors e = refl
-plain_is s (Bad number) reply cursors e = refl
-plain_is s (Unjudge number) reply cursors e = refl
-plain_is s (Time view t) reply cursors e = refl
-plain_is s (Root view fpr amount) reply cursors e = refl
-plain_is s (Close view) reply cursors e = refl
-plain_is s (Ask view target wanted uid) reply cursors e = refl
-plain_is s (Command.List view wanted) reply cursors e = refl
-plain_is s (Explain view fpr uid) reply cursors e = refl
-plain_is s (Absence view target wanted uid) reply cursors e = refl
-plain_is s (Check view target claims labels uid) reply cursors e = refl
-plain_is s Pending reply cursors e = refl
-plain_is s Keys reply cursors e = refl
-plain_is s (Export fpr) reply cursors e = refl
-plain_is s Dump reply cursors e = refl
-plain_is s (WatchOn watch view target wanted uid) reply cursors e = refl
-plain_is s (WatchOff watch) reply cursors e = refl
-plain_is s (CursorOver name view wanted) reply cursors e = absurd (cc e)
-plain_is s (CursorNext name count) reply cursors e = absurd (cc e)
-plain_is s (CursorClose name) reply cursors e = absurd (cc e)
+plain_is : (s : Whole) (class : Class) (reply : Reply) (cursors : Cursors) → is_pacing class ≡ false →
+    Paces s class reply cursors ≡ (cursors ≡ s.cursors)
+plain_is s (OfState done) reply cursors e = refl
+plain_is s (OfWatch name done) reply cursors e = refl
+plain_is s (OfCursor name done) reply cursors e = absurd (cc e)
 
-pub paces_plain : (s : Whole) (command : Command) (reply : Reply) → is_pacing command ≡ false →
-    Paces s command reply s.cursors
-paces_plain s command reply e = subst (λ (P : Type 0). P) (sym (plain_is s command reply s.cursors e)) refl
+pub paces_plain : (s : Whole) (class : Class) (reply : Reply) → is_pacing class ≡ false →
+    Paces s class reply s.cursors
+paces_plain s class reply e = subst (λ (P : Type 0). P) (sym (plain_is s class reply s.cursors e)) refl
 
-pub plain_paces : (s : Whole) (command : Command) (reply : Reply) (cursors : Cursors) → is_pacing command ≡ false →
-    Paces s command reply cursors → cursors ≡ s.cursors
-plain_paces s command reply cursors e p = subst (λ (P : Type 0). P) (plain_is s command reply cursors e) p
+pub plain_paces : (s : Whole) (class : Class) (reply : Reply) (cursors : Cursors) → is_pacing class ≡ false →
+    Paces s class reply cursors → cursors ≡ s.cursors
+plain_paces s class reply cursors e p = subst (λ (P : Type 0). P) (plain_is s class reply cursors e) p
 
--- ---- watches don't matter to them
+-- ---- watches don't matter to cursors
 
 begins_watched : (s : Whole) (watches : Watches) (name view : List ℕ) (wanted : ℕ) (o : Option View) (reply : Reply)
     (cursors : Cursors) → Begins s name view wanted o reply cursors
@@ -136,40 +96,40 @@ goes_watched s watches None name count reply cursors p = p
 goes_watched s watches (Some cursor) name count reply cursors p =
     from_watched s watches (view_at s.state.views cursor.view) name count cursor reply cursors p
 
-pub paces_watched : (s : Whole) (watches : Watches) (command : Command) (reply : Reply) (cursors : Cursors) →
-    is_pacing command ≡ true → Paces s command reply cursors
-    → Paces (watched s watches) command reply cursors
-paces_watched s watches command reply cursors e =
-    paced_cases (λ (c : Command). Paces s c reply cursors → Paces (watched s watches) c reply cursors)
+pub paces_watched : (s : Whole) (watches : Watches) (class : Class) (reply : Reply) (cursors : Cursors) →
+    is_pacing class ≡ true → Paces s class reply cursors
+    → Paces (watched s watches) class reply cursors
+paces_watched s watches class reply cursors e =
+    paced_cases (λ (c : Class). Paces s c reply cursors → Paces (watched s watches) c reply cursors)
     (λ name view wanted. begins_watched s watches name view wanted (view_at s.state.views view) reply cursors)
-    (λ name count. goes_watched s watches (cursor_at s.cursors name) name count reply cursors) (λ name p. p) command e
+    (λ name count. goes_watched s watches (cursor_at s.cursors name) name count reply cursors) (λ name p. p) class e
 
--- ---- they leave the state, the turns and the shelf
+-- ---- commands of cursors don't change the state, the turns and the certificate directory
 
-pub state_paced : (rows : PolicyRows) (old : State) (command : Command) (given : Served) (reply : Reply) →
-    is_pacing command ≡ true → Does rows old command given reply old
-state_paced rows old command given reply e =
-    paced_cases (λ (c : Command). Does rows old c given reply old) (λ name view wanted. refl) (λ name count. refl)
-    (λ name. refl) command e
+pub state_paced : (rows : PolicyRows) (old : State) (class : Class) (given : Served) (reply : Reply) →
+    is_pacing class ≡ true → Does rows old class given reply old
+state_paced rows old class given reply e =
+    paced_cases (λ (c : Class). Does rows old c given reply old) (λ name view wanted. refl) (λ name count. refl)
+    (λ name. refl) class e
 
-pub paced_state : (rows : PolicyRows) (old : State) (command : Command) (given : Served) (reply : Reply) (new : State) →
-    is_pacing command ≡ true → Does rows old command given reply new → new ≡ old
-paced_state rows old command given reply new e d =
-    paced_cases (λ (c : Command). Does rows old c given reply new → new ≡ old) (λ name view wanted p. p)
-    (λ name count p. p) (λ name p. p) command e d
+pub paced_state : (rows : PolicyRows) (old : State) (class : Class) (given : Served) (reply : Reply) (new : State) →
+    is_pacing class ≡ true → Does rows old class given reply new → new ≡ old
+paced_state rows old class given reply new e d =
+    paced_cases (λ (c : Class). Does rows old c given reply new → new ≡ old) (λ name view wanted p. p)
+    (λ name count p. p) (λ name p. p) class e d
 
-pub turns_paced : (command : Command) (old new : Views) (before after : Turns) → is_pacing command ≡ true →
-    after ≡ before → IsTurnedBy command old before new after
-turns_paced command old new before after e same =
-    paced_cases (λ (c : Command). IsTurnedBy c old before new after) (λ name view wanted. same) (λ name count. same)
-    (λ name. same) command e
+pub turns_paced : (class : Class) (old new : Views) (before after : Turns) → is_pacing class ≡ true →
+    after ≡ before → IsTurnedBy class old before new after
+turns_paced class old new before after e same =
+    paced_cases (λ (c : Class). IsTurnedBy c old before new after) (λ name view wanted. same) (λ name count. same)
+    (λ name. same) class e
 
-pub uncalled_paced : (command : Command) → is_pacing command ≡ true → use_of (Some command) ≡ unused
-uncalled_paced command e =
-    paced_cases (λ (c : Command). use_of (Some c) ≡ unused) (λ name view wanted. refl) (λ name count. refl)
-    (λ name. refl) command e
+pub uncalled_paced : (class : Class) → is_pacing class ≡ true → use_by class ≡ unused
+uncalled_paced class e =
+    paced_cases (λ (c : Class). use_by c ≡ unused) (λ name view wanted. refl) (λ name count. refl)
+    (λ name. refl) class e
 
--- ---- words
+-- ---- printable replies
 
 left_worded : (told reply : Reply) (left cursors : Cursors) → HasWords told → Leaves told left reply cursors →
     HasWords reply
@@ -223,13 +183,13 @@ ends_worded s name reply cursors l =
     (left_worded replies.Done reply (without_cursor s.cursors name) cursors tt)
     (left_worded replies.NoCursor reply s.cursors cursors tt) l
 
-pub paces_worded : (s : Whole) (command : Command) (reply : Reply) (cursors : Cursors) → is_pacing command ≡ true →
-    Paces s command reply cursors → HasWords reply
-paces_worded s command reply cursors e p =
-    paced_cases (λ (c : Command). Paces s c reply cursors → HasWords reply)
+pub paces_worded : (s : Whole) (class : Class) (reply : Reply) (cursors : Cursors) → is_pacing class ≡ true →
+    Paces s class reply cursors → HasWords reply
+paces_worded s class reply cursors e p =
+    paced_cases (λ (c : Class). Paces s c reply cursors → HasWords reply)
     (λ name view wanted. begins_worded s name view wanted (view_at s.state.views view) reply cursors)
     (λ name count. goes_worded (cursor_at s.cursors name) s name count reply cursors)
-    (λ name. ends_worded s name reply cursors) command e p
+    (λ name. ends_worded s name reply cursors) class e p
 
 -- ---- one reply
 
@@ -352,17 +312,17 @@ module _
         (leaves_some replies.Done (without_cursor s.cursors name))
         (λ none. leaves_some replies.NoCursor s.cursors)
 
-    pub paces_one : (command : Command) → is_pacing command ≡ true → IsState s.state → IsOneOf (Paces s command)
-    paces_one command e can =
-        paced_cases (λ (c : Command). IsOneOf (Paces s c)) (λ name view wanted. begins_one name view wanted
+    pub paces_one : (class : Class) → is_pacing class ≡ true → IsState s.state → IsOneOf (Paces s class)
+    paces_one class e can =
+        paced_cases (λ (c : Class). IsOneOf (Paces s c)) (λ name view wanted. begins_one name view wanted
         (view_at s.state.views view))
-        (λ name count. goes_one (cursor_at s.cursors name) name count can) (λ name. ends_one name) command e
+        (λ name count. goes_one (cursor_at s.cursors name) name count can) (λ name. ends_one name) class e
 
-    pub paces_some : (command : Command) → is_pacing command ≡ true → IsSomeOf (Paces s command)
-    paces_some command e =
-        paced_cases (λ (c : Command). IsSomeOf (Paces s c)) (λ name view wanted. begins_some name view wanted
+    pub paces_some : (class : Class) → is_pacing class ≡ true → IsSomeOf (Paces s class)
+    paces_some class e =
+        paced_cases (λ (c : Class). IsSomeOf (Paces s c)) (λ name view wanted. begins_some name view wanted
         (view_at s.state.views view))
-        (λ name count. goes_some (cursor_at s.cursors name) name count) (λ name. ends_some name) command e
+        (λ name count. goes_some (cursor_at s.cursors name) name count) (λ name. ends_some name) class e
 
 -- ---- places
 
@@ -371,7 +331,7 @@ last_is : (bind : Bind) (binds : List Bind) (last : Bind) → slice_get (bind �
 last_is bind [] last e = ap place_of (same_Some bind last e)
 last_is bind (next ∷ binds) last e = last_is next binds last e
 
--- the place of the last binding is where the cursor goes
+-- the cursor moves to the place of the last binding
 pub behind_last : (cursors : Cursors) (name : List ℕ) (binds : List Bind) (last : Bind) →
     slice_get binds (length binds - 1) ≡ Some last
     → with_place cursors name (place_of last) ≡ behind cursors name binds

@@ -1,4 +1,4 @@
--- What a cursor's `next` gives: its piece, or why there is none.
+-- What a cursor's `next` returns: its piece, or why there is none.
 use Rattle.std.proofs.Common.{◌≡◌, ℕ, ◌≤◌, ◌==◌, Bool, true, false, List, length, map, Option, Some, None, Result, Ok}
 use Rattle.std.proofs.Common.{Err, refl, sym, ap, subst, ◌∙◌, arith}
 use Rattle.std.specs.Prelude.{IfOk, IfSome, IsSomeAnd, is_some}
@@ -39,14 +39,14 @@ pub left : (s : Whole) (told : Told) (reply : Reply) → told.reply ≡ reply �
     Leaves reply s.cursors told.reply (settled told.moved s.cursors)
 left s told reply r m = (r, ap (λ (o : Option Moved). settled o s.cursors) m)
 
--- the two numbers of now
+-- the two current numbers
 pub stamps_now : (s : Whole) (view : List ℕ) (now : Stamps) → now.keyring ≡ s.changes →
     Some now.view ≡ turn_at s.turns view → now ≡ stamps_in s view
 stamps_now s view now k t =
     let turn : now.view ≡ unwrap_or (turn_at s.turns view) 0 = ap (λ (o : Option ℕ). unwrap_or o 0) t in
     λ i. record { keyring = k i; view = turn i }
 
--- ---- of a cursor that is there, over a view that is open
+-- ---- an existing cursor over an open view
 
 module _ (found : Option Cursor) (cursor : Cursor) (s : Whole) (name : List ℕ) (count : ℕ) (is : Some cursor ≡ found)
     (shown : is_some (view_at s.state.views cursor.view) ≡ true) where
@@ -56,7 +56,7 @@ module _ (found : Option Cursor) (cursor : Cursor) (s : Whole) (name : List ℕ)
   from_cursor told goes = subst (λ (o : Option Cursor). Goes o s name count told.reply (settled told.moved s.cursors))
       is goes
 
-  -- where both are the same the piece is given
+  -- if both numbers are unchanged, the piece is returned
   pub given_by : {E : Type 0} (r : Result Told E) → age_of cursor.stamps (stamps_in s cursor.view) ≡ ages.Same
       → IfOk r (λ told. IfSome (view_at s.state.views cursor.view)
       (λ view. GivesPiece s name count cursor view told.reply (settled told.moved s.cursors)))
@@ -80,14 +80,14 @@ positive n some = by (n == 0) refl
     by true e = let zero : n ≡ 0 = eqb-true n 0 e in absurd (omega (arith, some, zero))
     by false e = e
 
--- the reply that tells them
+-- the reply with the piece
 pub piece_is : (binds : List Bind) (lines items : List BindLine) → lines ≡ map bind_line binds → items ≡ lines →
     replies.Piece (length items) lines ≡ piece binds
 piece_is binds lines items l i =
     let n : length items ≡ length binds = ap length (i ∙ l) ∙ length-map binds bind_line in
     λ j. replies.Piece (n j) (l j)
 
--- what is given over the parts that are seen from a view is given from that view
+-- a piece over the parts of a view is a piece from that view
 pub gives_piece : {E : Type 0} (r : Result Told E) (engine : Engine) (cursors : Cursors) (name : List ℕ) (count : ℕ)
     (cursor : Cursor) (parts : Parts)
     → 1 ≤ cursor.wanted → IsSomeAnd (view_at engine.views cursor.view) (λ v. ArePartsOf engine.keyring v parts) →

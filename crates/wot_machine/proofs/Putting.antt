@@ -1,4 +1,4 @@
--- What stands on a shelf after a line for which no memory was found.
+-- The entries of the certificate directory after a line for which memory ran out.
 use Rattle.std.proofs.Common.{◌≡◌, inl, inr, ℕ, Bool, true, false, List, Option, Some, None, Result, Ok, Err, OnErr}
 use Rattle.std.proofs.Common.{refl, sym, ap, subst, ◌∙◌}
 use Rattle.std.specs.Prelude.{◌⊎◌, ◌&&◌, IfSome, if◌then◌else◌, is_some, not}
@@ -28,7 +28,7 @@ pub puts_still : (s : State) (use_ : Use) (world : Option World) → MayPut s us
 puts_still s use_ None = tt
 puts_still s use_ (Some w) = record { new = w; is_new = refl; entries = inl refl }
 
--- the entry was read alone
+-- the entry was only read
 pub puts_none : (s : State) (use_ : Use) (before after : Option World) → Becomes before called after →
     MayPut s use_ before after
 puts_none s use_ None after becomes = tt
@@ -42,7 +42,7 @@ put_or_not : (fails : Bool) (w : World) (name : Name) (octets : List ℕ)
 put_or_not true w name octets = inl refl
 put_or_not false w name octets = inr refl
 
--- where no memory was found for it
+-- if memory ran out for the replace
 pub replaced_may : (before after : Option World) (name : Name) (octets : List ℕ) →
     Replaces before name octets (Err Memory) after → MayReplace name octets before after
 replaced_may None after name octets r = tt
@@ -54,7 +54,7 @@ replaced_may (Some w) after name octets (inr e) = record {
       inr refl;
 }
 
--- behind a read
+-- after a read
 pub stored_may : (s : State) (fpr : Fpr) (kept : Certificate) (answer : Answer) (octets : List ℕ)
     (before mid after : Option World) → cert_in s.held fpr ≡ Some kept
     → writing fpr kept answer ≡ Ok octets → IfSome before (λ (w : World). answer ≡ read_answer w (Cert fpr)) →
@@ -80,7 +80,7 @@ stored_may s fpr kept answer octets (Some w) mid after is e told becomes may =
 
 -- ---- after a line
 
--- The line had its reply, for which there was no memory.
+-- the line's reply was computed, and memory ran out for it
 pub served_puts : (s : State) (use_ : Use) (before : Option World) (given : Served) (after : Option World) →
     IsServed s use_ before given after → MayPut s use_ before after
 served_puts s use_ None given after served = tt

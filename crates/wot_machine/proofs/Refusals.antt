@@ -1,4 +1,4 @@
--- A line that is refused leaves the state.
+-- A refused line doesn't change the state.
 use Rattle.std.proofs.Common.{◌≡◌, ◌∙◌, inl, inr, ℕ, ◌==◌, [], Bool, true, false, cond, List, length, Option, Some}
 use Rattle.std.proofs.Common.{None, Result, Ok, Err, refl, sym, ap}
 use Rattle.std.specs.Prelude.{MatchBool, nat_lt, is_some}
@@ -9,17 +9,12 @@ use Rattle.wot_types.specs.Limits.{standard_limits}
 use Rattle.wot_policy.specs.declared.rows.PolicyRows.{PolicyRows}
 use Rattle.wot_verdict.specs.Verdicts.{verdict_at}
 use Rattle.wot_verdict.specs.declared.verdict.Verdict.{Verdict}
-use Rattle.wot_verdict.specs.declared.verdict.Verdict.TheVariants as verdicts
 use Rattle.wot_keyring.specs.declared.import.Imported.{Imported}
 use Rattle.wot_keyring.specs.declared.refusal.Refusal.{Refusal}
 use Rattle.wot_keyring.specs.Held.{cert_in, verdict_set, removing, verdict_cleared}
 use Rattle.wot_keyring.specs.Import.{answer_to, answer_under, is_entry}
 use Rattle.wot_keyring.specs.Verdict.{is_over}
 use Rattle.wot_script.specs.declared.command.Command.{Command}
-use Rattle.wot_script.specs.declared.command.Command.TheVariants.{Import, Load, Store, Remove, Good, Bad, Unjudge, Time}
-use Rattle.wot_script.specs.declared.command.Command.TheVariants.{Root, Close, Ask, Explain, Absence, Check, Pending}
-use Rattle.wot_script.specs.declared.command.Command.TheVariants.{Keys, Export, Dump, CursorOver, CursorNext}
-use Rattle.wot_script.specs.declared.command.Command.TheVariants.{CursorClose, WatchOn, WatchOff}
 use Rattle.wot_script.specs.declared.reply.Reply.{Reply}
 use Rattle.wot_script.specs.declared.reply.Reply.TheVariants as replies
 use Rattle.wot_script.specs.Grammar.{command_of}
@@ -27,11 +22,19 @@ use Rattle.wot_certd.specs.World.{Answer}
 use Rattle.wot_cache.specs.declared.view.ViewFault.{ViewFault}
 use Rattle.wot_cache.specs.State.{State, with_held, rooting, timing, closing}
 use Rattle.wot_cache.specs.Views.{view_at, time_fault, root_fault}
+use Rattle.wot_machine.specs.declared.class.Class.{Class}
+use Rattle.wot_machine.specs.declared.class.Class.TheVariants.{State as OfState, Cursor as OfCursor, Watch as OfWatch}
+use Rattle.wot_machine.specs.declared.class.StateCommand.TheVariants as kinds
+use Rattle.wot_machine.specs.declared.class.Change.{Change}
+use Rattle.wot_machine.specs.declared.class.Change.TheVariants as changes
+use Rattle.wot_machine.specs.declared.class.ViewChange.{ViewChange}
+use Rattle.wot_machine.specs.declared.class.ViewChange.TheVariants as turns
+use Rattle.wot_machine.specs.declared.class.ShelfCall.{ShelfCall}
+use Rattle.wot_machine.specs.declared.class.ShelfCall.TheVariants as calls
+use Rattle.wot_machine.specs.Classes.{call_of, change_of, class_of, reading, view_change_of}
 use Rattle.wot_machine.specs.Law.{is_refused}
 use Rattle.wot_machine.specs.Lines.{is_silent, longest}
-use Rattle.wot_machine.specs.Outcome.{Outcome, only, done, imports, import, load, remove, set_verdict, clear_verdict}
-use Rattle.wot_machine.specs.Outcome.{time, root, close, unless, keys, export, dump}
-use Rattle.wot_machine.specs.Listing.{explain, pending}
+use Rattle.wot_machine.specs.Outcome.{Outcome, only, done, imports, load, set_verdict, unless}
 use Rattle.wot_machine.specs.LineStep.{LineStep, Answers, Does, Gives, Obeys, Stays}
 use Rattle.wot_cache.specs.declared.view.View.{View}
 use Rattle.wot_cursor.specs.Age.{age_of}
@@ -48,9 +51,8 @@ use Rattle.wot_machine.specs.Watching.{is_watching}
 use Rattle.wot_machine.proofs.Watched.{plain_watching, watching_left}
 use Rattle.wot_machine.proofs.Wholes.{turned_still, whole_same}
 use Rattle.wot_machine.specs.Served.{Served}
-use Rattle.wot_machine.specs.Storing.{store}
 
--- an outcome that leaves this state where it is refused
+-- an outcome that leaves this state if it is a refusal
 abbrev Leaves : State → Outcome → Type 0
 Leaves s outcome = is_refused outcome.reply ≡ true → outcome.state ≡ s
 
@@ -83,52 +85,47 @@ set_verdict_leaves s number v =
     (done (with_held s (verdict_set number v s.held)))
     (λ _. refl) (done_leaves s (with_held s (verdict_set number v s.held)))
 
--- what gives such an outcome leaves the state where it is refused
+-- such an outcome leaves the state if the line is refused
 given : (s : State) (outcome : Outcome) (r : Reply) (m : State) → Leaves s outcome → Gives outcome r m →
     is_refused r ≡ true → m ≡ s
 given s outcome r m leaves g e = g.1 ∙ leaves (ap is_refused (sym g.0) ∙ e)
 
-does : (rows : PolicyRows) (s : State) (command : Command) (answer : Served) (r : Reply) (m : State) →
-    Does rows s command answer r m → is_refused r ≡ true → m ≡ s
-does rows s (Import octets) answer r m =
-    given s (import rows s octets) r m
-    (imports_leaves rows s octets (answer_to rows standard_limits s.held.certs octets))
-does rows s (Load name) answer r m = given s (load rows s name answer.read) r m (load_leaves rows s name answer.read)
-does rows s (Store fpr) answer r m = given s (store s fpr answer) r m (λ _. refl)
-does rows s (Remove fpr) answer r m =
-    given s (remove s fpr) r m
-    (either (is_some (cert_in s.held fpr)) s (done (with_held s (removing fpr s.held))) (only s replies.Absent)
-    (done_leaves s (with_held s (removing fpr s.held))) (λ _. refl))
-does rows s (Good number fpr) answer r m = given s (set_verdict s number (verdicts.Good fpr)) r m
-    (set_verdict_leaves s number (verdicts.Good fpr))
-does rows s (Bad number) answer r m = given s (set_verdict s number verdicts.Bad) r m
-    (set_verdict_leaves s number verdicts.Bad)
-does rows s (Unjudge number) answer r m =
-    given s (clear_verdict s number) r m
-    (either (is_some (verdict_at s.held.verdicts number)) s (done (with_held s (verdict_cleared number s.held)))
-    (only s replies.Absent) (done_leaves s (with_held s (verdict_cleared number s.held))) (λ _. refl))
-does rows s (Time view t) answer r m =
-    given s (time s view t) r m (unless_leaves s (timing view t s) (time_fault standard_limits s.views view))
-does rows s (Root view fpr amount) answer r m =
-    given s (root s view fpr amount) r m (unless_leaves s (rooting view fpr amount s)
-    (root_fault standard_limits (view_at s.views view) fpr amount))
-does rows s (Close view) answer r m =
-    given s (close s view) r m (either (is_some (view_at s.views view)) s (done (closing view s)) (only s replies.View)
-    (done_leaves s (closing view s)) (λ _. refl))
-does rows s (Ask view target wanted uid) answer r m = λ g _. g.1
-does rows s (Command.List view wanted) answer r m = λ g _. g.1
-does rows s (Explain view fpr uid) answer r m = given s (explain s view fpr uid) r m (λ _. refl)
-does rows s (Absence view target wanted uid) answer r m = λ g _. g.1
-does rows s (Check view target claims labels uid) answer r m = λ g _. g.1
-does rows s Pending answer r m = given s (pending s) r m (λ _. refl)
-does rows s Keys answer r m = given s (keys s) r m (λ _. refl)
-does rows s (Export fpr) answer r m = given s (export s fpr) r m (λ _. refl)
-does rows s Dump answer r m = given s (dump s) r m (λ _. refl)
-does rows s (CursorOver name view wanted) answer r m = λ g _. g
-does rows s (CursorNext name count) answer r m = λ g _. g
-does rows s (CursorClose name) answer r m = λ g _. g
-does rows s (WatchOn name view target wanted uid) answer r m = λ g _. g
-does rows s (WatchOff name) answer r m = λ g _. g
+change_leaves : (rows : PolicyRows) (s : State) (change : Change) → Leaves s (change_of rows s change)
+change_leaves rows s (changes.Import octets) =
+    imports_leaves rows s octets (answer_to rows standard_limits s.held.certs octets)
+change_leaves rows s (changes.Remove fpr) =
+    either (is_some (cert_in s.held fpr)) s (done (with_held s (removing fpr s.held))) (only s replies.Absent)
+    (done_leaves s (with_held s (removing fpr s.held))) (λ _. refl)
+change_leaves rows s (changes.Judge number v) = set_verdict_leaves s number v
+change_leaves rows s (changes.Unjudge number) =
+    either (is_some (verdict_at s.held.verdicts number)) s (done (with_held s (verdict_cleared number s.held)))
+    (only s replies.Absent) (done_leaves s (with_held s (verdict_cleared number s.held))) (λ _. refl)
+
+view_leaves : (s : State) (view : List ℕ) (change : ViewChange) → Leaves s (view_change_of s view change)
+view_leaves s view (turns.Time t) = unless_leaves s (timing view t s) (time_fault standard_limits s.views view)
+view_leaves s view (turns.Root fpr amount) =
+    unless_leaves s (rooting view fpr amount s) (root_fault standard_limits (view_at s.views view) fpr amount)
+view_leaves s view turns.Close =
+    either (is_some (view_at s.views view)) s (done (closing view s)) (only s replies.View)
+    (done_leaves s (closing view s)) (λ _. refl)
+
+call_leaves : (rows : PolicyRows) (s : State) (call : ShelfCall) (answer : Served) →
+    Leaves s (call_of rows s call answer)
+call_leaves rows s (calls.Load name) answer = load_leaves rows s name answer.read
+call_leaves rows s (calls.Store fpr) answer = λ _. refl
+
+does : (rows : PolicyRows) (s : State) (class : Class) (answer : Served) (r : Reply) (m : State) →
+    Does rows s class answer r m → is_refused r ≡ true → m ≡ s
+does rows s (OfState (kinds.Change change)) answer r m =
+    given s (change_of rows s change) r m (change_leaves rows s change)
+does rows s (OfState (kinds.View view change)) answer r m =
+    given s (view_change_of s view change) r m (view_leaves s view change)
+does rows s (OfState (kinds.Question view question)) answer r m = λ g _. g.1
+does rows s (OfState (kinds.Read what)) answer r m = given s (only s (reading s what)) r m (λ _. refl)
+does rows s (OfState (kinds.Shelf call)) answer r m =
+    given s (call_of rows s call answer) r m (call_leaves rows s call answer)
+does rows s (OfCursor name command) answer r m = λ g _. g
+does rows s (OfWatch name command) answer r m = λ g _. g
 
 -- ---- cursors
 
@@ -188,41 +185,41 @@ ends_left s name reply cursors l =
     (left replies.Done reply s.cursors (without_cursor s.cursors name) cursors (λ e. absurd (cc e)))
     (left replies.NoCursor reply s.cursors s.cursors cursors (λ e. refl)) l
 
-paces_left : (s : Whole) (command : Command) (reply : Reply) (cursors : Cursors) → is_pacing command ≡ true →
-    Paces s command reply cursors → is_refused reply ≡ true → cursors ≡ s.cursors
-paces_left s command reply cursors e =
-    paced_cases (λ (c : Command). Paces s c reply cursors → is_refused reply ≡ true → cursors ≡ s.cursors)
+paces_left : (s : Whole) (class : Class) (reply : Reply) (cursors : Cursors) → is_pacing class ≡ true →
+    Paces s class reply cursors → is_refused reply ≡ true → cursors ≡ s.cursors
+paces_left s class reply cursors e =
+    paced_cases (λ (c : Class). Paces s c reply cursors → is_refused reply ≡ true → cursors ≡ s.cursors)
     (λ name view wanted. begins_left s name view wanted (view_at s.state.views view) reply cursors)
     (λ name count. goes_left (cursor_at s.cursors name) s name count reply cursors)
-    (λ name. ends_left s name reply cursors) command e
+    (λ name. ends_left s name reply cursors) class e
 
--- ---- all of it
+-- ---- everything that is kept
 
 uncounted : (s m : Whole) → m.state ≡ s.state → IsCounted s m → m.changes ≡ s.changes
 uncounted s m same (inl p) = p.1
 uncounted s m same (inr p) = absurd (p.0 (ap (λ (x : State). x.held) same))
 
-obeys : (rows : PolicyRows) (s : Whole) (command : Command) (answer : Served) (r : Reply) (m : Whole) →
-    Obeys rows s command answer r m → is_refused r ≡ true → m ≡ s
-obeys rows s command answer r m o e =
-    let same = does rows s.state command answer r m.state o.does e in
+obeys : (rows : PolicyRows) (s : Whole) (class : Class) (answer : Served) (r : Reply) (m : Whole) →
+    Obeys rows s class answer r m → is_refused r ≡ true → m ≡ s
+obeys rows s class answer r m o e =
+    let same = does rows s.state class answer r m.state o.does e in
     whole_same m s same (uncounted s m same o.counted)
-    (turned_still command s.state.views m.state.views s.turns m.turns (ap (λ (x : State). x.views) same) o.turned)
-    (by (is_pacing command) refl)
-    (watched (is_watching command) refl)
+    (turned_still class s.state.views m.state.views s.turns m.turns (ap (λ (x : State). x.views) same) o.turned)
+    (by (is_pacing class) refl)
+    (watched (is_watching class) refl)
   where
-    watched : (b : Bool) → is_watching command ≡ b → m.watches ≡ s.watches
-    watched true k = watching_left s command r m.watches k o.watching e
-    watched false k = plain_watching s command r m.watches k o.watching
+    watched : (b : Bool) → is_watching class ≡ b → m.watches ≡ s.watches
+    watched true k = watching_left s class r m.watches k o.watching e
+    watched false k = plain_watching s class r m.watches k o.watching
 
-    by : (b : Bool) → is_pacing command ≡ b → m.cursors ≡ s.cursors
-    by true k = paces_left s command r m.cursors k o.paces e
-    by false k = plain_paces s command r m.cursors k o.paces
+    by : (b : Bool) → is_pacing class ≡ b → m.cursors ≡ s.cursors
+    by true k = paces_left s class r m.cursors k o.paces e
+    by false k = plain_paces s class r m.cursors k o.paces
 
 answers : (rows : PolicyRows) (s : Whole) (command : Option Command) (answer : Served) (r : Reply) (m : Whole) →
     Answers rows s command answer r m → is_refused r ≡ true → m ≡ s
 answers rows s None answer r m g e = g.1
-answers rows s (Some command) answer r m o e = obeys rows s command answer r m o e
+answers rows s (Some command) answer r m o e = obeys rows s (class_of command) answer r m o e
 
 pub step_leaves : (rows : PolicyRows) (s : Whole) (line : List ℕ) (answer : Served) (r : Reply) (m : Whole) →
     LineStep rows s line answer (Some r) m → is_refused r ≡ true → m ≡ s

@@ -1,4 +1,4 @@
--- Refused commands, and the replies to them.
+-- Refused commands and their replies.
 use Rattle.std.proofs.Common.{◌≡◌, ◌≢◌, inl, inr, ℕ, true, List, Option, Result, Ok, Err, refl}
 use Rattle.std.specs.Prelude.{IfOk}
 use Rattle.wot_types.specs.declared.limits.Limit.TheVariants as words
@@ -32,7 +32,7 @@ view_gives s new changed o faults.Absent reply tells same is = rw tells (is.0, s
 view_gives s new changed o (faults.Full limit) reply tells same is = rw tells (is.0, same)
 view_gives s new changed o faults.Memory reply tells same is = absurd (is.1 refl)
 
--- the same of octets that were refused, with a demand on their certificates
+-- refused octets, with a demand on their certificates
 under_gives : (demand : Demand) (rows : PolicyRows) (old new : Engine) (octets : List ℕ) (told : Refusal)
     (reply : Reply) → old.keyring.limits ≡ standard_limits
     → AnswersUnder demand (Err told) rows old.keyring octets → new ≡ old →

@@ -1,5 +1,5 @@
--- In each reached state certificates stand in the order of their fingerprints, and the user IDs of each in the order of
--- their octets; so pairs and bindings are in the order of both.
+-- In each reached state the certificates are sorted by fingerprint, and the user IDs of each by their octets. So pairs
+-- and bindings are sorted by both.
 use Rattle.std.proofs.Common.{◌≡◌, ℕ, Bool, true, false, cond, List, [], ◌∷◌, map, Some, Result, Ok, Err, refl, sym, ap}
 use Rattle.std.proofs.Common.{subst, ◌∙◌}
 use Rattle.std.specs.Prelude.{◌==◌, filter, nat_le}
@@ -39,7 +39,7 @@ use Rattle.wot_machine.proofs.Entries.{AreInOrder, all_put, all_without, below_a
 use Rattle.wot_machine.proofs.Entries.{rising_put, rising_without, turn_round}
 use Rattle.wot_machine.proofs.Stays.{run_stays}
 
--- ---- unions
+-- ---- merging
 
 module _
     {A : Type 0} (R : A → A → Ordering) (total : IsTotalOrder R) (join : A → A → A)
@@ -167,7 +167,7 @@ module _ (rows : PolicyRows) where
 
 -- ---- pairs
 
--- by fingerprint, then user ID
+-- by fingerprint, then by user ID
 abbrev pub pair_cmp : Pair → Pair → Ordering
 pair_cmp a b = ordering_then (fpr_cmp a.0 b.0) (slice_cmp nat_cmp a.1 b.1)
 
@@ -253,7 +253,7 @@ module _ (told : List ℕ → Record) (roots : List (Fpr × ℕ)) (wanted : ℕ)
       by true below rest = (below, rest)
       by false below rest = rest
 
-  -- so a list of all bindings is in order where the certificates are
+  -- the list of all bindings is sorted if the certificates are
   pub ordered_binds : (certs : Certificates) (binds : List Bind) → AreOrdered certs
       → IsListed told roots wanted (pairs_in certs) binds → IsRising bind_cmp binds
   ordered_binds certs binds o l = rising_listed (pairs_in certs) binds (ordered_pairs certs o.fprs o.user_ids) l

@@ -1,4 +1,4 @@
--- Commands that were run, and the lines that hold them.
+-- Commands that were run, and the lines that contain them.
 use Rattle.std.proofs.Common.{◌≡◌, ℕ, ◌+◌, ◌<◌, ◌≤◌, Bool, true, false, List, ◌++◌, Option, Some, None, Result, Ok, Err}
 use Rattle.std.proofs.Common.{OnErr, length, refl, sym, ap, subst, ◌∙◌, inl, arith}
 use Rattle.std.specs.Prelude.{IfOk, IfSome, OnOk, is_ok, is_some, if◌then◌else◌, nat_le}
@@ -13,7 +13,6 @@ use Rattle.wot_cert.specs.Certificate.{Certificate}
 use Rattle.wot_keyring.specs.Held.{cert_in}
 use Rattle.wot_policy.specs.declared.rows.PolicyRows.{PolicyRows}
 use Rattle.wot_script.specs.declared.command.Command.{Command}
-use Rattle.wot_script.specs.declared.command.Command.TheVariants.{Load, Store}
 use Rattle.wot_script.specs.declared.reply.Reply.{Reply}
 use Rattle.wot_script.specs.declared.reply.Reply.TheVariants as replies
 use Rattle.wot_script.specs.Replies.{reply_text}
@@ -24,6 +23,11 @@ use Rattle.wot_certd.specs.Shelf.{Becomes}
 use Rattle.wot_certd.specs.World.{Answer, World, after_replace, called, fails_next, read_answer}
 use Rattle.wot_cache.specs.State.{Engine, State, StaysButMarks, state_of}
 use Rattle.wot_keyring.specs.Keyring.{Keyring}
+use Rattle.wot_machine.specs.declared.class.Class.{Class}
+use Rattle.wot_machine.specs.declared.class.Class.TheVariants.{State as OfState}
+use Rattle.wot_machine.specs.declared.class.StateCommand.{StateCommand}
+use Rattle.wot_machine.specs.declared.class.StateCommand.TheVariants as kinds
+use Rattle.wot_machine.specs.declared.class.ShelfCall.TheVariants as calls
 use Rattle.wot_machine.specs.declared.told.Moved.{Moved}
 use Rattle.wot_machine.specs.declared.told.Told.{Told}
 use Rattle.wot_cursor.specs.Cursors.{Cursors}
@@ -32,11 +36,11 @@ use Rattle.wot_keyring.specs.Import.{IsOneChange}
 use Rattle.wot_machine.specs.Watching.{AreLines, Tells, Watching, is_watching, told_all}
 use Rattle.wot_machine.specs.Whole.{IsTurnedBy, Whole, watched, whole_of}
 use Rattle.wot_machine.specs.Entry.{IsServed, IsWorldAfter, Use, WasGiven, has_failed, is_fault, put_for, unused}
-use Rattle.wot_machine.specs.Entry.{use_of, world_after}
+use Rattle.wot_machine.specs.Entry.{use_by, use_of, world_after}
 use Rattle.wot_machine.specs.Lines.{heard, is_silent, longest}
-use Rattle.wot_machine.specs.LineStep.{Answers, Does, Gives, LineStep, Obeys}
+use Rattle.wot_machine.specs.LineStep.{Answers, Does, DoesTo, Gives, LineStep, Obeys}
 use Rattle.wot_machine.specs.Outcome.{load}
-use Rattle.wot_machine.specs.Ran.{Ran, Seen, Did}
+use Rattle.wot_machine.specs.Ran.{Did, Ran, RanClass, Seen}
 use Rattle.wot_machine.specs.Served.{Served, unserved}
 use Rattle.wot_machine.specs.Stepped.{Replied, Stepped, TellsBehind}
 use Rattle.wot_machine.specs.Pacing.{Paces, is_pacing, settled}
@@ -51,7 +55,7 @@ use Rattle.wot_machine.proofs.Watched.{watching_plain}
 use Rattle.wot_machine.proofs.Stepping.{heard_long, heard_silent, one_reply, passed_over, too_long}
 use Rattle.wot_machine.proofs.Wholes.{counted_by, same_few, turned_few, turned_still}
 
--- ---- commands that leave the shelf alone
+-- ---- commands that don't use the certificate directory
 
 idle : (old : State) (world : Option World) → IsServed old unused world unserved world
 idle old world = record { asked = refl; world = refl }
@@ -75,136 +79,140 @@ ran_uncalled rows command old seen reply new none answers = record {
   cause = λ f. absurd (never_failed old.state (use_of command) none f);
 }
 
-pub uncalled : {E : Type 0} (r : Result Reply E) (rows : PolicyRows) (command : Command) (old : State) (seen : Seen)
-    (new : State) → use_of (Some command) ≡ unused
-    → IfOk r (λ reply. Does rows old command unserved reply new) →
+pub uncalled : {E : Type 0} (r : Result Reply E) (rows : PolicyRows) (command : StateCommand) (old : State)
+    (seen : Seen) (new : State) → use_by (OfState command) ≡ unused
+    → IfOk r (λ reply. DoesTo rows old command unserved reply new) →
     IfOk r (λ reply. Did rows command old seen reply new seen)
 uncalled r rows command old seen new none does = if_ok r _ _ (λ reply d. record {
   given = unserved;
   answers = d;
-  served = idle_by old (use_of (Some command)) seen.world none;
-  cause = λ f. absurd (never_failed old (use_of (Some command)) none f);
+  served = idle_by old (use_by (OfState command)) seen.world none;
+  cause = λ f. absurd (never_failed old (use_by (OfState command)) none f);
 }) does
 
--- a command that leaves the shelf alone, by all that is kept
-pub ran_alone : (rows : PolicyRows) (command : Command) (old : Whole) (seen : Seen) (reply : Reply) (new : Whole) →
-    use_of (Some command) ≡ unused
-    → Obeys rows old command unserved reply new → Ran rows (Some command) old seen reply new seen
-ran_alone rows command old seen reply new none obeys = ran_uncalled rows (Some command) old seen reply new none obeys
+-- a command that doesn't use the directory, in terms of everything that is kept
+pub ran_alone : (rows : PolicyRows) (class : Class) (old : Whole) (seen : Seen) (reply : Reply) (new : Whole) →
+    use_by class ≡ unused
+    → Obeys rows old class unserved reply new → RanClass rows class old seen reply new seen
+ran_alone rows class old seen reply new none obeys = record {
+  given = unserved;
+  answers = obeys;
+  served = idle_by old.state (use_by class) seen.world none;
+  cause = λ f. absurd (never_failed old.state (use_by class) none f);
+}
 
--- a command of a cursor, by all that is kept
-pub paced_ran : {E : Type 0} (r : Result Told E) (rows : PolicyRows) (command : Command) (old new : Engine)
+-- a command of a cursor
+pub paced_ran : {E : Type 0} (r : Result Told E) (rows : PolicyRows) (class : Class) (old new : Engine)
     (before after : Cursors) (watches : Watches) (seen : Seen)
-    → is_pacing command ≡ true → StaysButMarks old new →
-    IfOk r (λ (told : Told). Paces (whole_of old before) command told.reply (settled told.moved after))
-    → IfOk r (λ (told : Told). Ran rows (Some command) (watched (whole_of old before) watches) seen told.reply
+    → is_pacing class ≡ true → StaysButMarks old new →
+    IfOk r (λ (told : Told). Paces (whole_of old before) class told.reply (settled told.moved after))
+    → IfOk r (λ (told : Told). RanClass rows class (watched (whole_of old before) watches) seen told.reply
     (watched (whole_of new (settled told.moved after)) watches) seen)
-paced_ran (Err e) rows command old new before after watches seen pacing stays paces = tt
-paced_ran (Ok told) rows command old new before after watches seen pacing stays paces =
+paced_ran (Err e) rows class old new before after watches seen pacing stays paces = tt
+paced_ran (Ok told) rows class old new before after watches seen pacing stays paces =
     let same : state_of new ≡ state_of old = same_state old new stays in
-    ran_alone rows command (watched (whole_of old before) watches) seen told.reply
+    ran_alone rows class (watched (whole_of old before) watches) seen told.reply
     (watched (whole_of new (settled told.moved after)) watches)
-    (uncalled_paced command pacing) (record {
-      does = subst (λ (s : State). Does rows (state_of old) command unserved told.reply s) (sym same)
-          (state_paced rows (state_of old) command unserved told.reply pacing);
+    (uncalled_paced class pacing) (record {
+      does = subst (λ (s : State). Does rows (state_of old) class unserved told.reply s) (sym same)
+          (state_paced rows (state_of old) class unserved told.reply pacing);
       counted = inl (ap (λ (s : State). s.held) same, ap (λ (k : Keyring). k.changes) stays.keyring);
-      turned = turns_paced command old.views new.views old.turns new.turns pacing stays.turns;
-      paces = paces_watched (whole_of old before) watches command told.reply (settled told.moved after) pacing paces;
-      watching = watching_plain (watched (whole_of old before) watches) command told.reply
-          (paced_unwatched command pacing);
+      turned = turns_paced class old.views new.views old.turns new.turns pacing stays.turns;
+      paces = paces_watched (whole_of old before) watches class told.reply (settled told.moved after) pacing paces;
+      watching = watching_plain (watched (whole_of old before) watches) class told.reply
+          (paced_unwatched class pacing);
     })
 
--- a command of a watch, by all that is kept
-watched_ran : (rows : PolicyRows) (command : Command) (old new : Engine) (cursors : Cursors) (before after : Watches)
-    (seen : Seen) (reply : Reply) → is_watching command ≡ true
-    → StaysButMarks old new → Watching (watched (whole_of old cursors) before) command reply after
-    → Ran rows (Some command) (watched (whole_of old cursors) before) seen reply (watched (whole_of new cursors) after)
+-- a command of a watch
+watched_ran : (rows : PolicyRows) (class : Class) (old new : Engine) (cursors : Cursors) (before after : Watches)
+    (seen : Seen) (reply : Reply) → is_watching class ≡ true
+    → StaysButMarks old new → Watching (watched (whole_of old cursors) before) class reply after
+    → RanClass rows class (watched (whole_of old cursors) before) seen reply (watched (whole_of new cursors) after)
     seen
-watched_ran rows command old new cursors before after seen reply watching stays puts =
+watched_ran rows class old new cursors before after seen reply watching stays puts =
     let same : state_of new ≡ state_of old = same_state old new stays in
-    ran_alone rows command (watched (whole_of old cursors) before) seen reply (watched (whole_of new cursors) after)
-    (uncalled_watched command watching) (record {
-      does = subst (λ (s : State). Does rows (state_of old) command unserved reply s) (sym same)
-          (state_watched rows (state_of old) command unserved reply watching);
+    ran_alone rows class (watched (whole_of old cursors) before) seen reply (watched (whole_of new cursors) after)
+    (uncalled_watched class watching) (record {
+      does = subst (λ (s : State). Does rows (state_of old) class unserved reply s) (sym same)
+          (state_watched rows (state_of old) class unserved reply watching);
       counted = inl (ap (λ (s : State). s.held) same, ap (λ (k : Keyring). k.changes) stays.keyring);
-      turned = turns_watched command old.views new.views old.turns new.turns watching stays.turns;
-      paces = paces_plain (watched (whole_of old cursors) before) command reply (watched_unpaced command watching);
+      turned = turns_watched class old.views new.views old.turns new.turns watching stays.turns;
+      paces = paces_plain (watched (whole_of old cursors) before) class reply (watched_unpaced class watching);
       watching = puts;
     })
 
--- the same of what is told by a reply
-pub watched_told : {E : Type 0} (r : Result Reply E) (t : Result Told E) (rows : PolicyRows) (command : Command)
+-- a command of a watch, with a reply by itself
+pub watched_told : {E : Type 0} (r : Result Reply E) (t : Result Told E) (rows : PolicyRows) (class : Class)
     (old new : Engine) (cursors : Cursors) (before after : Watches)
     (seen : Seen) → IfOk r (λ reply. t ≡ Ok (record { reply = reply; moved = None })) → is_ok t ≡ is_ok r →
-    is_watching command ≡ true → StaysButMarks old new
-    → IfOk r (λ reply. Watching (watched (whole_of old cursors) before) command reply after)
-    → IfOk t (λ (told : Told). Ran rows (Some command) (watched (whole_of old cursors) before) seen told.reply
+    is_watching class ≡ true → StaysButMarks old new
+    → IfOk r (λ reply. Watching (watched (whole_of old cursors) before) class reply after)
+    → IfOk t (λ (told : Told). RanClass rows class (watched (whole_of old cursors) before) seen told.reply
     (watched (whole_of new (settled told.moved cursors)) after) seen)
-watched_told (Err e) (Err d) rows command old new cursors before after seen is ok watching stays puts = tt
-watched_told (Err e) (Ok told) rows command old new cursors before after seen is ok watching stays puts =
+watched_told (Err e) (Err d) rows class old new cursors before after seen is ok watching stays puts = tt
+watched_told (Err e) (Ok told) rows class old new cursors before after seen is ok watching stays puts =
     let never : true ≡ false = ok in absurd cc
-watched_told (Ok reply) t rows command old new cursors before after seen is ok watching stays puts =
-    subst (λ (t : Result Told _). IfOk t (λ (told : Told). Ran rows (Some command)
+watched_told (Ok reply) t rows class old new cursors before after seen is ok watching stays puts =
+    subst (λ (t : Result Told _). IfOk t (λ (told : Told). RanClass rows class
     (watched (whole_of old cursors) before) seen told.reply
     (watched (whole_of new (settled told.moved cursors)) after) seen))
-    (sym is) (watched_ran rows command old new cursors before after seen reply watching stays puts)
+    (sym is) (watched_ran rows class old new cursors before after seen reply watching stays puts)
 
--- the same of a reply that moves no cursor
-pub watched_alone : (told : Told) (rows : PolicyRows) (command : Command) (engine : Engine) (cursors : Cursors)
+-- a command of a watch whose reply moves no cursor
+pub watched_alone : (told : Told) (rows : PolicyRows) (class : Class) (engine : Engine) (cursors : Cursors)
     (before after : Watches) (seen : Seen) (reply : Reply)
-    → told.reply ≡ reply → told.moved ≡ None → is_watching command ≡ true → StaysButMarks engine engine →
-    Watching (watched (whole_of engine cursors) before) command reply after
-    → Ran rows (Some command) (watched (whole_of engine cursors) before) seen told.reply
+    → told.reply ≡ reply → told.moved ≡ None → is_watching class ≡ true → StaysButMarks engine engine →
+    Watching (watched (whole_of engine cursors) before) class reply after
+    → RanClass rows class (watched (whole_of engine cursors) before) seen told.reply
     (watched (whole_of engine (settled told.moved cursors)) after) seen
-watched_alone told rows command engine cursors before after seen reply is none watching stays puts =
-    subst (λ (o : Option Moved). Ran rows (Some command) (watched (whole_of engine cursors) before) seen told.reply
+watched_alone told rows class engine cursors before after seen reply is none watching stays puts =
+    subst (λ (o : Option Moved). RanClass rows class (watched (whole_of engine cursors) before) seen told.reply
     (watched (whole_of engine (settled o cursors)) after) seen)
-    (sym none) (watched_ran rows command engine engine cursors before after seen told.reply watching stays
-    (subst (λ (r : Reply). Watching (watched (whole_of engine cursors) before) command r after) (sym is) puts))
+    (sym none) (watched_ran rows class engine engine cursors before after seen told.reply watching stays
+    (subst (λ (r : Reply). Watching (watched (whole_of engine cursors) before) class r after) (sym is) puts))
 
--- what is done to the state, with all that is kept
-pub ran_plain : {E : Type 0} (r : Result Reply E) (rows : PolicyRows) (command : Command) (old new : Engine)
+-- a change of the state, in terms of everything that is kept
+pub ran_plain : {E : Type 0} (r : Result Reply E) (rows : PolicyRows) (command : StateCommand) (old new : Engine)
     (before after : Seen) (cursors : Cursors) (watches : Watches)
-    → is_pacing command ≡ false → is_watching command ≡ false → IsOneChange old.keyring new.keyring →
-    OnOk r (IsTurnedBy command old.views old.turns new.views new.turns)
+    → IsOneChange old.keyring new.keyring →
+    OnOk r (IsTurnedBy (OfState command) old.views old.turns new.views new.turns)
     → IfOk r (λ reply. Did rows command (state_of old) before reply (state_of new) after)
-    → IfOk r (λ reply. Ran rows (Some command) (watched (whole_of old cursors) watches) before reply
+    → IfOk r (λ reply. RanClass rows (OfState command) (watched (whole_of old cursors) watches) before reply
     (watched (whole_of new cursors) watches) after)
-ran_plain (Err e) rows command old new before after cursors watches plain still counted turned did = tt
-ran_plain (Ok reply) rows command old new before after cursors watches plain still counted turned did = record {
+ran_plain (Err e) rows command old new before after cursors watches counted turned did = tt
+ran_plain (Ok reply) rows command old new before after cursors watches counted turned did = record {
   given = did.given;
   answers = record {
     does = did.answers;
     counted = counted_by old new cursors cursors counted;
     turned = turned;
-    paces = paces_plain (watched (whole_of old cursors) watches) command reply plain;
-    watching = watching_plain (watched (whole_of old cursors) watches) command reply still;
+    paces = refl;
+    watching = refl;
   };
   served = did.served;
   cause = did.cause;
 }
 
 module _ {E : Type 0} where
-  pub ran_told : (r : Result Reply E) (t : Result Told E) (rows : PolicyRows) (command : Command) (old new : Engine)
+  pub ran_told : (r : Result Reply E) (t : Result Told E) (rows : PolicyRows) (command : StateCommand) (old new : Engine)
       (before after : Seen) (cursors : Cursors) (watches : Watches)
-      → IfOk r (λ reply. t ≡ Ok (record { reply = reply; moved = None })) → is_ok t ≡ is_ok r →
-      is_pacing command ≡ false → is_watching command ≡ false
-      → IsOneChange old.keyring new.keyring → OnOk r (IsTurnedBy command old.views old.turns new.views new.turns)
+      → IfOk r (λ reply. t ≡ Ok (record { reply = reply; moved = None })) → is_ok t ≡ is_ok r
+      → IsOneChange old.keyring new.keyring → OnOk r (IsTurnedBy (OfState command) old.views old.turns new.views new.turns)
       → IfOk r (λ reply. Did rows command (state_of old) before reply (state_of new) after)
-      → IfOk t (λ (told : Told). Ran rows (Some command) (watched (whole_of old cursors) watches) before told.reply
+      → IfOk t (λ (told : Told). RanClass rows (OfState command) (watched (whole_of old cursors) watches) before told.reply
       (watched (whole_of new (settled told.moved cursors)) watches) after)
-  ran_told (Err e) (Err d) rows command old new before after cursors watches is ok plain still counted turned did = tt
-  ran_told (Err e) (Ok told) rows command old new before after cursors watches is ok plain still counted turned did =
+  ran_told (Err e) (Err d) rows command old new before after cursors watches is ok counted turned did = tt
+  ran_told (Err e) (Ok told) rows command old new before after cursors watches is ok counted turned did =
       let never : true ≡ false = ok in absurd cc
-  ran_told (Ok reply) t rows command old new before after cursors watches is ok plain still counted turned did =
-      let ran : Ran rows (Some command) (watched (whole_of old cursors) watches) before reply
+  ran_told (Ok reply) t rows command old new before after cursors watches is ok counted turned did =
+      let ran : RanClass rows (OfState command) (watched (whole_of old cursors) watches) before reply
       (watched (whole_of new cursors) watches) after =
-      ran_plain {E = E} (Ok reply) rows command old new before after cursors watches plain still counted turned did in
-      subst (λ (t : Result Told E). IfOk t (λ (told : Told). Ran rows (Some command)
+      ran_plain {E = E} (Ok reply) rows command old new before after cursors watches counted turned did in
+      subst (λ (t : Result Told E). IfOk t (λ (told : Told). RanClass rows (OfState command)
       (watched (whole_of old cursors) watches) before told.reply
       (watched (whole_of new (settled told.moved cursors)) watches) after)) (sym is) ran
 
--- what holds of a reply, and of its being there, holds of what is told by it
+-- what holds of a result and of its success holds of the reply with its cursor
 pub told_as : {E : Type 0} (r : Result Reply E) (t : Result Told E) (P : Reply → Type 0) →
     IfOk r (λ reply. t ≡ Ok (record { reply = reply; moved = None })) → is_ok t ≡ is_ok r
     → IfOk r P → IfOk t (λ (told : Told). P told.reply)
@@ -253,27 +261,27 @@ ran_told_line told rows command old cursors watches seen r m e =
 
 -- ---- turns
 
-pub few_turns : {T E : Type 0} (r : Result T E) (command : Command) (old new : Engine) →
-    OnOk r (IsTurnedBy command old.views old.turns new.views new.turns)
+pub few_turns : {T E : Type 0} (r : Result T E) (class : Class) (old new : Engine) →
+    OnOk r (IsTurnedBy class old.views old.turns new.views new.turns)
     → OnErr r (StaysButMarks old new) → new.turns.count ≤ old.turns.count + 1
-few_turns (Ok a) command old new turned kept = turned_few command old.views new.views old.turns new.turns turned
-few_turns (Err e) command old new turned kept = same_few old.turns new.turns kept.turns
+few_turns (Ok a) class old new turned kept = turned_few class old.views new.views old.turns new.turns turned
+few_turns (Err e) class old new turned kept = same_few old.turns new.turns kept.turns
 
-pub still_turns : {T E : Type 0} (r : Result T E) (command : Command) (old new : Engine) →
-    OnOk r (IsTurnedBy command old.views old.turns new.views new.turns)
+pub still_turns : {T E : Type 0} (r : Result T E) (class : Class) (old new : Engine) →
+    OnOk r (IsTurnedBy class old.views old.turns new.views new.turns)
     → OnErr r (StaysButMarks old new) → state_of new ≡ state_of old → new.turns ≡ old.turns
-still_turns (Ok a) command old new turned kept same = turned_still command old.views new.views old.turns new.turns
+still_turns (Ok a) class old new turned kept same = turned_still class old.views new.views old.turns new.turns
     (ap (λ (s : State). s.views) same) turned
-still_turns (Err e) command old new turned kept same = kept.turns
+still_turns (Err e) class old new turned kept same = kept.turns
 
 -- ---- entries
 
--- What a read gave, with what a replace behind it would have given, where that is told.
+-- the answer to a read, and what a replace after it would return, if the world is known
 abbrev pub read_alone : Option World → Answer → Served
 read_alone None answer = record { read = answer; fails = false }
 read_alone (Some w) answer = record { read = answer; fails = fails_next (called w) }
 
--- where the answer is known by a fact on it
+-- a property that determines the answer
 pub told_so : (world : Option World) (name : Name) (given : Answer) (P : Answer → Type 0) →
     ((a : Answer) → P a → given ≡ a)
     → IfSome world (λ (w : World). P (read_answer w name)) → IfSome world (λ (w : World). given ≡ read_answer w name)
@@ -297,13 +305,13 @@ read_is : (world : Option World) (answer : Answer) → (read_alone world answer)
 read_is None answer = refl
 read_is (Some w) answer = refl
 
--- an entry was read, and united or not
+-- an entry was read, and merged or not
 pub ran_load : (rows : PolicyRows) (name : Name) (old : State) (before after : Option World) (faults later : ℕ)
     (reply : Reply) (new : State) (answer : Answer)
     → Gives (load rows old name answer) reply new → IfSome before (λ (w : World). answer ≡ read_answer w name) →
     Becomes before called after
     → (is_fault answer ≡ true → Rose faults later)
-    → Did rows (Load name) old (record { world = before; faults = faults }) reply new
+    → Did rows (kinds.Shelf (calls.Load name)) old (record { world = before; faults = faults }) reply new
     (record { world = after; faults = later })
 ran_load rows name old before after faults later reply new answer gives told becomes cause =
     let e : answer ≡ (read_alone before answer).read = sym (read_is before answer) in
@@ -316,9 +324,9 @@ ran_load rows name old before after faults later reply new answer gives told bec
 
 -- ---- storing
 
--- the certificate isn't kept
+-- the certificate doesn't exist
 pub ran_absent : (rows : PolicyRows) (fpr : Fpr) (old : State) (seen : Seen) → cert_in old.held fpr ≡ None →
-    Did rows (Store fpr) old seen replies.Absent old seen
+    Did rows (kinds.Shelf (calls.Store fpr)) old seen replies.Absent old seen
 ran_absent rows fpr old seen none =
     let All : Option Certificate → Type 0 = λ o. WasGiven (if is_some o then Some (Cert fpr) else None) seen.world
     unserved
@@ -337,10 +345,10 @@ pub none_kept : (o : Option Certificate) (fpr : Fpr) → (if is_some o then Some
 none_kept None fpr e = refl
 none_kept (Some c) fpr e = absurd (cc e)
 
--- it is kept
+-- the certificate exists
 pub ran_stored : (rows : PolicyRows) (fpr : Fpr) (kept : Certificate) (old : State) (before : Seen) (reply : Reply)
     (after : Seen) → cert_in old.held fpr ≡ Some kept
-    → Stores fpr kept before reply after → Did rows (Store fpr) old before reply old after
+    → Stores fpr kept before reply after → Did rows (kinds.Shelf (calls.Store fpr)) old before reply old after
 ran_stored rows fpr kept old before reply after is s =
     let All : Option Certificate → Type 0 = λ o. WasGiven (if is_some o then Some (Cert fpr) else None) before.world
     s.given
@@ -362,7 +370,7 @@ rose_later low mid high le less rose h = by (nat_le last_count mid) refl
     by true e = let most : last_count ≤ mid = leb-true last_count mid e in omega (arith, most)
     by false e = let risen : mid < high = rose (leb-false last_count mid e) in omega (arith, risen)
 
--- something was put
+-- something was written
 pub stores_put : (fpr : Fpr) (kept : Certificate) (answer : Answer) (octets : List ℕ) (before mid : Option World)
     (low high : ℕ) (reply : Reply) (after : Seen)
     → writing fpr kept answer ≡ Ok octets → IfSome before (λ (w : World). answer ≡ read_answer w (Cert fpr)) →
@@ -397,7 +405,7 @@ stores_put fpr kept answer octets (Some w) mid low high reply after is told beco
       cause = subst Failed (sym is) (λ f. rose_later low high after.faults le less (p.cause f));
     }
 
--- nothing was put
+-- nothing was written
 pub stores_told : (fpr : Fpr) (kept : Certificate) (answer : Answer) (before after : Option World) (low high : ℕ)
     (reply : Reply)
     → writing fpr kept answer ≡ Err reply → IfSome before (λ (w : World). answer ≡ read_answer w (Cert fpr)) →
@@ -418,7 +426,7 @@ stores_told fpr kept answer before after low high reply is told becomes cause =
       cause = subst Failed (sym is') (subst (λ (a : Answer). is_fault a ≡ true → Rose low high) e cause);
     }
 
--- what was given is the answer
+-- the answer that was returned
 pub given_is : (given : Given) (a : Answer) → given_as.Gives given a → answer_of given ≡ a
 given_is (Bytes bytes) a g = sym g
 given_is Absent a g = sym g
@@ -447,7 +455,7 @@ replied rows line old before new after reply given use_ e step served cause =
       cause = subst Cause (sym e) cause;
     }
 
--- a line that leaves the shelf alone
+-- a line that doesn't use the directory
 pub replied_alone : (rows : PolicyRows) (line : List ℕ) (old : Whole) (seen : Seen) (new : Whole)
     (reply : Option Reply) → use_of (heard line) ≡ unused
     → LineStep rows old line unserved reply new → Replied rows line old seen reply new seen
@@ -455,7 +463,7 @@ replied_alone rows line old seen new reply e step =
     replied rows line old seen new seen reply unserved unused e step (idle old.state seen.world)
     (λ f. absurd (never_failed old.state unused refl f))
 
--- a line that was too long
+-- a line that is too long
 pub replied_long : (rows : PolicyRows) (line : List ℕ) (engine : Engine) (cursors : Cursors) (watches : Watches)
     (seen : Seen) (told : Told) → longest < length line
     → told.reply ≡ replies.Long → told.moved ≡ None
@@ -469,7 +477,7 @@ replied_long rows line engine cursors watches seen told long r m =
     (replied_alone rows line whole seen whole (Some replies.Long) (ap use_of (heard_long line long))
     (too_long rows whole line unserved long)))
 
--- a line that is passed over
+-- a silent line
 pub replied_silent : (rows : PolicyRows) (line : List ℕ) (old : Whole) (seen : Seen) → length line ≤ longest →
     is_silent line ≡ true
     → Replied rows line old seen None old seen
@@ -477,7 +485,7 @@ replied_silent rows line old seen short silent =
     replied_alone rows line old seen old None (ap use_of (heard_silent line silent))
     (passed_over rows old line unserved short silent)
 
--- The octets of the reply were appended, where there is memory.
+-- the octets of the reply were appended, unless memory ran out
 pub stepped : {T E : Type 0} (r : Result T E) (rows : PolicyRows) (line : List ℕ) (old : Whole) (before : Seen)
     (new : Whole) (after : Seen) (had mid has : List ℕ) (reply : Reply)
     → Replied rows line old before (Some reply) new after → mid ≡ had → OnOk r (has ≡ mid ++ reply_text reply) →
@@ -492,7 +500,7 @@ stepped (Ok a) rows line old before new after had mid has reply p same f = recor
 }
 stepped (Err x) rows line old before new after had mid has reply p same f = tt
 
--- A line that is passed over appends nothing.
+-- a silent line appends nothing
 pub passed : (rows : PolicyRows) (line : List ℕ) (old : Whole) (before : Seen) (new : Whole) (after : Seen)
     (had has : List ℕ) → Replied rows line old before None new after
     → has ≡ had → Stepped rows line old before had new after has
@@ -505,7 +513,7 @@ passed rows line old before new after had has p same = record {
   octets = same ∙ sym (append-nil had);
 }
 
--- A reply that was told, and the cursor that moved then.
+-- a reply was written, and then the cursor moved
 module _ {T E : Type 0} where
   pub told_step : (r : Result T E) (rows : PolicyRows) (line : List ℕ) (old : Whole) (before : Seen) (mid : Engine)
       (at : Cursors) (watches : Watches) (new : Engine)
@@ -521,7 +529,7 @@ module _ {T E : Type 0} where
       (subst (λ (x : Whole). Replied rows line old before (Some told.reply) x after)
       (λ i. watched (whole_of (sym e i) (sym s i)) (sym w i)) p) same f
 
--- the same of the reply alone
+-- a reply that moves no cursor was written
 pub told_settled : (rows : PolicyRows) (line : List ℕ) (old : Whole) (before : Seen) (mid : Engine) (at : Cursors)
     (watches : Watches) (new : Engine) (cursors : Cursors)
     (left : Watches) (after : Seen) (told : Told) (reply : Reply) (moved : Option Moved) → told.reply ≡ reply →
@@ -537,7 +545,7 @@ told_settled rows line old before mid at watches new cursors left after told rep
 
 -- ---- watch lines
 
--- The watch lines were told.
+-- the watch lines were reported
 pub tells_of : (engine new : Engine) (cursors after : Cursors) (watches left : Watches) (lines : List Reply) →
     state_of new ≡ state_of engine
     → new.keyring.changes ≡ engine.keyring.changes → new.turns ≡ engine.turns → after ≡ cursors →
@@ -548,7 +556,7 @@ tells_of engine new cursors after watches left lines state changes turns same ar
   left = λ i. record { state = state i; changes = changes i; turns = turns i; cursors = same i; watches = told i };
 }
 
--- The watch lines were appended and told, where there is memory.
+-- the watch lines were appended and reported, unless memory ran out
 pub tells_behind : {T E : Type 0} (r : Result T E) (engine new : Engine) (cursors after : Cursors)
     (watches left : Watches) (lines : List Reply) (had has : List ℕ)
     → state_of new ≡ state_of engine → new.keyring.changes ≡ engine.keyring.changes → new.turns ≡ engine.turns →

@@ -1,4 +1,4 @@
--- Each run has exactly one outcome, where each line has.
+-- Each run has exactly one outcome, if each line has.
 use Rattle.std.proofs.Common.{◌≡◌, ℕ, List, [], ◌∷◌, ◌++◌, Option, refl, sym, ap, subst, ◌∙◌, append_assoc}
 use Rattle.wot_policy.specs.declared.rows.PolicyRows.{PolicyRows}
 use Rattle.wot_script.specs.declared.reply.Reply.{Reply}
@@ -14,7 +14,7 @@ use Rattle.wot_machine.specs.Watching.{Tells}
 use Rattle.wot_machine.specs.Whole.{Whole}
 
 module _ (rows : PolicyRows) (law : OneOutcome rows) where
-  -- watch lines leave the state
+  -- watch lines don't change the state
   told_state : (old : Whole) (told : List Reply) (new : Whole) → Tells old told new → new.state ≡ old.state
   told_state old told new t = ap (λ (w : Whole). w.state) t.left
 
@@ -93,7 +93,7 @@ module _ (rows : PolicyRows) (law : OneOutcome rows) where
 -- ---- prefixes
 
 module _ (rows : PolicyRows) where
-  -- the replies to first lines are a prefix
+  -- the replies to first lines are a prefix of all replies
   pub Run-prefix : (lines more : List (List ℕ)) (old : Scene) (r : List Reply) (m : Scene) →
       Run rows old (lines ++ more) r m → (s : List Reply) × (n : Scene) × (t : List Reply) × Run rows old lines s
       n × (r ≡ s ++ t)

@@ -1,5 +1,4 @@
--- Watches that are settled stay so, line by line, and behind a line that leaves their basis undisturbed nothing is
--- told.
+-- Settled watches stay settled from line to line, and no watch line follows a line that leaves their basis undisturbed.
 use Rattle.std.proofs.Common.{◌≡◌, ◌≢◌, ◌⊎◌, inl, inr, ℕ, ◌≤◌, Bool, true, false, List, [], ◌∷◌, ◌++◌, Option, Some}
 use Rattle.std.proofs.Common.{None}
 use Rattle.std.proofs.Common.{refl, sym, ap, subst, ◌∙◌, arith}
@@ -11,7 +10,6 @@ use Rattle.wot_keyring.specs.Import.{IsOneChange}
 use Rattle.wot_keyring.specs.Keyring.{Keyring}
 use Rattle.wot_policy.specs.declared.rows.PolicyRows.{PolicyRows}
 use Rattle.wot_script.specs.declared.command.Command.{Command}
-use Rattle.wot_script.specs.declared.command.Command.TheVariants.{Close, Root, Time}
 use Rattle.wot_script.specs.declared.reply.Reply.{Reply}
 use Rattle.wot_script.specs.declared.reply.Reply.TheVariants as replies
 use Rattle.wot_cache.specs.declared.view.View.{View}
@@ -23,6 +21,12 @@ use Rattle.wot_cache.specs.State.{Engine, State, StaysButMarks, closing, state_o
 use Rattle.wot_cache.specs.Turns.{AreTurnsBy, Turns, without_turn}
 use Rattle.wot_cache.specs.Views.{Views, view_at}
 use Rattle.wot_watch.specs.Watches.{Watch, Watches, is_full, is_name, watch_at, with_watch, without_watch}
+use Rattle.wot_machine.specs.declared.class.Class.{Class}
+use Rattle.wot_machine.specs.declared.class.Class.TheVariants.{State as OfState}
+use Rattle.wot_machine.specs.declared.class.StateCommand.TheVariants as kinds
+use Rattle.wot_machine.specs.declared.class.ViewChange.{ViewChange}
+use Rattle.wot_machine.specs.declared.class.ViewChange.TheVariants as turns
+use Rattle.wot_machine.specs.Classes.{class_of, view_change_of}
 use Rattle.wot_machine.specs.Served.{Served}
 use Rattle.wot_cursor.specs.Cursors.{Cursors}
 use Rattle.wot_machine.specs.LineStep.{Answers, Does, Gives, Obeys}
@@ -33,11 +37,11 @@ use Rattle.wot_machine.specs.Watching.{AreLines, HasAmount, LeavesWatches, Opens
 use Rattle.wot_machine.specs.Watching.{line_by, opened}
 use Rattle.wot_machine.specs.Whole.{IsCounted, IsTurnedBy, Whole, watched, whole_of}
 use Rattle.wot_machine.proofs.Entries.{all_weaker, all_without}
-use Rattle.wot_machine.proofs.Viewed.{does_views}
+use Rattle.wot_machine.proofs.Viewed.{changes_view, does_views}
 use Rattle.wot_machine.proofs.Watched.{amount_has, plain_watching, watched_cases}
 use Rattle.wot_machine.proofs.Wholes.{turned_still}
 
--- ---- what is settled stays so
+-- ---- what is settled stays settled
 
 pub all_later : RestsOnLater → (old new : Engine) (basis : Basis) (watches : Watches) → IsKeptOn old new
     → AllSettled old basis watches → AllSettled new basis watches
@@ -48,7 +52,7 @@ all_later later old new basis watches on =
       rests = λ some. later old new basis watch.view watch.target watch.wanted watch.uid watch.told on (s.rests some);
     }) watches
 
--- on a basis that was moved on
+-- what is settled is settled on a basis that was moved forward
 pub all_carried : (engine : Engine) (old new : Basis) (watches : Watches) → bases.CarriesOn engine old new
     → AllSettled engine old watches → AllSettled engine new watches
 all_carried engine old new watches carries =
@@ -56,9 +60,9 @@ all_carried engine old new watches carries =
     (λ watch s. record { none = s.none; rests = λ some later on calm. s.rests some later on (carries later on calm) })
     watches
 
--- ---- nothing is told
+-- ---- nothing is reported
 
--- the question of a watch, from the view that is found
+-- a watch's question, from the view that is found
 abbrev OfQ : Engine → Option View → Watch → Type 0
 OfQ engine None watch = Unit {0}
 OfQ engine (Some view) watch =
@@ -84,7 +88,7 @@ quiet_by name told = by (told == told) refl
     by true e = refl
     by false e = absurd (eqb-false told told e refl)
 
--- Where nothing that they rest on was altered, and their views are open, no watch has a line.
+-- If nothing that they depend on was altered and their views are open, no watch has a line.
 pub nothing_told : (engine : Engine) (basis : Basis) (watches : Watches) → IsKeptOn engine engine
     → IsUndisturbed engine basis → AllSettled engine basis watches → AreOpen engine watches
     → AreLines (state_of engine) watches []
@@ -111,7 +115,7 @@ nothing_told engine basis (x ∷ xs) on calm all seen = (
 
 -- ---- a line
 
--- A reply that isn't the amount of a watch leaves the watches, or takes one away.
+-- a reply that isn't a watch's amount leaves the watches, or removes one
 abbrev LeavesOrTakes : Watches → Watches → Type 0
 LeavesOrTakes old new = (new ≡ old) ⊎ ((name : List ℕ) × (new ≡ without_watch old name))
 
@@ -140,17 +144,17 @@ takes_leaves s name reply watches l = by (is_some (watch_at s.watches name)) l
     by true l = inr (name, l.1)
     by false l = inl l.1
 
-watching_leaves : (s : Whole) (command : Command) (reply : Reply) (watches : Watches) → IsNoAmount reply
-    → Watching s command reply watches → LeavesOrTakes s.watches watches
-watching_leaves s command reply watches plain w = by (is_watching command) refl
+watching_leaves : (s : Whole) (class : Class) (reply : Reply) (watches : Watches) → IsNoAmount reply
+    → Watching s class reply watches → LeavesOrTakes s.watches watches
+watching_leaves s class reply watches plain w = by (is_watching class) refl
   where
-    by : (b : Bool) → is_watching command ≡ b → LeavesOrTakes s.watches watches
+    by : (b : Bool) → is_watching class ≡ b → LeavesOrTakes s.watches watches
     by true e =
-        watched_cases (λ (c : Command). Watching s c reply watches → LeavesOrTakes s.watches watches)
+        watched_cases (λ (c : Class). Watching s c reply watches → LeavesOrTakes s.watches watches)
         (λ name view target wanted uid. opens_leaves s name view target wanted uid (view_at s.state.views view) reply
         watches plain)
-        (λ name. takes_leaves s name reply watches) command e w
-    by false e = inl (plain_watching s command reply watches e w)
+        (λ name. takes_leaves s name reply watches) class e w
+    by false e = inl (plain_watching s class reply watches e w)
 
 pub all_left : (engine : Engine) (basis : Basis) (old new : Watches) → LeavesOrTakes old new →
     AllSettled engine basis old
@@ -159,9 +163,9 @@ all_left engine basis old new (inl same) all = subst (AllSettled engine basis) (
 all_left engine basis old new (inr took) all =
     subst (AllSettled engine basis) (sym took.1) (all_without (IsSettled engine basis) (is_name took.0) old all)
 
--- ---- an engine goes on
+-- ---- how an engine develops
 
--- A change after which no fewer certificates are kept takes none out.
+-- a change that doesn't reduce the number of certificates removes none
 abbrev pub ChangedOn : Type 0
 ChangedOn = (old new : Keyring) → IsOneChange old new → length old.certs ≤ length new.certs → IsKeyringOn old new
 
@@ -170,12 +174,12 @@ views_still old new before after same turns =
     let count = ap (λ (t : Turns). t.count) turns in
     record { counted = omega (arith, count); each = λ e name. inl (ap (λ (vs : Views). view_at vs name) same) }
 
--- The counts tell a change.
+-- one of the counts shows a change
 abbrev pub IsCountedOn : Whole → Whole → Type 0
 IsCountedOn old new = (new.changes ≢ old.changes) ⊎ (new.turns.count ≢ old.turns.count)
 
 closed_on : (old new : Whole) (view : List ℕ) (reply : Reply) → Gives (close old.state view) reply new.state
-    → IsCounted old new → IsTurnedBy (Close view) old.state.views old.turns new.state.views new.turns
+    → IsCounted old new → IsTurnedBy (OfState (kinds.View view turns.Close)) old.state.views old.turns new.state.views new.turns
     → (reply ≡ replies.Done → IsCountedOn old new) → AreViewsOn old.state.views old.turns new.state.views new.turns
 closed_on old new view reply g counted turned tells = by (is_some (view_at old.state.views view)) refl g
   where
@@ -199,29 +203,36 @@ closed_on old new view reply g counted turned tells = by (is_some (view_at old.s
     by false e h =
         let same = ap (λ (s : State). s.views) h.1 in
         views_still old.state.views new.state.views old.turns new.turns same
-        (turned_still (Close view) old.state.views new.state.views old.turns new.turns same turned)
+        (turned_still (OfState (kinds.View view turns.Close)) old.state.views new.state.views old.turns new.turns same turned)
 
 module _ (rows : PolicyRows) (on : TurnGoesOn) where
-  does_on : (old new : Whole) (command : Command) (given : Served) (reply : Reply)
-      → Does rows old.state command given reply new.state → IsCounted old new
-      → IsTurnedBy command old.state.views old.turns new.state.views new.turns
+  view_on : (old new : Whole) (view : List ℕ) (change : ViewChange) (reply : Reply)
+      → Gives (view_change_of old.state view change) reply new.state → IsCounted old new
+      → IsTurnedBy (OfState (kinds.View view change)) old.state.views old.turns new.state.views new.turns
       → (reply ≡ replies.Done → IsCountedOn old new) → AreViewsOn old.state.views old.turns new.state.views new.turns
-  does_on old new (Close view) given reply d counted turned tells = closed_on old new view reply d counted turned tells
-  does_on old new (Time view t) given reply d counted turned tells =
+  view_on old new view turns.Close reply d counted turned tells = closed_on old new view reply d counted turned tells
+  view_on old new view (turns.Time t) reply d counted turned tells =
       on view old.state.views new.state.views old.turns new.turns
-      (does_views rows old.state (Time view t) given reply new.state d).others turned
-  does_on old new (Root view fpr amount) given reply d counted turned tells =
+      (changes_view old.state view (turns.Time t) reply new.state d).others turned
+  view_on old new view (turns.Root fpr amount) reply d counted turned tells =
       on view old.state.views new.state.views old.turns new.turns
-      (does_views rows old.state (Root view fpr amount) given reply new.state d).others turned
-  does_on old new command given reply d counted turned tells =
-      views_still old.state.views new.state.views old.turns new.turns
-      (does_views rows old.state command given reply new.state d) turned
+      (changes_view old.state view (turns.Root fpr amount) reply new.state d).others turned
 
-  -- What a line left, by its reply and the counts, goes on from what was there.
-  pub obeys_on : (old new : Whole) (command : Command) (given : Served) (reply : Reply)
-      → Obeys rows old command given reply new → (reply ≡ replies.Done → IsCountedOn old new)
+  does_on : (old new : Whole) (class : Class) (given : Served) (reply : Reply)
+      → Does rows old.state class given reply new.state → IsCounted old new
+      → IsTurnedBy class old.state.views old.turns new.state.views new.turns
+      → (reply ≡ replies.Done → IsCountedOn old new) → AreViewsOn old.state.views old.turns new.state.views new.turns
+  does_on old new (OfState (kinds.View view change)) given reply d counted turned tells =
+      view_on old new view change reply d counted turned tells
+  does_on old new class given reply d counted turned tells =
+      views_still old.state.views new.state.views old.turns new.turns
+      (does_views rows old.state class given reply new.state d) turned
+
+  -- the state after a line develops from the one before, by its reply and the counts
+  pub obeys_on : (old new : Whole) (class : Class) (given : Served) (reply : Reply)
+      → Obeys rows old class given reply new → (reply ≡ replies.Done → IsCountedOn old new)
       → AreViewsOn old.state.views old.turns new.state.views new.turns
-  obeys_on old new command given reply o tells = does_on old new command given reply o.does o.counted o.turned tells
+  obeys_on old new class given reply o tells = does_on old new class given reply o.does o.counted o.turned tells
 
   answers_on : (old new : Whole) (command : Option Command) (given : Served) (reply : Reply)
       → Answers rows old command given reply new → (reply ≡ replies.Done → IsCountedOn old new)
@@ -229,15 +240,16 @@ module _ (rows : PolicyRows) (on : TurnGoesOn) where
   answers_on old new None given reply g tells =
       views_still old.state.views new.state.views old.turns new.turns (ap (λ (w : Whole). w.state.views) g.1)
       (ap (λ (w : Whole). w.turns) g.1)
-  answers_on old new (Some command) given reply g tells = obeys_on old new command given reply g tells
+  answers_on old new (Some command) given reply g tells = obeys_on old new (class_of command) given reply g tells
 
   answers_leaves : (old new : Whole) (command : Option Command) (given : Served) (reply : Reply)
       → Answers rows old command given reply new → IsNoAmount reply → LeavesOrTakes old.watches new.watches
   answers_leaves old new None given reply g plain = inl (ap (λ (w : Whole). w.watches) g.1)
-  answers_leaves old new (Some command) given reply g plain = watching_leaves old command reply new.watches plain
+  answers_leaves old new (Some command) given reply g plain = watching_leaves old (class_of command) reply new.watches
+      plain
       g.watching
 
-  -- The line that was answered, and what was settled before it.
+  -- a line was answered, with what was settled before it
   pub settled_behind : RestsOnLater → ChangedOn → (old new : Engine) (cursors after : Cursors) (watches left : Watches)
       (command : Option Command) (given : Served) (reply : Reply) (basis : Option Basis)
       → Answers rows (watched (whole_of old cursors) watches) command given reply (watched (whole_of new after) left)
@@ -257,7 +269,7 @@ module _ (rows : PolicyRows) (on : TurnGoesOn) where
       all_left new basis watches left (answers_leaves was now command given reply a plain)
       (all_later later old new basis watches goes s)
 
-  -- The same, by the counts that were taken before it, of a basis that was kept or not.
+  -- a line was answered, by the counts before it, for a basis that was kept or dropped
   pub settled_told : RestsOnLater → ChangedOn → (old new : Engine) (cursors after : Cursors) (watches left : Watches)
       (command : Option Command) (given : Served) (reply : Reply) (found taken : Option Basis)
       (certificates changes turns : ℕ)
@@ -279,7 +291,7 @@ module _ (rows : PolicyRows) (on : TurnGoesOn) where
       (subst (λ n. (new.keyring.changes ≢ n) ⊎ (new.turns.count ≢ turns)) were (tells done)))
       plain (subst (AreSettled old watches) same s)
 
--- ---- what a question tells
+-- ---- the amount of a question
 
 pub sum_has : (s : State) (o : Option View) (target : Fpr) (wanted : ℕ) (uid : List ℕ) (sum : ℕ) → 1 ≤ wanted
     → is_some o ≡ true → IfSome o (λ (v : View). bases.HasAmount wanted sum (question_in s v target uid))
@@ -288,9 +300,9 @@ sum_has s None target wanted uid sum some seen is = absurd (cc seen)
 sum_has s (Some view) target wanted uid sum some seen is =
     amount_has s (Some view) target wanted uid is.0 sum some refl is.1 is.2
 
--- ---- the loop that gathers watch lines
+-- ---- the loop that collects watch lines
 
--- seen from the engine as it was before marks were made
+-- a watch that is settled after marks were made was settled before
 pub settled_before : RestsOnLater → (old new : Engine) (basis : Basis) (watch : Watch) → IsKeptOn new old →
     IsSettled new basis watch
     → IsSettled old basis watch
@@ -302,7 +314,7 @@ settled_before later old new basis watch on s = record {
 pub stays_back : (old new : Engine) → StaysButMarks old new → StaysButMarks new old
 stays_back old new stays = record { keyring = sym stays.keyring; views = sym stays.views; turns = sym stays.turns }
 
--- The counts of a basis that has grown are those that it had.
+-- a basis that grew has the same counts
 pub present_grown : (engine : Engine) (old new : Basis) → HasGrown old new → bases.IsPresent engine old →
     bases.IsPresent engine new
 present_grown engine old new more p = record { changes = more.changes ∙ p.changes; turns = more.turns ∙ p.turns }
@@ -318,7 +330,7 @@ grown_further old mid new a b = record {
 pub grown_not : (basis : Basis) → HasGrown basis basis
 grown_not basis = record { changes = refl; turns = refl; fprs = λ fpr e. e; whole = λ e. e }
 
--- Whatever more rests on the basis: where the rest is settled on it, and there is no line, all are.
+-- However much the basis grows: if the remaining watches are settled on it and there is no line, all are settled.
 abbrev pub SettlesSoFar : Engine → Basis → Watches → Watches → List Reply → Type 0
 SettlesSoFar engine basis all rest lines =
     lines ≡ [] → (more : Basis) → HasGrown basis more → AllSettled engine more rest → AllSettled engine more all
@@ -338,7 +350,7 @@ settles_still grown engine old new all rest name watch lines f g s none more h o
       others,
     )
 
--- a watch with one
+-- a watch with a line
 pub settles_not : (engine : Engine) (basis : Basis) (all rest : Watches) (said : Reply) (lines : List Reply)
     → SettlesSoFar engine basis all rest (lines ++ said ∷ [])
 settles_not engine basis all rest said [] none = absurd (cc none)
@@ -352,7 +364,7 @@ settles_all engine basis all rest lines f end none =
 
 -- ---- telling
 
--- Where no watch has a line nothing is told.
+-- if no watch has a line, nothing is reported
 pub tells_nothing : (whole : Whole) (had : List ℕ) → AreLines whole.state whole.watches [] →
     TellsBehind whole had whole had
 tells_nothing whole had none = record {

@@ -12,7 +12,7 @@ pub each_short : (q : Question) (earlier paths : List Path) → EachNext q earli
 each_short q earlier [] each = tt
 each_short q earlier (path ∷ paths) each = (each.0.steps.0.0.few, each_short q (earlier ++ path ∷ []) paths each.1)
 
--- the same of an answer from a view that is open
+-- the paths of an answer from an open view have at most 255 steps
 pub answer_short : (o : Option View) (q : View → Question) (wanted : ℕ) (paths : List Path) → is_some o ≡ true →
     IfSome o (λ (v : View). IsAnswer (q v) wanted paths) → AllByRecursion (λ (p : Path). length p.steps ≤ 255) paths
 answer_short None q wanted paths some answer = absurd cc

@@ -30,6 +30,7 @@ use Rattle.wot_cache.specs.declared.view.View.{View}
 use Rattle.wot_cache.specs.Question.{question_in}
 use Rattle.wot_cache.specs.State.{State}
 use Rattle.wot_cache.specs.Views.{view_at}
+use Rattle.wot_machine.specs.Classes.{class_of}
 use Rattle.wot_machine.specs.Answer.{Asks, path_lines, step_line, told, uid_at, uid_in}
 use Rattle.wot_machine.specs.Law.{OneOutcome}
 use Rattle.wot_machine.specs.LineStep.{Does, LineStep}
@@ -46,7 +47,7 @@ module _ (rows : PolicyRows) (forgets : (c : Certificate) → judged rows (unmar
   forgotten None = refl
   forgotten (Some c) = ap (λ (x : Certificate). Some x) (forgets c)
 
-  -- Where each mark is the one that the rows give, what is held under a fingerprint is known without its marks.
+  -- If the marks are those that the rows give, a certificate without its marks determines the held one.
   anew_at : (held : Held) → judged_by rows held ≡ held → (fpr : Fpr) →
       option_map (judged rows) (option_map unmarked (cert_in held fpr)) ≡ cert_in held fpr
   anew_at held p fpr =
@@ -57,7 +58,7 @@ module _ (rows : PolicyRows) (forgets : (c : Certificate) → judged rows (unmar
       HoldAlike one other fpr → cert_in one fpr ≡ cert_in other fpr
   same_at one other p q fpr a = sym (anew_at one p fpr) ∙ ap (option_map (judged rows)) a.same ∙ anew_at other q fpr
 
--- ---- what the laws of the layers below say
+-- ---- the laws of the layers below
 
 pub record Laws : Type 0 where
   pub answers : DoSlicesAnswer
@@ -68,9 +69,9 @@ pub record Laws : Type 0 where
   pub lawful : (certs : Certificates) (verdicts : Entries) (t : ℕ) (u : List ℕ) → AreOwn certs →
       IsRecord (record_of certs verdicts t u)
 
--- ---- one question
+-- ---- a question in two states
 
--- Two states that hold the same certificates, with their marks, at a slice and at the target.
+-- two states that hold the same certificates, with marks, at a slice and at the target
 pub record Both (view : View) (target : Fpr) (one other : State) : Type 0 where
   pub set : List Fpr
   pub shares : SharesSlice view target one.held other.held set
@@ -175,8 +176,8 @@ module _ (laws : Laws) (rows : PolicyRows) (forgets : (c : Certificate) → judg
           (laws.lawful one.held.certs one.held.verdicts view.time uid own) wanted reply a
 
   pub does_same : AreOwn one.held.certs → (wanted : ℕ) (uid : List ℕ) (given told : Served) (reply : Reply)
-      (new : State) → Does rows one (Ask name target wanted uid) given reply new
-      → Does rows other (Ask name target wanted uid) told reply other
+      (new : State) → Does rows one (class_of (Ask name target wanted uid)) given reply new
+      → Does rows other (class_of (Ask name target wanted uid)) told reply other
   does_same own wanted uid given told reply new does = (asks_same own wanted uid reply does.0, refl)
 
 pub replied_same : Laws → (rows : PolicyRows) → OneOutcome rows →

@@ -1,6 +1,5 @@
--- Where a reply says that something is stale, its two numbers differ; and only commands of watches are replied the
--- amount
--- of a watch.
+-- If a reply says that something is stale, its two numbers differ; and only commands of watches reply with a watch's
+-- amount.
 use Rattle.std.proofs.Common.{◌≡◌, ℕ, Bool, true, false, cond, List, [], Option, Some, None, Result, Ok, Err, refl, sym}
 use Rattle.std.proofs.Common.{subst}
 use Rattle.std.specs.Prelude.{IfErr, MatchBool, ◌==◌, is_some, nat_le}
@@ -8,12 +7,9 @@ use Rattle.wot_types.specs.declared.fpr.Fpr.{Fpr}
 use Rattle.wot_types.specs.declared.limits.Limit.TheVariants as words
 use Rattle.wot_types.specs.declared.name.Name.{Name}
 use Rattle.wot_types.specs.declared.name.Name.TheVariants as names
-use Rattle.wot_types.specs.declared.number.SigNumber.{SigNumber}
 use Rattle.wot_types.specs.Limits.{standard_limits}
 use Rattle.wot_policy.specs.declared.rows.PolicyRows.{PolicyRows}
 use Rattle.wot_verdict.specs.Verdicts.{verdict_at}
-use Rattle.wot_verdict.specs.declared.verdict.Verdict.{Verdict}
-use Rattle.wot_verdict.specs.declared.verdict.Verdict.TheVariants as verdicts
 use Rattle.wot_edge.specs.Answer.{amount_of}
 use Rattle.wot_edge.specs.Path.{Question}
 use Rattle.wot_edge.specs.declared.path.Path.{Path}
@@ -31,11 +27,6 @@ use Rattle.wot_keyring.specs.Verdict.{is_over}
 use Rattle.wot_keyring.specs.Entry.{entry_in}
 use Rattle.wot_watch.specs.Watches as watching
 use Rattle.wot_watch.specs.Watches.{Watches, watch_at, with_watch, without_watch}
-use Rattle.wot_script.specs.declared.command.Command.{Command}
-use Rattle.wot_script.specs.declared.command.Command.TheVariants.{Import, Load, Store, Remove, Good, Bad, Unjudge}
-use Rattle.wot_script.specs.declared.command.Command.TheVariants.{Time, Root, WatchOn, WatchOff}
-use Rattle.wot_script.specs.declared.command.Command.TheVariants.{Close, Ask, Explain, Pending, Keys, Export, Dump}
-use Rattle.wot_script.specs.declared.command.Command.TheVariants.{Absence, Check, CursorOver, CursorNext, CursorClose}
 use Rattle.wot_script.specs.declared.reply.ClaimLine.{ClaimLine}
 use Rattle.wot_script.specs.declared.reply.LabelLine.{LabelLine}
 use Rattle.wot_script.specs.declared.reply.Reply.{Reply}
@@ -54,18 +45,32 @@ use Rattle.wot_cursor.specs.declared.stamps.Age.TheVariants as ages
 use Rattle.wot_explain.specs.declared.explained.Explained.{Explained}
 use Rattle.wot_explain.specs.Explaining.{explanation}
 use Rattle.wot_explain.specs.Piece.{piece_of}
+use Rattle.wot_machine.specs.declared.class.Class.{Class}
+use Rattle.wot_machine.specs.declared.class.Class.TheVariants.{State as OfState, Cursor as OfCursor, Watch as OfWatch}
+use Rattle.wot_machine.specs.declared.class.StateCommand.{StateCommand}
+use Rattle.wot_machine.specs.declared.class.StateCommand.TheVariants as kinds
+use Rattle.wot_machine.specs.declared.class.Change.{Change}
+use Rattle.wot_machine.specs.declared.class.Change.TheVariants as changes
+use Rattle.wot_machine.specs.declared.class.ViewChange.{ViewChange}
+use Rattle.wot_machine.specs.declared.class.ViewChange.TheVariants as turns
+use Rattle.wot_machine.specs.declared.class.ViewQuestion.{ViewQuestion}
+use Rattle.wot_machine.specs.declared.class.ViewQuestion.TheVariants as questions
+use Rattle.wot_machine.specs.declared.class.Read.{Read}
+use Rattle.wot_machine.specs.declared.class.Read.TheVariants as reads
+use Rattle.wot_machine.specs.declared.class.ShelfCall.{ShelfCall}
+use Rattle.wot_machine.specs.declared.class.ShelfCall.TheVariants as calls
+use Rattle.wot_machine.specs.Classes.{AnswersQuestion, call_of, change_of, reading, view_change_of}
 use Rattle.wot_machine.specs.Absent.{Checks, Misses, TellsAbsence, verdict_on}
 use Rattle.wot_machine.specs.Answer.{Asks}
 use Rattle.wot_machine.specs.Joined.{DoNumbersDiffer}
-use Rattle.wot_machine.specs.LineStep.{Does, Gives, LineStep, Obeys}
-use Rattle.wot_machine.specs.Listing.{Lists, explain, explained, explained_from, pending}
-use Rattle.wot_machine.specs.Outcome.{Outcome, cert_refusal, clear_verdict, close, done, dump, export, exported, import}
-use Rattle.wot_machine.specs.Outcome.{imports, keys, load, only, refusal, remove, root, set_verdict, time, unless}
+use Rattle.wot_machine.specs.LineStep.{DoesTo, Gives, LineStep, Obeys}
+use Rattle.wot_machine.specs.Listing.{Lists, explained, explained_from}
+use Rattle.wot_machine.specs.Outcome.{Outcome, cert_refusal, done, exported, imports, load, only, refusal, unless}
 use Rattle.wot_machine.specs.Outcome.{view_refusal}
 use Rattle.wot_machine.specs.Pacing.{Begins, Ends, GivesPiece, Goes, GoesBy, GoesFrom, Leaves, Paces, behind, is_pacing}
 use Rattle.wot_machine.specs.Pacing.{piece, stamps_in}
 use Rattle.wot_machine.specs.Served.{Served}
-use Rattle.wot_machine.specs.Storing.{store, stored, stored_from, text_unless, united_with, writing}
+use Rattle.wot_machine.specs.Storing.{stored, stored_from, text_unless, united_with, writing}
 use Rattle.wot_machine.specs.Watching.{LeavesWatches, Opens, TakesOff, Watching, is_watching, opened}
 use Rattle.wot_machine.specs.Whole.{Whole}
 use Rattle.wot_machine.specs.Worth.{amount_in}
@@ -165,13 +170,6 @@ export_told (Some c) = tt
 given : (outcome : Outcome) (reply : Reply) (new : State) → D outcome.reply → Gives outcome reply new → D reply
 given outcome reply new d g = subst D (sym g.0) d
 
-set_told : (s : State) (number : SigNumber) (v : Verdict) (reply : Reply) (new : State)
-    → Gives (set_verdict s number v) reply new → D reply
-set_told s number v reply new =
-    given (set_verdict s number v) reply new
-    (either (is_over standard_limits s.held.verdicts number) (only s (replies.Full words.Verdicts))
-    (done (with_held s (verdict_set number v s.held))) tt tt)
-
 -- ---- questions
 
 asks_told : (s : State) (view : Option View) (target : Fpr) (wanted : ℕ) (uid : List ℕ) (reply : Reply)
@@ -204,55 +202,56 @@ checks_told : (s : State) (view : Option View) (target : Fpr) (claims : List Cla
 checks_told s None target claims labels uid reply c = subst D (sym c) tt
 checks_told s (Some view) target claims labels uid reply c = subst D (sym c.2) (verdict_told claims c.0)
 
--- ---- commands that aren't of cursors
+-- ---- commands that leave cursors and watches
 
-does_told : (rows : PolicyRows) (s : State) (command : Command) (answer : Served) (reply : Reply) (new : State)
-    → is_pacing command ≡ false → is_watching command ≡ false
-    → Does rows s command answer reply new → D reply
-does_told rows s (Import octets) answer reply new plain still g =
-    given (import rows s octets) reply new
-    (imports_told rows s octets (answer_to rows standard_limits s.held.certs octets)) g
-does_told rows s (Load name) answer reply new plain still g = given (load rows s name answer.read) reply new
-    (load_told rows s name answer.read) g
-does_told rows s (Store fpr) answer reply new plain still g = given (store s fpr answer) reply new
-    (store_told (cert_in s.held fpr) fpr answer) g
-does_told rows s (Remove fpr) answer reply new plain still g =
-    given (remove s fpr) reply new (either (is_some (cert_in s.held fpr)) (done (with_held s (removing fpr s.held)))
-    (only s replies.Absent) tt tt) g
-does_told rows s (Good number fpr) answer reply new plain still g = set_told s number (verdicts.Good fpr) reply new g
-does_told rows s (Bad number) answer reply new plain still g = set_told s number verdicts.Bad reply new g
-does_told rows s (Unjudge number) answer reply new plain still g =
-    given (clear_verdict s number) reply new
-    (either (is_some (verdict_at s.held.verdicts number)) (done (with_held s (verdict_cleared number s.held)))
-    (only s replies.Absent) tt tt) g
-does_told rows s (Time view t) answer reply new plain still g =
-    given (time s view t) reply new (unless_told s (timing view t s) (time_fault standard_limits s.views view)) g
-does_told rows s (Root view fpr amount) answer reply new plain still g =
-    given (root s view fpr amount) reply new
-    (unless_told s (rooting view fpr amount s) (root_fault standard_limits (view_at s.views view) fpr amount)) g
-does_told rows s (Close view) answer reply new plain still g =
-    given (close s view) reply new (either (is_some (view_at s.views view)) (done (closing view s))
-    (only s replies.View) tt tt) g
-does_told rows s (Ask view target wanted uid) answer reply new plain still g =
-    asks_told s (view_at s.views view) target wanted uid reply g.0
-does_told rows s (Command.List view wanted) answer reply new plain still g =
-    lists_told s (view_at s.views view) wanted reply g.0
-does_told rows s (Absence view target wanted uid) answer reply new plain still g =
-    misses_told s (view_at s.views view) target wanted uid reply g.0
-does_told rows s (Check view target claims labels uid) answer reply new plain still g =
-    checks_told s (view_at s.views view) target claims labels uid reply g.0
-does_told rows s (Explain view fpr uid) answer reply new plain still g =
-    given (explain s view fpr uid) reply new (explain_told s (view_at s.views view) fpr uid) g
-does_told rows s Pending answer reply new plain still g = given (pending s) reply new tt g
-does_told rows s Keys answer reply new plain still g = given (keys s) reply new tt g
-does_told rows s (Export fpr) answer reply new plain still g =
-    given (export s fpr) reply new (export_told (cert_in s.held fpr)) g
-does_told rows s Dump answer reply new plain still g = given (dump s) reply new tt g
-does_told rows s (CursorOver cursor view wanted) answer reply new plain still g = absurd (cc plain)
-does_told rows s (CursorNext cursor count) answer reply new plain still g = absurd (cc plain)
-does_told rows s (CursorClose cursor) answer reply new plain still g = absurd (cc plain)
-does_told rows s (WatchOn watch view target wanted uid) answer reply new plain still g = absurd (cc still)
-does_told rows s (WatchOff watch) answer reply new plain still g = absurd (cc still)
+change_told : (rows : PolicyRows) (s : State) (change : Change) → D (change_of rows s change).reply
+change_told rows s (changes.Import octets) =
+    imports_told rows s octets (answer_to rows standard_limits s.held.certs octets)
+change_told rows s (changes.Remove fpr) =
+    either (is_some (cert_in s.held fpr)) (done (with_held s (removing fpr s.held))) (only s replies.Absent) tt tt
+change_told rows s (changes.Judge number v) =
+    either (is_over standard_limits s.held.verdicts number) (only s (replies.Full words.Verdicts))
+    (done (with_held s (verdict_set number v s.held))) tt tt
+change_told rows s (changes.Unjudge number) =
+    either (is_some (verdict_at s.held.verdicts number)) (done (with_held s (verdict_cleared number s.held)))
+    (only s replies.Absent) tt tt
+
+view_change_told : (s : State) (view : List ℕ) (change : ViewChange) → D (view_change_of s view change).reply
+view_change_told s view (turns.Time t) = unless_told s (timing view t s) (time_fault standard_limits s.views view)
+view_change_told s view (turns.Root fpr amount) =
+    unless_told s (rooting view fpr amount s) (root_fault standard_limits (view_at s.views view) fpr amount)
+view_change_told s view turns.Close =
+    either (is_some (view_at s.views view)) (done (closing view s)) (only s replies.View) tt tt
+
+question_told : (s : State) (view : Option View) (question : ViewQuestion) (reply : Reply) →
+    AnswersQuestion s view question reply → D reply
+question_told s view (questions.Ask target wanted uid) reply a = asks_told s view target wanted uid reply a
+question_told s view (questions.List wanted) reply a = lists_told s view wanted reply a
+question_told s view (questions.Explain fpr uid) reply a = subst D (sym a) (explain_told s view fpr uid)
+question_told s view (questions.Absence target wanted uid) reply a = misses_told s view target wanted uid reply a
+question_told s view (questions.Check target claims labels uid) reply a =
+    checks_told s view target claims labels uid reply a
+
+reading_told : (s : State) (what : Read) → D (reading s what)
+reading_told s (reads.Export fpr) = export_told (cert_in s.held fpr)
+reading_told s what = tt
+
+call_told : (rows : PolicyRows) (s : State) (call : ShelfCall) (given : Served) → D (call_of rows s call given).reply
+call_told rows s (calls.Load name) given = load_told rows s name given.read
+call_told rows s (calls.Store fpr) given = store_told (cert_in s.held fpr) fpr given
+
+does_told : (rows : PolicyRows) (s : State) (command : StateCommand) (answer : Served) (reply : Reply) (new : State)
+    → DoesTo rows s command answer reply new → D reply
+does_told rows s (kinds.Change change) answer reply new g =
+    given (change_of rows s change) reply new (change_told rows s change) g
+does_told rows s (kinds.View view change) answer reply new g =
+    given (view_change_of s view change) reply new (view_change_told s view change) g
+does_told rows s (kinds.Question view question) answer reply new g =
+    question_told s (view_at s.views view) question reply g.0
+does_told rows s (kinds.Read what) answer reply new g =
+    given (only s (reading s what)) reply new (reading_told s what) g
+does_told rows s (kinds.Shelf call) answer reply new g =
+    given (call_of rows s call answer) reply new (call_told rows s call answer) g
 
 -- ---- cursors
 
@@ -306,13 +305,13 @@ ends_told s name reply cursors l =
     cursors tt)
     (left replies.NoCursor reply s.cursors cursors tt) l
 
-paces_told : (s : Whole) (command : Command) (reply : Reply) (cursors : Cursors) → is_pacing command ≡ true
-    → Paces s command reply cursors → D reply
-paces_told s command reply cursors e p =
-    paced_cases (λ (c : Command). Paces s c reply cursors → D reply)
+paces_told : (s : Whole) (class : Class) (reply : Reply) (cursors : Cursors) → is_pacing class ≡ true
+    → Paces s class reply cursors → D reply
+paces_told s class reply cursors e p =
+    paced_cases (λ (c : Class). Paces s c reply cursors → D reply)
     (λ name view wanted. begins_told s name view wanted (view_at s.state.views view) reply cursors)
     (λ name count. goes_told s name count (cursor_at s.cursors name) reply cursors)
-    (λ name. ends_told s name reply cursors) command e p
+    (λ name. ends_told s name reply cursors) class e p
 
 -- ---- watches
 
@@ -341,38 +340,38 @@ off_told s name reply watches l =
     (watched_left replies.Done reply (without_watch s.watches name) watches tt)
     (watched_left replies.NoWatch reply s.watches watches tt) l
 
-watching_told : (s : Whole) (command : Command) (reply : Reply) (watches : Watches) → is_watching command ≡ true
-    → Watching s command reply watches → E reply
-watching_told s command reply watches e p =
-    watched_cases (λ (c : Command). Watching s c reply watches → E reply)
+watching_told : (s : Whole) (class : Class) (reply : Reply) (watches : Watches) → is_watching class ≡ true
+    → Watching s class reply watches → E reply
+watching_told s class reply watches e p =
+    watched_cases (λ (c : Class). Watching s c reply watches → E reply)
     (λ name view target wanted uid. opens_told s name view target wanted uid (view_at s.state.views view) reply watches)
-    (λ name. off_told s name reply watches) command e p
+    (λ name. off_told s name reply watches) class e p
 
 -- ---- lines
 
-unwatched_told : (rows : PolicyRows) (old : Whole) (command : Command) (answer : Served) (reply : Reply) (new : Whole)
-    → is_watching command ≡ false → Obeys rows old command answer reply new → D reply
-unwatched_told rows old command answer reply new f o = by (is_pacing command) refl
-  where
-    by : (b : Bool) → is_pacing command ≡ b → D reply
-    by true e = paces_told old command reply new.cursors e o.paces
-    by false e = does_told rows old.state command answer reply new.state e f o.does
+unwatched_told : (rows : PolicyRows) (old : Whole) (class : Class) (answer : Served) (reply : Reply) (new : Whole)
+    → is_watching class ≡ false → Obeys rows old class answer reply new → D reply
+unwatched_told rows old (OfState command) answer reply new f o =
+    does_told rows old.state command answer reply new.state o.does
+unwatched_told rows old (OfCursor name command) answer reply new f o =
+    paces_told old (OfCursor name command) reply new.cursors refl o.paces
+unwatched_told rows old (OfWatch name command) answer reply new f o = absurd (cc f)
 
-obeys_told : (rows : PolicyRows) (old : Whole) (command : Command) (answer : Served) (reply : Reply) (new : Whole)
-    → Obeys rows old command answer reply new → E reply
-obeys_told rows old command answer reply new o = by (is_watching command) refl
+obeys_told : (rows : PolicyRows) (old : Whole) (class : Class) (answer : Served) (reply : Reply) (new : Whole)
+    → Obeys rows old class answer reply new → E reply
+obeys_told rows old class answer reply new o = by (is_watching class) refl
   where
-    by : (b : Bool) → is_watching command ≡ b → E reply
-    by true e = watching_told old command reply new.watches e o.watching
-    by false e = differ reply (unwatched_told rows old command answer reply new e o)
+    by : (b : Bool) → is_watching class ≡ b → E reply
+    by true e = watching_told old class reply new.watches e o.watching
+    by false e = differ reply (unwatched_told rows old class answer reply new e o)
 
 pub numbers_differ : (rows : PolicyRows) (old : Whole) (line : List ℕ) (answer : Served) (reply : Reply) (new : Whole)
     → LineStep rows old line answer (Some reply) new → DoNumbersDiffer reply
 numbers_differ rows old line answer reply new step =
-    told_by rows E tt tt old line answer reply new (λ command o. obeys_told rows old command answer reply new o) step
+    told_by rows E tt tt old line answer reply new (λ class o. obeys_told rows old class answer reply new o) step
 
-pub untold : (rows : PolicyRows) (old : Whole) (command : Command) (answer : Served) (reply : Reply) (new : Whole)
-    → is_watching command ≡ false → Obeys rows old command answer reply new → (name : List ℕ) →
+pub untold : (rows : PolicyRows) (old : Whole) (class : Class) (answer : Served) (reply : Reply) (new : Whole)
+    → is_watching class ≡ false → Obeys rows old class answer reply new → (name : List ℕ) →
     amount_in name reply ≡ []
-untold rows old command answer reply new f o name =
-    no_amount name reply (unwatched_told rows old command answer reply new f o)
+untold rows old class answer reply new f o name =
+    no_amount name reply (unwatched_told rows old class answer reply new f o)

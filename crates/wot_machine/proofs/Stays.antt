@@ -12,7 +12,6 @@ use Rattle.wot_types.specs.Limits.{standard_limits}
 use Rattle.wot_policy.specs.declared.rows.PolicyRows.{PolicyRows}
 use Rattle.wot_verdict.specs.Verdicts.{verdict_at, with_verdict}
 use Rattle.wot_verdict.specs.declared.verdict.Verdict.{Verdict}
-use Rattle.wot_verdict.specs.declared.verdict.Verdict.TheVariants as verdicts
 use Rattle.wot_cert.specs.Certificate.{Certificate}
 use Rattle.wot_keyring.specs.declared.import.Imported.{Imported}
 use Rattle.wot_keyring.specs.declared.refusal.Refusal.{Refusal}
@@ -21,10 +20,6 @@ use Rattle.wot_keyring.specs.Held.{cert_in, is_said, verdict_set, removing, verd
 use Rattle.wot_keyring.specs.Import.{answer_to, answer_under, is_entry, spelled_in, with_certs}
 use Rattle.wot_keyring.specs.Verdict.{is_over}
 use Rattle.wot_script.specs.declared.command.Command.{Command}
-use Rattle.wot_script.specs.declared.command.Command.TheVariants.{Import, Load, Store, Remove, Good, Bad, Unjudge, Time}
-use Rattle.wot_script.specs.declared.command.Command.TheVariants.{Root, Close, Ask, Explain, Pending, Keys, Export}
-use Rattle.wot_script.specs.declared.command.Command.TheVariants.{Dump, Absence, Check, CursorOver, CursorNext}
-use Rattle.wot_script.specs.declared.command.Command.TheVariants.{CursorClose, WatchOn, WatchOff}
 use Rattle.wot_script.specs.declared.reply.Reply.{Reply}
 use Rattle.wot_script.specs.declared.reply.Reply.TheVariants as replies
 use Rattle.wot_script.specs.Grammar.{command_of}
@@ -32,19 +27,26 @@ use Rattle.wot_cache.specs.declared.view.ViewFault.{ViewFault}
 use Rattle.wot_certd.specs.World.{Answer}
 use Rattle.wot_cache.specs.State.{State, with_held, rooting, timing, closing}
 use Rattle.wot_cache.specs.Views.{view_at, time_fault, root_fault}
+use Rattle.wot_machine.specs.declared.class.Class.{Class}
+use Rattle.wot_machine.specs.declared.class.Class.TheVariants.{State as OfState, Cursor as OfCursor, Watch as OfWatch}
+use Rattle.wot_machine.specs.declared.class.StateCommand.TheVariants as kinds
+use Rattle.wot_machine.specs.declared.class.Change.{Change}
+use Rattle.wot_machine.specs.declared.class.Change.TheVariants as changes
+use Rattle.wot_machine.specs.declared.class.ViewChange.{ViewChange}
+use Rattle.wot_machine.specs.declared.class.ViewChange.TheVariants as turns
+use Rattle.wot_machine.specs.declared.class.ShelfCall.{ShelfCall}
+use Rattle.wot_machine.specs.declared.class.ShelfCall.TheVariants as calls
+use Rattle.wot_machine.specs.Classes.{call_of, change_of, class_of, reading, view_change_of}
 use Rattle.wot_machine.specs.Lines.{heard, is_silent, longest}
-use Rattle.wot_machine.specs.Outcome.{Outcome, only, done, imports, load, remove, set_verdict, clear_verdict, time}
-use Rattle.wot_machine.specs.Outcome.{root, close, unless, keys, export, dump, import}
-use Rattle.wot_machine.specs.Listing.{explain, pending}
+use Rattle.wot_machine.specs.Outcome.{Outcome, only, done, imports, load, unless}
 use Rattle.wot_machine.specs.Entry.{use_of}
 use Rattle.wot_machine.specs.LineStep.{LineStep, HasReply, Answers, Does, Gives, Stays}
 use Rattle.wot_machine.specs.Scene.{Scene, served_in}
 use Rattle.wot_machine.specs.Served.{Served}
-use Rattle.wot_machine.specs.Storing.{store}
 use Rattle.wot_machine.specs.Whole.{Whole}
 use Rattle.wot_machine.specs.Transcript.{Run}
 
--- what is true of all entries is true of those that are left
+-- what holds of all entries holds of those that are left
 pub all_without : (Q : Fpr × Certificate → Type 0) (test : Fpr → Bool) (certs : Certificates) → AllByRecursion Q certs →
     AllByRecursion Q (remove_entry test certs)
 all_without Q test [] all = tt
@@ -94,52 +96,43 @@ module _
         by true = p
         by false = p
 
-    set_verdict_stays : (s : State) (number : SigNumber) (v : Verdict) (r : Reply) (m : State) → Holds s →
-        Gives (set_verdict s number v) r m → Holds m
-    set_verdict_stays s number v r m p =
-        given (set_verdict s number v) r m
-        (either (is_over standard_limits s.held.verdicts number) (only s (replies.Full words.Verdicts))
-        (done (with_held s (verdict_set number v s.held))) p (verdict_set_stays s number v p))
+    change_stays : (s : State) (change : Change) → Holds s → Holds (change_of rows s change).state
+    change_stays s (changes.Import octets) p =
+        imports_stays s octets (answer_to rows standard_limits s.held.certs octets) p
+    change_stays s (changes.Remove fpr) p =
+        either (is_some (cert_in s.held fpr)) (done (with_held s (removing fpr s.held))) (only s replies.Absent)
+        (removed fpr s.held.certs p) p
+    change_stays s (changes.Judge number v) p =
+        either (is_over standard_limits s.held.verdicts number) (only s (replies.Full words.Verdicts))
+        (done (with_held s (verdict_set number v s.held))) p (verdict_set_stays s number v p)
+    change_stays s (changes.Unjudge number) p =
+        either (is_some (verdict_at s.held.verdicts number)) (done (with_held s (verdict_cleared number s.held)))
+        (only s replies.Absent) p p
 
-    does_stays : (old : State) (command : Command) (answer : Served) (r : Reply) (m : State) → Holds old →
-        Does rows old command answer r m → Holds m
-    does_stays old (Import octets) answer r m p =
-        given (import rows old octets) r m
-        (imports_stays old octets (answer_to rows standard_limits old.held.certs octets) p)
-    does_stays old (Load name) answer r m p = given (load rows old name answer.read) r m
-        (load_stays old name answer.read p)
-    does_stays old (Store fpr) answer r m p = given (store old fpr answer) r m p
-    does_stays old (Remove fpr) answer r m p =
-        given (remove old fpr) r m (either (is_some (cert_in old.held fpr))
-        (done (with_held old (removing fpr old.held))) (only old replies.Absent) (removed fpr old.held.certs p) p)
-    does_stays old (Good number fpr) answer r m p = set_verdict_stays old number (verdicts.Good fpr) r m p
-    does_stays old (Bad number) answer r m p = set_verdict_stays old number verdicts.Bad r m p
-    does_stays old (Unjudge number) answer r m p =
-        given (clear_verdict old number) r m (either (is_some (verdict_at old.held.verdicts number))
-        (done (with_held old (verdict_cleared number old.held))) (only old replies.Absent) p p)
-    does_stays old (Time view t) answer r m p =
-        given (time old view t) r m (unless_stays old (timing view t old) (time_fault standard_limits old.views view) p
-        p)
-    does_stays old (Root view fpr amount) answer r m p =
-        given (root old view fpr amount) r m (unless_stays old (rooting view fpr amount old)
-        (root_fault standard_limits (view_at old.views view) fpr amount) p p)
-    does_stays old (Close view) answer r m p =
-        given (close old view) r m (either (is_some (view_at old.views view)) (done (closing view old))
-        (only old replies.View) p p)
-    does_stays old (Ask view target wanted uid) answer r m p = λ g. subst Holds (sym g.1) p
-    does_stays old (Command.List view wanted) answer r m p = λ g. subst Holds (sym g.1) p
-    does_stays old (Absence view target wanted uid) answer r m p = λ g. subst Holds (sym g.1) p
-    does_stays old (Check view target claims labels uid) answer r m p = λ g. subst Holds (sym g.1) p
-    does_stays old (Explain view fpr uid) answer r m p = given (explain old view fpr uid) r m p
-    does_stays old Pending answer r m p = given (pending old) r m p
-    does_stays old Keys answer r m p = given (keys old) r m p
-    does_stays old (Export fpr) answer r m p = given (export old fpr) r m p
-    does_stays old Dump answer r m p = given (dump old) r m p
-    does_stays old (CursorOver cursor view wanted) answer r m p = λ g. subst Holds (sym g) p
-    does_stays old (CursorNext cursor count) answer r m p = λ g. subst Holds (sym g) p
-    does_stays old (CursorClose cursor) answer r m p = λ g. subst Holds (sym g) p
-    does_stays old (WatchOn watch view target wanted uid) answer r m p = λ g. subst Holds (sym g) p
-    does_stays old (WatchOff watch) answer r m p = λ g. subst Holds (sym g) p
+    view_stays : (s : State) (view : List ℕ) (change : ViewChange) → Holds s →
+        Holds (view_change_of s view change).state
+    view_stays s view (turns.Time t) p = unless_stays s (timing view t s) (time_fault standard_limits s.views view) p p
+    view_stays s view (turns.Root fpr amount) p =
+        unless_stays s (rooting view fpr amount s) (root_fault standard_limits (view_at s.views view) fpr amount) p p
+    view_stays s view turns.Close p =
+        either (is_some (view_at s.views view)) (done (closing view s)) (only s replies.View) p p
+
+    call_stays : (s : State) (call : ShelfCall) (answer : Served) → Holds s → Holds (call_of rows s call answer).state
+    call_stays s (calls.Load name) answer p = load_stays s name answer.read p
+    call_stays s (calls.Store fpr) answer p = p
+
+    does_stays : (old : State) (class : Class) (answer : Served) (r : Reply) (m : State) → Holds old →
+        Does rows old class answer r m → Holds m
+    does_stays old (OfState (kinds.Change change)) answer r m p =
+        given (change_of rows old change) r m (change_stays old change p)
+    does_stays old (OfState (kinds.View view change)) answer r m p =
+        given (view_change_of old view change) r m (view_stays old view change p)
+    does_stays old (OfState (kinds.Question view question)) answer r m p = λ g. subst Holds (sym g.1) p
+    does_stays old (OfState (kinds.Read what)) answer r m p = given (only old (reading old what)) r m p
+    does_stays old (OfState (kinds.Shelf call)) answer r m p =
+        given (call_of rows old call answer) r m (call_stays old call answer p)
+    does_stays old (OfCursor name command) answer r m p = λ g. subst Holds (sym g) p
+    does_stays old (OfWatch name command) answer r m p = λ g. subst Holds (sym g) p
 
     abbrev KeepsIt : Whole → Type 0
     KeepsIt w = Holds w.state
@@ -147,7 +140,8 @@ module _
     answers_stays : (old : Whole) (command : Option Command) (answer : Served) (r : Reply) (m : Whole) → KeepsIt old →
         Answers rows old command answer r m → KeepsIt m
     answers_stays old None answer r m p g = subst KeepsIt (sym g.1) p
-    answers_stays old (Some command) answer r m p g = does_stays old.state command answer r m.state p g.does
+    answers_stays old (Some command) answer r m p g = does_stays old.state (class_of command) answer r m.state p
+        g.does
 
     replied : (Q : Reply → Whole → Type 0) (reply : Option Reply) (m : Whole) → ((r : Reply) → Q r m → KeepsIt m) →
         HasReply Q reply m → KeepsIt m

@@ -1,4 +1,4 @@
--- The step of a line, by its kind.
+-- The step of a line, depending on what kind of line it is.
 use Rattle.std.proofs.Common.{◌≡◌, ℕ, ◌<◌, ◌≤◌, Bool, true, false, List, length, Some, None, refl, sym, ap, subst, ◌∙◌}
 use Rattle.std.specs.Prelude.{MatchBool, nat_lt, if◌then◌else◌}
 use Rattle.std.proofs.lemmas.Bool.{le-ltb, lt-ltb}
@@ -38,7 +38,7 @@ passed_over rows s line given short silent =
     second (nat_lt longest (length line)) _ _ (le-ltb longest (length line) short)
     (first (is_silent line) _ _ silent (refl, refl))
 
--- ---- which lines are heard
+-- ---- which lines are read as commands
 
 pub heard_long : (line : List ℕ) → longest < length line → heard line ≡ None
 heard_long line long = ap (λ (b : Bool). if b then None else if is_silent line then None else command_of line)

@@ -1,4 +1,4 @@
--- The union that is stored, and the reply where none is.
+-- The merged certificate that is stored, or the reply if nothing is.
 use Rattle.std.proofs.Common.{◌≡◌, ◌≢◌, ℕ, Bool, true, false, List, length, Result, Ok, Err, refl, sym, ap, subst, ◌∙◌}
 use Rattle.std.specs.Prelude.{if◌then◌else◌, nat_lt, IfErr}
 use Rattle.std.specs.Str.{bytes_eq}
@@ -18,7 +18,7 @@ use Rattle.wot_machine.specs.Outcome.{refusal}
 use Rattle.wot_machine.specs.Stored.{TellsCert, TellsUnwritten}
 use Rattle.wot_machine.specs.Storing.{text_unless, united, united_with, unless_great}
 
--- by whether it is too great
+-- depending on whether it is too large
 abbrev unless_so : Bool → Certificate → Result Certificate Refusal
 unless_so great c = if great then Err (refusals.Full limits.Certificate) else Ok c
 

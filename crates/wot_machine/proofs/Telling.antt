@@ -1,4 +1,4 @@
--- What the watch lines of a state are to the watch of one name, and what is left of it once they were told.
+-- What the watch lines of a state say about one watch, and what is left of it after they were reported.
 use Rattle.std.proofs.Common.{◌≡◌, inl, inr, ℕ, Bool, true, false, cond, List, [], ◌∷◌, ◌++◌, Option, Some, None, refl}
 use Rattle.std.proofs.Common.{sym, ap, subst, ◌∙◌}
 use Rattle.std.specs.Prelude.{◌==◌, flat_map, if◌then◌else◌, is_some}
@@ -33,7 +33,7 @@ same_name name other e = (bytes_eq-Decides name other).0 (sym (is_eq-slice_cmp n
 pub is_itself : (name : List ℕ) → is_name name name ≡ true
 is_itself name = ap is_eq (tied_itself nat_list_cmp_total name)
 
--- other names either way
+-- names differ in either order
 pub other_way : (name other : List ℕ) → is_name name other ≡ false → is_name other name ≡ false
 other_way name other e = by (is_name other name) refl
   where
@@ -46,7 +46,7 @@ other_way name other e = by (is_name other name) refl
 abbrev pub AreByName : Watches → Type 0
 AreByName watches = AreInOrder view_name_cmp watches
 
--- ---- what a line does to the watch of a name
+-- ---- what a line does to the named watch
 
 abbrev left_by : List ℕ → Option Watch → Reply → Option Watch
 left_by name found (replies.WatchAmount other amount) =
@@ -132,7 +132,7 @@ one_order told watches r (inr is) =
     subst (λ (l : Reply). AreByName (told_by watches l)) (sym is.1)
     (rising_without view_name_cmp nat_list_cmp_total (is_name is.0) watches r)
 
--- what holds of each watch, whatever was told of it, holds of those that are left
+-- what holds of each watch, whatever its last amount, holds of those that are left
 module _ (P : Watch → Type 0)
     (again : (watch : Watch) (amount : ℕ) → P watch → P (record watch { told = amount })) where
   one_keeps : (told : Reply) (watches : Watches) → AllValues P watches → IsWatchLine told
@@ -171,17 +171,17 @@ all_order (line ∷ lines) watches r all = all_order lines (told_by watches line
 
 -- ---- the lines of a state
 
--- None of these has the name.
+-- none of these has the name
 abbrev pub AreOthers : List ℕ → Watches → Type 0
 AreOthers name watches = AllByRecursion (λ (e : List ℕ × Watch). is_name name e.0 ≡ false) watches
 
--- These lines are the same to the watch of that name.
+-- these lines do the same to the named watch
 abbrev AreSame : List ℕ → List Reply → List Reply → Type 0
 AreSame name lines others =
     ((found : Option Watch) → left_all name found lines ≡ left_all name found others)
     × (amounts_in name lines ≡ amounts_in name others)
 
--- the line of another watch is nothing to it
+-- the line of another watch does nothing to it
 with_other : (name other : List ℕ) (told : ℕ) (amount : Option ℕ) (line : Option Reply) (others : List Reply)
     → is_name name other ≡ false → line ≡ line_by other told amount → AreSame name (with_line line others) others
 with_other name other told amount line others e is =
@@ -209,12 +209,12 @@ nothing_for s (e ∷ watches) lines name all p =
     let rest = nothing_for s watches p.1 name all.1 p.3 in
     subst (λ (ls : List Reply). AreSame name ls []) (sym p.4) (λ found. one.0 found ∙ rest.0 found, one.1 ∙ rest.1)
 
--- the amounts told where it was that one and is now this one
+-- the amount that is reported if the first one was the last reported and the second one is current
 abbrev new_amounts : ℕ → Option ℕ → List ℕ
 new_amounts told None = []
 new_amounts told (Some amount) = if amount == told then [] else amount ∷ []
 
--- what the lines of a state are to a watch that is there
+-- the effect of a state's lines on an existing watch
 record AreLinesOf (s : State) (name : List ℕ) (watch : Watch) (lines : List Reply) : Type 0 where
   amount : Option ℕ
   has : HasAmount s (view_at s.views watch.view) watch.target watch.wanted watch.uid amount
@@ -310,9 +310,10 @@ lines_of s (x ∷ xs) lines name watch r p e = by (lines_of s xs p.1 name watch 
         (other_line s name watch (with_line p.0 p.1) p.1 (with_other name x.0 x.1.told p.2.0 p.0 p.1 h p.2.2)
         (rest g))
 
--- ---- once they were told
+-- ---- after they were reported
 
--- The watch was there, its view is open, and this is its amount of now. That is what was told last, or is told now.
+-- The watch exists, its view is open, and this is its current amount, which was the last one reported or is reported
+-- now.
 pub record WasThere (s : State) (watches : Watches) (lines : List Reply) (name : List ℕ) (watch : Watch) : Type 0 where
   pub was : Watch
   pub there : watch_at watches name ≡ Some was
@@ -354,7 +355,7 @@ was_there s watches lines name watch r all p e =
         let of : AreLinesOf s name was lines = lines_of s watches lines name was r p h in
         at_amount was h of of.amount refl (sym of.left ∙ g)
 
--- ---- the amount last told
+-- ---- the last amount reported
 
 pub last_behind : (name : List ℕ) (told lines : List Reply) (was now : ℕ) → IsLast (amounts_in name told) was
     → amounts_in name lines ≡ (if now == was then [] else now ∷ []) → IsLast (amounts_in name (told ++ lines)) now

@@ -1,4 +1,4 @@
--- What leaves the state leaves the whole engine but for marks.
+-- What leaves the state unchanged leaves the whole engine unchanged except for marks.
 use Rattle.std.proofs.Common.{◌≡◌, inl, inr, ap}
 use Rattle.wot_keyring.specs.Import.{IsOneChange}
 use Rattle.wot_cache.specs.State.{Engine, State, StaysButMarks, state_of}

@@ -1,4 +1,4 @@
--- What lines do to views and their turns: a view that isn't as it was has a later turn, or isn't open.
+-- What lines do to views and their turns: a changed view has a later turn, or isn't open.
 use Rattle.std.proofs.Common.{◌≡◌, ◌⊎◌, inl, inr, ℕ, ◌+◌, ◌<◌, ◌≤◌, Bool, true, false, cond, List, [], Option, Some}
 use Rattle.std.proofs.Common.{None, refl, sym, ap, subst, ◌∙◌, arith, Result, Ok, Err}
 use Rattle.std.specs.Prelude.{is_some}
@@ -15,7 +15,6 @@ use Rattle.wot_types.specs.ViewName.{view_name_cmp}
 use Rattle.wot_policy.specs.declared.rows.PolicyRows.{PolicyRows}
 use Rattle.wot_verdict.specs.Verdicts.{verdict_at}
 use Rattle.wot_verdict.specs.declared.verdict.Verdict.{Verdict}
-use Rattle.wot_verdict.specs.declared.verdict.Verdict.TheVariants as verdicts
 use Rattle.wot_keyring.specs.declared.import.Imported.{Imported}
 use Rattle.wot_keyring.specs.declared.refusal.Refusal.{Refusal}
 use Rattle.wot_keyring.specs.Held.{cert_in, removing, verdict_cleared, verdict_set}
@@ -23,11 +22,6 @@ use Rattle.wot_keyring.specs.Import.{answer_to, answer_under, is_entry}
 use Rattle.wot_keyring.specs.Verdict.{is_over}
 use Rattle.wot_types.specs.declared.limits.Limit.TheVariants as words
 use Rattle.wot_types.specs.declared.name.Name.{Name}
-use Rattle.wot_script.specs.declared.command.Command.{Command}
-use Rattle.wot_script.specs.declared.command.Command.TheVariants.{Import, Load, Store, Remove, Good, Bad, Unjudge}
-use Rattle.wot_script.specs.declared.command.Command.TheVariants.{Time, Root, WatchOn, WatchOff}
-use Rattle.wot_script.specs.declared.command.Command.TheVariants.{Close, Ask, Explain, Pending, Keys, Export, Dump}
-use Rattle.wot_script.specs.declared.command.Command.TheVariants.{Absence, Check, CursorOver, CursorNext, CursorClose}
 use Rattle.wot_script.specs.declared.reply.Reply.{Reply}
 use Rattle.wot_script.specs.declared.reply.Reply.TheVariants as replies
 use Rattle.wot_certd.specs.World.{Answer}
@@ -37,13 +31,20 @@ use Rattle.wot_cache.specs.State.{State, closing, rooting, timing, with_held}
 use Rattle.wot_cache.specs.Turns.{AreTurnsBy, Turns, turn_at, turned, with_turn, without_turn}
 use Rattle.wot_cache.specs.Views.{Views, is_name, root_fault, rooted, time_fault, timed, view_at, with_amount}
 use Rattle.wot_cache.specs.Views.{with_root, with_time, without_view}
+use Rattle.wot_machine.specs.declared.class.Class.{Class}
+use Rattle.wot_machine.specs.declared.class.Class.TheVariants.{State as OfState, Cursor as OfCursor, Watch as OfWatch}
+use Rattle.wot_machine.specs.declared.class.StateCommand.TheVariants as kinds
+use Rattle.wot_machine.specs.declared.class.Change.{Change}
+use Rattle.wot_machine.specs.declared.class.Change.TheVariants as changes
+use Rattle.wot_machine.specs.declared.class.ViewChange.{ViewChange}
+use Rattle.wot_machine.specs.declared.class.ViewChange.TheVariants as alterings
+use Rattle.wot_machine.specs.declared.class.ShelfCall.{ShelfCall}
+use Rattle.wot_machine.specs.declared.class.ShelfCall.TheVariants as calls
+use Rattle.wot_machine.specs.Classes.{call_of, change_of, reading, view_change_of}
 use Rattle.wot_machine.specs.LineStep.{Does, Gives}
 use Rattle.wot_machine.specs.Served.{Served}
-use Rattle.wot_machine.specs.Storing.{store}
-use Rattle.wot_machine.specs.Listing.{explain, pending}
-use Rattle.wot_machine.specs.Outcome.{Outcome, clear_verdict, close, done, dump, export, import, imports, keys, load}
-use Rattle.wot_machine.specs.Outcome.{only, remove, root, set_verdict, time, unless}
-use Rattle.wot_machine.specs.Whole.{AreTurned, Turning, turning_of}
+use Rattle.wot_machine.specs.Outcome.{Outcome, close, done, imports, load, only, set_verdict, unless}
+use Rattle.wot_machine.specs.Whole.{AreTurned, Turning, turning_in, turning_of}
 use Rattle.wot_machine.proofs.Entries.{AllValues, AreInOrder, all_found, all_put, all_set, all_weaker, all_without}
 use Rattle.wot_machine.proofs.Entries.{apart, found_put, found_set, gone_without, other_put, other_set, other_without}
 use Rattle.wot_machine.proofs.Entries.{rising_put, rising_set, rising_without}
@@ -58,7 +59,7 @@ same_name name other e = (bytes_eq-Decides name other).0 (sym (is_eq-slice_cmp n
 abbrev pub AreViewsInOrder : Views → Type 0
 AreViewsInOrder views = AreInOrder view_name_cmp views
 
--- At most this view is another.
+-- at most this view changed
 pub record IsOneView (name : List ℕ) (old new : Views) : Type 0 where
   pub order : AreViewsInOrder old → AreViewsInOrder new
   pub others : (other : List ℕ) → is_name name other ≡ false → view_at new other ≡ view_at old other
@@ -120,7 +121,7 @@ close_view name s = by (is_some (view_at s.views name))
     by true = (drop_view name s.views, λ r. inr (gone_without view_name_cmp nat_list_cmp_total name s.views r))
     by false = (no_view name s.views, λ r. inl refl)
 
--- the other commands leave the views
+-- other commands don't change the views
 abbrev Keeps : State → Outcome → Type 0
 Keeps s outcome = outcome.state.views ≡ s.views
 
@@ -153,49 +154,47 @@ given how s outcome r m v g = subst (λ (x : State). AreViewsBy how s.views x.vi
 same : (s m : State) → m ≡ s → m.views ≡ s.views
 same s m e = ap (λ (x : State). x.views) e
 
-pub does_views : (rows : PolicyRows) (s : State) (command : Command) (answer : Served) (r : Reply) (m : State)
-    → Does rows s command answer r m
-    → AreViewsBy (turning_of command) s.views m.views
-does_views rows s (Import octets) answer r m =
-    given Turning.leaving s (import rows s octets) r m
-    (imports_keeps rows s octets (answer_to rows standard_limits s.held.certs octets))
-does_views rows s (Load name) answer r m = given Turning.leaving s (load rows s name answer.read) r m
-    (load_keeps rows s name answer.read)
-does_views rows s (Store fpr) answer r m = given Turning.leaving s (store s fpr answer) r m refl
-does_views rows s (Remove fpr) answer r m =
-    given Turning.leaving s (remove s fpr) r m (either (is_some (cert_in s.held fpr)) s
-    (done (with_held s (removing fpr s.held))) (only s replies.Absent) refl refl)
-does_views rows s (Good number fpr) answer r m =
-    given Turning.leaving s (set_verdict s number (verdicts.Good fpr)) r m
-    (set_verdict_keeps s number (verdicts.Good fpr))
-does_views rows s (Bad number) answer r m = given Turning.leaving s (set_verdict s number verdicts.Bad) r m
-    (set_verdict_keeps s number verdicts.Bad)
-does_views rows s (Unjudge number) answer r m =
-    given Turning.leaving s (clear_verdict s number) r m
-    (either (is_some (verdict_at s.held.verdicts number)) s (done (with_held s (verdict_cleared number s.held)))
-    (only s replies.Absent) refl refl)
-does_views rows s (Time view t) answer r m =
-    given (Turning.turning view) s (time s view t) r m (unless_view view s (timing view t s)
-    (time_fault standard_limits s.views view) (time_view view t s.views))
-does_views rows s (Root view fpr amount) answer r m =
-    given (Turning.turning view) s (root s view fpr amount) r m
+change_keeps : (rows : PolicyRows) (s : State) (change : Change) → Keeps s (change_of rows s change)
+change_keeps rows s (changes.Import octets) =
+    imports_keeps rows s octets (answer_to rows standard_limits s.held.certs octets)
+change_keeps rows s (changes.Remove fpr) =
+    either (is_some (cert_in s.held fpr)) s (done (with_held s (removing fpr s.held))) (only s replies.Absent) refl refl
+change_keeps rows s (changes.Judge number v) = set_verdict_keeps s number v
+change_keeps rows s (changes.Unjudge number) =
+    either (is_some (verdict_at s.held.verdicts number)) s (done (with_held s (verdict_cleared number s.held)))
+    (only s replies.Absent) refl refl
+
+call_keeps : (rows : PolicyRows) (s : State) (call : ShelfCall) (answer : Served) →
+    Keeps s (call_of rows s call answer)
+call_keeps rows s (calls.Load name) answer = load_keeps rows s name answer.read
+call_keeps rows s (calls.Store fpr) answer = refl
+
+-- a change of a view
+pub changes_view : (s : State) (view : List ℕ) (change : ViewChange) (r : Reply) (m : State)
+    → Gives (view_change_of s view change) r m → AreViewsBy (turning_in view change) s.views m.views
+changes_view s view (alterings.Time t) r m =
+    given (Turning.turning view) s (view_change_of s view (alterings.Time t)) r m
+    (unless_view view s (timing view t s) (time_fault standard_limits s.views view) (time_view view t s.views))
+changes_view s view (alterings.Root fpr amount) r m =
+    given (Turning.turning view) s (view_change_of s view (alterings.Root fpr amount)) r m
     (unless_view view s (rooting view fpr amount s) (root_fault standard_limits (view_at s.views view) fpr amount)
     (root_view view fpr amount s.views))
-does_views rows s (Close view) answer r m = given (Turning.closing view) s (close s view) r m (close_view view s)
-does_views rows s (Ask view target wanted uid) answer r m = λ g. same s m g.1
-does_views rows s (Command.List view wanted) answer r m = λ g. same s m g.1
-does_views rows s (Absence view target wanted uid) answer r m = λ g. same s m g.1
-does_views rows s (Check view target claims labels uid) answer r m = λ g. same s m g.1
-does_views rows s (Explain view fpr uid) answer r m = given Turning.leaving s (explain s view fpr uid) r m refl
-does_views rows s Pending answer r m = given Turning.leaving s (pending s) r m refl
-does_views rows s Keys answer r m = given Turning.leaving s (keys s) r m refl
-does_views rows s (Export fpr) answer r m = given Turning.leaving s (export s fpr) r m refl
-does_views rows s Dump answer r m = given Turning.leaving s (dump s) r m refl
-does_views rows s (CursorOver name view wanted) answer r m = λ g. same s m g
-does_views rows s (CursorNext name count) answer r m = λ g. same s m g
-does_views rows s (CursorClose name) answer r m = λ g. same s m g
-does_views rows s (WatchOn name view target wanted uid) answer r m = λ g. same s m g
-does_views rows s (WatchOff name) answer r m = λ g. same s m g
+changes_view s view alterings.Close r m =
+    given (Turning.closing view) s (view_change_of s view alterings.Close) r m (close_view view s)
+
+pub does_views : (rows : PolicyRows) (s : State) (class : Class) (answer : Served) (r : Reply) (m : State)
+    → Does rows s class answer r m
+    → AreViewsBy (turning_of class) s.views m.views
+does_views rows s (OfState (kinds.Change change)) answer r m =
+    given Turning.leaving s (change_of rows s change) r m (change_keeps rows s change)
+does_views rows s (OfState (kinds.View view change)) answer r m = changes_view s view change r m
+does_views rows s (OfState (kinds.Question view question)) answer r m = λ g. same s m g.1
+does_views rows s (OfState (kinds.Read what)) answer r m =
+    given Turning.leaving s (only s (reading s what)) r m refl
+does_views rows s (OfState (kinds.Shelf call)) answer r m =
+    given Turning.leaving s (call_of rows s call answer) r m (call_keeps rows s call answer)
+does_views rows s (OfCursor name command) answer r m = λ g. same s m g
+does_views rows s (OfWatch name command) answer r m = λ g. same s m g
 
 -- ---- turns
 
@@ -245,9 +244,9 @@ turns_more (Turning.closing name) old before new after p = by_more (without_turn
     (omega arith) p
 turns_more Turning.leaving old before new after p = let same = ap (λ (t : Turns). t.count) p in omega (arith, same)
 
--- ---- a view since some state
+-- ---- a view since an earlier state
 
--- The view is as it was, with its turn; or it isn't open; or its turn came later.
+-- the view and its turn are unchanged, or it isn't open, or its turn is later
 abbrev pub IsShown : List ℕ → Views → Turns → Views → Turns → Type 0
 IsShown view was since now turns =
     ((view_at now view ≡ view_at was view) × (turn_at turns view ≡ turn_at since view))
@@ -307,7 +306,7 @@ module _ (view : List ℕ) (was : Views) (since : Turns) where
           shown_same old before new after (v.0.others view e) (by_others (without_turn name before) name view old before
           new after (other_gone name view before e) t) s
 
--- ---- views and turns that are reached
+-- ---- well-formed views and turns
 
 pub record AreSound (views : Views) (turns : Turns) : Type 0 where
   pub order : AreViewsInOrder views

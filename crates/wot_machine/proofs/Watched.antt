@@ -1,4 +1,4 @@
--- The commands of watches and the watch lines: what they reply has words, and there is one reply.
+-- The commands of watches, and the watch lines: their replies are printable, and each has only one.
 use Rattle.std.proofs.Common.{◌≡◌, inl, inr, ℕ, ◌≤◌, ◌==◌, Bool, true, false, List, [], ◌∷◌, ◌++◌, Option, Some, None}
 use Rattle.std.proofs.Common.{refl, sym, ap, subst, ◌∙◌, append_assoc, arith, length}
 use Rattle.std.specs.Prelude.{IfSome, MatchBool, if◌then◌else◌, is_some}
@@ -16,11 +16,6 @@ use Rattle.wot_edge.specs.Record.{IsRecord}
 use Rattle.wot_keyring.specs.Keyring.{Certificates}
 use Rattle.wot_network.specs.Told.{record_of}
 use Rattle.wot_policy.specs.declared.rows.PolicyRows.{PolicyRows}
-use Rattle.wot_script.specs.declared.command.Command.{Command}
-use Rattle.wot_script.specs.declared.command.Command.TheVariants.{Import, Load, Store, Remove, Good, Bad, Unjudge, Time}
-use Rattle.wot_script.specs.declared.command.Command.TheVariants.{Root, Close, Ask, Explain, Absence, Check, Pending}
-use Rattle.wot_script.specs.declared.command.Command.TheVariants.{Keys, Export, Dump, CursorOver, CursorNext}
-use Rattle.wot_script.specs.declared.command.Command.TheVariants.{CursorClose, WatchOn, WatchOff}
 use Rattle.wot_script.specs.declared.reply.Reply.{Reply}
 use Rattle.wot_script.specs.declared.reply.Reply.TheVariants as replies
 use Rattle.wot_script.specs.Replies.{HasWords, reply_text}
@@ -31,7 +26,10 @@ use Rattle.wot_cache.specs.State.{IsState, State}
 use Rattle.wot_cache.specs.Turns.{Turns}
 use Rattle.wot_cache.specs.Views.{Views, view_at}
 use Rattle.wot_watch.specs.Watches.{Watch, Watches, is_full, watch_at, with_watch, without_watch}
-use Rattle.wot_machine.specs.Entry.{unused, use_of}
+use Rattle.wot_machine.specs.declared.class.Class.{Class}
+use Rattle.wot_machine.specs.declared.class.Class.TheVariants.{State as OfState, Cursor as OfCursor, Watch as OfWatch}
+use Rattle.wot_machine.specs.declared.class.WatchCommand.TheVariants as commands
+use Rattle.wot_machine.specs.Entry.{unused, use_by}
 use Rattle.wot_machine.specs.Law.{is_refused}
 use Rattle.wot_machine.specs.LineStep.{Does}
 use Rattle.wot_machine.specs.Pacing.{is_pacing}
@@ -42,112 +40,71 @@ use Rattle.wot_machine.specs.Watching.{Opens, TakesOff, Tells, Watching, is_watc
 use Rattle.wot_machine.specs.Watching.{told_by, with_line}
 use Rattle.wot_machine.specs.Whole.{IsTurnedBy, Whole}
 
--- ---- commands that aren't of watches
+-- ---- other commands
 
--- What holds of each command of a watch.
-pub watched_cases : (P : Command → Type 0) → ((name view : List ℕ) (target : Fpr) (wanted : ℕ) (uid : List ℕ) →
-    P (WatchOn name view target wanted uid))
-    → ((name : List ℕ) → P (WatchOff name)) → (command : Command) → is_watching command ≡ true → P command
-watched_cases P on off (WatchOn name view target wanted uid) e = on name view target wanted uid
-watched_cases P on off (WatchOff name) e = off name
-watched_cases P on off (Import octets) e = absurd (cc e)
-watched_cases P on off (Load name) e = absurd (cc e)
-watched_cases P on off (Store fpr) e = absurd (cc e)
-watched_cases P on off (Remove fpr) e = absurd (cc e)
-watched_cases P on off (Good number fpr) e = absurd (cc e)
-watched_cases P on off (Bad number) e = absurd (cc e)
-watched_cases P on off (Unjudge number) e = absurd (cc e)
-watched_cases P on off (Time view t) e = absurd (cc e)
-watched_cases P on off (Root view fpr amount) e = absurd (cc e)
-watched_cases P on off (Close view) e = absurd (cc e)
-watched_cases P on off (Ask view target wanted uid) e = absurd (cc e)
-watched_cases P on off (Command.List view wanted) e = absurd (cc e)
-watched_cases P on off (Explain view fpr uid) e = absurd (cc e)
-watched_cases P on off (Absence view target wanted uid) e = absurd (cc e)
-watched_cases P on off (Check view target claims labels uid) e = absurd (cc e)
-watched_cases P on off Pending e = absurd (cc e)
-watched_cases P on off Keys e = absurd (cc e)
-watched_cases P on off (Export fpr) e = absurd (cc e)
-watched_cases P on off Dump e = absurd (cc e)
-watched_cases P on off (CursorOver name view wanted) e = absurd (cc e)
-watched_cases P on off (CursorNext name count) e = absurd (cc e)
-watched_cases P on off (CursorClose name) e = absurd (cc e)
+-- a claim that holds of each command of a watch
+pub watched_cases : (P : Class → Type 0) → ((name view : List ℕ) (target : Fpr) (wanted : ℕ) (uid : List ℕ) →
+    P (OfWatch name (commands.On view target wanted uid)))
+    → ((name : List ℕ) → P (OfWatch name commands.Off)) → (class : Class) → is_watching class ≡ true → P class
+watched_cases P on off (OfWatch name (commands.On view target wanted uid)) e = on name view target wanted uid
+watched_cases P on off (OfWatch name commands.Off) e = off name
+watched_cases P on off (OfState done) e = absurd (cc e)
+watched_cases P on off (OfCursor name done) e = absurd (cc e)
 
 -- the other commands leave the watches
-unwatched_is : (s : Whole) (command : Command) (reply : Reply) (watches : Watches) → is_watching command ≡ false →
-    Watching s command reply watches ≡ (watches ≡ s.watches)
-unwatched_is s (Import octets) reply watches e = refl
-unwatched_is s (Load name) reply watches e = refl
-unwatched_is s (Store fpr) reply watches e = refl
-unwatched_is s (Remove fpr) reply watches e = refl
-unwatched_is s (Good number fpr) reply watches e = refl
-unwatched_is s (Bad number) reply watches e = refl
-unwatched_is s (Unjudge number) reply watches e = refl
-unwatched_is s (Time view t) reply watches e = refl
-unwatched_is s (Root view fpr amount) reply watches e = refl
-unwatched_is s (Close view) reply watches e = refl
-unwatched_is s (Ask view target wanted uid) reply watches e = refl
-unwatched_is s (Command.List view wanted) reply watches e = refl
-unwatched_is s (Explain view fpr uid) reply watches e = refl
-unwatched_is s (Absence view target wanted uid) reply watches e = refl
-unwatched_is s (Check view target claims labels uid) reply watches e = refl
-unwatched_is s Pending reply watches e = refl
-unwatched_is s Keys reply watches e = refl
-unwatched_is s (Export fpr) reply watches e = refl
-unwatched_is s Dump reply watches e = refl
-unwatched_is s (CursorOver name view wanted) reply watches e = refl
-unwatched_is s (CursorNext name count) reply watches e = refl
-unwatched_is s (CursorClose name) reply watches e = refl
-unwatched_is s (WatchOn name view target wanted uid) reply watches e = absurd (cc e)
-unwatched_is s (WatchOff name) reply watches e = absurd (cc e)
+unwatched_is : (s : Whole) (class : Class) (reply : Reply) (watches : Watches) → is_watching class ≡ false →
+    Watching s class reply watches ≡ (watches ≡ s.watches)
+unwatched_is s (OfState done) reply watches e = refl
+unwatched_is s (OfCursor name done) reply watches e = refl
+unwatched_is s (OfWatch name done) reply watches e = absurd (cc e)
 
-pub watching_plain : (s : Whole) (command : Command) (reply : Reply) → is_watching command ≡ false →
-    Watching s command reply s.watches
-watching_plain s command reply e = subst (λ (P : Type 0). P) (sym (unwatched_is s command reply s.watches e)) refl
+pub watching_plain : (s : Whole) (class : Class) (reply : Reply) → is_watching class ≡ false →
+    Watching s class reply s.watches
+watching_plain s class reply e = subst (λ (P : Type 0). P) (sym (unwatched_is s class reply s.watches e)) refl
 
-pub plain_watching : (s : Whole) (command : Command) (reply : Reply) (watches : Watches) → is_watching command ≡ false →
-    Watching s command reply watches → watches ≡ s.watches
-plain_watching s command reply watches e p = subst (λ (P : Type 0). P) (unwatched_is s command reply watches e) p
+pub plain_watching : (s : Whole) (class : Class) (reply : Reply) (watches : Watches) → is_watching class ≡ false →
+    Watching s class reply watches → watches ≡ s.watches
+plain_watching s class reply watches e p = subst (λ (P : Type 0). P) (unwatched_is s class reply watches e) p
 
--- ---- they leave the state, the cursors, the turns and the shelf
+-- ---- commands of watches don't change the state, the cursors, the turns and the certificate directory
 
--- A command of a cursor is none of a watch, and the other way round.
-pub watched_unpaced : (command : Command) → is_watching command ≡ true → is_pacing command ≡ false
-watched_unpaced command e = watched_cases (λ (c : Command). is_pacing c ≡ false) (λ name view target wanted uid. refl)
-    (λ name. refl) command e
+-- no command is both of a cursor and of a watch
+pub watched_unpaced : (class : Class) → is_watching class ≡ true → is_pacing class ≡ false
+watched_unpaced class e = watched_cases (λ (c : Class). is_pacing c ≡ false) (λ name view target wanted uid. refl)
+    (λ name. refl) class e
 
-pub paced_unwatched : (command : Command) → is_pacing command ≡ true → is_watching command ≡ false
-paced_unwatched command e = by (is_watching command) refl
+pub paced_unwatched : (class : Class) → is_pacing class ≡ true → is_watching class ≡ false
+paced_unwatched class e = by (is_watching class) refl
   where
-    by : (b : Bool) → is_watching command ≡ b → is_watching command ≡ false
+    by : (b : Bool) → is_watching class ≡ b → is_watching class ≡ false
     by false w = w
-    by true w = let none = watched_unpaced command w in let never : true ≡ false = sym e ∙ none in absurd cc
+    by true w = let none = watched_unpaced class w in let never : true ≡ false = sym e ∙ none in absurd cc
 
-pub state_watched : (rows : PolicyRows) (old : State) (command : Command) (given : Served) (reply : Reply) →
-    is_watching command ≡ true → Does rows old command given reply old
-state_watched rows old command given reply e =
-    watched_cases (λ (c : Command). Does rows old c given reply old) (λ name view target wanted uid. refl)
-    (λ name. refl) command e
+pub state_watched : (rows : PolicyRows) (old : State) (class : Class) (given : Served) (reply : Reply) →
+    is_watching class ≡ true → Does rows old class given reply old
+state_watched rows old class given reply e =
+    watched_cases (λ (c : Class). Does rows old c given reply old) (λ name view target wanted uid. refl)
+    (λ name. refl) class e
 
-pub watched_state : (rows : PolicyRows) (old : State) (command : Command) (given : Served) (reply : Reply)
-    (new : State) → is_watching command ≡ true
-    → Does rows old command given reply new → new ≡ old
-watched_state rows old command given reply new e d =
-    watched_cases (λ (c : Command). Does rows old c given reply new → new ≡ old) (λ name view target wanted uid p. p)
-    (λ name p. p) command e d
+pub watched_state : (rows : PolicyRows) (old : State) (class : Class) (given : Served) (reply : Reply)
+    (new : State) → is_watching class ≡ true
+    → Does rows old class given reply new → new ≡ old
+watched_state rows old class given reply new e d =
+    watched_cases (λ (c : Class). Does rows old c given reply new → new ≡ old) (λ name view target wanted uid p. p)
+    (λ name p. p) class e d
 
-pub turns_watched : (command : Command) (old new : Views) (before after : Turns) → is_watching command ≡ true →
-    after ≡ before → IsTurnedBy command old before new after
-turns_watched command old new before after e same =
-    watched_cases (λ (c : Command). IsTurnedBy c old before new after) (λ name view target wanted uid. same)
-    (λ name. same) command e
+pub turns_watched : (class : Class) (old new : Views) (before after : Turns) → is_watching class ≡ true →
+    after ≡ before → IsTurnedBy class old before new after
+turns_watched class old new before after e same =
+    watched_cases (λ (c : Class). IsTurnedBy c old before new after) (λ name view target wanted uid. same)
+    (λ name. same) class e
 
-pub uncalled_watched : (command : Command) → is_watching command ≡ true → use_of (Some command) ≡ unused
-uncalled_watched command e =
-    watched_cases (λ (c : Command). use_of (Some c) ≡ unused) (λ name view target wanted uid. refl) (λ name. refl)
-    command e
+pub uncalled_watched : (class : Class) → is_watching class ≡ true → use_by class ≡ unused
+uncalled_watched class e =
+    watched_cases (λ (c : Class). use_by c ≡ unused) (λ name view target wanted uid. refl) (λ name. refl)
+    class e
 
--- ---- words
+-- ---- printable replies
 
 left_worded : (told reply : Reply) (left watches : Watches) → HasWords told → LeavesWatches told left reply watches →
     HasWords reply
@@ -174,19 +131,19 @@ off_worded s name reply watches l =
     (left_worded replies.Done reply (without_watch s.watches name) watches tt)
     (left_worded replies.NoWatch reply s.watches watches tt) l
 
-pub watching_worded : (s : Whole) (command : Command) (reply : Reply) (watches : Watches) → is_watching command ≡ true →
-    Watching s command reply watches → HasWords reply
-watching_worded s command reply watches e p =
-    watched_cases (λ (c : Command). Watching s c reply watches → HasWords reply)
+pub watching_worded : (s : Whole) (class : Class) (reply : Reply) (watches : Watches) → is_watching class ≡ true →
+    Watching s class reply watches → HasWords reply
+watching_worded s class reply watches e p =
+    watched_cases (λ (c : Class). Watching s c reply watches → HasWords reply)
     (λ name view target wanted uid. opens_worded s name view target wanted uid (view_at s.state.views view) reply
     watches)
-    (λ name. off_worded s name reply watches) command e p
+    (λ name. off_worded s name reply watches) class e p
 
 pub line_worded : (line : Reply) → IsWatchLine line → HasWords line
 line_worded said (inl is) = subst HasWords (sym is.2) tt
 line_worded said (inr is) = subst HasWords (sym is.1) tt
 
--- ---- a refusal leaves the watches
+-- ---- a refusal doesn't change the watches
 
 refused_not : (told reply : Reply) (P : Type 0) → reply ≡ told → is_refused told ≡ false → is_refused reply ≡ true → P
 refused_not told reply P e not is = let never : false ≡ true = sym not ∙ sym (ap is_refused e) ∙ is in absurd cc
@@ -214,13 +171,13 @@ off_left s name reply watches l e = by (is_some (watch_at s.watches name)) l
     by true l = refused_not replies.Done reply (watches ≡ s.watches) l.0 refl e
     by false l = l.1
 
-pub watching_left : (s : Whole) (command : Command) (reply : Reply) (watches : Watches) → is_watching command ≡ true →
-    Watching s command reply watches
+pub watching_left : (s : Whole) (class : Class) (reply : Reply) (watches : Watches) → is_watching class ≡ true →
+    Watching s class reply watches
     → is_refused reply ≡ true → watches ≡ s.watches
-watching_left s command reply watches e =
-    watched_cases (λ (c : Command). Watching s c reply watches → is_refused reply ≡ true → watches ≡ s.watches)
+watching_left s class reply watches e =
+    watched_cases (λ (c : Class). Watching s c reply watches → is_refused reply ≡ true → watches ≡ s.watches)
     (λ name view target wanted uid. opens_left s name view target wanted uid (view_at s.state.views view) reply watches)
-    (λ name. off_left s name reply watches) command e
+    (λ name. off_left s name reply watches) class e
 
 -- ---- one amount
 
@@ -320,14 +277,14 @@ Tells-some some old =
     let lines = lines_some some old.state old.watches in
     (lines.0, record old { watches = told_all old.watches lines.0 }, record { lines_are = lines.1; left = refl })
 
--- nothing is told where nothing is watched
+-- nothing is reported if there are no watches
 pub tells_nothing : (old : Whole) → old.watches ≡ [] → Tells old [] old
 tells_nothing old none = record {
   lines_are = subst (λ (ws : Watches). AreLines old.state ws []) (sym none) refl;
   left = refl;
 }
 
--- each is a watch line
+-- each of them is a watch line
 line_is : (name : List ℕ) (told : ℕ) (amount : Option ℕ) → IfSome (line_by name told amount) IsWatchLine
 line_is name told None = inr (name, refl)
 line_is name told (Some amount) = by (amount == told)
@@ -413,23 +370,23 @@ off_some s name =
     if_some (is_some (watch_at s.watches name)) (LeavesWatches replies.Done (without_watch s.watches name)) _
     (leaves_some replies.Done (without_watch s.watches name)) (leaves_some replies.NoWatch s.watches)
 
-pub watching_one : AnswerOne → Lawful → (s : Whole) (command : Command) → is_watching command ≡ true → IsState s.state →
-    IsOneOf (Watching s command)
-watching_one one lawful s command e can =
-    watched_cases (λ (c : Command). IsOneOf (Watching s c))
+pub watching_one : AnswerOne → Lawful → (s : Whole) (class : Class) → is_watching class ≡ true → IsState s.state →
+    IsOneOf (Watching s class)
+watching_one one lawful s class e can =
+    watched_cases (λ (c : Class). IsOneOf (Watching s c))
     (λ name view target wanted uid. opens_one one lawful s name view target wanted uid (view_at s.state.views view) can)
-    (λ name. off_one s name) command e
+    (λ name. off_one s name) class e
 
-pub watching_some : AnswerSome → (s : Whole) (command : Command) → is_watching command ≡ true →
-    IsSomeOf (Watching s command)
-watching_some some s command e =
-    watched_cases (λ (c : Command). IsSomeOf (Watching s c))
+pub watching_some : AnswerSome → (s : Whole) (class : Class) → is_watching class ≡ true →
+    IsSomeOf (Watching s class)
+watching_some some s class e =
+    watched_cases (λ (c : Class). IsSomeOf (Watching s c))
     (λ name view target wanted uid. opens_some some s name view target wanted uid (view_at s.state.views view))
-    (λ name. off_some s name) command e
+    (λ name. off_some s name) class e
 
--- ---- the loop that gathers watch lines
+-- ---- the loop that collects watch lines
 
--- Whatever the lines of the rest are, behind these they are the lines of all.
+-- whatever the lines of the remaining watches are, these followed by them are the lines of all
 abbrev pub AreSoFar : State → Watches → Watches → List Reply → Type 0
 AreSoFar s all rest lines = (others : List Reply) → AreLines s rest others → AreLines s all (lines ++ others)
 
@@ -439,7 +396,7 @@ pub so_far_still : (s : State) (all rest : Watches) (name : List ℕ) (watch : W
     → IsLine s name watch None → AreSoFar s all rest lines
 so_far_still s all rest name watch lines f is others p = f others (None, others, is, p, refl)
 
--- a watch with one
+-- a watch with a line
 pub so_far_line : (s : State) (all rest : Watches) (name : List ℕ) (watch : Watch) (line : Reply) (lines : List Reply) →
     AreSoFar s all ((name, watch) ∷ rest) lines
     → IsLine s name watch (Some line) → AreSoFar s all rest (lines ++ line ∷ [])
@@ -447,20 +404,20 @@ so_far_line s all rest name watch line lines f is others p =
     subst (λ (ls : List Reply). AreLines s all ls) (sym (append_assoc lines (line ∷ []) others))
     (f (line ∷ others) (Some line, others, is, p, refl))
 
--- the end
+-- at the end
 pub so_far_all : (s : State) (all rest : Watches) (lines : List Reply) → AreSoFar s all rest lines → rest ≡ [] →
     AreLines s all lines
 so_far_all s all rest lines f none =
     subst (λ (ls : List Reply). AreLines s all ls) (append-nil lines)
     (f [] (subst (λ (ws : Watches). AreLines s ws []) (sym none) refl))
 
--- one more
+-- one more line
 pub all_more : (P : Reply → Type 0) (lines : List Reply) (line : Reply) → AllByRecursion P lines → P line
     → AllByRecursion P (lines ++ line ∷ [])
 all_more P [] said all p = (p, tt)
 all_more P (first ∷ lines) said all p = (all.0, all_more P lines said all.1 p)
 
--- a line that is there is a watch line
+-- a collected line is a watch line
 pub line_is_watch : (s : State) (name : List ℕ) (watch : Watch) (line : Reply) → IsLine s name watch (Some line) →
     IsWatchLine line
 line_is_watch s name watch line is = by (line_by name watch.told is.0) is.2 (line_is name watch.told is.0)
@@ -469,7 +426,7 @@ line_is_watch s name watch line is = by (line_by name watch.told is.0) is.2 (lin
     by None e w = absurd (cc e)
     by (Some other) e w = let same : line ≡ other = same_Some line other e in subst IsWatchLine (sym same) w
 
--- ---- what a question tells a watch
+-- ---- the amount of a question
 
 pub amount_has : (s : State) (o : Option View) (target : Fpr) (wanted : ℕ) (uid : List ℕ) (paths : List Path)
     (sum : ℕ) → 1 ≤ wanted → is_some o ≡ true
@@ -486,7 +443,7 @@ amount_has s (Some view) target wanted uid paths sum some seen answer is = (sum,
 
 -- ---- loops over watch lines
 
--- the first of what is left
+-- the first of the remaining lines
 pub first_is : (P : Reply → Type 0) (line : Reply) (rest others : List Reply) → rest ≡ line ∷ others →
     AllByRecursion P rest → P line × AllByRecursion P others
 first_is P said rest others e all = subst (AllByRecursion P) e all
@@ -504,7 +461,7 @@ pub text_all : (text : List ℕ) (rest all : List Reply) → length rest ≡ 0 �
 text_all text rest all none so = sym (append-nil text) ∙ ap (λ (ls : List Reply). text ++ octets_of ls)
     (sym (nil_from_length rest none)) ∙ so
 
--- the watches once they are told
+-- the watches after they are reported
 pub told_on : (now next first : Watches) (line : Reply) (rest others all : List Reply) →
     told_all now rest ≡ told_all first all → rest ≡ line ∷ others
     → next ≡ told_by now line → told_all next others ≡ told_all first all
@@ -534,7 +491,7 @@ begins_full old name view target wanted uid amount watches full w =
     (LeavesWatches (replies.WatchAmount name amount) (with_watch old name (opened view target wanted uid amount))
     replies.FullWatches watches)) (sym full) (refl, w)
 
--- where the question was answered
+-- if the question was answered
 pub opens_answered : (s : Whole) (name view : List ℕ) (target : Fpr) (wanted : ℕ) (uid : List ℕ) (o : Option View)
     (paths : List Path) (sum : ℕ) (reply : Reply) (watches : Watches)
     → 1 ≤ wanted → is_some o ≡ true → IfSome o (λ there. IsAnswer (question_in s.state there target uid) wanted paths) →
@@ -551,7 +508,7 @@ opens_answered s name view target wanted uid (Some there) paths sum reply watche
     by true e = let none : wanted ≡ 0 = eqb-true wanted 0 e in absurd (omega (arith, none, some))
     by false e = (paths, answer, is)
 
--- where the view isn't open
+-- if the view isn't open
 pub opens_unopened : (s : Whole) (name view : List ℕ) (target : Fpr) (wanted : ℕ) (uid : List ℕ) (o : Option View) →
     o ≡ None
     → Opens s name view target wanted uid o replies.View s.watches

@@ -1,7 +1,6 @@
--- What is counted at a step, and that there is one count.
+-- The counts after a step, and that they are unique.
 use Rattle.std.proofs.Common.{◌≡◌, ◌≢◌, inl, inr, ℕ, ◌+◌, ◌≤◌, List, refl, sym, ap, ◌∙◌, arith}
 use Rattle.std.specs.Prelude.{◌⊎◌}
-use Rattle.wot_script.specs.declared.command.Command.{Command}
 use Rattle.wot_keyring.specs.Held.{Held}
 use Rattle.wot_keyring.specs.Import.{IsOneChange}
 use Rattle.wot_keyring.specs.Keyring.{Keyring}
@@ -9,6 +8,7 @@ use Rattle.wot_cache.specs.State.{Engine, state_of}
 use Rattle.wot_cache.specs.Turns.{AreTurnsBy, Turns, turned, without_turn}
 use Rattle.wot_cache.specs.Views.{Views, view_at}
 use Rattle.wot_cursor.specs.Cursors.{Cursors}
+use Rattle.wot_machine.specs.declared.class.Class.{Class}
 use Rattle.wot_machine.specs.Whole.{AreTurned, IsCounted, IsTurnedBy, Turning, Whole, turning_of, whole_of}
 use Rattle.wot_machine.proofs.Known.{Known, held, views}
 
@@ -21,7 +21,7 @@ counted_one old m n same (inr a) (inr b) = a.1 ∙ sym b.1
 counted_one old m n same (inl a) (inr b) = absurd (b.0 (sym same ∙ a.0))
 counted_one old m n same (inr a) (inl b) = absurd (a.0 (same ∙ b.0))
 
--- the count after a step that leads to this
+-- there is a count after a step to this
 pub counted_some : (old : Whole) (new : Held)
     → (n : ℕ) × (((new ≡ old.state.held) × (n ≡ old.changes)) ⊎ ((new ≢ old.state.held) × (n ≡ old.changes + 1)))
 counted_some old new = by (held new old.state.held)
@@ -31,7 +31,7 @@ counted_some old new = by (held new old.state.held)
     by (inl same) = (old.changes, inl (same, refl))
     by (inr other) = (old.changes + 1, inr (other, refl))
 
--- as the keyring counts
+-- by the keyring's own count
 pub counted_by : (old new : Engine) (cursors after : Cursors) → IsOneChange old.keyring new.keyring →
     IsCounted (whole_of old cursors) (whole_of new after)
 counted_by old new cursors after (inl same) = inl (
@@ -72,9 +72,9 @@ turns_one (Turning.closing view) old m n before a b same p q = by_one (without_t
     same p q
 turns_one Turning.leaving old m n before a b same p q = p ∙ sym q
 
-pub turned_one : (command : Command) (old m n : Views) (before a b : Turns) → m ≡ n →
-    IsTurnedBy command old before m a → IsTurnedBy command old before n b → a ≡ b
-turned_one command old m n before a b same p q = turns_one (turning_of command) old m n before a b same p q
+pub turned_one : (class : Class) (old m n : Views) (before a b : Turns) → m ≡ n →
+    IsTurnedBy class old before m a → IsTurnedBy class old before n b → a ≡ b
+turned_one class old m n before a b same p q = turns_one (turning_of class) old m n before a b same p q
 
 turns_some : (turning : Turning) (old new : Views) (before : Turns) →
     (after : Turns) × AreTurned turning old before new after
@@ -82,9 +82,9 @@ turns_some (Turning.turning view) old new before = by_some (turned view before) 
 turns_some (Turning.closing view) old new before = by_some (without_turn view before) view old new before
 turns_some Turning.leaving old new before = (before, refl)
 
-pub turned_some : (command : Command) (old new : Views) (before : Turns) →
-    (after : Turns) × IsTurnedBy command old before new after
-turned_some command old new before = turns_some (turning_of command) old new before
+pub turned_some : (class : Class) (old new : Views) (before : Turns) →
+    (after : Turns) × IsTurnedBy class old before new after
+turned_some class old new before = turns_some (turning_of class) old new before
 
 turns_still : (turning : Turning) (old new : Views) (before after : Turns) → new ≡ old →
     AreTurned turning old before new after → after ≡ before
@@ -94,12 +94,12 @@ turns_still (Turning.closing view) old new before after same p = by_still (witho
     after same p
 turns_still Turning.leaving old new before after same p = p
 
--- where the views stay the turns stay
-pub turned_still : (command : Command) (old new : Views) (before after : Turns) → new ≡ old →
-    IsTurnedBy command old before new after → after ≡ before
-turned_still command old new before after same p = turns_still (turning_of command) old new before after same p
+-- if the views don't change, the turns don't
+pub turned_still : (class : Class) (old new : Views) (before after : Turns) → new ≡ old →
+    IsTurnedBy class old before new after → after ≡ before
+turned_still class old new before after same p = turns_still (turning_of class) old new before after same p
 
--- there is one turn more at most
+-- at most one more turn
 by_few : (altered : Turns) (name : List ℕ) (old new : Views) (before after : Turns) → altered.count ≤ before.count + 1 →
     AreTurnsBy altered name old before new after
     → after.count ≤ before.count + 1
@@ -118,11 +118,11 @@ turns_few (Turning.closing view) old new before after p = by_few (without_turn v
     (omega arith) p
 turns_few Turning.leaving old new before after p = same_few before after p
 
-pub turned_few : (command : Command) (old new : Views) (before after : Turns) →
-    IsTurnedBy command old before new after → after.count ≤ before.count + 1
-turned_few command old new before after p = turns_few (turning_of command) old new before after p
+pub turned_few : (class : Class) (old new : Views) (before after : Turns) →
+    IsTurnedBy class old before new after → after.count ≤ before.count + 1
+turned_few class old new before after p = turns_few (turning_of class) old new before after p
 
--- ---- all of it
+-- ---- everything that is kept
 
 pub whole_same : (m n : Whole) → m.state ≡ n.state → m.changes ≡ n.changes → m.turns ≡ n.turns → m.cursors ≡ n.cursors →
     m.watches ≡ n.watches → m ≡ n

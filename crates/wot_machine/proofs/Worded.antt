@@ -1,6 +1,6 @@
 -- Each word of an explanation is in its table.
 use Rattle.std.proofs.Common.{ℕ, ◌<◌, Bool, true, false, cond, List, [], ◌∷◌, map, Option, Some, None, Result, Ok, Err}
-use Rattle.std.proofs.Common.{sym, subst, arith, ◌≡◌, refl}
+use Rattle.std.proofs.Common.{sym, subst, arith, refl}
 use Rattle.std.specs.Prelude.{IfErr, filter, is_some, nat_le}
 use Rattle.std.specs.List.{AllByRecursion, slice_get}
 use Rattle.std.specs.Map.{lookup}
@@ -14,7 +14,6 @@ use Rattle.wot_types.specs.Limits.{standard_limits}
 use Rattle.wot_policy.specs.declared.rows.PolicyRows.{PolicyRows}
 use Rattle.wot_verdict.specs.Verdicts.{Entries, verdict_at}
 use Rattle.wot_verdict.specs.declared.verdict.Verdict.{Verdict}
-use Rattle.wot_verdict.specs.declared.verdict.Verdict.TheVariants as verdicts
 use Rattle.wot_cert.specs.declared.fault.CertFault.{CertFault}
 use Rattle.wot_cert.specs.declared.fault.CertFault.TheVariants as certs
 use Rattle.wot_cert.specs.Certificate.{Component, Certificate, Signature}
@@ -33,11 +32,6 @@ use Rattle.wot_standing.specs.declared.status.Standing.{Standing}
 use Rattle.wot_standing.specs.Kinds.{is_certification}
 use Rattle.wot_standing.specs.Own.{is_own_revoked}
 use Rattle.wot_standing.specs.Standing.{own, standing_of}
-use Rattle.wot_script.specs.declared.command.Command.{Command}
-use Rattle.wot_script.specs.declared.command.Command.TheVariants.{Import, Load, Store, Remove, Good, Bad, Unjudge, Time}
-use Rattle.wot_script.specs.declared.command.Command.TheVariants.{Root, Close, Ask, Explain, Pending, Keys, Export}
-use Rattle.wot_script.specs.declared.command.Command.TheVariants.{Dump, Absence, Check, CursorOver, CursorNext}
-use Rattle.wot_script.specs.declared.command.Command.TheVariants.{CursorClose, WatchOn, WatchOff}
 use Rattle.wot_script.specs.declared.reply.ClaimLine.{ClaimLine}
 use Rattle.wot_script.specs.declared.reply.LabelLine.{LabelLine}
 use Rattle.wot_script.specs.declared.reply.Reply.{Reply}
@@ -54,25 +48,37 @@ use Rattle.wot_explain.specs.Explaining.{explained_at, explained_on}
 use Rattle.wot_explain.specs.Reasons.{Reason, issuer_standing, reason_of, reason_words}
 use Rattle.wot_explain.specs.Target.{target_word, target_words}
 use Rattle.wot_explain.specs.Words.{Word, first_word}
+use Rattle.wot_machine.specs.declared.class.Class.{Class}
+use Rattle.wot_machine.specs.declared.class.Class.TheVariants.{State as OfState, Cursor as OfCursor, Watch as OfWatch}
+use Rattle.wot_machine.specs.declared.class.StateCommand.{StateCommand}
+use Rattle.wot_machine.specs.declared.class.StateCommand.TheVariants as kinds
+use Rattle.wot_machine.specs.declared.class.Change.{Change}
+use Rattle.wot_machine.specs.declared.class.Change.TheVariants as changes
+use Rattle.wot_machine.specs.declared.class.ViewChange.{ViewChange}
+use Rattle.wot_machine.specs.declared.class.ViewChange.TheVariants as turns
+use Rattle.wot_machine.specs.declared.class.ViewQuestion.{ViewQuestion}
+use Rattle.wot_machine.specs.declared.class.ViewQuestion.TheVariants as questions
+use Rattle.wot_machine.specs.declared.class.Read.{Read}
+use Rattle.wot_machine.specs.declared.class.Read.TheVariants as reads
+use Rattle.wot_machine.specs.declared.class.ShelfCall.{ShelfCall}
+use Rattle.wot_machine.specs.declared.class.ShelfCall.TheVariants as calls
+use Rattle.wot_machine.specs.Classes.{AnswersQuestion, call_of, change_of, reading, view_change_of}
 use Rattle.wot_machine.specs.Absent.{Checks, Misses}
 use Rattle.wot_machine.specs.Answer.{Asks}
-use Rattle.wot_machine.specs.Listing.{Lists, explain, explained, explained_from, pending, reason_by, reason_line}
-use Rattle.wot_machine.specs.Pacing.{is_pacing}
+use Rattle.wot_machine.specs.Listing.{Lists, explained, explained_from, reason_by, reason_line}
 use Rattle.wot_machine.specs.Whole.{Whole}
-use Rattle.wot_machine.specs.Watching.{is_watching}
 use Rattle.wot_machine.proofs.Paced.{paces_worded}
 use Rattle.wot_machine.proofs.Watched.{watching_worded}
-use Rattle.wot_machine.specs.LineStep.{Obeys, Does, Gives}
-use Rattle.wot_machine.specs.Outcome.{Outcome, cert_refusal, clear_verdict, close, done, dump, export, exported, import}
-use Rattle.wot_machine.specs.Outcome.{imports, keys, load, only, refusal, remove, root, set_verdict, time, unless}
+use Rattle.wot_machine.specs.LineStep.{DoesTo, Gives, Obeys}
+use Rattle.wot_machine.specs.Outcome.{Outcome, cert_refusal, done, exported, imports, load, only, refusal, unless}
 use Rattle.wot_machine.specs.Outcome.{view_refusal}
 use Rattle.wot_machine.specs.Served.{Served}
-use Rattle.wot_machine.specs.Storing.{store, stored, stored_from, text_unless, united_with, writing}
+use Rattle.wot_machine.specs.Storing.{stored, stored_from, text_unless, united_with, writing}
 use Rattle.wot_machine.proofs.Absences.{tells_worded, verdicts_worded}
 
 -- ---- explanations
 
--- the first word that applies is one of the table, or 0
+-- the first word that applies is from the table, or 0
 first_below : (n : ℕ) (words : List Word) → 0 < n → AllByRecursion (λ (word : Word). word.0 < n) words →
     first_word words < n
 first_below n [] zero all = zero
@@ -236,13 +242,6 @@ given : (outcome : Outcome) (reply : Reply) (new : State) → HasWords outcome.r
     HasWords reply
 given outcome reply new h g = subst HasWords (sym g.0) h
 
-set_worded : (s : State) (number : SigNumber) (v : Verdict) (reply : Reply) (new : State) →
-    Gives (set_verdict s number v) reply new → HasWords reply
-set_worded s number v reply new =
-    given (set_verdict s number v) reply new
-    (either (is_over standard_limits s.held.verdicts number) (only s (replies.Full limits.Verdicts))
-    (done (with_held s (verdict_set number v s.held))) tt tt)
-
 ask_worded : (s : State) (view : Option View) (target : Fpr) (wanted : ℕ) (uid : List ℕ) (reply : Reply) →
     Asks s view target wanted uid reply → HasWords reply
 ask_worded s None target wanted uid reply asks = subst HasWords (sym asks) tt
@@ -265,61 +264,63 @@ check_worded s None target claims labels uid reply checks = subst HasWords (sym 
 check_worded s (Some view) target claims labels uid reply checks =
     subst HasWords (sym checks.2) (verdicts_worded claims checks.0)
 
-does_worded : (rows : PolicyRows) (old : State) (command : Command) (answer : Served) (reply : Reply) (new : State) →
-    is_pacing command ≡ false → is_watching command ≡ false
-    → Does rows old command answer reply new → HasWords reply
-does_worded rows old (Import octets) answer reply new plain still g =
-    given (import rows old octets) reply new
-    (imports_worded rows old octets (answer_to rows standard_limits old.held.certs octets)) g
-does_worded rows old (Load name) answer reply new plain still g = given (load rows old name answer.read) reply new
-    (load_worded rows old name answer.read) g
-does_worded rows old (Store fpr) answer reply new plain still g = given (store old fpr answer) reply new
-    (store_worded (cert_in old.held fpr) fpr answer) g
-does_worded rows old (Remove fpr) answer reply new plain still g =
-    given (remove old fpr) reply new (either (is_some (cert_in old.held fpr))
-    (done (with_held old (removing fpr old.held))) (only old replies.Absent) tt tt) g
-does_worded rows old (Good number fpr) answer reply new plain still g =
-    set_worded old number (verdicts.Good fpr) reply new g
-does_worded rows old (Bad number) answer reply new plain still g = set_worded old number verdicts.Bad reply new g
-does_worded rows old (Unjudge number) answer reply new plain still g =
-    given (clear_verdict old number) reply new
-    (either (is_some (verdict_at old.held.verdicts number)) (done (with_held old (verdict_cleared number old.held)))
-    (only old replies.Absent) tt tt) g
-does_worded rows old (Time view t) answer reply new plain still g =
-    given (time old view t) reply new (unless_worded old (timing view t old)
-    (time_fault standard_limits old.views view)) g
-does_worded rows old (Root view fpr amount) answer reply new plain still g =
-    given (root old view fpr amount) reply new (unless_worded old (rooting view fpr amount old)
-    (root_fault standard_limits (view_at old.views view) fpr amount)) g
-does_worded rows old (Close view) answer reply new plain still g =
-    given (close old view) reply new (either (is_some (view_at old.views view)) (done (closing view old))
-    (only old replies.View) tt tt) g
-does_worded rows old (Ask view target wanted uid) answer reply new plain still g =
-    ask_worded old (view_at old.views view) target wanted uid reply g.0
-does_worded rows old (Command.List view wanted) answer reply new plain still g =
-    list_worded old (view_at old.views view) wanted reply g.0
-does_worded rows old (Explain view fpr uid) answer reply new plain still g = given (explain old view fpr uid) reply new
-    (explain_worded old (view_at old.views view) fpr uid) g
-does_worded rows old (Absence view target wanted uid) answer reply new plain still g =
-    absence_worded old (view_at old.views view) target wanted uid reply g.0
-does_worded rows old (Check view target claims labels uid) answer reply new plain still g =
-    check_worded old (view_at old.views view) target claims labels uid reply g.0
-does_worded rows old Pending answer reply new plain still g = given (pending old) reply new tt g
-does_worded rows old Keys answer reply new plain still g = given (keys old) reply new tt g
-does_worded rows old (Export fpr) answer reply new plain still g =
-    given (export old fpr) reply new (export_worded (cert_in old.held fpr)) g
-does_worded rows old Dump answer reply new plain still g = given (dump old) reply new tt g
-does_worded rows old (CursorOver cursor view wanted) answer reply new plain still g = absurd (cc plain)
-does_worded rows old (CursorNext cursor count) answer reply new plain still g = absurd (cc plain)
-does_worded rows old (CursorClose cursor) answer reply new plain still g = absurd (cc plain)
-does_worded rows old (WatchOn watch view target wanted uid) answer reply new plain still g = absurd (cc still)
-does_worded rows old (WatchOff watch) answer reply new plain still g = absurd (cc still)
+change_worded : (rows : PolicyRows) (s : State) (change : Change) → HasWords (change_of rows s change).reply
+change_worded rows s (changes.Import octets) =
+    imports_worded rows s octets (answer_to rows standard_limits s.held.certs octets)
+change_worded rows s (changes.Remove fpr) =
+    either (is_some (cert_in s.held fpr)) (done (with_held s (removing fpr s.held))) (only s replies.Absent) tt tt
+change_worded rows s (changes.Judge number v) =
+    either (is_over standard_limits s.held.verdicts number) (only s (replies.Full limits.Verdicts))
+    (done (with_held s (verdict_set number v s.held))) tt tt
+change_worded rows s (changes.Unjudge number) =
+    either (is_some (verdict_at s.held.verdicts number)) (done (with_held s (verdict_cleared number s.held)))
+    (only s replies.Absent) tt tt
 
-pub obeys_worded : (rows : PolicyRows) (old : Whole) (command : Command) (answer : Served) (reply : Reply)
-    (new : Whole) → Obeys rows old command answer reply new → HasWords reply
-obeys_worded rows old command answer reply new o = by (is_pacing command) refl (is_watching command) refl
-  where
-    by : (b : Bool) → is_pacing command ≡ b → (w : Bool) → is_watching command ≡ w → HasWords reply
-    by true e w f = paces_worded old command reply new.cursors e o.paces
-    by false e true f = watching_worded old command reply new.watches f o.watching
-    by false e false f = does_worded rows old.state command answer reply new.state e f o.does
+view_change_worded : (s : State) (view : List ℕ) (change : ViewChange) → HasWords (view_change_of s view change).reply
+view_change_worded s view (turns.Time t) = unless_worded s (timing view t s) (time_fault standard_limits s.views view)
+view_change_worded s view (turns.Root fpr amount) =
+    unless_worded s (rooting view fpr amount s) (root_fault standard_limits (view_at s.views view) fpr amount)
+view_change_worded s view turns.Close =
+    either (is_some (view_at s.views view)) (done (closing view s)) (only s replies.View) tt tt
+
+question_worded : (s : State) (view : Option View) (question : ViewQuestion) (reply : Reply) →
+    AnswersQuestion s view question reply → HasWords reply
+question_worded s view (questions.Ask target wanted uid) reply a = ask_worded s view target wanted uid reply a
+question_worded s view (questions.List wanted) reply a = list_worded s view wanted reply a
+question_worded s view (questions.Explain fpr uid) reply a =
+    subst HasWords (sym a) (explain_worded s view fpr uid)
+question_worded s view (questions.Absence target wanted uid) reply a =
+    absence_worded s view target wanted uid reply a
+question_worded s view (questions.Check target claims labels uid) reply a =
+    check_worded s view target claims labels uid reply a
+
+reading_worded : (s : State) (what : Read) → HasWords (reading s what)
+reading_worded s (reads.Export fpr) = export_worded (cert_in s.held fpr)
+reading_worded s what = tt
+
+call_worded : (rows : PolicyRows) (s : State) (call : ShelfCall) (given : Served) →
+    HasWords (call_of rows s call given).reply
+call_worded rows s (calls.Load name) given = load_worded rows s name given.read
+call_worded rows s (calls.Store fpr) given = store_worded (cert_in s.held fpr) fpr given
+
+does_worded : (rows : PolicyRows) (old : State) (command : StateCommand) (answer : Served) (reply : Reply)
+    (new : State) → DoesTo rows old command answer reply new → HasWords reply
+does_worded rows old (kinds.Change change) answer reply new g =
+    given (change_of rows old change) reply new (change_worded rows old change) g
+does_worded rows old (kinds.View view change) answer reply new g =
+    given (view_change_of old view change) reply new (view_change_worded old view change) g
+does_worded rows old (kinds.Question view question) answer reply new g =
+    question_worded old (view_at old.views view) question reply g.0
+does_worded rows old (kinds.Read what) answer reply new g =
+    given (only old (reading old what)) reply new (reading_worded old what) g
+does_worded rows old (kinds.Shelf call) answer reply new g =
+    given (call_of rows old call answer) reply new (call_worded rows old call answer) g
+
+pub obeys_worded : (rows : PolicyRows) (old : Whole) (class : Class) (answer : Served) (reply : Reply)
+    (new : Whole) → Obeys rows old class answer reply new → HasWords reply
+obeys_worded rows old (OfState command) answer reply new o =
+    does_worded rows old.state command answer reply new.state o.does
+obeys_worded rows old (OfCursor name command) answer reply new o =
+    paces_worded old (OfCursor name command) reply new.cursors refl o.paces
+obeys_worded rows old (OfWatch name command) answer reply new o =
+    watching_worded old (OfWatch name command) reply new.watches refl o.watching

@@ -1,4 +1,4 @@
--- In every reached state each watch is true: the amount last told of it is the one of now.
+-- In every reached state each watch is true: its last reported amount is the current one.
 use Rattle.std.proofs.Common.{◌≡◌, ℕ, ◌≤◌, Bool, true, false, cond, List, [], ◌∷◌, ◌++◌, length, Option, Some, None}
 use Rattle.std.proofs.Common.{refl, sym, ap, subst, ◌∙◌, append_assoc, arith}
 use Rattle.std.specs.Prelude.{◌==◌, MatchBool, if◌then◌else◌, is_some, nat_lt}
@@ -26,6 +26,9 @@ use Rattle.wot_cache.specs.Question.{question_in}
 use Rattle.wot_cache.specs.State.{IsState, State}
 use Rattle.wot_cache.specs.Views.{view_at}
 use Rattle.wot_watch.specs.Watches.{Watch, Watches, is_full, is_name, watch_at, with_watch, without_watch}
+use Rattle.wot_machine.specs.declared.class.Class.{Class}
+use Rattle.wot_machine.specs.Classes.{IsFit, class_of}
+use Rattle.wot_machine.proofs.Fit.{fit_of}
 use Rattle.wot_machine.specs.Entry.{use_of}
 use Rattle.wot_machine.specs.Lines.{heard, is_silent, longest}
 use Rattle.wot_machine.specs.LineStep.{Answers, HasReply, LineStep, Obeys, Stays}
@@ -49,12 +52,12 @@ use Rattle.wot_machine.proofs.Telling.{same_name, was_there}
 use Rattle.wot_machine.proofs.Watched.{AnswerOne, Lawful, Tells-one, amount_has, lines_are_watch, plain_watching}
 use Rattle.wot_machine.proofs.Watched.{watched_cases}
 
--- ---- what was told so far
+-- ---- what was reported so far
 
 abbrev wants : Watch → Type 0
 wants watch = 1 ≤ watch.wanted
 
--- By all that was told so far the watches have their amounts.
+-- the watches have the amounts that were last reported for them
 record AreTold (told : List Reply) (watches : Watches) : Type 0 where
   order : AreByName watches
   some : AllValues wants watches
@@ -71,7 +74,7 @@ no_more name told reply e =
     ∙ append-nil (amounts_in name told)
 
 module _ (told : List Reply) where
-  -- a reply that tells no amount
+  -- a reply without an amount
   still_told : (watches : Watches) (reply : Reply) → ((name : List ℕ) → amount_in name reply ≡ [])
       → AreTold told watches
       → AreTold (told ++ reply ∷ []) watches
@@ -119,7 +122,7 @@ module _ (told : List Reply) where
           subst (λ (ns : List ℕ). IsLast ns watch.told)
           (sym (no_more other told (replies.WatchAmount name new.told) none)) (t.last other watch was)
 
-  -- a watch that is taken away
+  -- a watch that is removed
   off_told : (watches : Watches) (name : List ℕ) → AreTold told watches → AreTold told (without_watch watches name)
   off_told watches name t = record {
     order = rising_without view_name_cmp nat_list_cmp_total (is_name name) watches t.order;
@@ -185,27 +188,27 @@ module _ (told : List Reply) where
       by false l =
           left_told replies.NoWatch reply s.watches watches l (still_told s.watches replies.NoWatch (λ n. refl) t)
 
-  watching_told : (s : Whole) (command : Command) (reply : Reply) (watches : Watches) → is_watching command ≡ true
-      → HasSpelling command → Watching s command reply watches → AreTold told s.watches
+  watching_told : (s : Whole) (class : Class) (reply : Reply) (watches : Watches) → is_watching class ≡ true
+      → IsFit class → Watching s class reply watches → AreTold told s.watches
       → AreTold (told ++ reply ∷ []) watches
-  watching_told s command reply watches e =
+  watching_told s class reply watches e =
       watched_cases
-      (λ (c : Command). HasSpelling c → Watching s c reply watches → AreTold told s.watches
+      (λ (c : Class). IsFit c → Watching s c reply watches → AreTold told s.watches
       → AreTold (told ++ reply ∷ []) watches)
       (λ name view target wanted uid. opens_told s name view target wanted uid
       (view_at s.state.views view) reply watches)
-      (λ name some. takes_told s name reply watches) command e
+      (λ name some. takes_told s name reply watches) class e
 
   module _ (rows : PolicyRows) (old : Whole) (given : Served) (new : Whole) (t : AreTold told old.watches) where
-    obeys_told : (command : Command) (reply : Reply) → HasSpelling command → Obeys rows old command given reply new
+    obeys_told : (class : Class) (reply : Reply) → IsFit class → Obeys rows old class given reply new
         → AreTold (told ++ reply ∷ []) new.watches
-    obeys_told command reply spelled o = by (is_watching command) refl
+    obeys_told class reply spelled o = by (is_watching class) refl
       where
-        by : (b : Bool) → is_watching command ≡ b → AreTold (told ++ reply ∷ []) new.watches
-        by true e = watching_told old command reply new.watches e spelled o.watching t
+        by : (b : Bool) → is_watching class ≡ b → AreTold (told ++ reply ∷ []) new.watches
+        by true e = watching_told old class reply new.watches e spelled o.watching t
         by false e =
-            subst (AreTold (told ++ reply ∷ [])) (sym (plain_watching old command reply new.watches e o.watching))
-            (still_told old.watches reply (λ name. untold rows old command given reply new e o name) t)
+            subst (AreTold (told ++ reply ∷ [])) (sym (plain_watching old class reply new.watches e o.watching))
+            (still_told old.watches reply (λ name. untold rows old class given reply new e o name) t)
 
     stays_told : (said reply : Reply) → ((name : List ℕ) → amount_in name said ≡ []) → Stays old said reply new
         → AreTold (told ++ reply ∷ []) new.watches
@@ -222,7 +225,8 @@ module _ (told : List Reply) where
             → HasReply (Answers rows old o given) r new → AreTold (told ++ listed r) new.watches
         known o e None g = absurd g
         known None e (Some r) g = stays_told replies.Line r (λ n. refl) g
-        known (Some command) e (Some r) g = obeys_told command r (spelled line command e) g
+        known (Some command) e (Some r) g = obeys_told (class_of command) r
+            (fit_of command (spelled line command e)) g
 
         silent : (b : Bool)
             → MatchBool b ((reply ≡ None) × (new ≡ old)) (HasReply (Answers rows old (command_of line) given) reply new)
@@ -245,7 +249,7 @@ module _ (told : List Reply) where
         long true g = stays reply g
         long false g = silent (is_silent line) g
 
--- ---- the watch lines behind it
+-- ---- the watch lines after it
 
 amount_is : (s : State) (o : Option View) (was : Watch) (amount : ℕ) → wants was
     → HasAmount s o was.target was.wanted was.uid (Some amount) → IsAmountOf s o (record was { told = amount }) amount
@@ -261,7 +265,7 @@ amount_is s (Some view) was amount some h = by (was.wanted == 0) refl h.1
     by true e is = let none : was.wanted ≡ 0 = eqb-true was.wanted 0 e in absurd (omega (arith, none, some))
     by false e is = (is.0, is.1, same_Some amount h.0 h.2 ∙ is.2)
 
--- all that is so of a reached state, by what was told so far
+-- what holds of a reached state, by everything reported so far
 record IsTold (told : List Reply) (w : Whole) : Type 0 where
   are : AreTold told w.watches
   now : (name : List ℕ) (watch : Watch) → watch_at w.watches name ≡ Some watch
@@ -289,7 +293,7 @@ tells_told told lines old new tells t = subst (IsTold (told ++ lines)) (sym tell
 
 -- ---- news
 
--- each of the watches is found by its name
+-- each watch is found by its name
 each_found : (Q : List ℕ → Watch → Type 0) (watches : Watches) → AreByName watches
     → ((name : List ℕ) (watch : Watch) → watch_at watches name ≡ Some watch → Q name watch)
     → AllByRecursion (λ (e : List ℕ × Watch). Q e.0 e.1) watches
@@ -336,7 +340,7 @@ news_of told s (x ∷ xs) lines all p =
 abbrev IsAbove : List ℕ → Reply → Type 0
 IsAbove name line = view_name_cmp name (name_in line) ≡ Less
 
--- What is so of a line of this name and of the others is so of all.
+-- a claim about the line of this watch and about the others holds of all lines
 with_named : (P : List Reply → Type 0) (name : List ℕ) (told : ℕ) (amount : Option ℕ) (line : Option Reply)
     (others : List Reply)
     → line ≡ line_by name told amount → P others → ((first : Reply) → name_in first ≡ name → P (first ∷ others))
@@ -375,9 +379,9 @@ rising_lines s (x ∷ xs) lines r p =
       rest,
     )))
 
--- ---- where all amounts are told already
+-- ---- if all amounts are reported already
 
--- Its amount was told, and is wanted.
+-- its amount was reported, and something is wanted
 abbrev IsCalm : State → Watch → Type 0
 IsCalm s watch = wants watch × IsAmountOf s (view_at s.views watch.view) watch watch.told
 

@@ -16,18 +16,18 @@ use Rattle.wot_keyring.specs.Held.{cert_in}
 use Rattle.wot_cache.specs.State.{State}
 use Rattle.wot_cache.specs.Question.{question_in}
 
--- the user ID at a place of a certificate
+-- the user ID at an index of a certificate
 abbrev pub uid_in : ℕ → Certificate → List ℕ
 uid_in place c = option_map_or (λ (p : Component). p.body) (slice_get c.user_ids place) []
 
 abbrev pub uid_at : State → Fpr → ℕ → List ℕ
 uid_at s target place = option_map_or (uid_in place) (cert_in s.held target) []
 
--- a step's line, with the user ID that its edge is on
+-- a step's line, with the user ID that its edge certifies
 abbrev pub step_line : State → Step → AnswerLine
 step_line s step = lines.Step step.issuer step.target step.depth step.amount (uid_at s step.target step.uid)
 
--- a path's line, and those of its steps
+-- a path's line, followed by the lines of its steps
 abbrev pub path_lines : State → Path → List AnswerLine
 path_lines s path = lines.Path path.amount (length path.steps) path.root ∷ map (step_line s) path.steps
 
@@ -35,7 +35,7 @@ path_lines s path = lines.Path path.amount (length path.steps) path.root ∷ map
 abbrev pub told : State → List Path → Reply
 told s paths = replies.Amount (amount_of paths) (length paths) (flat_map (path_lines s) paths)
 
--- `ask`: from an open view, the paths that are the answer in this state
+-- `ask`: the reply from an open view, for the paths that are the answer in this state
 abbrev pub Asks : State → Option View → Fpr → ℕ → List ℕ → Reply → Type 0
 Asks s None target wanted uid reply = reply ≡ replies.View
 Asks s (Some view) target wanted uid reply =

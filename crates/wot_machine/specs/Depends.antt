@@ -1,9 +1,12 @@
--- On what an answer depends.
+-- What an answer depends on.
 use Rattle.std.specs.Prelude.{◌≡◌, ℕ, List, map, Option, Some}
 use Rattle.wot_types.specs.declared.fpr.Fpr.{Fpr}
 use Rattle.wot_policy.specs.declared.rows.PolicyRows.{PolicyRows}
 use Rattle.wot_script.specs.declared.command.Command.{Command}
-use Rattle.wot_script.specs.declared.command.Command.TheVariants.{Ask, Explain, Absence, Check}
+use Rattle.wot_machine.specs.declared.class.Class.{Class}
+use Rattle.wot_machine.specs.declared.class.Class.TheVariants.{State as OfState}
+use Rattle.wot_machine.specs.declared.class.StateCommand.TheVariants as kinds
+use Rattle.wot_machine.specs.Classes.{class_of}
 use Rattle.wot_script.specs.declared.reply.Reply.{Reply}
 use Rattle.wot_script.specs.Grammar.{command_of}
 use Rattle.wot_cert.specs.Certificate.{Certificate, unmarked}
@@ -17,7 +20,7 @@ use Rattle.wot_machine.specs.Served.{Served}
 use Rattle.wot_machine.specs.Transcript.{Run}
 use Rattle.wot_machine.specs.Whole.{Whole}
 
--- A history leads to the state: lines, answered from the start on, with a shelf of some world.
+-- Some history leads to the state: lines from an empty machine, with a certificate directory in some world.
 pub record IsReached (rows : PolicyRows) (s : Whole) : Type 0 where
   pub world : World
   pub after : World
@@ -25,41 +28,37 @@ pub record IsReached (rows : PolicyRows) (s : Whole) : Type 0 where
   pub replies : List Reply
   pub run : Run rows (opening world) lines replies (record { whole = s; world = after })
 
--- the certificates by fingerprint, without their signatures' marks of admission
+-- the certificates by fingerprint, without the policy's marks on their signatures
 abbrev pub bare : Certificates → Certificates
 bare certs = map (λ (e : Fpr × Certificate). (e.0, unmarked e.1)) certs
 
--- Seen from the view of that name two states are alike: they hold the same certificates but for marks, and the same
--- verdicts, and the view has the same time and roots in both, or is open in neither. The other views may be any.
+-- Two states are alike for the named view: they hold the same certificates apart from policy marks, and the same
+-- verdicts. The view has the same time and roots in both, or is open in neither. Other views may differ.
 pub record AreAlike (name : List ℕ) (one other : State) : Type 0 where
   pub certs : bare one.held.certs ≡ bare other.held.certs
   pub verdicts : one.held.verdicts ≡ other.held.verdicts
   pub view : view_at one.views name ≡ view_at other.views name
 
--- a command that asks from the view of that name: for an answer, a list, reasons, or why an amount is missed and
--- whether that is so
-abbrev pub AsksFrom : List ℕ → Command → Type 0
-AsksFrom name (Ask view target wanted uid) = view ≡ name
-AsksFrom name (Command.List view wanted) = view ≡ name
-AsksFrom name (Explain view fpr uid) = view ≡ name
-AsksFrom name (Absence view target wanted uid) = view ≡ name
-AsksFrom name (Check view target claims labels uid) = view ≡ name
+-- a command that asks something from the named view: an answer, a list, an explanation, a proof of absence or the check
+-- of one
+abbrev pub AsksFrom : List ℕ → Class → Type 0
+AsksFrom name (OfState (kinds.Question view question)) = view ≡ name
 AsksFrom name _ = ⊥
 
--- a line that asks from the view of that name
+-- a line with such a command
 pub record IsAsk (name line : List ℕ) : Type 0 where
   pub command : Command
-  pub asks : AsksFrom name command
+  pub asks : AsksFrom name (class_of command)
   pub read : command_of line ≡ Some command
 
--- The replies to this line are the same, whatever the shelf gives.
+-- the replies to this line are equal, whatever the certificate directory returns
 abbrev pub AreRepliesAlike : PolicyRows → Whole → Whole → List ℕ → Type 0
 AreRepliesAlike rows one other line =
     (given told : Served) (reply second : Option Reply) (new third : Whole)
     → LineStep rows one line given reply new → LineStep rows other line told second third → reply ≡ second
 
--- An answer depends only on the certificates, the verdicts, and the roots and the time of the asking view then present:
--- whatever histories lead to two states that are alike from a view, each question from it has the same reply in both.
+-- An answer depends only on the current certificates and verdicts and on the roots and the time of the asking view:
+-- whatever histories lead to two states that are alike for a view, each question from it gets the same reply in both.
 abbrev pub DependsOnWhatIsPresent : PolicyRows → Type 0
 DependsOnWhatIsPresent rows =
     (name : List ℕ) (one other : Whole) → IsReached rows one → IsReached rows other

@@ -3,8 +3,10 @@ use Rattle.std.specs.Prelude.{◌≡◌, false, List, [], ℕ, length, codes}
 use Rattle.std.specs.List.{AllByRecursion}
 use Rattle.wot_io.specs.Input as inputs
 use Rattle.wot_policy.specs.declared.rows.PolicyRows.{PolicyRows}
-use Rattle.wot_script.specs.declared.command.Command.{Command}
-use Rattle.wot_script.specs.declared.command.Command.TheVariants.{Dump}
+use Rattle.wot_machine.specs.declared.class.Class.{Class}
+use Rattle.wot_machine.specs.declared.class.Class.TheVariants.{State as OfState}
+use Rattle.wot_machine.specs.declared.class.StateCommand.TheVariants as kinds
+use Rattle.wot_machine.specs.declared.class.Read.TheVariants as reads
 use Rattle.wot_script.specs.declared.reply.Reply.{Reply}
 use Rattle.wot_script.specs.Replies.{is_refusal}
 use Rattle.wot_types.specs.Limits.{standard_limits}
@@ -20,18 +22,18 @@ use Rattle.wot_machine.specs.Whole.{Whole}
 abbrev pub IsDump : List ℕ → Type 0
 IsDump line = line ≡ codes "dump"
 
--- That is so where the command is `dump`.
-abbrev pub OnDump : Command → Type 0 → Type 0
-OnDump Dump P = P
+-- P holds if the command is `dump`
+abbrev pub OnDump : Class → Type 0 → Type 0
+OnDump (OfState (kinds.Read reads.Dump)) P = P
 OnDump _ P = Unit {0}
 
 -- the lines of a dump of this state
 abbrev pub dumped : State → List (List ℕ)
 dumped s = inputs.lines_of (lines_of (commands_of s))
 
--- The lines of a dump of this state, answered from the start on, lead to a state with all that a dump carries over, its
--- signatures judged by the rows, and to no cursor. Each line has a reply, and none is a refusal. The shelf may be any,
--- and no line reads it.
+-- The lines of a dump of this state, answered by a fresh machine, restore everything that a dump carries over, with
+-- signatures judged by the policy rows, and no cursor. Each line has a reply and none is a refusal. No line uses the
+-- certificate directory.
 pub record IsMadeAnew (rows : PolicyRows) (s : State) : Type 0 where
   pub replies : List Reply
   pub new : Whole
@@ -42,7 +44,7 @@ pub record IsMadeAnew (rows : PolicyRows) (s : State) : Type 0 where
   pub each : length replies ≡ length (dumped s)
   pub well : AllByRecursion (λ reply. is_refusal reply ≡ false) replies
 
--- What `Engine::dump` promises of an engine with the standard limits makes its state anew.
+-- For an engine with the standard limits, the contract of `Engine::dump` implies that its lines restore its state.
 abbrev pub DumpMakesAnew : PolicyRows → Engine → Type 0
 DumpMakesAnew rows engine =
     engine.keyring.limits ≡ standard_limits → IsRestored rows engine → AreLines (commands_of (state_of engine))

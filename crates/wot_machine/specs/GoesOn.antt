@@ -1,30 +1,35 @@
--- A machine that was given the lines of a dump goes on as the one that dumped.
-use Rattle.std.specs.Prelude.{◌≡◌, Bool, true, not, ◌&&◌, List, [], ◌∷◌, ℕ, Option, Some, None}
+-- A machine that was restored from a dump behaves like the one that dumped.
+use Rattle.std.specs.Prelude.{◌≡◌, Bool, true, false, List, [], ◌∷◌, ℕ, Option, Some, None}
 use Rattle.wot_policy.specs.declared.rows.PolicyRows.{PolicyRows}
 use Rattle.wot_script.specs.declared.command.Command.{Command}
 use Rattle.wot_script.specs.declared.reply.Reply.{Reply}
 use Rattle.wot_certd.specs.World.{World}
+use Rattle.wot_machine.specs.declared.class.Class.{Class}
+use Rattle.wot_machine.specs.declared.class.Class.TheVariants.{State as OfState}
 use Rattle.wot_machine.specs.Fresh.{IsMadeAnew}
 use Rattle.wot_machine.specs.Joined.{Exchange, Passes, lines_in}
+use Rattle.wot_machine.specs.Classes.{class_of}
 use Rattle.wot_machine.specs.Lines.{heard}
-use Rattle.wot_machine.specs.Pacing.{is_pacing}
 use Rattle.wot_machine.specs.Scene.{Scene, opening}
 use Rattle.wot_machine.specs.Transcript.{Run}
-use Rattle.wot_machine.specs.Watching.{is_watching}
 
--- Whether it is no command of a cursor or of a watch.
+-- whether it isn't a command of a cursor or of a watch
+abbrev pub is_own : Class → Bool
+is_own (OfState command) = true
+is_own _ = false
+
 abbrev pub is_of_state : Option Command → Bool
 is_of_state None = true
-is_of_state (Some command) = not (is_pacing command) && not (is_watching command)
+is_of_state (Some command) = is_own (class_of command)
 
--- Line by line the replies are the same, but to the commands of cursors and of watches.
+-- Line by line the replies are equal, except those to commands of cursors and watches.
 abbrev pub HaveSameReplies : List Exchange → List Exchange → Type 0
 HaveSameReplies [] [] = Unit {0}
 HaveSameReplies (e ∷ es) (f ∷ fs) = (is_of_state (heard e.line) ≡ true → e.reply ≡ f.reply) × HaveSameReplies es fs
 HaveSameReplies es fs = ⊥
 
--- Lines led from the start to a state, of which a dump was made anew. Whatever lines come then, over the same shelf,
--- the two replies to each of them are the same.
+-- From a fresh machine, lines lead to a state, which is dumped and restored. Whatever lines follow, with the same
+-- certificate directory, each has the same reply from both machines.
 abbrev pub FreshMachinesGoOn : PolicyRows → Type 0
 FreshMachinesGoOn rows =
     (world : World) (lines : List (List ℕ)) (told : List Reply) (last : Scene)

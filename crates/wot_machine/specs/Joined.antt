@@ -1,10 +1,10 @@
--- The pieces of a cursor, joined: since its beginning they are what `list` replied there, from the first binding on.
+-- The pieces of a cursor, concatenated: since it began they are what `list` replied then, from the first binding on.
 use Rattle.std.specs.Prelude.{◌≡◌, ◌≢◌, ◌≤◌, ℕ, nat_lt, ◌&&◌, Bool, true, false, if◌then◌else◌, Option, Some, None}
 use Rattle.std.specs.Prelude.{List, [], ◌∷◌, ◌++◌, length, map, flat_map}
 use Rattle.std.specs.List.{list_any}
 use Rattle.wot_policy.specs.declared.rows.PolicyRows.{PolicyRows}
 use Rattle.wot_script.specs.declared.command.Command.{Command}
-use Rattle.wot_script.specs.declared.command.Command.TheVariants.{CursorOver, CursorNext, CursorClose}
+use Rattle.wot_script.specs.declared.command.Command.TheVariants.{CursorOver, CursorNext}
 use Rattle.wot_script.specs.declared.reply.BindLine.{BindLine}
 use Rattle.wot_script.specs.declared.reply.Reply.{Reply}
 use Rattle.wot_script.specs.declared.reply.Reply.TheVariants as replies
@@ -12,6 +12,10 @@ use Rattle.wot_certd.specs.World.{World}
 use Rattle.wot_cache.specs.State.{State}
 use Rattle.wot_cache.specs.Views.{view_at}
 use Rattle.wot_cursor.specs.Cursors.{is_name}
+use Rattle.wot_machine.specs.declared.class.Class.{Class}
+use Rattle.wot_machine.specs.declared.class.Class.TheVariants.{Cursor as OfCursor}
+use Rattle.wot_machine.specs.declared.class.CursorCommand.TheVariants as paces
+use Rattle.wot_machine.specs.Classes.{class_of}
 use Rattle.wot_machine.specs.Lines.{heard}
 use Rattle.wot_machine.specs.LineStep.{LineStep}
 use Rattle.wot_machine.specs.Listing.{Lists}
@@ -21,9 +25,9 @@ use Rattle.wot_machine.specs.Served.{Served}
 use Rattle.wot_machine.specs.Transcript.{Run, listed}
 use Rattle.wot_machine.specs.Whole.{Whole}
 
--- ---- runs, told line by line
+-- ---- runs, line by line
 
--- a line, the reply to it if it has one, and the watch lines behind it
+-- a line, its reply if it has one, and the watch lines after it
 pub record Exchange : Type 0 where
   pub line : List ℕ
   pub reply : Option Reply
@@ -35,7 +39,7 @@ lines_in exchanges = map (λ (e : Exchange). e.line) exchanges
 abbrev pub replies_in : List Exchange → List Reply
 replies_in exchanges = flat_map (λ (e : Exchange). listed e.reply ++ e.told) exchanges
 
--- These lines, one after another, have these replies, and lead from old to new.
+-- these exchanges, one after another, lead from old to new
 abbrev pub Passes : PolicyRows → Scene → List Exchange → Scene → Type 0
 Passes rows old [] new = new ≡ old
 Passes rows old (e ∷ exchanges) new =
@@ -49,7 +53,7 @@ pub record AreOfRun (rows : PolicyRows) (old : Scene) (lines : List (List ℕ)) 
   pub replies_are : replies_in exchanges ≡ told
   pub passes : Passes rows old exchanges new
 
--- Each run is so told, and what is so told is a run.
+-- Runs and lists of exchanges correspond to each other.
 pub record RunsAreExchanges (rows : PolicyRows) : Type 0 where
   pub told : (old : Scene) (lines : List (List ℕ)) (told : List Reply) (new : Scene) → Run rows old lines told new
       → AreOfRun rows old lines told new
@@ -58,7 +62,7 @@ pub record RunsAreExchanges (rows : PolicyRows) : Type 0 where
 
 -- ---- the pieces of a cursor
 
--- how many bindings were asked for, and those that were given
+-- the number of bindings asked for, and the bindings returned
 pub record Given : Type 0 where
   pub asked : ℕ
   pub binds : List BindLine
@@ -67,10 +71,14 @@ abbrev pub given_by : ℕ → Option Reply → List Given
 given_by asked (Some (replies.Piece size binds)) = record { asked = asked; binds = binds } ∷ []
 given_by asked reply = []
 
--- the piece of this cursor that the command was replied, if it was
+-- the piece of this cursor in the reply to a command, if it is one
+abbrev pub given_to : List ℕ → Class → Option Reply → List Given
+given_to name (OfCursor other (paces.Next asked)) reply = if is_name name other then given_by asked reply else []
+given_to name _ reply = []
+
 abbrev pub given_in : List ℕ → Option Command → Option Reply → List Given
-given_in name (Some (CursorNext other asked)) reply = if is_name name other then given_by asked reply else []
-given_in name command reply = []
+given_in name None reply = []
+given_in name (Some command) reply = given_to name (class_of command) reply
 
 abbrev pub pieces_in : List ℕ → List Exchange → List Given
 pieces_in name exchanges = flat_map (λ (e : Exchange). given_in name (heard e.line) e.reply) exchanges
@@ -79,19 +87,23 @@ abbrev pub is_done : Option Reply → Bool
 is_done (Some replies.Done) = true
 is_done reply = false
 
--- whether the command began this cursor anew, or took it away
+-- whether the command restarted or closed this cursor
+abbrev pub is_restart_by : List ℕ → Class → Option Reply → Bool
+is_restart_by name (OfCursor other (paces.Over view wanted)) reply = is_name name other && is_done reply
+is_restart_by name (OfCursor other paces.Close) reply = is_name name other && is_done reply
+is_restart_by name _ reply = false
+
 abbrev pub is_restart : List ℕ → Option Command → Option Reply → Bool
-is_restart name (Some (CursorOver other view wanted)) reply = is_name name other && is_done reply
-is_restart name (Some (CursorClose other)) reply = is_name name other && is_done reply
-is_restart name command reply = false
+is_restart name None reply = false
+is_restart name (Some command) reply = is_restart_by name (class_of command) reply
 
 abbrev pub has_restart : List ℕ → List Exchange → Bool
 has_restart name exchanges = list_any (λ (e : Exchange). is_restart name (heard e.line) e.reply) exchanges
 
 -- ---- the law
 
--- Lines lead from the start to a state, in which `cursor C over V N` is replied `ok`. Then come these exchanges, of any
--- lines; but in none of them the cursor begins anew or is taken away.
+-- From a fresh machine, lines lead to a state in which `cursor C over V N` gets the reply `ok`. These exchanges follow,
+-- with any lines except those that restart or close the cursor.
 pub record Since
     (rows : PolicyRows) (name view : List ℕ) (wanted : ℕ) (begun : Scene) (exchanges : List Exchange) (last : Scene)
     : Type 0 where
@@ -107,15 +119,15 @@ pub record Since
   pub passes : Passes rows mid exchanges last
   pub stays : has_restart name exchanges ≡ false
 
--- the pieces one behind the other, and whether one was shorter than asked
+-- the pieces concatenated, and whether one was shorter than asked for
 abbrev pub joined : List Given → List BindLine
 joined given = flat_map (λ (g : Given). g.binds) given
 
 abbrev pub has_end : List Given → Bool
 has_end given = list_any (λ (g : Given). nat_lt (length g.binds) g.asked) given
 
--- What `list V N` replies in this state begins with the joined pieces, and has no more once a piece was shorter than
--- asked.
+-- The reply to `list V N` in this state begins with the concatenated pieces. If one was shorter than asked for, the
+-- reply has nothing more.
 pub record AreOfList (s : State) (view : List ℕ) (wanted : ℕ) (given : List Given) : Type 0 where
   pub size : ℕ
   pub binds : List BindLine
@@ -124,23 +136,23 @@ pub record AreOfList (s : State) (view : List ℕ) (wanted : ℕ) (given : List 
   pub parts : binds ≡ joined given ++ rest
   pub whole : has_end given ≡ true → rest ≡ []
 
--- The pieces that a cursor gave since its beginning are of the list in the state at its beginning.
+-- All pieces of a cursor since it began are from the list in the state in which it began.
 abbrev pub PiecesJoin : PolicyRows → Type 0
 PiecesJoin rows =
     (name view : List ℕ) (wanted : ℕ) (begun : Scene) (exchanges : List Exchange) (last : Scene)
     → Since rows name view wanted begun exchanges last
     → AreOfList begun.whole.state view wanted (pieces_in name exchanges)
 
--- ---- what else a cursor is replied
+-- ---- other replies to a cursor
 
--- It was the one number, it is now the other, and these differ.
+-- the two reported numbers are the old and the current one, and they differ
 pub record Differs (was now told_was told_now : ℕ) : Type 0 where
   pub then_is : told_was ≡ was
   pub now_is : told_now ≡ now
   pub other : told_was ≢ told_now
 
--- The reply to `next K`: a piece of at most K, where both numbers are those of the beginning; stale, with the number of
--- the beginning and the present one; or that the view isn't open.
+-- The reply to `next K`: a piece of at most K bindings, if both numbers are still those of the beginning; stale, with
+-- the number of the beginning and the current one; or the view isn't open.
 abbrev pub IsNext : Whole → Whole → List ℕ → ℕ → Reply → Type 0
 IsNext begun now view count (replies.Piece size binds) =
     (stamps_in now view ≡ stamps_in begun view) × (size ≡ length binds) × (length binds ≤ count)
@@ -150,7 +162,7 @@ IsNext begun now view count (replies.StaleView was is) =
 IsNext begun now view count replies.View = view_at now.state.views view ≡ None
 IsNext begun now view count _ = ⊥
 
--- A cursor that was begun, and neither begun anew nor taken away, is so replied.
+-- A cursor that was neither restarted nor closed gets such a reply.
 abbrev pub NextsAreTold : PolicyRows → Type 0
 NextsAreTold rows =
     (name view : List ℕ) (wanted : ℕ) (begun : Scene) (exchanges : List Exchange) (last : Scene)
@@ -158,13 +170,13 @@ NextsAreTold rows =
     (new : Scene) → heard line ≡ Some (CursorNext name count) → Step rows last line (Some reply) told new
     → IsNext begun.whole last.whole view count reply
 
--- The two numbers of this reply differ, where it says that something is stale.
+-- if the reply says that something is stale, its two numbers differ
 abbrev pub DoNumbersDiffer : Reply → Type 0
 DoNumbersDiffer (replies.StaleKeyring was now) = was ≢ now
 DoNumbersDiffer (replies.StaleView was now) = was ≢ now
 DoNumbersDiffer reply = Unit {0}
 
--- That is so of each reply to each line, in whatever state.
+-- this holds of every reply in every state
 abbrev pub StaleNumbersDiffer : PolicyRows → Type 0
 StaleNumbersDiffer rows =
     (old : Whole) (line : List ℕ) (given : Served) (reply : Reply) (new : Whole)

@@ -1,4 +1,4 @@
--- Laws of one line: that it has exactly one outcome, and what a refusal leaves.
+-- Laws of a single line: it has exactly one outcome, and a refusal changes nothing.
 use Rattle.std.specs.Prelude.{◌≡◌, ℕ, Bool, true, List, Option, Some}
 use Rattle.wot_policy.specs.declared.rows.PolicyRows.{PolicyRows}
 use Rattle.wot_script.specs.declared.reply.Reply.{Reply}
@@ -10,25 +10,25 @@ use Rattle.wot_machine.specs.Served.{Served}
 use Rattle.wot_machine.specs.Watching.{Tells}
 use Rattle.wot_machine.specs.Whole.{Whole}
 
--- Whatever the shelf gives, each line has a reply or none, and leads somewhere.
+-- whatever the certificate directory returns, each line has an outcome: a reply or none, and a new state
 abbrev pub HaveOutcomes : PolicyRows → Type 0
 HaveOutcomes rows = (old : Whole) (line : List ℕ) (given : Served)
     → (reply : Option Reply) × (new : Whole) × LineStep rows old line given reply new
 
--- From a state that can be, it is one of each.
+-- from a well-formed state it has only one
 abbrev pub HaveOneOutcome : PolicyRows → Type 0
 HaveOneOutcome rows =
     (old : Whole) (line : List ℕ) (given : Served) (reply other : Option Reply) (new third : Whole) → IsState old.state
     → LineStep rows old line given reply new → LineStep rows old line given other third
     → (reply ≡ other) × (new ≡ third)
 
--- What comes after such a state can be.
+-- the new state is well-formed too
 abbrev pub LeadToStates : PolicyRows → Type 0
 LeadToStates rows =
     (old : Whole) (line : List ℕ) (given : Served) (reply : Option Reply) (new : Whole) → IsState old.state
     → LineStep rows old line given reply new → IsState new.state
 
--- So it is with the watch lines of a state: there are some, and in a state that can be no others.
+-- a state has watch lines, and a well-formed state has only one list of them
 abbrev pub HaveWatchLines : Type 0
 HaveWatchLines = (old : Whole) → (told : List Reply) × (new : Whole) × Tells old told new
 
@@ -37,7 +37,7 @@ HaveOnlyWatchLines =
     (old : Whole) (told others : List Reply) (new third : Whole) → IsState old.state
     → Tells old told new → Tells old others third → (told ≡ others) × (new ≡ third)
 
--- All of this.
+-- all of these laws
 pub record OneOutcome (rows : PolicyRows) : Type 0 where
   pub some : HaveOutcomes rows
   pub one : HaveOneOutcome rows
@@ -45,12 +45,12 @@ pub record OneOutcome (rows : PolicyRows) : Type 0 where
   pub tells : HaveWatchLines
   pub tells_one : HaveOnlyWatchLines
 
--- The line is refused, or the shelf failed in it.
+-- whether the line is refused, or the certificate directory failed
 abbrev pub is_refused : Reply → Bool
 is_refused Shelf = true
 is_refused reply = is_refusal reply
 
--- A line that is refused leaves all that is kept: certificates, verdicts and views, counts, and cursors.
+-- A refused line changes nothing: certificates, verdicts, views, counts, cursors and watches stay.
 abbrev pub RefusalsLeaveAll : PolicyRows → Type 0
 RefusalsLeaveAll rows =
     (old : Whole) (line : List ℕ) (given : Served) (reply : Reply) (new : Whole)

@@ -1,6 +1,7 @@
 pub mod Both
 pub mod Lines
 pub mod Outcome
+pub mod Classes
 pub mod Refused
 pub mod Answer
 pub mod Listing
@@ -29,3 +30,4 @@ pub mod Joined
 pub mod Worth
 pub mod Settled
 pub mod Slices
+pub mod Leading

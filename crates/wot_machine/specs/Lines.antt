@@ -1,13 +1,13 @@
--- Which lines are looked at.
+-- Which lines are read as commands.
 use Rattle.std.specs.Prelude.{ℕ, ◌==◌, if◌then◌else◌, nat_lt, Bool, true, List, [], ◌∷◌, length, Option, None}
 use Rattle.wot_script.specs.declared.command.Command.{Command}
 use Rattle.wot_script.specs.Grammar.{command_of}
 
--- the most octets of a line, without its line feed
+-- the most octets in a line, without its line feed
 abbrev pub longest : ℕ
 longest = 16777216
 
--- An empty line and a comment have no reply.
+-- an empty line or a comment, which gets no reply
 abbrev pub is_silent : List ℕ → Bool
 is_silent [] = true
 is_silent (octet ∷ octets) = octet == 35

@@ -1,4 +1,4 @@
--- The replies that list what is found: bindings, reasons, signatures without a verdict.
+-- Replies that are lists: bindings, reasons, signatures without a verdict.
 use Rattle.std.specs.Prelude.{◌≡◌, ℕ, List, length, map, Option, Some, None}
 use Rattle.wot_types.specs.declared.fpr.Fpr.{Fpr}
 use Rattle.wot_types.specs.declared.number.SigNumber.{SigNumber}
@@ -35,25 +35,25 @@ bind_line bind = record { 0 = bind.sum; 1 = bind.fpr; 2 = bind.uid }
 abbrev pub bindings : List Bind → Reply
 bindings binds = replies.List (length binds) (map bind_line binds)
 
--- Seen from this view, these are the bindings of all that is held whose answer to what is wanted reaches it.
+-- the bindings of all that is held that are authenticated to the wanted amount, from this view
 abbrev pub AreBindings : State → View → ℕ → List Bind → Type 0
 AreBindings s view wanted binds =
     IsListed (record_of s.held.certs s.held.verdicts view.time) view.roots wanted (pairs_in s.held.certs) binds
 
--- a line for each of the bindings that are so listed
+-- a line for each listed binding
 abbrev pub ListsBy : (List ℕ → Record) → List (Fpr × ℕ) → ℕ → Keyring → Reply → Type 0
 ListsBy told roots wanted keyring reply =
     (binds : List Bind) × IsListed told roots wanted (pairs_in (certificates_in keyring)) binds
     × (reply ≡ bindings binds)
 
--- `list`: from an open view, a line for each such binding, in the order of fingerprint and user ID
+-- `list`: the reply from an open view, a line for each such binding, in the order of fingerprint and user ID
 abbrev pub Lists : State → Option View → ℕ → Reply → Type 0
 Lists s None wanted reply = reply ≡ replies.View
 Lists s (Some view) wanted reply = (binds : List Bind) × AreBindings s view wanted binds × (reply ≡ bindings binds)
 
 -- ---- `explain`
 
--- a certification's line: the usable edge that it is, or the first word that says why it is none
+-- a certification's line: the usable edge that it is, or the first reason why it isn't one
 abbrev pub reason_by : SigNumber → ℕ → Option Step → ReasonLine
 reason_by number word (Some step) = lines.Edge number step.issuer step.depth step.amount
 reason_by number word None = lines.Word number word
@@ -61,7 +61,7 @@ reason_by number word None = lines.Word number word
 abbrev pub reason_line : Reason → ReasonLine
 reason_line reason = reason_by reason.0 reason.1 reason.2
 
--- where the certificate and the user ID are there, the target's word, and a line for each certification on the user ID
+-- The target's word and a line for each certification on the user ID, if the certificate and the user ID exist.
 abbrev pub explained : Option Explained → Reply
 explained (Some told) = replies.Explained told.target (length told.certs) (map reason_line told.certs)
 explained None = replies.Absent
@@ -70,27 +70,27 @@ abbrev pub explained_from : State → Option View → Fpr → List ℕ → Reply
 explained_from s None fpr uid = replies.View
 explained_from s (Some view) fpr uid = explained (explanation s.held.certs s.held.verdicts view.time fpr uid)
 
--- `explain`: from an open view, by its time
+-- `explain`: the reply from an open view, at its time
 abbrev pub explain : State → List ℕ → Fpr → List ℕ → Outcome
 explain s view fpr uid = only s (explained_from s (view_at s.views view) fpr uid)
 
--- the same of what is kept, at a time
+-- the explanation from a keyring, at a time
 abbrev pub Explains : Keyring → ℕ → Fpr → List ℕ → Reply → Type 0
 Explains keyring t fpr uid reply =
     reply ≡ explained (explanation (certificates_in keyring) keyring.verdicts t fpr uid)
 
 -- ---- `pending`
 
--- who made a signature, by what its hashed area says, else by a key ID
+-- a signature's issuer: its fingerprint from the hashed subpackets, otherwise a key ID if there is one
 abbrev pub hint_of : Option Fpr → Option (List ℕ) → Hint
 hint_of (Some issuer) id = hints.Full issuer
 hint_of None (Some id) = hints.Short id
 hint_of None None = hints.Nothing
 
--- a signature's line: its number, the certificate on which it stands, and a hint of who made it
+-- a signature's line: its number, its certificate, and a hint of its issuer
 abbrev pub pending_line : Pending → PendingLine
 pending_line sig = record { 0 = sig.number; 1 = sig.fpr; 2 = hint_of sig.issuer sig.hint }
 
--- `pending`: a line for each sound signature without a verdict, by certificate and then in the order of its text
+-- `pending`: a line for each well-formed signature without a verdict, by certificate and then in the order of its text
 abbrev pub pending : State → Outcome
 pending s = only s (replies.Pending (length (pending_in s.held)) (map pending_line (pending_in s.held)))

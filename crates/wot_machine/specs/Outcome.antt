@@ -1,4 +1,4 @@
--- What each command but a question comes to: a reply, and the state after it.
+-- The outcome of each command that isn't a question: its reply, and the new state.
 use Rattle.std.specs.Prelude.{ℕ, if◌then◌else◌, List, length, map, Option, Some, None, is_some, Result, Ok, Err}
 use Rattle.wot_types.specs.declared.fpr.Fpr.{Fpr}
 use Rattle.wot_types.specs.declared.limits.Limit.TheVariants as words
@@ -32,22 +32,22 @@ use Rattle.wot_cache.specs.Views.{view_at, time_fault, root_fault}
 use Rattle.wot_cache.specs.State.{State, with_held, timing, rooting, closing}
 use Rattle.wot_cache.specs.Dump.{commands_of}
 
--- a reply, and the state after it
+-- a reply, and the new state
 pub record Outcome : Type 0 where
   pub reply : Reply
   pub state : State
 
--- a reply, and nothing changes
+-- a reply that leaves the state unchanged
 abbrev pub only : State → Reply → Outcome
 only s reply = record { reply = reply; state = s }
 
--- `ok`, and this is the state
+-- `ok`, and this new state
 abbrev pub done : State → Outcome
 done s = record { reply = replies.Done; state = s }
 
 -- ---- import
 
--- Assembly tells no want of memory.
+-- the reply to a fault of a certificate; the definition of assembly never returns `Memory`
 abbrev pub cert_refusal : CertFault → Reply
 cert_refusal certs.Compressed = replies.Compressed
 cert_refusal certs.Secret = replies.Secret
@@ -56,7 +56,7 @@ cert_refusal (certs.Order offset) = replies.Order offset
 cert_refusal certs.Empty = replies.Empty
 cert_refusal certs.Memory = replies.Empty
 
--- Want of memory is no reply.
+-- the reply to a refusal; the last line is arbitrary, since `Memory` gets no reply
 abbrev pub refusal : Refusal → Reply
 refusal (refusals.Packet fault) = replies.Packet (number_of fault.why) fault.at
 refusal (refusals.Cert fault) = cert_refusal fault
@@ -72,11 +72,11 @@ imports rows s octets (Ok counts) = record {
 }
 imports rows s octets (Err told) = only s (refusal told)
 
--- `import`: the certificates of the octets are taken, all or none
+-- `import`: takes all certificates of the octets, or none
 abbrev pub import : PolicyRows → State → List ℕ → Outcome
 import rows s octets = imports rows s octets (answer_to rows standard_limits s.held.certs octets)
 
--- `load`: the one certificate of an entry is taken, by what the shelf gave
+-- `load`: takes the one certificate of an entry, by what the certificate directory returned
 abbrev pub load : PolicyRows → State → Name → Answer → Outcome
 load rows s name Answer.fault = only s replies.Shelf
 load rows s name Answer.absent = only s replies.Absent
@@ -104,14 +104,14 @@ clear_verdict s number =
 
 -- ---- views
 
--- Want of memory is no reply.
+-- the reply to a view's fault; the last line is arbitrary, since `Memory` gets no reply
 abbrev pub view_refusal : ViewFault → Reply
 view_refusal faults.View = replies.View
 view_refusal faults.Absent = replies.Absent
 view_refusal (faults.Full limit) = replies.Full limit
 view_refusal faults.Memory = replies.View
 
--- refused for that reason, or done
+-- refused for this reason, or done
 abbrev pub unless : State → Option ViewFault → State → Outcome
 unless s (Some fault) new = only s (view_refusal fault)
 unless s None new = done new
@@ -131,7 +131,7 @@ close s view = if is_some (view_at s.views view) then done (closing view s) else
 
 -- ---- listing
 
--- a certificate's line: its fingerprint, and how many user IDs and signatures it has
+-- a certificate's line: its fingerprint, and the numbers of its user IDs and signatures
 abbrev pub key_line_of : Certificate → KeyLine
 key_line_of c = record { 0 = fpr_of c.key; 1 = length c.user_ids; 2 = signatures_of c }
 
@@ -147,6 +147,6 @@ exported None = replies.Absent
 abbrev pub export : State → Fpr → Outcome
 export s fpr = only s (exported (cert_in s.held fpr))
 
--- `dump`: the commands that make this state anew, each on its line
+-- `dump`: the commands that restore this state, each on its line
 abbrev pub dump : State → Outcome
 dump s = only s (replies.Dump (length (commands_of s)) (lines_of (commands_of s)))

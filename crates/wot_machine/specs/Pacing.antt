@@ -1,10 +1,12 @@
--- The commands of cursors: a list in pieces, between the lines of others.
+-- The commands of cursors: a list in pieces, with lines of other clients in between.
 use Rattle.std.specs.Prelude.{◌≡◌, ◌==◌, ℕ, Bool, true, false, MatchBool, List, [], ◌∷◌, length, map}
 use Rattle.std.specs.Prelude.{Option, Some, None, Result, IfOk, IfSome, is_some}
 use Rattle.std.specs.Option.{unwrap_or}
 use Rattle.wot_types.specs.declared.place.Place.{Place}
-use Rattle.wot_script.specs.declared.command.Command.{Command}
-use Rattle.wot_script.specs.declared.command.Command.TheVariants.{CursorOver, CursorNext, CursorClose}
+use Rattle.wot_machine.specs.declared.class.Class.{Class}
+use Rattle.wot_machine.specs.declared.class.Class.TheVariants.{Cursor as OfCursor}
+use Rattle.wot_machine.specs.declared.class.CursorCommand.{CursorCommand}
+use Rattle.wot_machine.specs.declared.class.CursorCommand.TheVariants as paces
 use Rattle.wot_script.specs.declared.reply.Reply.{Reply}
 use Rattle.wot_script.specs.declared.reply.Reply.TheVariants as replies
 use Rattle.wot_keyring.specs.Keyring.{certificates_in}
@@ -28,17 +30,17 @@ use Rattle.wot_machine.specs.declared.told.Told.{Told}
 use Rattle.wot_machine.specs.Listing.{AreBindings, bind_line}
 use Rattle.wot_machine.specs.Whole.{Whole}
 
--- what a listing from a view rests on now: the count of changes, and the view's turn
+-- what a list from a view depends on: the count of changes, and the view's turn
 abbrev pub stamps_in : Whole → List ℕ → Stamps
 stamps_in s view = record { keyring = s.changes; view = unwrap_or (turn_at s.turns view) 0 }
 
--- This is the reply, and these are the cursors.
+-- the reply and the cursors are these
 abbrev pub Leaves : Reply → Cursors → Reply → Cursors → Type 0
 Leaves told left reply cursors = (reply ≡ told) × (cursors ≡ left)
 
 -- ---- `cursor C over V N`
 
--- from an open view the cursor begins, or begins anew, unless it would be one too many
+-- A cursor begins from an open view, or restarts, unless the number of cursors is at its limit.
 abbrev pub Begins : Whole → List ℕ → List ℕ → ℕ → Option View → Reply → Cursors → Type 0
 Begins s name view wanted None reply cursors = Leaves replies.View s.cursors reply cursors
 Begins s name view wanted (Some there) reply cursors =
@@ -50,12 +52,12 @@ Begins s name view wanted (Some there) reply cursors =
 abbrev pub place_of : Bind → Place
 place_of bind = record { fpr = bind.fpr; uid = bind.uid }
 
--- where the last of these bindings stands
+-- the place of the last of these bindings
 abbrev pub last_place : Bind → List Bind → Place
 last_place bind [] = place_of bind
 last_place bind (next ∷ binds) = last_place next binds
 
--- The cursor stands at the last of these bindings, and where it stood where there is none.
+-- The cursor moves to the last of these bindings, or stays if there is none.
 abbrev pub behind : Cursors → List ℕ → List Bind → Cursors
 behind cursors name [] = cursors
 behind cursors name (bind ∷ binds) = with_place cursors name (last_place bind binds)
@@ -64,8 +66,8 @@ behind cursors name (bind ∷ binds) = with_place cursors name (last_place bind 
 abbrev pub piece : List Bind → Reply
 piece binds = replies.Piece (length binds) (map bind_line binds)
 
--- The first of the bindings behind the cursor's place, as many as this or all, of the list that `list` gives. Where
--- nothing is wanted, as no line wants it, nothing is given.
+-- The first `count` bindings of the list after the cursor's place, or all that are left. Nothing if the cursor wants
+-- nothing, which no command asks for.
 abbrev pub GivesPiece : Whole → List ℕ → ℕ → Cursor → View → Reply → Cursors → Type 0
 GivesPiece s name count cursor view reply cursors =
     MatchBool (cursor.wanted == 0) (Leaves (piece []) s.cursors reply cursors)
@@ -73,7 +75,7 @@ GivesPiece s name count cursor view reply cursors =
     × Leaves (piece (piece_of cursor.place count all)) (behind s.cursors name (piece_of cursor.place count all))
     reply cursors)
 
--- so where all is as it was at the beginning; else the first number that differs is told
+-- the piece, if nothing changed since the beginning; otherwise the first number that differs
 abbrev pub GoesBy : Age → Whole → List ℕ → ℕ → Cursor → View → Reply → Cursors → Type 0
 GoesBy ages.Same s name count cursor view reply cursors = GivesPiece s name count cursor view reply cursors
 GoesBy (ages.Keyring was now) s name count cursor view reply cursors =
@@ -86,27 +88,27 @@ GoesFrom None s name count cursor reply cursors = Leaves replies.View s.cursors 
 GoesFrom (Some view) s name count cursor reply cursors =
     GoesBy (age_of cursor.stamps (stamps_in s cursor.view)) s name count cursor view reply cursors
 
--- refused where the cursor isn't there, and then where its view isn't open
+-- refused if there is no such cursor, then if its view isn't open
 abbrev pub Goes : Option Cursor → Whole → List ℕ → ℕ → Reply → Cursors → Type 0
 Goes None s name count reply cursors = Leaves replies.NoCursor s.cursors reply cursors
 Goes (Some cursor) s name count reply cursors =
     GoesFrom (view_at s.state.views cursor.view) s name count cursor reply cursors
 
--- the cursors, where that one moved
+-- the cursors after this one moved
 abbrev pub settled : Option Moved → Cursors → Cursors
 settled None cursors = cursors
 settled (Some moved) cursors = with_place cursors moved.cursor moved.place
 
--- That is so of the reply that comes of a command, and of the cursors once it was told.
+-- P holds of the reply, and of the cursors once the reply is written
 abbrev pub OnTold : {E : Type 0} → Result Told E → Cursors → (Reply → Cursors → Type 0) → Type 0
 OnTold result cursors P = IfOk result (λ told. P told.reply (settled told.moved cursors))
 
--- From the cursor's view, if it is open, the piece is given.
+-- the piece, from the cursor's view if it is open
 abbrev pub Gives : Whole → List ℕ → ℕ → Cursor → Reply → Cursors → Type 0
 Gives s name count cursor reply cursors =
     IfSome (view_at s.state.views cursor.view) (λ view. GivesPiece s name count cursor view reply cursors)
 
--- What is told is the piece of whatever is the list over these parts, and the cursor goes behind it.
+-- The reply is the piece of the list over these parts, and the cursor moves behind it.
 abbrev pub TellsPiece : Parts → List ℕ → ℕ → Cursor → Told → Type 0
 TellsPiece parts name count cursor told =
     (binds : List Bind)
@@ -114,7 +116,7 @@ TellsPiece parts name count cursor told =
     (pairs_in (certificates_in parts.keyring.now)) cursor.place count binds
     × (told.reply ≡ piece binds) × ((cursors : Cursors) → settled told.moved cursors ≡ behind cursors name binds)
 
--- the reply to a line that was looked at, and the cursors once it was told; nothing of one that was passed over
+-- the reply to a line and the cursors once it is written; None for a silent line
 abbrev pub reply_in : Option Told → Option Reply
 reply_in None = None
 reply_in (Some told) = Some told.reply
@@ -123,11 +125,9 @@ abbrev pub left_by : Option Told → Cursors → Cursors
 left_by None cursors = cursors
 left_by (Some told) cursors = settled told.moved cursors
 
--- whether this is a command of a cursor
-abbrev pub is_pacing : Command → Bool
-is_pacing (CursorOver name view wanted) = true
-is_pacing (CursorNext name count) = true
-is_pacing (CursorClose name) = true
+-- whether it is a command of a cursor
+abbrev pub is_pacing : Class → Bool
+is_pacing (OfCursor name command) = true
 is_pacing _ = false
 
 -- ---- `cursor C close`
@@ -139,10 +139,14 @@ Ends s name reply cursors =
 
 -- ---- all commands
 
--- What a command makes of the cursors. Those of cursors have their reply by it, and no other touches them.
-abbrev pub Paces : Whole → Command → Reply → Cursors → Type 0
-Paces s (CursorOver name view wanted) reply cursors =
+-- what a command of a cursor does to the cursors, and its reply
+abbrev pub PacesCursor : Whole → List ℕ → CursorCommand → Reply → Cursors → Type 0
+PacesCursor s name (paces.Over view wanted) reply cursors =
     Begins s name view wanted (view_at s.state.views view) reply cursors
-Paces s (CursorNext name count) reply cursors = Goes (cursor_at s.cursors name) s name count reply cursors
-Paces s (CursorClose name) reply cursors = Ends s name reply cursors
+PacesCursor s name (paces.Next count) reply cursors = Goes (cursor_at s.cursors name) s name count reply cursors
+PacesCursor s name paces.Close reply cursors = Ends s name reply cursors
+
+-- What a command does to the cursors, and the reply if it is a command of a cursor. No other command changes them.
+abbrev pub Paces : Whole → Class → Reply → Cursors → Type 0
+Paces s (OfCursor name command) reply cursors = PacesCursor s name command reply cursors
 Paces s _ reply cursors = cursors ≡ s.cursors

@@ -1,4 +1,5 @@
--- What lines go through: all that the machine keeps, and the world of its shelf.
+-- What lines change: everything that the machine keeps, and the world of its certificate directory, which is its
+-- entries and how its calls end.
 use Rattle.std.specs.Prelude.{◌≡◌, ℕ, List, Option}
 use Rattle.wot_policy.specs.declared.rows.PolicyRows.{PolicyRows}
 use Rattle.wot_script.specs.declared.reply.Reply.{Reply}
@@ -14,21 +15,21 @@ pub record Scene : Type 0 where
   pub whole : Whole
   pub world : World
 
--- before the first line, with a shelf of this world
+-- before the first line, with a certificate directory in this world
 abbrev pub opening : World → Scene
 opening world = record { whole = beginning; world = world }
 
--- what the shelf gives in a line that uses it so
+-- what the directory returns to a line that uses it so
 abbrev pub served_in : Scene → Use → Served
 served_in old use_ = given_by old.world (entry_for old.whole.state use_)
 
--- its world after the line
+-- the directory's world after the line
 abbrev pub world_behind : Scene → Use → World
 world_behind old use_ =
     world_after old.world (entry_for old.whole.state use_) (put_for old.whole.state use_ (served_in old use_).read)
 
--- What a line does: one step of the plain machine, to which its shelf gives what the line reads, and from which it
--- takes what the line puts. Behind its reply the watch lines of what it leaves are told.
+-- One line: a step of the abstract machine with what its certificate directory returns. The watch lines of the
+-- resulting state follow the line's reply.
 pub record Step (rows : PolicyRows) (old : Scene) (line : List ℕ) (reply : Option Reply) (told : List Reply)
     (new : Scene) : Type 0 where
   pub mid : Whole

@@ -1,12 +1,12 @@
--- What a shelf gives in one line.
+-- What a certificate directory returns in one line.
 use Rattle.std.specs.Prelude.{Bool, false}
 use Rattle.wot_certd.specs.World.{Answer}
 
--- its answer where an entry is read, and whether it fails where an entry is replaced behind that
+-- its answer to the read of an entry, and whether replacing the entry then fails
 pub record Served : Type 0 where
   pub read : Answer
   pub fails : Bool
 
--- in a line that calls no shelf
+-- for a line that doesn't use it
 abbrev pub unserved : Served
 unserved = record { read = Answer.absent; fails = false }

@@ -1,9 +1,10 @@
--- What one call of the machine for a line tells.
+-- What one call of the machine does for a line.
 use Rattle.std.specs.Prelude.{◌≡◌, ℕ, true, List, ◌++◌, Option}
 use Rattle.wot_io.specs.Counts.{Rose}
 use Rattle.wot_policy.specs.declared.rows.PolicyRows.{PolicyRows}
 use Rattle.wot_script.specs.declared.command.Command.{Command}
 use Rattle.wot_script.specs.declared.reply.Reply.{Reply}
+use Rattle.wot_machine.specs.declared.class.Class.{Class}
 use Rattle.wot_machine.specs.declared.told.Told.{Told}
 use Rattle.wot_machine.specs.Both.{Ends}
 use Rattle.wot_machine.specs.Entry.{IsServed, has_failed, put_for, use_of}
@@ -12,12 +13,13 @@ use Rattle.wot_machine.specs.LineStep.{LineStep}
 use Rattle.wot_machine.specs.Machine.{Machine, Parts, kept}
 use Rattle.wot_machine.specs.Pacing.{left_by, reply_in, settled}
 use Rattle.wot_machine.specs.Whole.{Whole, watched, whole_of}
-use Rattle.wot_machine.specs.Ran.{Ran, Seen}
+use Rattle.wot_machine.specs.Ran.{Ran, RanClass, Seen}
 use Rattle.wot_machine.specs.Served.{Served}
 use Rattle.wot_machine.specs.Transcript.{listed, octets_of}
 use Rattle.wot_machine.specs.Watching.{Tells}
 
--- The shelf gave this, and by it the line had this reply, or none. A call failed only where the count of faults rose.
+-- The line had this reply or none, by what the certificate directory returned. A call failed only if the count of
+-- faults rose.
 pub record Replied (rows : PolicyRows) (line : List ℕ) (old : Whole) (before : Seen) (reply : Option Reply)
     (new : Whole) (after : Seen) : Type 0 where
   pub given : Served
@@ -26,20 +28,26 @@ pub record Replied (rows : PolicyRows) (line : List ℕ) (old : Whole) (before :
   pub cause : has_failed (put_for old.state (use_of (heard line)) given.read) given ≡ true
       → Rose before.faults after.faults
 
--- The same of a machine, where a cursor stands once the reply was told.
+-- A machine's reply to a line. A cursor moves once the reply is written.
 abbrev pub Replies : PolicyRows → List ℕ → Ends Machine → Ends Seen → Option Told → Type 0
 Replies rows line machine shelf told =
     Replied rows line (kept machine.old) shelf.old (reply_in told)
     (watched (whole_of machine.new.engine (left_by told machine.new.cursors)) machine.new.watches) shelf.new
 
--- The same of a command, or of a line that is read as none, by a machine's parts.
+-- what a machine's parts do with a command, or with a line that isn't one
 abbrev pub Heeds : PolicyRows → Option Command → Ends Parts → Ends Seen → Told → Type 0
 Heeds rows command parts shelf told =
     Ran rows command (watched (whole_of parts.old.engine parts.old.cursors) parts.old.watches) shelf.old told.reply
     (watched (whole_of parts.new.engine (settled told.moved parts.new.cursors)) parts.new.watches) shelf.new
 
--- The shelf gave this, by it the line had its step, and the octets of the reply are behind those that were there. A
--- call failed only where the count of faults rose.
+-- what a command does, by its class, in terms of a machine's parts
+abbrev pub HeedsClass : PolicyRows → Class → Ends Parts → Ends Seen → Told → Type 0
+HeedsClass rows class parts shelf told =
+    RanClass rows class (watched (whole_of parts.old.engine parts.old.cursors) parts.old.watches) shelf.old told.reply
+    (watched (whole_of parts.new.engine (settled told.moved parts.new.cursors)) parts.new.watches) shelf.new
+
+-- The line had its step by what the directory returned, and the octets of its reply are appended. A call failed only if
+-- the count of faults rose.
 pub record Stepped (rows : PolicyRows) (line : List ℕ) (old : Whole) (before : Seen) (had : List ℕ) (new : Whole)
     (after : Seen) (has : List ℕ) : Type 0 where
   pub given : Served
@@ -50,11 +58,11 @@ pub record Stepped (rows : PolicyRows) (line : List ℕ) (old : Whole) (before :
       → Rose before.faults after.faults
   pub octets : has ≡ had ++ octets_of (listed reply)
 
--- The same, of what is kept, of the shelf and of the octets before the call and behind it.
+-- the step of a line, by what is kept, the directory and the octets before and after the call
 abbrev pub Runs : PolicyRows → List ℕ → Ends Whole → Ends Seen → Ends (List ℕ) → Type 0
 Runs rows line whole shelf out = Stepped rows line whole.old shelf.old out.old whole.new shelf.new out.new
 
--- The watch lines of what is kept were told, and their octets are behind those that were there.
+-- the watch lines are reported, and their octets are appended
 pub record TellsBehind (old : Whole) (had : List ℕ) (new : Whole) (has : List ℕ) : Type 0 where
   pub lines : List Reply
   pub tells : Tells old lines new

@@ -1,4 +1,4 @@
--- What the parts of a store tell.
+-- What the steps of a `store` return.
 use Rattle.std.specs.Prelude.{◌≡◌, ℕ, Bool, true, List, Some, Result, Ok, Err, IfSome}
 use Rattle.std.specs.Result.{result_ok}
 use Rattle.wot_types.specs.declared.fpr.Fpr.{Fpr}
@@ -23,29 +23,29 @@ use Rattle.wot_machine.specs.Ran.{Seen}
 use Rattle.wot_machine.specs.Served.{Served}
 use Rattle.wot_machine.specs.Storing.{stored, text_unless, writing}
 
--- the answer that was given
+-- the answer that was returned
 abbrev pub answer_of : Given → Answer
 answer_of (Bytes bytes) = Answer.entry bytes.items
 answer_of Absent = Answer.absent
 answer_of Long = Answer.long
 
--- The text of the certificate, or the reply to the refusal, unless no memory was found.
+-- The text of the certificate, or the reply to the refusal, unless it is out of memory.
 abbrev pub TellsCert : Result Certificate Refusal → Result Certificate Refusal → Type 0
 TellsCert (Ok c) told = text_unless told ≡ Ok (text_of c)
 TellsCert (Err refusals.Memory) told = Unit {0}
 TellsCert (Err other) told = text_unless told ≡ Err (refusal other)
 
--- Why nothing is written, unless no memory was found.
+-- why nothing is written, unless it is out of memory
 abbrev pub TellsUnwritten : Result (List ℕ) Reply → Unwritten → Type 0
 TellsUnwritten told (Told reply) = told ≡ Err reply
 TellsUnwritten told Memory = Unit {0}
 
--- What is answered is one line.
+-- the reply is one line
 abbrev pub IsShort : Unwritten → Type 0
 IsShort (Told reply) = is_short reply ≡ true
 IsShort Memory = Unit {0}
 
--- The octets were put under the name, or the shelf failed, which it did only where its count of faults rose.
+-- The octets were put under the name, or the directory failed. It failed only if its count of faults rose.
 pub record Puts (name : Name) (octets : List ℕ) (before : Seen) (reply : Reply) (after : Seen) : Type 0 where
   pub fails : Bool
   pub reply_is : reply ≡ stored fails (Ok octets)
@@ -53,7 +53,7 @@ pub record Puts (name : Name) (octets : List ℕ) (before : Seen) (reply : Reply
   pub world : Becomes before.world (λ w. after_replace w name octets) after.world
   pub cause : fails ≡ true → Rose before.faults after.faults
 
--- A kept certificate was stored, or was not, by what the shelf gave. A call failed only where the count of faults rose.
+-- A certificate was stored or not, by what the directory returned. A call failed only if the count of faults rose.
 pub record Stores (fpr : Fpr) (kept : Certificate) (before : Seen) (reply : Reply) (after : Seen) : Type 0 where
   pub given : Served
   pub reply_is : reply ≡ stored given.fails (writing fpr kept given.read)

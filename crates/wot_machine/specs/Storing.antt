@@ -1,4 +1,4 @@
--- `store`: what is written in place of the entry of a certificate, and the reply.
+-- `store`: what is written in place of a certificate's entry, and the reply.
 use Rattle.std.specs.Prelude.{ℕ, Bool, true, false, if◌then◌else◌, nat_lt, List, length}
 use Rattle.std.specs.Prelude.{Option, Some, None, Result, Ok, Err}
 use Rattle.std.specs.Str.{bytes_eq}
@@ -20,11 +20,11 @@ use Rattle.wot_cache.specs.State.{State}
 use Rattle.wot_machine.specs.Outcome.{Outcome, only, refusal}
 use Rattle.wot_machine.specs.Served.{Served}
 
--- a certificate, unless it is greater than one may be
+-- a certificate, unless it is larger than the limit
 abbrev pub unless_great : Certificate → Result Certificate Refusal
 unless_great c = if nat_lt standard_limits.certificate (size_of c) then Err (refusals.Full limits.Certificate) else Ok c
 
--- the union of a kept certificate with that of its entry, unless they are of two keys, or it is too great
+-- a certificate merged with that of its entry, unless their primary keys differ or the result is too large
 abbrev pub united : Certificate → Certificate → Result Certificate Refusal
 united kept c = if bytes_eq kept.key c.key then unless_great (unite kept c) else Err refusals.Clash
 
@@ -37,8 +37,8 @@ abbrev pub text_unless : Result Certificate Refusal → Result (List ℕ) Reply
 text_unless (Err told) = Err (refusal told)
 text_unless (Ok c) = Ok (text_of c)
 
--- What is to be written, by the answer to the read of the entry: the union with it, or the kept certificate alone where
--- there is no entry. Otherwise the reply.
+-- What is to be written, by the answer to the read: the merged certificate, or the certificate alone if there is no
+-- entry. Otherwise the reply.
 abbrev pub writing : Fpr → Certificate → Answer → Result (List ℕ) Reply
 writing fpr kept Answer.fault = Err replies.Shelf
 writing fpr kept Answer.long = Err replies.Long
@@ -55,12 +55,11 @@ abbrev pub stored_from : Option Certificate → Fpr → Served → Reply
 stored_from None fpr given = replies.Absent
 stored_from (Some kept) fpr given = stored given.fails (writing fpr kept given.read)
 
--- `store`: the union of a kept certificate and its entry is written in place of the entry. Nothing that is held
--- changes.
+-- `store`: a certificate is merged with its entry and written in place of the entry. What is held doesn't change.
 abbrev pub store : State → Fpr → Served → Outcome
 store s fpr given = only s (stored_from (cert_in s.held fpr) fpr given)
 
--- the octets that are put in place of the entry, or none
+-- the octets that replace the entry, if any
 abbrev pub put_from : Option Certificate → Fpr → Answer → Option (List ℕ)
 put_from None fpr answer = None
 put_from (Some kept) fpr answer = result_ok (writing fpr kept answer)

@@ -1,11 +1,13 @@
--- Watches: questions whose amounts are told again when they become others.
+-- Watches: questions whose amounts are reported again when they change.
 use Rattle.std.specs.Prelude.{◌≡◌, ◌⊎◌, ◌==◌, ℕ, Bool, true, false, if◌then◌else◌, MatchBool, List, [], ◌∷◌}
 use Rattle.std.specs.Prelude.{Option, Some, None, is_some}
 use Rattle.wot_types.specs.declared.fpr.Fpr.{Fpr}
 use Rattle.wot_edge.specs.declared.path.Path.{Path}
 use Rattle.wot_edge.specs.Answer.{IsAnswer, amount_of}
-use Rattle.wot_script.specs.declared.command.Command.{Command}
-use Rattle.wot_script.specs.declared.command.Command.TheVariants.{WatchOn, WatchOff}
+use Rattle.wot_machine.specs.declared.class.Class.{Class}
+use Rattle.wot_machine.specs.declared.class.Class.TheVariants.{Watch as OfWatch}
+use Rattle.wot_machine.specs.declared.class.WatchCommand.{WatchCommand}
+use Rattle.wot_machine.specs.declared.class.WatchCommand.TheVariants as commands
 use Rattle.wot_script.specs.declared.reply.Reply.{Reply}
 use Rattle.wot_script.specs.declared.reply.Reply.TheVariants as replies
 use Rattle.wot_cache.specs.declared.view.View.{View}
@@ -18,26 +20,25 @@ use Rattle.wot_machine.specs.Whole.{Whole, watched, whole_of}
 
 -- ---- amounts
 
--- the amount of the answer to what is wanted, seen from this view. Where nothing is wanted, as no line wants it, it is
--- 0.
+-- the amount of the answer to a question from this view; 0 if nothing is wanted, which no command asks for
 abbrev pub IsAmount : State → View → Fpr → ℕ → List ℕ → ℕ → Type 0
 IsAmount s view target wanted uid amount =
     MatchBool (wanted == 0) (amount ≡ 0)
     ((paths : List Path) × IsAnswer (question_in s view target uid) wanted paths × (amount ≡ amount_of paths))
 
--- the same, or none where the view isn't open
+-- this amount, or None if the view isn't open
 abbrev pub HasAmount : State → Option View → Fpr → ℕ → List ℕ → Option ℕ → Type 0
 HasAmount s None target wanted uid amount = amount ≡ None
 HasAmount s (Some view) target wanted uid amount = (n : ℕ) × IsAmount s view target wanted uid n × (amount ≡ Some n)
 
 -- ---- watch lines
 
--- The line of a watch of this name, by the amount last told and the one of now: none where it is the same.
+-- a watch's line, by the amount last reported and the current one; None if they are equal
 abbrev pub line_by : List ℕ → ℕ → Option ℕ → Option Reply
 line_by name told None = Some (replies.WatchGone name)
 line_by name told (Some amount) = if amount == told then None else Some (replies.WatchAmount name amount)
 
--- the line of a watch in this state, or none
+-- the line of a watch in this state, or None
 abbrev pub IsLine : State → List ℕ → Watch → Option Reply → Type 0
 IsLine s name watch line =
     (amount : Option ℕ) × HasAmount s (view_at s.views watch.view) watch.target watch.wanted watch.uid amount
@@ -54,13 +55,13 @@ AreLines s (entry ∷ watches) lines =
     (line : Option Reply) × (others : List Reply) × IsLine s entry.0 entry.1 line × AreLines s watches others
     × (lines ≡ with_line line others)
 
--- It is a watch line.
+-- it is a watch line
 abbrev pub IsWatchLine : Reply → Type 0
 IsWatchLine line =
     ((name : List ℕ) × (amount : ℕ) × (line ≡ replies.WatchAmount name amount))
     ⊎ ((name : List ℕ) × (line ≡ replies.WatchGone name))
 
--- the watches once a line was told: an amount is the one last told, and a watch that is gone is taken away
+-- The watches after a line was reported: an amount becomes the one last reported, and a watch that is gone is removed.
 abbrev pub told_by : Watches → Reply → Watches
 told_by watches (replies.WatchAmount name amount) = with_told watches name amount
 told_by watches (replies.WatchGone name) = without_watch watches name
@@ -70,14 +71,14 @@ abbrev pub told_all : Watches → List Reply → Watches
 told_all watches [] = watches
 told_all watches (line ∷ lines) = told_all (told_by watches line) lines
 
--- These are the watch lines of what is kept, and they are told. Nothing else changes.
+-- These are the watch lines of what is kept, and they are reported. Nothing else changes.
 pub record Tells (old : Whole) (lines : List Reply) (new : Whole) : Type 0 where
   pub lines_are : AreLines old.state old.watches lines
   pub left : new ≡ record old { watches = told_all old.watches lines }
 
 -- ---- `watch W on V FPR N UID`
 
--- This is the reply, and these are the watches.
+-- the reply and the watches are these
 abbrev pub LeavesWatches : Reply → Watches → Reply → Watches → Type 0
 LeavesWatches told left reply watches = (reply ≡ told) × (watches ≡ left)
 
@@ -85,14 +86,14 @@ abbrev pub opened : List ℕ → Fpr → ℕ → List ℕ → ℕ → Watch
 opened view target wanted uid amount =
     record { view = view; target = target; wanted = wanted; uid = uid; told = amount }
 
--- The watch begins, or begins anew, and its opening amount is told, unless it would be one too many.
+-- The watch begins or restarts and its first amount is the reply, unless the number of watches is at its limit.
 abbrev pub BeginsWatch : Watches → List ℕ → List ℕ → Fpr → ℕ → List ℕ → ℕ → Reply → Watches → Type 0
 BeginsWatch old name view target wanted uid amount reply watches =
     MatchBool (is_full old name) (LeavesWatches replies.FullWatches old reply watches)
     (LeavesWatches (replies.WatchAmount name amount) (with_watch old name (opened view target wanted uid amount))
     reply watches)
 
--- the same from an open view, whose amount it is
+-- the reply and the watches when a watch begins from an open view
 abbrev pub Opens : Whole → List ℕ → List ℕ → Fpr → ℕ → List ℕ → Option View → Reply → Watches → Type 0
 Opens s name view target wanted uid None reply watches = LeavesWatches replies.View s.watches reply watches
 Opens s name view target wanted uid (Some there) reply watches =
@@ -101,7 +102,7 @@ Opens s name view target wanted uid (Some there) reply watches =
 
 -- ---- `watch W off`
 
--- A watch that is there is taken away.
+-- a watch is removed
 abbrev pub TakesOff : Whole → List ℕ → Reply → Watches → Type 0
 TakesOff s name reply watches =
     MatchBool (is_some (watch_at s.watches name))
@@ -110,21 +111,28 @@ TakesOff s name reply watches =
 
 -- ---- all commands
 
--- whether this is a command of a watch
-abbrev pub is_watching : Command → Bool
-is_watching (WatchOn name view target wanted uid) = true
-is_watching (WatchOff name) = true
+-- whether it is a command of a watch
+abbrev pub is_watching : Class → Bool
+is_watching (OfWatch name command) = true
 is_watching _ = false
 
--- What a command makes of the watches. Those of watches have their reply by it, and no other touches them.
-abbrev pub Watching : Whole → Command → Reply → Watches → Type 0
-Watching s (WatchOn name view target wanted uid) reply watches =
+-- what a command of a watch does to the watches, and its reply
+abbrev pub SetsWatch : Whole → List ℕ → WatchCommand → Reply → Watches → Type 0
+SetsWatch s name (commands.On view target wanted uid) reply watches =
     Opens s name view target wanted uid (view_at s.state.views view) reply watches
-Watching s (WatchOff name) reply watches = TakesOff s name reply watches
+SetsWatch s name commands.Off reply watches = TakesOff s name reply watches
+
+-- What a command does to the watches, and the reply if it is a command of a watch. No other command changes them.
+abbrev pub Watching : Whole → Class → Reply → Watches → Type 0
+Watching s (OfWatch name command) reply watches = SetsWatch s name command reply watches
 Watching s _ reply watches = watches ≡ s.watches
 
--- What is told of a watch that is to begin over an engine, and the watches that it leaves, whatever the cursors are.
+-- what a command of a watch does over an engine, whatever the cursors are
+abbrev pub SetsOver : Engine → Watches → List ℕ → WatchCommand → Reply → Watches → Type 0
+SetsOver engine old name command reply watches =
+    (cursors : Cursors) → SetsWatch (watched (whole_of engine cursors) old) name command reply watches
+
+-- what the beginning of a watch does over an engine
 abbrev pub OpensOver : Engine → Watches → List ℕ → List ℕ → Fpr → ℕ → List ℕ → Reply → Watches → Type 0
 OpensOver engine old name view target wanted uid reply watches =
-    (cursors : Cursors)
-    → Watching (watched (whole_of engine cursors) old) (WatchOn name view target wanted uid) reply watches
+    SetsOver engine old name (commands.On view target wanted uid) reply watches

@@ -1,12 +1,15 @@
--- All that is kept between two lines: the state, how often it changed, how far listings have come, and what is watched.
+-- Everything that lasts from one line to the next: the state, the count of its changes, cursors and watches.
 use Rattle.std.specs.Prelude.{◌≡◌, ◌≢◌, ◌⊎◌, ◌+◌, ℕ, List, []}
 use Rattle.wot_cache.specs.State.{Engine, State, start, state_of}
 use Rattle.wot_cache.specs.Turns.{IsOneClosing, IsOneTurn, Turns, no_turns}
 use Rattle.wot_cache.specs.Views.{Views}
 use Rattle.wot_cursor.specs.Cursors.{Cursors}
 use Rattle.wot_watch.specs.Watches.{Watches}
-use Rattle.wot_script.specs.declared.command.Command.{Command}
-use Rattle.wot_script.specs.declared.command.Command.TheVariants.{Time, Root, Close}
+use Rattle.wot_machine.specs.declared.class.Class.{Class}
+use Rattle.wot_machine.specs.declared.class.Class.TheVariants.{State as OfState}
+use Rattle.wot_machine.specs.declared.class.StateCommand.TheVariants as kinds
+use Rattle.wot_machine.specs.declared.class.ViewChange.{ViewChange}
+use Rattle.wot_machine.specs.declared.class.ViewChange.TheVariants as alterings
 
 -- the state, the count of changes, the turns of views, and cursors and watches by name
 pub record Whole : Type 0 where
@@ -16,11 +19,11 @@ pub record Whole : Type 0 where
   pub cursors : Cursors
   pub watches : Watches
 
--- what is kept before the first line
+-- before the first line
 abbrev pub beginning : Whole
 beginning = record { state = start; changes = 0; turns = no_turns; cursors = []; watches = [] }
 
--- what is kept where this is the engine, these are the cursors, and nothing is watched
+-- with this engine, these cursors, and no watches
 abbrev pub whole_of : Engine → Cursors → Whole
 whole_of engine cursors = record {
   state = state_of engine;
@@ -30,33 +33,36 @@ whole_of engine cursors = record {
   watches = [];
 }
 
--- the same with these watches
+-- with the watches replaced
 abbrev pub watched : Whole → Watches → Whole
 watched s watches = record s { watches = watches }
 
--- What is held is as it was, and so is the count of changes; or it isn't, and that is one change.
+-- What is held and the count of changes are unchanged; or what is held changed, and the count rose by one.
 abbrev pub IsCounted : Whole → Whole → Type 0
 IsCounted old new =
     ((new.state.held ≡ old.state.held) × (new.changes ≡ old.changes))
     ⊎ ((new.state.held ≢ old.state.held) × (new.changes ≡ old.changes + 1))
 
--- What a command is to the turns of views: it changes or opens this one, it closes this one, or it is nothing to them.
+-- What a command does to the turns of views: it opens or changes a view, closes one, or does nothing to them.
 pub data Turning : Type 0 where
   turning : List ℕ → Turning
   closing : List ℕ → Turning
   leaving : Turning
 
-abbrev pub turning_of : Command → Turning
-turning_of (Time view t) = turning view
-turning_of (Root view fpr amount) = turning view
-turning_of (Close view) = closing view
+abbrev pub turning_in : List ℕ → ViewChange → Turning
+turning_in view (alterings.Time t) = turning view
+turning_in view (alterings.Root fpr amount) = turning view
+turning_in view alterings.Close = closing view
+
+abbrev pub turning_of : Class → Turning
+turning_of (OfState (kinds.View view change)) = turning_in view change
 turning_of _ = leaving
 
--- What it does to them, by what it did to that view.
+-- how it changes them, by what it did to the view
 abbrev pub AreTurned : Turning → Views → Turns → Views → Turns → Type 0
 AreTurned (turning view) old before new after = IsOneTurn view old before new after
 AreTurned (closing view) old before new after = IsOneClosing view old before new after
 AreTurned leaving old before new after = after ≡ before
 
-abbrev pub IsTurnedBy : Command → Views → Turns → Views → Turns → Type 0
-IsTurnedBy command old before new after = AreTurned (turning_of command) old before new after
+abbrev pub IsTurnedBy : Class → Views → Turns → Views → Turns → Type 0
+IsTurnedBy class old before new after = AreTurned (turning_of class) old before new after

@@ -1,4 +1,4 @@
--- What watches are worth: after each line the amount last told of each is that of the answer of now.
+-- What watches are worth: after each line, the last amount reported for each is the current one.
 use Rattle.std.specs.Prelude.{◌≡◌, ◌≢◌, ℕ, if◌then◌else◌, List, [], ◌∷◌, ◌++◌, flat_map, Option, Some, None}
 use Rattle.std.specs.List.{AllByRecursion}
 use Rattle.std.specs.declared.cmp.Ordering.{Ordering}
@@ -18,18 +18,18 @@ use Rattle.wot_watch.specs.Watches.{Watch, is_name, watch_at}
 use Rattle.wot_machine.specs.Scene.{Scene, Step, opening}
 use Rattle.wot_machine.specs.Transcript.{Run, listed}
 
--- ---- what was told
+-- ---- reported amounts
 
--- the amount that this reply tells of the watch of that name, if it does: the opening amount, or a later one
+-- the amount that this reply reports for the named watch, first or later, if it does
 abbrev pub amount_in : List ℕ → Reply → List ℕ
 amount_in name (replies.WatchAmount other amount) = if is_name name other then amount ∷ [] else []
 amount_in name reply = []
 
--- the amounts that were told of it, one after another
+-- all amounts that were reported for it, in order
 abbrev pub amounts_in : List ℕ → List Reply → List ℕ
 amounts_in name told = flat_map (amount_in name) told
 
--- This is the last of these.
+-- the last of these amounts
 abbrev pub IsLast : List ℕ → ℕ → Type 0
 IsLast amounts amount = (before : List ℕ) × (amounts ≡ before ++ amount ∷ [])
 
@@ -42,22 +42,22 @@ IsAmountOf s (Some view) watch amount =
     (paths : List Path) × IsAnswer (question_in s view watch.target watch.uid) watch.wanted paths
     × (amount ≡ amount_of paths)
 
--- The amount last told of the watch is the one of now.
+-- the last amount reported for the watch is the current one
 pub record IsTrue (s : State) (told : List Reply) (name : List ℕ) (watch : Watch) : Type 0 where
   pub amount : ℕ
   pub last : IsLast (amounts_in name told) amount
   pub now : IsAmountOf s (view_at s.views watch.view) watch amount
 
--- Whatever lines there were, by anyone: of each watch that is there the amount last told is the one of now.
+-- Whatever lines there were, from any client: the last amount reported for each watch is the current one.
 abbrev pub WatchesAreTrue : PolicyRows → Type 0
 WatchesAreTrue rows =
     (world : World) (lines : List (List ℕ)) (told : List Reply) (last : Scene) (name : List ℕ) (watch : Watch)
     → Run rows (opening world) lines told last → watch_at last.whole.watches name ≡ Some watch
     → IsTrue last.whole.state told name watch
 
--- ---- the watch lines behind one line
+-- ---- the watch lines after a line
 
--- the name of the watch of which a watch line tells
+-- the name of the watch that a watch line reports
 abbrev pub name_in : Reply → List ℕ
 name_in (replies.WatchAmount name amount) = name
 name_in (replies.WatchGone name) = name
@@ -66,20 +66,19 @@ name_in reply = []
 abbrev pub line_cmp : Reply → Reply → Ordering
 line_cmp a b = view_name_cmp (name_in a) (name_in b)
 
--- The line says that a watch is gone, or an amount that is another than the one told last.
+-- The line reports that a watch is gone, or an amount that differs from the last one reported.
 abbrev pub IsNews : List Reply → Reply → Type 0
 IsNews told (replies.WatchAmount name amount) = (was : ℕ) × IsLast (amounts_in name told) was × (was ≢ amount)
 IsNews told (replies.WatchGone name) = Unit {0}
 IsNews told reply = ⊥
 
--- By all that was told before them, the reply to their line too, each of these lines is news, and they are in the order
--- of
--- the names.
+-- Each of these lines is news, given everything reported before them, including the reply to their line; and they are
+-- in the order of the names.
 pub record AreNews (told lines : List Reply) : Type 0 where
   pub each : AllByRecursion (IsNews told) lines
   pub order : IsRising line_cmp lines
 
--- That is so of the watch lines behind each line.
+-- the watch lines after each line are news
 abbrev pub WatchLinesAreNews : PolicyRows → Type 0
 WatchLinesAreNews rows =
     (world : World) (lines : List (List ℕ)) (told : List Reply) (old : Scene) (line : List ℕ) (reply : Option Reply)
@@ -87,10 +86,9 @@ WatchLinesAreNews rows =
     → Run rows (opening world) lines told old → Step rows old line reply behind new
     → AreNews (told ++ listed reply) behind
 
--- ---- lines that leave all
+-- ---- lines that change nothing
 
--- Behind a line that leaves all that is kept, as one that is silent, refused or no command, or asks or lists, stands
--- none.
+-- No watch line follows a line that changes nothing: one that is silent, refused or no command, or that asks or lists.
 abbrev pub QuietLinesTellNothing : PolicyRows → Type 0
 QuietLinesTellNothing rows =
     (world : World) (lines : List (List ℕ)) (told : List Reply) (old : Scene) (line : List ℕ) (reply : Option Reply)

@@ -1,4 +1,4 @@
-//! The reply to `absence`: the paths of the answer, and the least table that shows that no path is left. It stands on
+//! The reply to `absence`: the paths of the answer, and the least table that proves that no path is left. It stands on
 //! wot_cache for the parts and on wot_check for the table. `checking` has to accept what is printed here.
 ghost use Rattle.std.specs.Prelude.{◌≡◌, ◌≤◌, length, map, IfOk};
 ghost use Rattle.wot_edge.specs.Answer.{amount_of};
@@ -19,8 +19,8 @@ use wot_script::{
 use wot_search::Consulted;
 use wot_types::{Fpr, Memory, Steps, ViewName};
 
-/// Why the answer to a question doesn't reach what is wanted, seen from a view: its paths, and the least table of
-/// absence after them. Where it does, its sum.
+/// The reply to `absence`: why the answer to a question doesn't reach the amount `wanted`, from a view: its paths, and
+/// the least table after them. If the answer does reach it, the reply is its sum. Refused if the view isn't open.
 pub fn absence(
     alloc: Global,
     engine: &mut Engine,
@@ -44,7 +44,7 @@ pub fn absence(
     }
 }
 
-/// The same over the parts that are seen from the view.
+/// The reply over the parts of the view.
 fn absence_from(
     alloc: Global,
     parts: &Parts<'_>,
@@ -62,7 +62,7 @@ fn absence_from(
     if wanted <= answer.sum {
         return Ok(Reply::Reached(answer.sum));
     }
-    // What the bound on the paths rests on.
+    // The contracts of these calls bound the number of paths.
     let _count = roots.len();
     answers_are_few();
     let paths = answer.paths.as_slice();
@@ -82,7 +82,7 @@ fn told(alloc: Global, sum: u32, paths: &[Path], table: &Table) -> Result<Reply,
     Ok(Reply::Missed(sum, claims, labels))
 }
 
-/// What is claimed of each path.
+/// A claim for each path.
 fn claim_lines(alloc: Global, paths: &[Path]) -> Result<ClaimLines, Memory>
     ensures claims { IfOk result (λ claims. claims ≡ map claim_line paths.now) }
 {
@@ -101,7 +101,7 @@ fn claim_step_of(step: &Step) -> ClaimStepLine
     ClaimStepLine(step.issuer, step.uid)
 }
 
-/// What is claimed of each step.
+/// A claimed step for each step.
 fn step_lines(alloc: Global, steps: &[Step]) -> Result<ClaimStepLines, Memory>
     ensures lines { IfOk result (λ lines. lines ≡ map claim_step steps.now) }
 {

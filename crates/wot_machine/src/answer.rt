@@ -17,7 +17,8 @@ use wot_edge::{Path, Step};
 use wot_script::{AnswerLine, AnswerLines, Reply};
 use wot_types::{Fpr, Memory, Steps, UserId, ViewName};
 
-/// The reply to the question how far a user ID belongs to a target, seen from a view.
+/// The reply to `ask`: how confident one can be that a user ID belongs to a target, from a view. `wanted` is the amount
+/// at which no further path is needed. Refused if the view isn't open.
 pub fn ask(
     alloc: Global,
     engine: &mut Engine,
@@ -57,7 +58,7 @@ fn told(alloc: Global, engine: &Engine, answer: &Answer) -> Result<Reply, Memory
     Ok(Reply::Amount(answer.sum, paths.len() as u64, lines))
 }
 
-/// A line for the path, and one for each of its steps.
+/// Appends a line for the path, and one for each of its steps.
 fn push_path(
     alloc: Global,
     engine: &Engine,
@@ -77,7 +78,7 @@ fn push_path(
     Ok(())
 }
 
-/// The line of a step.
+/// A step's line.
 fn step_line_of(alloc: Global, engine: &Engine, step: &Step) -> Result<AnswerLine, Memory>
     ensures line { IfOk result (λ line. line ≡ step_line (state_of engine.now) step.now) }
 {
@@ -85,7 +86,7 @@ fn step_line_of(alloc: Global, engine: &Engine, step: &Step) -> Result<AnswerLin
     Ok(AnswerLine::Step(step.issuer, step.target, step.depth, step.amount, uid))
 }
 
-/// The user ID at a place of a certificate.
+/// The user ID at an index of a certificate.
 fn uid_at<'a>(engine: &'a Engine, target: &Fpr, place: u32) -> &'a [u8]
     ensures uid { result.now ≡ uid_at (state_of engine.now) target.now place }
 {

@@ -14,7 +14,8 @@ use wot_explain::Bind;
 use wot_script::{BindLine, BindLines, Reply};
 use wot_types::{Memory, Steps, ViewName};
 
-/// The bindings whose answer reaches what is wanted, seen from a view.
+/// The reply to `list`: the bindings that are authenticated to the amount `wanted`, from a view. Refused if the view
+/// isn't open.
 pub fn list(
     alloc: Global,
     engine: &mut Engine,
@@ -35,7 +36,7 @@ pub fn list(
     }
 }
 
-/// The same over the parts that are seen from the view.
+/// The reply over the parts of the view.
 fn list_from(alloc: Global, parts: &Parts<'_>, wanted: u32) -> Result<Reply, Memory>
     requires wanted { 1 ≤ wanted }
     requires few { length parts.now.roots.now ≤ 64 }

@@ -14,7 +14,8 @@ use wot_check::{Checked, Claimed, Table};
 use wot_script::{ClaimLine, ClaimLines, LabelLine, LabelLines, Reply};
 use wot_types::{Fpr, Memory, Steps, ViewName};
 
-/// Whether claimed paths and a table show, seen from a view, why no more is there. Nothing is searched.
+/// The reply to `check`: whether claimed paths and a table prove, from a view, that the amount isn't higher. Nothing is
+/// searched. Refused if the view isn't open.
 pub fn check(
     alloc: Global,
     engine: &mut Engine,
@@ -40,7 +41,7 @@ pub fn check(
     }
 }
 
-/// The same over the parts that are seen from the view.
+/// The reply over the parts of the view.
 fn check_from(
     alloc: Global,
     parts: &Parts<'_>,
@@ -62,7 +63,7 @@ fn check_from(
     Ok(verdict(claims, checked))
 }
 
-/// What is answered to claims, by what their check comes to.
+/// The reply to claims, by the result of their check.
 fn verdict(claims: &[ClaimLine], checked: Checked) -> Reply
     requires few { length claims.now < 2 ^ 24 }
     ensures verdict { result ≡ verdict_on claims.now checked }
@@ -74,7 +75,7 @@ fn verdict(claims: &[ClaimLine], checked: Checked) -> Reply
     }
 }
 
-/// The sum of the amounts that are claimed.
+/// The sum of the claimed amounts.
 fn sum(claims: &[ClaimLine]) -> u32
     requires few { length claims.now < 2 ^ 24 }
     ensures sum { result ≡ sum_in claims.now }
@@ -88,7 +89,7 @@ fn sum(claims: &[ClaimLine]) -> u32
     sum
 }
 
-/// The paths that are claimed.
+/// The claimed paths.
 fn claimed_paths(alloc: Global, claims: &[ClaimLine]) -> Result<Vec<Claimed>, Memory>
     ensures paths { IfOk result (λ paths. paths.items ≡ map claim_in claims.now) }
 {
@@ -113,7 +114,7 @@ fn claimed_path(alloc: Global, claim: &ClaimLine) -> Result<Claimed, Memory>
     Ok(path)
 }
 
-/// The table that is claimed.
+/// The claimed table.
 fn claimed_table(alloc: Global, labels: &[LabelLine]) -> Result<Table, Memory>
     requires table { IsTable (table_in labels.now) }
     ensures table { IfOk result (λ table. table ≡ table_in labels.now) }

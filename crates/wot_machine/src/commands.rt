@@ -23,7 +23,8 @@ use wot_script::Reply;
 use wot_types::{Fpr, Memory, SigNumber, ViewName};
 use wot_verdict::Verdict;
 
-/// `import HEX`.
+/// `import HEX`: merges the certificates of the octets, all or none, into the keyring. After `Memory` the engine is
+/// unchanged.
 pub fn import<F: Fn(Ask) -> bool>(
     engine: &mut Engine,
     octets: &[u8],
@@ -59,7 +60,7 @@ pub fn import<F: Fn(Ask) -> bool>(
     }
 }
 
-/// `drop FPR`.
+/// `drop FPR`: removes a certificate, or replies that it is absent. Takes no memory.
 pub fn remove(engine: &mut Engine, fpr: &Fpr) -> Reply
     requires standard { engine.old.keyring.limits ≡ standard_limits }
     requires countable { engine.old.keyring.changes < 2 ^ 64 - 1 }
@@ -77,7 +78,8 @@ pub fn remove(engine: &mut Engine, fpr: &Fpr) -> Reply
     }
 }
 
-/// `verdict NUM good FPR` and `verdict NUM bad`.
+/// `verdict NUM good FPR` and `verdict NUM bad`: sets the verdict on a signature, which needn't be held. Refused if the
+/// number of verdicts is at its limit. After `Memory` the engine is unchanged.
 pub fn set_verdict(
     engine: &mut Engine,
     number: SigNumber,
@@ -101,7 +103,7 @@ pub fn set_verdict(
     }
 }
 
-/// `verdict NUM none`.
+/// `verdict NUM none`: removes a verdict, or replies that it is absent. Takes no memory.
 pub fn clear_verdict(engine: &mut Engine, number: &SigNumber) -> Reply
     requires standard { engine.old.keyring.limits ≡ standard_limits }
     requires countable { engine.old.keyring.changes < 2 ^ 64 - 1 }
@@ -119,7 +121,8 @@ pub fn clear_verdict(engine: &mut Engine, number: &SigNumber) -> Reply
     }
 }
 
-/// `view V time T`.
+/// `view V time T`: opens a view, or moves its time, in seconds since 1970. Refused if the number of views is at its
+/// limit. After `Memory` the engine is unchanged.
 pub fn time(engine: &mut Engine, view: &ViewName, t: u32) -> Result<Reply, Memory>
     requires standard { engine.old.keyring.limits ≡ standard_limits }
     requires turnable { engine.old.turns.count < 2 ^ 64 - 1 }
@@ -138,7 +141,8 @@ pub fn time(engine: &mut Engine, view: &ViewName, t: u32) -> Result<Reply, Memor
     }
 }
 
-/// `view V root FPR A`.
+/// `view V root FPR A`: sets the amount of a root; 0 removes it. Refused if the view isn't open, if there is no root to
+/// remove, or if the number of its roots is at its limit. After `Memory` the engine is unchanged.
 pub fn root(engine: &mut Engine, view: &ViewName, fpr: &Fpr, amount: u8) -> Result<Reply, Memory>
     requires standard { engine.old.keyring.limits ≡ standard_limits }
     requires turnable { engine.old.turns.count < 2 ^ 64 - 1 }
@@ -156,7 +160,7 @@ pub fn root(engine: &mut Engine, view: &ViewName, fpr: &Fpr, amount: u8) -> Resu
     }
 }
 
-/// `view V close`.
+/// `view V close`: closes a view, or replies that it isn't open. Takes no memory.
 pub fn close(engine: &mut Engine, view: &ViewName) -> Reply
     ensures gives { Gives (close_of (state_of engine.old) view.now) result (state_of engine.new) }
     ensures turned { IsOneClosing view.now engine.old.views engine.old.turns engine.new.views engine.new.turns }

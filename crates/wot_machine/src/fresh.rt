@@ -4,7 +4,8 @@ ghost use Rattle.wot_policy.specs.declared.rows.PolicyRows.{PolicyRows};
 ghost use Rattle.wot_cache.specs.State.{Engine};
 ghost use Rattle.wot_machine.specs.Fresh.{DumpMakesAnew};
 
-/// A law: what `Engine::dump` promises of an engine with the standard limits makes its state anew, line by line.
+/// A law: the lines of a dump of an engine with the standard limits restore its state, by the contract of
+/// `Engine::dump`.
 pub fn dump_makes_the_state_anew()
     ensures { (rows : PolicyRows) (engine : Engine) → DumpMakesAnew rows engine }
 {}

@@ -10,23 +10,25 @@ ghost use Rattle.wot_machine.specs.GoesOn.{FreshMachinesGoOn};
 ghost use Rattle.wot_machine.specs.Joined.{NextsAreTold, PiecesJoin, RunsAreExchanges, StaleNumbersDiffer};
 ghost use Rattle.wot_machine.specs.Law.{HaveOneOutcome, HaveOnlyWatchLines, HaveOutcomes, HaveWatchLines};
 ghost use Rattle.wot_machine.specs.Law.{LeadToStates, RefusalsLeaveAll};
+ghost use Rattle.wot_machine.specs.Leading.{DoAbsencesRestOnLeading, DoChecksRestOnLookedAt};
 ghost use Rattle.wot_machine.specs.Slices.{DoAnswersRestOnSlices, DoExplanationsRestOnIssuers, DoRepliesRestOnSlices};
 ghost use Rattle.wot_machine.specs.Transcript.{HasOneTranscript, StayJudged, Transcript};
 ghost use Rattle.wot_machine.specs.Worth.{QuietLinesTellNothing, WatchLinesAreNews, WatchesAreTrue};
 
-use wot_auth::laws::answers_rest_on_slices;
+use wot_auth::laws::{answers_rest_on_paths, answers_rest_on_slices};
 use wot_cert::laws::judging;
 use wot_check::laws::{
-    accepted_paths_leave_nothing, check_is_one, least_table_is_one, least_tables_are_accepted,
+    accepted_paths_leave_nothing, check_is_one, checks_rest_on_what_they_name, least_table_is_one,
+    least_tables_are_accepted, tables_rest_on_what_leads,
 };
 use wot_edge::laws::answer_is_one;
 use wot_explain::laws::{explanations_rest_on_issuers, list_is_one};
 use wot_network::laws::{edges_rest_on_trust, record_is_lawful, records_agree};
 use wot_script::laws::lines_spell_commands;
 
-/// Whatever the shelf gives, each line has a reply or none, and a state after it, and in a state that can be only one
-/// of each. What comes after a state that can be, as the one before the first line, can be too. So it is with the
-/// watch lines of a state.
+/// Whatever the certificate directory returns, each line has an outcome: a reply or none, and a new state. From a
+/// well-formed state, as the one before the first line is, there is only one, and the new state is well-formed too. The
+/// watch lines of a state exist too, and those of a well-formed state are unique.
 pub fn each_line_has_one_outcome()
     ensures some { (rows : PolicyRows) → HaveOutcomes rows }
     ensures one { (rows : PolicyRows) → HaveOneOutcome rows }
@@ -42,13 +44,13 @@ pub fn each_line_has_one_outcome()
     lines_spell_commands();
 }
 
-/// A line that is refused, or in which the shelf failed, leaves certificates, verdicts, views, counts, cursors and
-/// watches as they were.
+/// A line that is refused, or in which the certificate directory failed, leaves certificates, verdicts, views, counts,
+/// cursors and watches unchanged.
 pub fn refused_lines_leave_the_state()
     ensures { (rows : PolicyRows) → RefusalsLeaveAll rows }
 {}
 
-/// Over a shelf of each world, each input has exactly one transcript.
+/// With a certificate directory in any world, each input has exactly one transcript.
 pub fn each_input_has_one_transcript()
     ensures some { (rows : PolicyRows) (world : World) (input : List ℕ)
         → (replies : List Reply) × Transcript rows world input replies }
@@ -57,16 +59,16 @@ pub fn each_input_has_one_transcript()
     each_line_has_one_outcome();
 }
 
-/// In each state that lines lead to from the start on, every signature has the mark that the rows give it, so that
-/// judging them anew changes nothing. So what the lines of a dump make anew there is this very state.
+/// In each state to which lines lead from a fresh machine, every signature has the mark that the policy rows give it.
+/// So judging the signatures again changes nothing, and the lines of a dump restore exactly this state.
 pub fn reached_states_are_judged()
     ensures { (rows : PolicyRows) → StayJudged rows }
 {
     judging();
 }
 
-/// A fresh machine that was given the lines of a dump goes on as the one that dumped: whatever lines come then, over
-/// the same shelf, each reply that isn't to a command of a cursor or of a watch is the same.
+/// A machine that was restored from a dump behaves like the one that dumped: whatever lines follow, with the same
+/// certificate directory, each reply is the same, except those to commands of cursors and watches.
 pub fn fresh_machines_go_on()
     ensures { (rows : PolicyRows) → FreshMachinesGoOn rows }
 {
@@ -80,8 +82,8 @@ pub fn fresh_machines_go_on()
     lines_spell_commands();
 }
 
-/// Each answer depends only on the certificates, the verdicts, and the roots and the time of the asking view then
-/// present. What else two histories did, and whatever other views are open, the same question has the same reply.
+/// Each answer depends only on the current certificates and verdicts, and on the roots and the time of the asking view.
+/// Whatever else two histories did, and whatever other views are open, equal questions get equal replies.
 pub fn answers_depend_on_what_is_present()
     ensures present { (rows : PolicyRows) → DependsOnWhatIsPresent rows }
 {
@@ -90,9 +92,9 @@ pub fn answers_depend_on_what_is_present()
     each_line_has_one_outcome();
 }
 
-/// The reply to `ask` rests on a slice of what is held: the certificates of the roots, of whatever a member certified
-/// with a depth of at least 1, and of the target, with the verdicts on their signatures. Two states that hold the same
-/// there, and in which the asking view is the same, have the same reply, and the same answer.
+/// The reply to `ask` depends only on a slice of what is held: the certificates of the roots, of every key that a
+/// member certified with a depth of at least 1, and of the target, with the verdicts on their signatures. Two states
+/// that agree on these and on the asking view give the same reply and the same answer.
 pub fn questions_rest_on_slices()
     ensures replies { (rows : PolicyRows) → DoRepliesRestOnSlices rows }
     ensures answers { (rows : PolicyRows) → DoAnswersRestOnSlices rows }
@@ -106,9 +108,9 @@ pub fn questions_rest_on_slices()
     each_line_has_one_outcome();
 }
 
-/// The reply to `explain` rests on the certificate that is explained, on those of the issuers of its signatures by the
-/// verdicts on these, and on the verdicts on all their signatures. Two states that hold the same there, and in which
-/// the asking view is the same, have the same reply.
+/// The reply to `explain` depends only on the explained certificate, on the certificates of the issuers that verdicts
+/// name for its signatures, and on the verdicts on all their signatures. Two states that agree on these and on the
+/// asking view give the same reply.
 pub fn explanations_rest_on_slices()
     ensures { (rows : PolicyRows) → DoExplanationsRestOnIssuers rows }
 {
@@ -118,8 +120,39 @@ pub fn explanations_rest_on_slices()
     each_line_has_one_outcome();
 }
 
-/// Claims of absence hold. What a reply `absence missed` claims is accepted by `check` from the same view in the same
-/// state; and after the paths of a claim that is accepted no valid path of positive amount is left.
+/// The reply to `absence` depends only on the certificates that lead to the target, and on the verdicts on their
+/// signatures: the target, every key that certified it, and with each of these every key that certified it with a depth
+/// of at least 1. Two states that agree on these and on the asking view give the same reply.
+pub fn absences_rest_on_slices()
+    ensures { (rows : PolicyRows) → DoAbsencesRestOnLeading rows }
+{
+    answers_rest_on_paths();
+    tables_rest_on_what_leads();
+    edges_rest_on_trust();
+    records_agree();
+    judging();
+    reached_states_are_judged();
+    each_line_has_one_outcome();
+}
+
+/// The reply to `check` depends only on the certificates that the check looks at, and on the verdicts on their
+/// signatures: the target, every key that certified it, the issuers on the claimed paths, each key with a label, and
+/// every key that certified one with a depth of at least 1. Two states that agree on these and on the asking view give
+/// the same reply.
+pub fn checks_rest_on_slices()
+    ensures { (rows : PolicyRows) → DoChecksRestOnLookedAt rows }
+{
+    checks_rest_on_what_they_name();
+    edges_rest_on_trust();
+    records_agree();
+    judging();
+    reached_states_are_judged();
+    each_line_has_one_outcome();
+    lines_spell_commands();
+}
+
+/// Claims of absence hold. A claim from a reply `absence missed` is accepted by `check` from the same view in the same
+/// state. After the paths of an accepted claim, no valid path of positive amount is left.
 pub fn claims_of_absence_hold()
     ensures accepted { AreClaimsAccepted }
     ensures nothing { DoClaimsLeaveNothing }
@@ -129,10 +162,10 @@ pub fn claims_of_absence_hold()
     record_is_lawful();
 }
 
-/// The pieces of a cursor join to the list. Whatever lines come between, by anyone, what a cursor gave since its
-/// beginning is, piece behind piece, what `list` replies in the state at its beginning, from the first binding on, and
-/// all of that once a piece was shorter than asked. Each other reply to its `next` says that its view isn't open, or
-/// that it is stale, with the number at its beginning and the present one. Such numbers differ, in every state.
+/// The pieces of a cursor join to the list. Whatever lines come between, from any client, the concatenated pieces since
+/// the cursor began are what `list` replied in the state in which it began, from the first binding on, and all of that
+/// once a piece was shorter than asked for. Any other reply to `next` says that the view isn't open, or that the cursor
+/// is stale, with the number at its beginning and the current one. Such numbers differ in every state.
 pub fn pieces_join_to_the_list()
     ensures runs { (rows : PolicyRows) → RunsAreExchanges rows }
     ensures join { (rows : PolicyRows) → PiecesJoin rows }
@@ -144,10 +177,10 @@ pub fn pieces_join_to_the_list()
     lines_spell_commands();
 }
 
-/// Watches are true. After each line, whoever wrote it, the view of each watch that is there is open, and the amount
-/// last told of it, or its opening amount where none was told since, is that of the answer to its question as things
-/// are now. The watch lines behind a line stand in the order of the names; each tells an amount that is another than
-/// the one told last, or that the watch is gone. Behind a line that leaves all that is kept stands none.
+/// Watches are true. After each line, from any client, the view of each watch is open, and the last amount reported for
+/// it, including the first one, is the current amount of the answer to its question. The watch lines after a line are
+/// in the order of the names, and each reports an amount that differs from the last one, or that the watch is gone. No
+/// watch line follows a line that changes nothing.
 pub fn watches_are_true()
     ensures now { (rows : PolicyRows) → WatchesAreTrue rows }
     ensures news { (rows : PolicyRows) → WatchLinesAreNews rows }

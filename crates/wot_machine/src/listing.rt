@@ -32,7 +32,7 @@ fn key_lines(alloc: Global, certs: CertsIter<'_>) -> Result<KeyLines, Memory>
     Ok(lines)
 }
 
-/// A line for each kept certificate.
+/// The reply to `keys`: a line for each certificate.
 pub fn keys(alloc: Global, engine: &Engine) -> Result<Reply, Memory>
     ensures keys { IfOk result (λ reply. reply ≡ (keys_of (state_of engine.now)).reply) }
 {
@@ -40,14 +40,14 @@ pub fn keys(alloc: Global, engine: &Engine) -> Result<Reply, Memory>
     Ok(Reply::Keys(lines.items().len() as u64, lines))
 }
 
-/// The certificate that is kept under a fingerprint.
+/// The certificate with this fingerprint.
 pub fn cert_of<'a>(engine: &'a Engine, fpr: &Fpr) -> Option<&'a Cert>
     ensures found { option_copied result ≡ cert_in (held_of engine.now.keyring) fpr.now }
 {
     engine.keyring().get(fpr)
 }
 
-/// The octets of a certificate.
+/// The reply to `export`: the octets of a certificate (RFC 9580, section 10.1), or that it is absent.
 pub fn export(alloc: Global, engine: &Engine, fpr: &Fpr) -> Result<Reply, Memory>
     ensures export { IfOk result (λ reply. reply ≡ (export_of (state_of engine.now) fpr.now).reply) }
 {
@@ -59,7 +59,7 @@ pub fn export(alloc: Global, engine: &Engine, fpr: &Fpr) -> Result<Reply, Memory
     Ok(Reply::Export(Octets::from_vec(text)))
 }
 
-/// The commands that make the state anew.
+/// The reply to `dump`: the commands that restore the state.
 pub fn dump(alloc: Global, engine: &Engine) -> Result<Reply, Memory>
     requires standard { engine.now.keyring.limits ≡ standard_limits }
     ensures dump { IfOk result (λ reply. reply ≡ (dump_of (state_of engine.now)).reply) }

@@ -6,13 +6,12 @@ ghost use Rattle.wot_policy.specs.Kept.{IsFaithful, rows_of};
 ghost use Rattle.wot_keyring.specs.Kept.{IsJudgedBy};
 ghost use Rattle.wot_keyring.specs.Import.{IsOneChange};
 ghost use Rattle.wot_script.specs.Replies.{is_short};
-ghost use Rattle.wot_script.specs.declared.command.Command.TheVariants as commands;
 ghost use Rattle.wot_cache.specs.State.{state_of};
 ghost use Rattle.wot_machine.specs.Asked.{AsksForNew};
 ghost use Rattle.wot_machine.specs.Both.{ends};
 ghost use Rattle.wot_machine.specs.Entry.{MayPutTo, loads};
 ghost use Rattle.wot_machine.specs.LineStep.{Loads};
-ghost use Rattle.wot_machine.specs.Ran.{Acts, seen};
+ghost use Rattle.wot_machine.specs.Ran.{LoadsBy, seen};
 
 use crate::refusal::{Refused, reply_to};
 use wot_cache::Engine;
@@ -22,7 +21,10 @@ use wot_policy::{Ask, Policy};
 use wot_script::Reply;
 use wot_types::{Memory, Name};
 
-/// Reads an entry of the shelf, and unites its one certificate with what is held.
+/// The reply to `load`: reads an entry of the certificate directory, and merges its one certificate with what is held.
+/// Refused if the directory fails, if the entry is absent or has more than 8,388,608 octets, or if `import` would
+/// refuse its octets or they aren't exactly the certificate of the entry's name. After `Memory` the engine is
+/// unchanged.
 pub fn load<D: Shelf, F: Fn(Ask) -> bool>(
     engine: &mut Engine,
     name: &Name,
@@ -33,7 +35,7 @@ pub fn load<D: Shelf, F: Fn(Ask) -> bool>(
     requires countable { engine.old.keyring.changes < 2 ^ 64 - 1 }
     requires judged { IsJudgedBy (rows_of policy.old) engine.old.keyring }
     requires faithful { IsFaithful F.Fn policy.old }
-    ensures did { IfOk result (Acts (rows_of policy.old) (commands.Load name.now)
+    ensures did { IfOk result (LoadsBy (rows_of policy.old) name.now
         (ends state_of engine) (ends (seen D.world D.faults) shelf)) }
     ensures entries { OnErr result (MayPutTo (state_of engine.old) (loads name.now) (ends D.world shelf)) }
     ensures later { D.faults shelf.old ≤ D.faults shelf.new }
@@ -57,7 +59,7 @@ pub fn load<D: Shelf, F: Fn(Ask) -> bool>(
     }
 }
 
-/// Unites the one certificate of an entry's octets with what is held.
+/// Merges the one certificate of an entry's octets with what is held.
 fn enter<F: Fn(Ask) -> bool>(
     engine: &mut Engine,
     name: &Name,

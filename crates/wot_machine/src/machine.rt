@@ -1,8 +1,7 @@
-//! The machine between two lines, and what one line does: it is read as a command, the command is run over the engine
-//! and the shelf, its reply is printed, and the watch lines are told behind it.
-//!
-//! It stands on the functions of the commands beside it, one file each. What a command comes to is defined in
-//! `specs/Outcome.antt` and `specs/LineStep.antt`; a new command has its arm in `run`, `obey` or `act`.
+//! The machine between two lines, and what one line does: it is read as a command, the command is run on the engine and
+//! the certificate directory, its reply is printed, and the watch lines are printed after it.
+//! A function for each command is in the files next to this one. `specs/Outcome.antt` and `specs/LineStep.antt` define
+//! the outcome of each command. A new command gets its arm with its class, in `state`, `pacing` or `watching`.
 ghost use Rattle.std.specs.Prelude.{◌≡◌, ◌≤◌, ◌<◌, ◌+◌, ◌-◌, ◌^◌, [], ◌++◌};
 ghost use Rattle.std.specs.Prelude.{length, vec_items, vec_len, vec_capacity};
 ghost use Rattle.std.specs.Prelude.{Some, None, false, true, IfOk, IfSome, IsOk, OnOk, OnErr};
@@ -13,41 +12,30 @@ ghost use Rattle.wot_policy.specs.Kept.{IsFaithful, rows_of};
 ghost use Rattle.wot_keyring.specs.Kept.{IsJudgedBy};
 ghost use Rattle.wot_keyring.specs.Import.{IsOneChange};
 ghost use Rattle.wot_script.specs.Grammar.{command_of};
-ghost use Rattle.wot_script.specs.Spelling.{HasSpelling, IsWithin};
 ghost use Rattle.wot_script.specs.Replies.{HasWords, is_short, reply_text};
 ghost use Rattle.wot_cache.specs.State.{empty, state_of, StaysButMarks};
-ghost use Rattle.wot_machine.specs.Asked.{LineAsks};
+ghost use Rattle.wot_machine.specs.Asked.{AsksBy, LineAsks};
+ghost use Rattle.wot_machine.specs.Classes.{IsFit, IsSmall};
 ghost use Rattle.wot_machine.specs.EdgeLines.{CommandMarks, LineMarks};
 ghost use Rattle.wot_machine.specs.Lines.{heard, is_silent};
-ghost use Rattle.wot_machine.specs.Entry.{MayPut, entry_for, unused, use_of};
-ghost use Rattle.wot_machine.specs.LineStep.{Does};
+ghost use Rattle.wot_machine.specs.Entry.{MayPut, entry_for, use_by, use_of};
 ghost use Rattle.wot_machine.specs.Both.{ends, itself};
-ghost use Rattle.wot_machine.specs.Ran.{Acts, over};
-ghost use Rattle.wot_machine.specs.Stepped.{Heeds, Replies, Runs, TellsBehind};
+ghost use Rattle.wot_machine.specs.Ran.{over};
+ghost use Rattle.wot_machine.specs.Stepped.{Heeds, HeedsClass, Replies, Runs, TellsBehind};
 ghost use Rattle.wot_machine.specs.Transcript.{octets_of};
 ghost use Rattle.wot_machine.specs.Machine.{kept, parts, PartsStay, StaysKept};
-ghost use Rattle.wot_machine.specs.Pacing.{is_pacing, settled};
+ghost use Rattle.wot_machine.specs.Pacing.{settled};
 ghost use Rattle.wot_machine.specs.Fresh.{IsDump, OnDump, IsMadeAnew};
 ghost use Rattle.wot_machine.specs.Made.{LineMakes, Makes, TellingMakes, WatchesMake};
 ghost use Rattle.wot_script.specs.declared.reply.Reply.TheVariants as replies;
 ghost use Rattle.wot_machine.specs.Settled.{CountsDiffer, IsNoAmount};
-ghost use Rattle.wot_machine.specs.Served.{unserved};
-ghost use Rattle.wot_machine.specs.Watching.{AreLines, IsWatchLine, is_watching, told_all};
-ghost use Rattle.wot_machine.specs.Whole.{IsTurnedBy};
+ghost use Rattle.wot_machine.specs.Watching.{AreLines, IsWatchLine, told_all};
 
-use crate::absence::absence;
-use crate::answer::ask;
-use crate::bindings::list;
-use crate::checking::check;
-use crate::commands::{clear_verdict, close, import, remove, root, set_verdict, time};
-use crate::listing::{dump, export, keys};
-use crate::load::load;
-use crate::pacing::{close as close_cursor, next, over};
-use crate::pending::pending;
-use crate::reasons::explain;
-use crate::store::store;
+use crate::class::{Class, sort};
+use crate::pacing::pace;
+use crate::state::obey;
 use crate::told::{Moved, Told, alone, plain, settle};
-use crate::watching::{are_settled, off, on, tell_all, watch_lines};
+use crate::watching::{are_settled, tell_all, watch, watch_lines};
 use std::alloc::Global;
 use std::marker::Model;
 use wot_cache::laws::{change_goes_on, rests_on, views_go_on};
@@ -55,19 +43,18 @@ use wot_cache::{Basis, Engine};
 use wot_certd::Shelf;
 use wot_cursor::Cursors;
 use wot_policy::{Ask, Policy};
-use wot_script::{Command, LineFault, Reply, print_reply, read_line};
+use wot_script::{LineFault, Reply, print_reply, read_line};
 use wot_types::{Limits, Memory, Steps};
-use wot_verdict::Verdict;
 use wot_watch::Watches;
 
-/// The most octets of a line, without its line feed.
+/// The most octets in a line, without its line feed.
 const LONGEST: usize = 16_777_216;
 
-/// The room that a reply of one line needs at most.
+/// The most octets that a reply of one line needs.
 const ROOM: usize = 128;
 
-/// The machine between two lines: one engine, with the standard limits, over which the lines of all clients go, and
-/// their cursors.
+/// The machine between two lines: one engine with the standard limits, which all clients share, and their cursors and
+/// watches.
 #[derive(Drop)]
 pub struct Machine {
     alloc: Global,
@@ -75,7 +62,7 @@ pub struct Machine {
     cursors: Cursors,
     watches: Watches,
     steps: Steps,
-    // What the amounts last told rest on, where that is known.
+    // What the last reported amounts depend on, if that is known.
     basis: Option<Basis>,
 }
 
@@ -93,7 +80,7 @@ impl Model for Machine {
 }
 
 impl Machine {
-    /// A machine that keeps nothing yet.
+    /// An empty machine.
     pub fn new(alloc: Global) -> Machine
         ensures start { result.engine ≡ empty standard_limits }
         ensures cursors { result.cursors ≡ [] }
@@ -110,17 +97,17 @@ impl Machine {
         }
     }
 
-    /// How many edges were made for all questions so far. The count stands still at `u64::MAX`.
+    /// The number of edges made for all questions so far. The count stays at `u64::MAX` when it gets there.
     pub fn made(&self) -> u64
         ensures made { result ≡ self.now.made }
     {
         self.steps.made
     }
 
-    /// One line, without its line feed; its reply is appended. After `Memory` `out` is as before, and so is the machine
-    /// but for marks and the count of edges made. Room for 128 octets is taken in `out` before anything changes. A
-    /// `load` line calls the shelf once, and a `store` line twice at most; no other calls it. After `Memory` an entry
-    /// that a `store` line puts may stand there already.
+    /// Runs one line, without its line feed, and appends its reply. After `Memory`, `out` is unchanged, and so is the
+    /// machine except for marks and the count of made edges; an entry that a `store` line writes may be there already.
+    /// Room for 128 octets is reserved in `out` before anything changes. A `load` line makes one call to the
+    /// certificate directory, a `store` line at most two, and any other line none.
     #[tactic(auto, using(crate::proofs::Unchanged::unchanged))]
     pub fn line<D: Shelf, F: Fn(Ask) -> bool>(
         &mut self,
@@ -140,23 +127,23 @@ impl Machine {
         ensures entries { OnErr result (MayPut (state_of self.old.engine) (use_of (heard line.now))
             (D.world shelf.old) (D.world shelf.new)) }
         ensures later { D.faults shelf.old ≤ D.faults shelf.new }
-        // The lines that the reply to `dump` holds make the state anew in a fresh machine, by whatever rows it judges.
+        // The lines of a reply to `dump` restore the state in a fresh machine, whatever its policy rows are.
         ensures anew { OnOk result
             (IsDump line.now → (rows : PolicyRows) → IsMadeAnew rows (state_of self.old.engine)) }
-        // A line of the reply to `explain` says `edge` exactly for each usable edge, by the definition of edges alone.
+        // A line of a reply to `explain` says `edge` exactly for each usable edge, by the definition of edges alone.
         ensures edges { OnOk result (LineMarks self.old.engine (heard line.now)) }
         ensures kept { OnErr result (StaysKept self.old self.new × (out.new.items ≡ out.old.items)) }
         ensures room { OnOk result (is_silent line.now ≡ false → vec_len out.old + 128 ≤ vec_capacity out.new) }
-        // A line that leaves the state, as one that is silent or refused, or asks or lists, leaves stamps and counts
-        // too.
+        // A line that doesn't change the state (it is silent or refused, or it asks or lists) doesn't change stamps and
+        // counts.
         ensures unchanged { state_of self.new.engine ≡ state_of self.old.engine →
             StaysButMarks self.old.engine self.new.engine }
-        // A question makes edges of what is stale for its view, and each other line makes none.
+        // A question makes edges for the certificates that are stale in its view. Any other line makes none.
         ensures makes { LineMakes result (heard line.now) self.old.cursors self.old.engine self.new.engine
             self.old.made self.new.made }
         ensures counted { IsOneChange self.old.engine.keyring self.new.engine.keyring }
         ensures turned { self.new.engine.turns.count ≤ self.old.engine.turns.count + 1 }
-        // The policy is asked once for each sound signature that an import or a load adds, and in no other line.
+        // The policy is asked once for each well-formed signature that an import or a load adds, and in no other line.
         ensures asked { LineAsks result (heard line.now) (state_of self.old.engine) (state_of self.new.engine)
             policy.old policy.new }
         ensures judged { IsJudgedBy (rows_of policy.old) self.new.engine.keyring }
@@ -170,8 +157,9 @@ impl Machine {
         }
     }
 
-    /// The reply to a line, without its line feed; none to one that is passed over. After `Memory` the machine is as
-    /// before but for marks and the count of edges made. A cursor moves once its piece was told ([`Machine::settle`]).
+    /// The reply to a line, without its line feed; None if the line is silent. After `Memory` the machine is unchanged
+    /// except for marks and the count of made edges. A cursor moves only once its piece is written
+    /// ([`Machine::settle`]).
     #[tactic(auto, using(crate::proofs::Unchanged::unchanged))]
     pub fn reply<D: Shelf, F: Fn(Ask) -> bool>(
         &mut self,
@@ -234,7 +222,7 @@ impl Machine {
         Ok(Some(told))
     }
 
-    /// Appends a reply, and moves the cursor of which it is a piece. After `Memory` all is as before.
+    /// Appends a reply, and moves the cursor if the reply is its piece. After `Memory` nothing changed.
     fn put(&mut self, told: Told, out: &mut Vec<u8>) -> Result<(), Memory>
         requires words { HasWords told.reply }
         ensures appended { OnOk result (out.new.items ≡ out.old.items ++ reply_text told.reply) }
@@ -252,7 +240,7 @@ impl Machine {
         Ok(())
     }
 
-    /// Moves the cursor that gave a piece which was told.
+    /// Moves the cursor whose piece was written.
     pub fn settle(&mut self, moved: Option<Moved>)
         ensures settled { self.new.cursors ≡ settled moved self.old.cursors }
         ensures engine { self.new.engine ≡ self.old.engine }
@@ -262,13 +250,13 @@ impl Machine {
         settle(moved, &mut self.cursors);
     }
 
-    /// Appends the watch lines of what is kept, by name of watch: one for each watch whose amount isn't the one last
-    /// told, and one for each whose view isn't open. They are told then, and the latter watches are taken away. After
-    /// `Memory` `out` is as before, and so is the machine but for marks and the count of edges made.
+    /// Appends the watch lines, by name of watch: one for each watch whose amount isn't the last one reported, and one
+    /// for each whose view isn't open. They count as reported then, and the latter watches are removed. After `Memory`,
+    /// `out` is unchanged, and so is the machine except for marks and the count of made edges.
     pub fn tell(&mut self, out: &mut Vec<u8>) -> Result<(), Memory>
         ensures tells { OnOk result (TellsBehind (kept self.old) out.old.items (kept self.new) out.new.items) }
         ensures kept { OnErr result (StaysKept self.old self.new × (out.new.items ≡ out.old.items)) }
-        // Nothing is made where the amounts are known, or each watch makes what a question from its view makes.
+        // Nothing is made if the amounts are known. Otherwise each watch makes what a question from its view makes.
         ensures makes { TellingMakes result self.old.watches self.old.engine self.new.engine
             self.old.made self.new.made }
         ensures stays { StaysButMarks self.old.engine self.new.engine }
@@ -284,7 +272,7 @@ impl Machine {
         Ok(())
     }
 
-    /// Whether no watch has a line, where that is known without asking anything.
+    /// Whether it is known, without asking anything, that no watch has a line.
     fn is_settled(&mut self) -> bool
         ensures settled { result ≡ true → AreLines (state_of self.old.engine) self.old.watches [] }
         ensures same { self.new ≡ self.old }
@@ -292,7 +280,7 @@ impl Machine {
         are_settled(&self.engine, &self.watches, &mut self.basis)
     }
 
-    /// The watch lines, none of which is told yet.
+    /// The watch lines. None of them counts as reported yet.
     pub fn watch_lines(&mut self) -> Result<Vec<Reply>, Memory>
         ensures lines { IfOk result (λ lines. AreLines (state_of self.old.engine) self.old.watches lines.items) }
         ensures each { IfOk result (λ lines. AllByRecursion IsWatchLine lines.items) }
@@ -319,7 +307,7 @@ impl Machine {
         Ok(lines)
     }
 
-    /// These watch lines were told.
+    /// Marks these watch lines as reported.
     pub fn told(&mut self, lines: &[Reply])
         ensures told { self.new.watches ≡ told_all self.old.watches lines.now }
         ensures engine { self.new.engine ≡ self.old.engine }
@@ -334,7 +322,7 @@ impl Machine {
     }
 }
 
-/// What an engine counts, by which it is seen whether a line may have closed a view or taken a certificate out.
+/// The engine's counts, which show whether a line may have closed a view or removed a certificate.
 #[derive(Clone, Copy)]
 struct Counts {
     certificates: usize,
@@ -356,7 +344,7 @@ impl Counts {
     }
 }
 
-/// The basis, where what was settled before a line still is.
+/// The basis, if what was settled before a line still is.
 fn kept_on(basis: Option<Basis>, engine: &Engine, before: Counts, reply: &Reply) -> Option<Basis>
     ensures same { IfSome result (λ kept. basis ≡ Some kept) }
     ensures more { IfSome result (λ _. before.certificates ≤ length engine.now.keyring.certs) }
@@ -370,8 +358,8 @@ fn kept_on(basis: Option<Basis>, engine: &Engine, before: Counts, reply: &Reply)
     None
 }
 
-/// Whether what was settled before a line still is, by its reply: no certificate is gone, no watch began, and no view
-/// was closed, since a line that closes one is replied `ok` and counts nothing.
+/// Whether what was settled before a line still is, by its reply: no certificate was removed, no watch began, and no
+/// view was closed. A line that closes a view has the reply `ok` and raises no count.
 fn goes_on(engine: &Engine, before: Counts, reply: &Reply) -> bool
     ensures more { result ≡ true → before.certificates ≤ length engine.now.keyring.certs }
     ensures none { result ≡ true → IsNoAmount reply.now }
@@ -413,7 +401,8 @@ fn test_silent(line: &[u8]) -> bool
     }
 }
 
-/// Does what a line asks for. A reply that may be long comes with no change but that a cursor moves once it was told.
+/// Does what a line asks for. A command whose reply may be long changes nothing, except that a cursor moves once the
+/// reply is written.
 fn answer<D: Shelf, F: Fn(Ask) -> bool>(
     alloc: Global,
     engine: &mut Engine,
@@ -456,187 +445,62 @@ fn answer<D: Shelf, F: Fn(Ask) -> bool>(
 {
     match read_line(alloc, line) {
         Ok(command) => act(
-            alloc, engine, cursors, watches, steps, &command, shelf, policy,
+            alloc,
+            engine,
+            cursors,
+            watches,
+            steps,
+            sort(command),
+            shelf,
+            policy,
         ),
         Err(LineFault::Line) => Ok(alone(Reply::Line)),
         Err(LineFault::Memory) => Err(Memory),
     }
 }
 
-/// Runs a command, which may be one of a cursor or of a watch.
+/// Runs a command, by its class.
 fn act<D: Shelf, F: Fn(Ask) -> bool>(
     alloc: Global,
     engine: &mut Engine,
     cursors: &mut Cursors,
     watches: &mut Watches,
     steps: &mut Steps,
-    command: &Command,
+    class: Class,
     shelf: &mut D,
     policy: &mut Policy<F>,
 ) -> Result<Told, Memory>
-    requires within { IsWithin 16777216 command.now }
-    requires spelled { HasSpelling command.now }
+    requires fit { IsFit class }
+    requires small { IsSmall class }
     requires standard { engine.old.keyring.limits ≡ standard_limits }
     requires countable { engine.old.keyring.changes < 2 ^ 64 - 1 }
     requires turnable { engine.old.turns.count < 2 ^ 64 - 1 }
     requires judged { IsJudgedBy (rows_of policy.old) engine.old.keyring }
     requires faithful { IsFaithful F.Fn policy.old }
-    ensures ran { IfOk result (Heeds (rows_of policy.old) (Some command.now)
+    ensures ran { IfOk result (HeedsClass (rows_of policy.old) class
         (parts engine cursors watches) (over D.world D.faults shelf)) }
-    ensures untouched { entry_for (state_of engine.old) (use_of (Some command.now)) ≡ None → shelf.new ≡ shelf.old }
-    ensures entries { OnErr result (MayPut (state_of engine.old) (use_of (Some command.now))
+    ensures untouched { entry_for (state_of engine.old) (use_by class) ≡ None → shelf.new ≡ shelf.old }
+    ensures entries { OnErr result (MayPut (state_of engine.old) (use_by class)
         (D.world shelf.old) (D.world shelf.new)) }
     ensures later { D.faults shelf.old ≤ D.faults shelf.new }
-    ensures anew { OnOk result (OnDump command.now ((rows : PolicyRows) → IsMadeAnew rows (state_of engine.old))) }
-    ensures edges { OnOk result (CommandMarks engine.old command.now) }
+    ensures anew { OnOk result (OnDump class ((rows : PolicyRows) → IsMadeAnew rows (state_of engine.old))) }
+    ensures edges { OnOk result (CommandMarks engine.old class) }
     ensures quiet { IfOk result (λ told.
         is_short told.reply ≡ false → PartsStay (parts engine cursors watches)) }
     ensures kept { OnErr result (PartsStay (parts engine cursors watches)) }
-    ensures makes { LineMakes result (Some command.now) cursors.old engine.old engine.new
-        steps.old.made steps.new.made }
+    ensures makes { Makes result class cursors.old engine.old engine.new steps.old.made steps.new.made }
     ensures standard { engine.new.keyring.limits ≡ standard_limits }
     ensures counted { IsOneChange engine.old.keyring engine.new.keyring }
     ensures turned { engine.new.turns.count ≤ engine.old.turns.count + 1 }
     ensures still { state_of engine.new ≡ state_of engine.old → engine.new.turns ≡ engine.old.turns }
-    ensures asked { LineAsks result (Some command.now) (state_of engine.old) (state_of engine.new)
-        policy.old policy.new }
+    ensures asked { AsksBy result class (state_of engine.old) (state_of engine.new) policy.old policy.new }
     ensures judged { IsJudgedBy (rows_of policy.old) engine.new.keyring }
     ensures faithful { IsFaithful F.Fn policy.new }
     ensures rows { rows_of policy.new ≡ rows_of policy.old }
 {
-    match command {
-        Command::CursorOver(name, view, wanted) => {
-            over(alloc, engine, cursors, name, view, *wanted)
-        }
-        Command::CursorNext(name, count) => next(alloc, engine, steps, cursors, name, *count),
-        Command::CursorClose(name) => Ok(close_cursor(engine, cursors, name)),
-        Command::WatchOn(name, view, target, wanted, uid) => plain(on(
-            alloc, engine, steps, watches, name, view, target, *wanted, uid,
-        )),
-        Command::WatchOff(name) => Ok(alone(off(watches, name))),
-        _ => plain(obey(alloc, engine, steps, command, shelf, policy)),
-    }
-}
-
-/// Runs a command, which may call the shelf.
-fn obey<D: Shelf, F: Fn(Ask) -> bool>(
-    alloc: Global,
-    engine: &mut Engine,
-    steps: &mut Steps,
-    command: &Command,
-    shelf: &mut D,
-    policy: &mut Policy<F>,
-) -> Result<Reply, Memory>
-    requires plain { is_pacing command.now ≡ false }
-    requires unwatched { is_watching command.now ≡ false }
-    requires within { IsWithin 16777216 command.now }
-    requires spelled { HasSpelling command.now }
-    requires standard { engine.old.keyring.limits ≡ standard_limits }
-    requires countable { engine.old.keyring.changes < 2 ^ 64 - 1 }
-    requires turnable { engine.old.turns.count < 2 ^ 64 - 1 }
-    requires judged { IsJudgedBy (rows_of policy.old) engine.old.keyring }
-    requires faithful { IsFaithful F.Fn policy.old }
-    ensures did { IfOk result (Acts (rows_of policy.old) command.now
-        (ends state_of engine) (over D.world D.faults shelf)) }
-    ensures untouched { entry_for (state_of engine.old) (use_of (Some command.now)) ≡ None → shelf.new ≡ shelf.old }
-    ensures entries { OnErr result (MayPut (state_of engine.old) (use_of (Some command.now))
-        (D.world shelf.old) (D.world shelf.new)) }
-    ensures later { D.faults shelf.old ≤ D.faults shelf.new }
-    ensures anew { OnOk result (OnDump command.now ((rows : PolicyRows) → IsMadeAnew rows (state_of engine.old))) }
-    ensures edges { OnOk result (CommandMarks engine.old command.now) }
-    ensures quiet { IfOk result (λ reply. is_short reply ≡ false → StaysButMarks engine.old engine.new) }
-    ensures kept { OnErr result (StaysButMarks engine.old engine.new) }
-    ensures makes { Makes result command.now engine.old engine.new steps.old.made steps.new.made }
-    ensures standard { engine.new.keyring.limits ≡ standard_limits }
-    ensures counted { IsOneChange engine.old.keyring engine.new.keyring }
-    ensures turned { OnOk result
-        (IsTurnedBy command.now engine.old.views engine.old.turns engine.new.views engine.new.turns) }
-    ensures asked { LineAsks result (Some command.now) (state_of engine.old) (state_of engine.new)
-        policy.old policy.new }
-    ensures judged { IsJudgedBy (rows_of policy.old) engine.new.keyring }
-    ensures faithful { IsFaithful F.Fn policy.new }
-    ensures rows { rows_of policy.new ≡ rows_of policy.old }
-{
-    match command {
-        Command::Load(name) => load(engine, name, shelf, policy),
-        Command::Store(fpr) => store(alloc, engine, fpr, shelf),
-        _ => run(alloc, engine, steps, command, policy),
-    }
-}
-
-/// Runs a command that leaves the shelf alone.
-fn run<F: Fn(Ask) -> bool>(
-    alloc: Global,
-    engine: &mut Engine,
-    steps: &mut Steps,
-    command: &Command,
-    policy: &mut Policy<F>,
-) -> Result<Reply, Memory>
-    requires alone { use_of (Some command.now) ≡ unused }
-    requires plain { is_pacing command.now ≡ false }
-    requires unwatched { is_watching command.now ≡ false }
-    requires within { IsWithin 16777216 command.now }
-    requires spelled { HasSpelling command.now }
-    requires standard { engine.old.keyring.limits ≡ standard_limits }
-    requires countable { engine.old.keyring.changes < 2 ^ 64 - 1 }
-    requires turnable { engine.old.turns.count < 2 ^ 64 - 1 }
-    requires judged { IsJudgedBy (rows_of policy.old) engine.old.keyring }
-    requires faithful { IsFaithful F.Fn policy.old }
-    ensures does { IfOk result (λ told.
-        Does (rows_of policy.old) (state_of engine.old) command.now unserved told (state_of engine.new)) }
-    ensures anew { OnOk result (OnDump command.now ((rows : PolicyRows) → IsMadeAnew rows (state_of engine.old))) }
-    ensures edges { OnOk result (CommandMarks engine.old command.now) }
-    ensures quiet { IfOk result (λ reply. is_short reply ≡ false → StaysButMarks engine.old engine.new) }
-    ensures kept { OnErr result (StaysButMarks engine.old engine.new) }
-    ensures makes { Makes result command.now engine.old engine.new steps.old.made steps.new.made }
-    ensures standard { engine.new.keyring.limits ≡ standard_limits }
-    ensures counted { IsOneChange engine.old.keyring engine.new.keyring }
-    ensures turned { OnOk result
-        (IsTurnedBy command.now engine.old.views engine.old.turns engine.new.views engine.new.turns) }
-    ensures asked { LineAsks result (Some command.now) (state_of engine.old) (state_of engine.new)
-        policy.old policy.new }
-    ensures judged { IsJudgedBy (rows_of policy.old) engine.new.keyring }
-    ensures faithful { IsFaithful F.Fn policy.new }
-    ensures rows { rows_of policy.new ≡ rows_of policy.old }
-{
-    match command {
-        Command::Import(octets) => import(engine, octets.items(), policy),
-        Command::Load(_) | Command::Store(_) => unreachable!(),
-        Command::Remove(fpr) => Ok(remove(engine, fpr)),
-        Command::Good(number, fpr) => set_verdict(engine, *number, Verdict::Good(*fpr)),
-        Command::Bad(number) => set_verdict(engine, *number, Verdict::Bad),
-        Command::Unjudge(number) => Ok(clear_verdict(engine, number)),
-        Command::Time(view, t) => time(engine, view, *t),
-        Command::Root(view, fpr, amount) => root(engine, view, fpr, *amount),
-        Command::Close(view) => Ok(close(engine, view)),
-        Command::Ask(view, target, wanted, uid) => {
-            ask(alloc, engine, steps, view, target, *wanted, uid.octets())
-        }
-        Command::List(view, wanted) => list(alloc, engine, steps, view, *wanted),
-        Command::Explain(view, fpr, uid) => {
-            explain(alloc, engine, steps, view, fpr, uid.octets())
-        }
-        Command::Absence(view, target, wanted, uid) => {
-            absence(alloc, engine, steps, view, target, *wanted, uid.octets())
-        }
-        Command::Check(view, target, claims, labels, uid) => check(
-            alloc,
-            engine,
-            steps,
-            view,
-            target,
-            claims,
-            labels,
-            uid.octets(),
-        ),
-        Command::Pending => pending(alloc, engine),
-        Command::Keys => keys(alloc, engine),
-        Command::Export(fpr) => export(alloc, engine, fpr),
-        Command::Dump => dump(alloc, engine),
-        Command::CursorOver(_, _, _)
-        | Command::CursorNext(_, _)
-        | Command::CursorClose(_)
-        | Command::WatchOn(_, _, _, _, _)
-        | Command::WatchOff(_) => unreachable!(),
+    match class {
+        Class::State(command) => plain(obey(alloc, engine, steps, &command, shelf, policy)),
+        Class::Cursor(name, command) => pace(alloc, engine, steps, cursors, &name, &command),
+        Class::Watch(name, command) => plain(watch(alloc, engine, steps, watches, &name, &command)),
     }
 }

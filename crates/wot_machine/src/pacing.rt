@@ -1,17 +1,18 @@
 //! The `cursor` commands: `over`, `next` and `close`. A piece is listed from the cursor's place, and the cursor moves
 //! only once the piece was written. It stands on wot_cursor and wot_explain; the law that pieces join to the list is in
 //! `laws`.
-ghost use Rattle.std.specs.Prelude.{◌≡◌, ◌≤◌, Some, true, length, IfOk, OnErr, is_some};
-ghost use Rattle.wot_script.specs.declared.command.Command.TheVariants.{CursorOver, CursorNext, CursorClose};
+ghost use Rattle.std.specs.Prelude.{◌≡◌, ◌≤◌, Some, false, true, length, IfOk, OnErr, is_some};
 ghost use Rattle.wot_script.specs.Replies.{is_short};
 ghost use Rattle.wot_cache.specs.State.{StaysButMarks};
 ghost use Rattle.wot_cache.specs.Views.{view_at};
 ghost use Rattle.wot_cursor.specs.Cursors.{Cursors as TheCursors, cursor_at};
-ghost use Rattle.wot_machine.specs.Pacing.{Gives, OnTold, Paces, TellsPiece, behind, settled};
-ghost use Rattle.wot_machine.specs.Made.{PieceMakes};
+ghost use Rattle.wot_machine.specs.declared.class.CursorCommand.TheVariants as paces;
+ghost use Rattle.wot_machine.specs.Pacing.{Gives, OnTold, PacesCursor, TellsPiece, behind, settled};
+ghost use Rattle.wot_machine.specs.Made.{CursorMakes, PieceMakes};
 ghost use Rattle.wot_machine.specs.Whole.{whole_of};
 
 use crate::bindings::bind_lines;
+use crate::class::CursorCommand;
 use crate::told::{Moved, Told, alone};
 use std::alloc::Global;
 use wot_cache::{AskFault, Engine, Parts};
@@ -21,7 +22,32 @@ use wot_explain::{Bind, list_after};
 use wot_script::{BindLines, Reply};
 use wot_types::{Memory, Place, Steps, UserId, ViewName};
 
-/// `cursor C over V N`.
+/// Runs a command about the cursor of this name. A cursor moves only once the reply is written.
+pub fn pace(
+    alloc: Global,
+    engine: &mut Engine,
+    steps: &mut Steps,
+    cursors: &mut Cursors,
+    name: &ViewName,
+    command: &CursorCommand,
+) -> Result<Told, Memory>
+    ensures paces { OnTold result cursors.new
+        (PacesCursor (whole_of engine.old cursors.old) name.now command.now) }
+    ensures stays { StaysButMarks engine.old engine.new }
+    ensures makes { CursorMakes result (cursor_at cursors.old name.now) command.now engine.old engine.new
+        steps.old.made steps.new.made }
+    ensures quiet { IfOk result (λ told. is_short told.reply ≡ false → cursors.new ≡ cursors.old) }
+    ensures kept { OnErr result (cursors.new ≡ cursors.old) }
+{
+    match command {
+        CursorCommand::Over(view, wanted) => over(alloc, engine, cursors, name, view, *wanted),
+        CursorCommand::Next(count) => next(alloc, engine, steps, cursors, name, *count),
+        CursorCommand::Close => Ok(close(engine, cursors, name)),
+    }
+}
+
+/// `cursor C over V N`: begins or restarts a cursor over the bindings that are authenticated to the amount N. Refused
+/// if the view isn't open, or if the number of cursors is at its limit. After `Memory` the cursors are unchanged.
 pub fn over(
     alloc: Global,
     engine: &Engine,
@@ -31,7 +57,7 @@ pub fn over(
     wanted: u32,
 ) -> Result<Told, Memory>
     ensures begins { OnTold result cursors.new
-        (Paces (whole_of engine.now cursors.old) (CursorOver name.now view.now wanted)) }
+        (PacesCursor (whole_of engine.now cursors.old) name.now (paces.Over view.now wanted)) }
     ensures short { IfOk result (λ told. is_short told.reply ≡ true) }
     ensures kept { OnErr result (cursors.new ≡ cursors.old) }
 {
@@ -51,9 +77,9 @@ pub fn over(
     }
 }
 
-/// `cursor C close`. Takes no memory.
+/// `cursor C close`: removes a cursor, or replies that there is none of this name. Takes no memory.
 pub fn close(engine: &Engine, cursors: &mut Cursors, name: &ViewName) -> Told
-    ensures ends { Paces (whole_of engine.now cursors.old) (CursorClose name.now)
+    ensures ends { PacesCursor (whole_of engine.now cursors.old) name.now paces.Close
         result.reply (settled result.moved cursors.new) }
     ensures short { is_short result.reply ≡ true }
 {
@@ -65,7 +91,9 @@ pub fn close(engine: &Engine, cursors: &mut Cursors, name: &ViewName) -> Told
     alone(Reply::Done)
 }
 
-/// `cursor C next K`.
+/// `cursor C next K`: the cursor's next K bindings, or all that are left. Refused if there is no such cursor, if its
+/// view isn't open, or if the keyring or the view changed since it began. The cursor moves only once the reply is
+/// written.
 pub fn next(
     alloc: Global,
     engine: &mut Engine,
@@ -74,7 +102,8 @@ pub fn next(
     name: &ViewName,
     count: u32,
 ) -> Result<Told, Memory>
-    ensures goes { OnTold result cursors.now (Paces (whole_of engine.old cursors.now) (CursorNext name.now count)) }
+    ensures goes { OnTold result cursors.now
+        (PacesCursor (whole_of engine.old cursors.now) name.now (paces.Next count)) }
     ensures stays { StaysButMarks engine.old engine.new }
     ensures makes { PieceMakes result (cursor_at cursors.now name.now) engine.old engine.new
         steps.old.made steps.new.made }
@@ -96,7 +125,7 @@ pub fn next(
     }
 }
 
-/// The next piece of a cursor whose list is the one of its beginning.
+/// The next piece of a cursor that isn't stale.
 fn give(
     alloc: Global,
     engine: &mut Engine,
@@ -111,7 +140,7 @@ fn give(
     ensures stays { StaysButMarks engine.old engine.new }
     ensures makes { PieceMakes result (Some cursor.now) engine.old engine.new steps.old.made steps.new.made }
 {
-    // No line begins a cursor that wants nothing.
+    // No command begins a cursor that wants nothing.
     if cursor.wanted() == 0 {
         return Ok(alone(Reply::Piece(0, BindLines::new(alloc))));
     }
@@ -123,7 +152,7 @@ fn give(
     }
 }
 
-/// The piece over the parts that are seen from the cursor's view.
+/// The piece over the parts of the cursor's view.
 fn piece(
     alloc: Global,
     parts: &Parts<'_>,
@@ -152,7 +181,7 @@ fn piece(
     Ok(Told { reply, moved })
 }
 
-/// Where the cursor stands once these bindings were told.
+/// The place of the cursor once these bindings are written.
 fn moved_behind(alloc: Global, name: &ViewName, binds: &[Bind]) -> Result<Option<Moved>, Memory>
     ensures moved { IfOk result (λ moved. (cursors : TheCursors) →
         settled moved cursors ≡ behind cursors name.now binds.now) }

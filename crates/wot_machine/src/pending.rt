@@ -1,4 +1,4 @@
-//! The reply to `pending`: a line for each valid signature without a verdict. The verifier reads these lines.
+//! The reply to `pending`: a line for each well-formed signature without a verdict. The verifier reads these lines.
 ghost use Rattle.std.specs.Prelude.{◌≡◌, map, IfOk};
 ghost use Rattle.wot_cache.specs.State.{state_of};
 ghost use Rattle.wot_machine.specs.Listing.{hint_of, pending as pending_of, pending_line as pending_line_of};
@@ -9,7 +9,7 @@ use wot_keyring::Pending;
 use wot_script::{Hint, PendingLine, PendingLines, Reply};
 use wot_types::{Fpr, Memory};
 
-/// A line for each sound signature without a verdict.
+/// The reply to `pending`: a line for each well-formed signature without a verdict.
 pub fn pending(alloc: Global, engine: &Engine) -> Result<Reply, Memory>
     ensures pending { IfOk result (λ reply. reply ≡ (pending_of (state_of engine.now)).reply) }
 {

@@ -1,6 +1,6 @@
 //! The reply to `explain`: the word for the certificate, and a line for each certification on the user ID. It stands on
-//! wot_explain over the parts that a view sees. What its lines say is defined in `specs/Listing.antt`, and which of them
-//! say `edge` in `specs/EdgeLines.antt`.
+//! wot_explain over the parts that a view sees. What its lines say is defined in `specs/Listing.antt`, and which of
+//! them say `edge` in `specs/EdgeLines.antt`.
 ghost use Rattle.std.specs.Prelude.{◌≡◌, map, IfOk, OnOk};
 ghost use Rattle.wot_network.specs.Net.{told_of};
 ghost use Rattle.wot_network.specs.Roads.{present_of};
@@ -17,8 +17,8 @@ use wot_explain::{ExplainFault, Reason};
 use wot_script::{ReasonLine, ReasonLines, Reply};
 use wot_types::{Fpr, Memory, Steps, ViewName};
 
-/// Why a certificate is or isn't in order for a user ID, and why each certification on it counts or doesn't, at the
-/// time of a view.
+/// The reply to `explain`: why a certificate is or isn't usable for a user ID, and why each certification on it counts
+/// or doesn't, at the time of a view. Refused if the view isn't open, and absent if the certificate or the user ID is.
 pub fn explain(
     alloc: Global,
     engine: &mut Engine,
@@ -29,7 +29,7 @@ pub fn explain(
 ) -> Result<Reply, Memory>
     ensures explains { IfOk result (λ reply.
         reply ≡ explained_from (state_of engine.old) (view_at engine.old.views view.now) fpr.now uid.now) }
-    // A line of it says `edge` exactly for each usable edge, by the definition of edges alone.
+    // A line of the reply says `edge` exactly for each usable edge, by the definition of edges alone.
     ensures edges { OnOk result (MarksFrom engine.old view.now fpr.now uid.now) }
     ensures keyring { engine.new.keyring ≡ engine.old.keyring }
     ensures views { engine.new.views ≡ engine.old.views }
@@ -42,7 +42,7 @@ pub fn explain(
     }
 }
 
-/// The same over the parts that are seen from the view.
+/// The reply over the parts of the view.
 fn explain_from(alloc: Global, parts: &Parts<'_>, fpr: &Fpr, uid: &[u8]) -> Result<Reply, Memory>
     requires present { AreRoadsOf (told_of (present_of parts.now.roads)) parts.now.keyring.now parts.now.t }
     ensures explains { IfOk result (Explains parts.now.keyring.now parts.now.t fpr.now uid.now) }

@@ -15,10 +15,10 @@ use wot_types::Memory;
 /// Why a layer below doesn't do what a command asks for. Its texts are never printed.
 #[derive(Debug, Drop, Error)]
 pub enum Refused {
-    /// The keyring stays as it was.
+    /// The keyring is unchanged.
     #[error("the keyring refuses the change")]
     Keyring(Refusal),
-    /// The views stay as they were.
+    /// The views are unchanged.
     #[error("the views refuse the change")]
     View(ViewFault),
 }

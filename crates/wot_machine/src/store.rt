@@ -29,14 +29,15 @@ use wot_types::{Fpr, Limit, Limits, Memory, Name};
 /// Why nothing is written in place of an entry.
 #[derive(Drop)]
 pub enum Unwritten {
-    /// This is answered.
+    /// The reply says why.
     Told(Reply),
-    /// No memory was found.
+    /// Out of memory.
     Memory,
 }
 
-/// Writes the union of a kept certificate and its entry of the shelf in place of the entry. What is held stays as it
-/// is, and no policy is asked.
+/// The reply to `store`: writes a certificate, merged with its entry of the certificate directory, in place of the
+/// entry, or replies that it is absent. What is held doesn't change, and the policy isn't asked. After `Memory` the
+/// entry may have been written.
 pub fn store<D: Shelf>(
     alloc: Global,
     engine: &Engine,
@@ -56,7 +57,7 @@ pub fn store<D: Shelf>(
     }
 }
 
-/// The same of a certificate that is kept.
+/// Merges and writes a certificate that was found.
 fn store_kept<D: Shelf>(
     alloc: Global,
     fpr: &Fpr,
@@ -81,7 +82,7 @@ fn store_kept<D: Shelf>(
     }
 }
 
-/// Puts octets under a name.
+/// Writes octets under a name.
 fn put<D: Shelf>(name: &Name, octets: &[u8], shelf: &mut D) -> Result<Reply, Memory>
     ensures puts { IfOk result (across (Puts name.now octets.now) (ends (seen D.world D.faults) shelf)) }
     ensures entries { OnErr result (MayReplace name.now octets.now (D.world shelf.old) (D.world shelf.new)) }
@@ -121,7 +122,7 @@ fn cert_text(alloc: Global, cert: &Cert) -> Result<Vec<u8>, Unwritten>
     }
 }
 
-/// The text of the union with the entry of these octets.
+/// The text of the certificate merged with that of an entry with these octets.
 fn union_text(alloc: Global, fpr: &Fpr, kept: &Cert, octets: &[u8]) -> Result<Vec<u8>, Unwritten>
     requires short { length octets.now < 2 ^ 29 }
     ensures text { IfOk result (λ text.
@@ -139,7 +140,7 @@ fn union_text(alloc: Global, fpr: &Fpr, kept: &Cert, octets: &[u8]) -> Result<Ve
     }
 }
 
-/// The union of a certificate with that of the entry of these octets.
+/// The certificate merged with that of an entry with these octets.
 fn united_entry(alloc: Global, fpr: &Fpr, kept: &Cert, octets: &[u8]) -> Result<Cert, Refusal>
     requires short { length octets.now < 2 ^ 29 }
     ensures union { TellsCert result (united_with kept.now (entry_in (CertName fpr.now) octets.now)) }
@@ -151,7 +152,7 @@ fn united_entry(alloc: Global, fpr: &Fpr, kept: &Cert, octets: &[u8]) -> Result<
     }
 }
 
-/// The union of two certificates of one fingerprint, none of whose signatures is judged.
+/// Two certificates with the same primary key, merged. No signature of the result is judged.
 fn united(alloc: Global, kept: &Cert, entry: &Cert) -> Result<Cert, Refusal>
     ensures union { TellsCert result (united_of kept.now entry.now) }
 {
@@ -166,7 +167,7 @@ fn united(alloc: Global, kept: &Cert, entry: &Cert) -> Result<Cert, Refusal>
     }
 }
 
-/// A certificate, unless it is too great.
+/// A certificate, unless it is larger than the limit.
 fn unless_full(cert: Cert) -> Result<Cert, Refusal>
     ensures full { result ≡ unless_great cert }
 {

@@ -7,14 +7,15 @@ use wot_cursor::Cursors;
 use wot_script::Reply;
 use wot_types::{Memory, Place, ViewName};
 
-/// The last binding that a cursor gave.
+/// The last binding that a cursor returned.
 #[derive(Drop)]
 pub struct Moved {
     pub cursor: ViewName,
     pub place: Place,
 }
 
-/// A reply. Where it is a piece, the cursor moves when it was told, so that one that finds no memory is told again.
+/// A reply. If it is a piece, the cursor moves only once it is written, so that the piece is sent again after running
+/// out of memory.
 #[derive(Drop)]
 pub struct Told {
     pub reply: Reply,
@@ -29,7 +30,7 @@ pub fn alone(reply: Reply) -> Told
     Told { reply, moved: None }
 }
 
-/// The same of a reply, or of want of memory.
+/// A reply that moves no cursor, or out of memory.
 pub fn plain(reply: Result<Reply, Memory>) -> Result<Told, Memory>
     ensures told { IfOk reply (λ r. result ≡ Ok (record { reply = r; moved = None })) }
     ensures same { is_ok result ≡ is_ok reply }

@@ -2,18 +2,20 @@
 //! depends on may have changed: `wot_cache`'s `Basis` says so. Watches are kept by wot_watch.
 ghost use Rattle.std.specs.Prelude.{◌≡◌, ◌≤◌, [], None, true, IfOk, IfSome, OnErr};
 ghost use Rattle.std.specs.List.{AllByRecursion};
-ghost use Rattle.wot_script.specs.declared.command.Command.TheVariants.{WatchOff};
 ghost use Rattle.wot_script.specs.Replies.{is_short};
 ghost use Rattle.wot_cache.specs.Basis.{HasGrown, IsPresent, RestsOn};
 ghost use Rattle.wot_cache.specs.Marks.{IsRefreshed};
 ghost use Rattle.wot_cache.specs.State.{StaysButMarks, state_of};
 ghost use Rattle.wot_cache.specs.Views.{view_at};
-ghost use Rattle.wot_machine.specs.Made.{WatchMakes, WatchesMake};
+ghost use Rattle.wot_machine.specs.declared.class.WatchCommand.TheVariants as commands;
+ghost use Rattle.wot_machine.specs.Classes.{IsWatched};
+ghost use Rattle.wot_machine.specs.Made.{WatchMakes, WatchMakesMarks, WatchesMake};
 ghost use Rattle.wot_machine.specs.Settled.{AllSettled, AreOpen, AreSettled, IsSettled};
 ghost use Rattle.wot_machine.specs.Watching.{AreLines, BeginsWatch, HasAmount, IsLine, IsWatchLine};
-ghost use Rattle.wot_machine.specs.Watching.{OpensOver, Watching, told_all, told_by};
+ghost use Rattle.wot_machine.specs.Watching.{OpensOver, SetsOver, SetsWatch, told_all, told_by};
 ghost use Rattle.wot_machine.specs.Whole.{Whole, watched};
 
+use crate::class::WatchCommand;
 use std::alloc::Global;
 use wot_cache::laws::{kept_on_is_order, rests_on};
 use wot_cache::{AskFault, Basis, Engine};
@@ -21,7 +23,33 @@ use wot_script::Reply;
 use wot_types::{Fpr, Memory, Steps, UserId, ViewName};
 use wot_watch::{PutFault, Watch, Watches};
 
-/// `watch W on V FPR N UID`.
+/// Runs a command about the watch of this name. After `Memory` the watches are unchanged.
+pub fn watch(
+    alloc: Global,
+    engine: &mut Engine,
+    steps: &mut Steps,
+    watches: &mut Watches,
+    name: &ViewName,
+    command: &WatchCommand,
+) -> Result<Reply, Memory>
+    requires wanted { IsWatched command.now }
+    ensures sets { IfOk result (λ reply.
+        SetsOver engine.old watches.old name.now command.now reply watches.new) }
+    ensures stays { StaysButMarks engine.old engine.new }
+    ensures makes { WatchMakesMarks result command.now engine.old engine.new steps.old.made steps.new.made }
+    ensures short { IfOk result (λ reply. is_short reply ≡ true) }
+    ensures kept { OnErr result (watches.new ≡ watches.old) }
+{
+    match command {
+        WatchCommand::On(view, target, wanted, uid) => on(
+            alloc, engine, steps, watches, name, view, target, *wanted, uid,
+        ),
+        WatchCommand::Off => Ok(off(watches, name)),
+    }
+}
+
+/// `watch W on V FPR N UID`: begins or restarts a watch, with its current amount as the reply. Refused if the view
+/// isn't open, or if the number of watches is at its limit. After `Memory` the watches are unchanged.
 pub fn on(
     alloc: Global,
     engine: &mut Engine,
@@ -48,7 +76,7 @@ pub fn on(
     }
 }
 
-/// Begins a watch whose opening amount this is, or begins it anew.
+/// Begins a watch with this first amount, or restarts it.
 fn begin(
     alloc: Global,
     watches: &mut Watches,
@@ -75,9 +103,9 @@ fn begin(
     }
 }
 
-/// `watch W off`. Takes no memory.
+/// `watch W off`: removes a watch, or replies that there is none of this name. Takes no memory.
 pub fn off(watches: &mut Watches, name: &ViewName) -> Reply
-    ensures watching { (s : Whole) → Watching (watched s watches.old) (WatchOff name.now) result watches.new }
+    ensures watching { (s : Whole) → SetsWatch (watched s watches.old) name.now commands.Off result watches.new }
     ensures short { is_short result ≡ true }
 {
     if watches.get(name).is_none() {
@@ -87,7 +115,8 @@ pub fn off(watches: &mut Watches, name: &ViewName) -> Reply
     Reply::Done
 }
 
-/// The watch lines, by name of watch, none of which is told yet. Where there is none, all amounts rest on the basis.
+/// The watch lines, by name of watch, none of which counts as reported yet. If there are none, all amounts depend on
+/// the basis.
 pub fn watch_lines(
     alloc: Global,
     engine: &mut Engine,
@@ -115,7 +144,7 @@ pub fn watch_lines(
     Ok(lines)
 }
 
-/// The line of a watch; none where its amount is the one last told.
+/// The line of a watch; None if its amount is the last one reported.
 fn watch_line(
     alloc: Global,
     engine: &mut Engine,
@@ -153,8 +182,7 @@ fn watch_line(
     }
 }
 
-/// The amount of the answer to a question of a view, which rests on the basis from then on; none where the view isn't
-/// open.
+/// The amount of the answer to a question from a view, on which the basis then depends; None if the view isn't open.
 fn amount_of(
     engine: &mut Engine,
     steps: &mut Steps,
@@ -177,7 +205,7 @@ fn amount_of(
     ensures stays { StaysButMarks engine.old engine.new }
     ensures never_less { steps.old.made ≤ steps.new.made }
 {
-    // No line begins a watch that wants nothing.
+    // No command begins a watch that wants nothing.
     if wanted == 0 {
         return match engine.time(view) {
             Some(_) => Ok(Some(0)),
@@ -191,8 +219,8 @@ fn amount_of(
     }
 }
 
-/// Whether no watch has a line, where that is known without asking anything: nothing was altered that the basis rests
-/// on, and the views are open.
+/// Whether it is known, without asking anything, that no watch has a line: nothing that the basis depends on was
+/// altered, and all views are open.
 pub fn are_settled(engine: &Engine, watches: &Watches, basis: &mut Option<Basis>) -> bool
     requires settled { AreSettled engine.now watches.now basis.old }
     ensures quiet { result ≡ true → AreLines (state_of engine.now) watches.now [] }
@@ -218,7 +246,7 @@ fn all_open(engine: &Engine, watches: &Watches) -> bool
     true
 }
 
-/// These watch lines were told. Takes no memory.
+/// Marks these watch lines as reported. Takes no memory.
 pub fn tell_all(watches: &mut Watches, lines: &[Reply])
     ensures told { watches.new ≡ told_all watches.old lines.now }
 {
@@ -229,7 +257,7 @@ pub fn tell_all(watches: &mut Watches, lines: &[Reply])
     }
 }
 
-/// This watch line was told.
+/// Marks this watch line as reported.
 fn tell_one(watches: &mut Watches, line: &Reply)
     ensures told { watches.new ≡ told_by watches.old line.now }
 {

@@ -1,9 +1,10 @@
--- An edge with a depth comes from a certification that its issuer made with a depth.
+-- An edge comes from a certification that its issuer made, with at least the depth of the edge.
 use Rattle.std.proofs.Common.{◌≡◌, ◌⊎◌, inl, inr, ℕ, ◌≤◌, ◌+◌, Bool, true, false, cond, List, [], ◌∷◌, ◌++◌, map}
 use Rattle.std.proofs.Common.{Option, Some, None, Ordering, refl, sym, ap, subst, ◌∙◌, arith}
 use Rattle.std.specs.Prelude.{◌&&◌, filter, if◌then◌else◌}
 use Rattle.std.specs.declared.cmp.Ordering.TheVariants.{Less, Equal, Greater}
 use Rattle.std.specs.List.{cons_option, filter_map}
+use Rattle.std.specs.Map.{lookup}
 use Rattle.std.specs.Option.{option_map, option_map_or, option_and_then}
 use Rattle.std.proofs.lemmas.Bool.{and_parts}
 use Rattle.wot_types.specs.declared.fpr.Fpr.{Fpr}
@@ -18,14 +19,14 @@ use Rattle.wot_cert.specs.Revoked.{is_unrevoked}
 use Rattle.wot_cert.specs.Time.{is_live, newness}
 use Rattle.wot_edge.specs.declared.edge.EdgeFacts.{EdgeFacts}
 use Rattle.wot_edge.specs.Order.{edge_cmp}
-use Rattle.wot_edge.specs.Record.{Has, Row, Entry}
-use Rattle.wot_keyring.specs.Keyring.{Certificates}
+use Rattle.wot_edge.specs.Record.{Has, Row, Entry, rows_into}
+use Rattle.wot_keyring.specs.Keyring.{Certificates, is_fpr}
 use Rattle.wot_live.specs.Edge.{edge_by, edge_facts, edge_on, place_of}
 use Rattle.wot_live.specs.Rows.{edge_with, edges_from, edges_of, edges_on, one_of_both}
 use Rattle.wot_standing.specs.Kinds.{is_certification}
 use Rattle.wot_standing.specs.Standing.{newest_certification, own}
-use Rattle.wot_network.specs.Certified.{IsTrusted, RestsOnTrust}
-use Rattle.wot_network.specs.Told.{row_of}
+use Rattle.wot_network.specs.Certified.{IsCertified, IsTrusted, RestsOnCertifications, RestsOnTrust}
+use Rattle.wot_network.specs.Told.{record_of, row_of}
 use Rattle.wot_network.proofs.Looking.{entry_some, row_told}
 
 -- ---- members of lists
@@ -139,69 +140,89 @@ newest_is verdicts issuer t p s e =
 
 -- an edge has at most the depth that its signature says
 said_deep : (issuer target : Fpr) (uid place : ℕ) (f : SigFacts) (edge : EdgeFacts) →
-    edge_facts issuer target uid place f ≡ edge → 1 ≤ edge.depth → 1 ≤ f.depth
-said_deep issuer target uid place f edge e deep =
-    by (same_fpr issuer target) (subst (λ (z : EdgeFacts). 1 ≤ z.depth) (sym e) deep)
+    edge_facts issuer target uid place f ≡ edge → edge.depth ≤ f.depth
+said_deep issuer target uid place f edge e =
+    subst (λ (z : EdgeFacts). z.depth ≤ f.depth) e (by (same_fpr issuer target))
   where
-    by : (b : Bool) → 1 ≤ (if b then 0 else f.depth) → 1 ≤ f.depth
-    by true le = absurd (omega (arith, le))
-    by false le = le
+    by : (b : Bool) → (if b then 0 else f.depth) ≤ f.depth
+    by true = omega arith
+    by false = omega arith
+
+-- the certification that an edge comes from
+record IsMadeBy (verdicts : Entries) (c : Certificate) (edge : EdgeFacts) : Type 0 where
+  certified : IsCertified verdicts edge.issuer c
+  facts : SigFacts
+  says : said_by certified.signature ≡ Some facts
+  deep : edge.depth ≤ facts.depth
 
 module _ (verdicts : Entries) (c : Certificate) (t : ℕ) where
-  on_trusted : (issuer : Fpr) (uid : ℕ) (p : Component) (edge : EdgeFacts) → Has c.user_ids p →
-      edge_on verdicts (own c) t issuer uid p ≡ Some edge → 1 ≤ edge.depth
-      → IsTrusted verdicts edge.issuer c
-  on_trusted issuer uid p edge on e deep = newest (newest_certification verdicts issuer t p) refl e
+  on_made : (issuer : Fpr) (uid : ℕ) (p : Component) (edge : EdgeFacts) → Has c.user_ids p →
+      edge_on verdicts (own c) t issuer uid p ≡ Some edge → IsMadeBy verdicts c edge
+  on_made issuer uid p edge on e = newest (newest_certification verdicts issuer t p) refl e
     where
       says : (s : Signature) → newest_certification verdicts issuer t p ≡ Some s → (o : Option SigFacts) → said_by s ≡ o
           → option_map (edge_facts issuer (own c) uid (place_of s p.sigs)) o ≡ Some edge →
-          IsTrusted verdicts edge.issuer c
+          IsMadeBy verdicts c edge
       says s n None f g = absurd cc
       says s n (Some facts) f g =
           let (among, kind, good) = newest_is verdicts issuer t p s n in
           let same : edge_facts issuer (own c) uid (place_of s p.sigs) facts ≡ edge = cc in
           record {
-            user_id = p;
-            on = on;
-            signature = s;
-            made = among;
-            certification = kind;
-            good = good ∙ ap (λ (z : EdgeFacts). Some z.issuer) same;
+            certified = record {
+              user_id = p;
+              on = on;
+              signature = s;
+              made = among;
+              certification = kind;
+              good = good ∙ ap (λ (z : EdgeFacts). Some z.issuer) same;
+            };
             facts = facts;
             says = f;
-            deep = said_deep issuer (own c) uid (place_of s p.sigs) facts edge same deep;
+            deep = said_deep issuer (own c) uid (place_of s p.sigs) facts edge same;
           }
 
       newest : (o : Option Signature) → newest_certification verdicts issuer t p ≡ o →
-          option_and_then (edge_by issuer (own c) uid p.sigs) o ≡ Some edge → IsTrusted verdicts edge.issuer c
+          option_and_then (edge_by issuer (own c) uid p.sigs) o ≡ Some edge → IsMadeBy verdicts c edge
       newest None f g = absurd cc
       newest (Some s) f g = says s f (said_by s) refl g
 
-  with_trusted : (uid : ℕ) (p : Component) (edge : EdgeFacts) (s : Signature) → Has c.user_ids p →
-      edge_with verdicts (own c) t uid p s ≡ Some edge → 1 ≤ edge.depth → IsTrusted verdicts edge.issuer c
-  with_trusted uid p edge s on e deep = by (issuer_of verdicts s) refl e
+  with_made : (uid : ℕ) (p : Component) (edge : EdgeFacts) (s : Signature) → Has c.user_ids p →
+      edge_with verdicts (own c) t uid p s ≡ Some edge → IsMadeBy verdicts c edge
+  with_made uid p edge s on e = by (issuer_of verdicts s) refl e
     where
       by : (o : Option Fpr) → issuer_of verdicts s ≡ o →
           option_and_then (λ issuer. edge_on verdicts (own c) t issuer uid p) o ≡ Some edge →
-          IsTrusted verdicts edge.issuer c
+          IsMadeBy verdicts c edge
       by None f g = absurd cc
-      by (Some issuer) f g = on_trusted issuer uid p edge on g deep
+      by (Some issuer) f g = on_made issuer uid p edge on g
 
-  from_trusted : (uid : ℕ) (ps : List Component) → ((p : Component) → Has ps p → Has c.user_ids p) →
-      (edge : EdgeFacts) → Has (edges_from verdicts (own c) t uid ps) edge → 1 ≤ edge.depth
-      → IsTrusted verdicts edge.issuer c
-  from_trusted uid [] all edge h deep = absurd h
-  from_trusted uid (p ∷ ps) all edge h deep =
+  from_made : (uid : ℕ) (ps : List Component) → ((p : Component) → Has ps p → Has c.user_ids p) →
+      (edge : EdgeFacts) → Has (edges_from verdicts (own c) t uid ps) edge → IsMadeBy verdicts c edge
+  from_made uid [] all edge h = absurd h
+  from_made uid (p ∷ ps) all edge h =
       elim (append_has (edges_on verdicts (own c) t uid p) (edges_from verdicts (own c) t (uid + 1) ps) edge h) [
         | inl k ↦ let (s, e) = filter_map_has (edge_with verdicts (own c) t uid p) p.sigs edge k in
-            with_trusted uid p edge s (all p (inl refl)) e deep
-        | inr k ↦ from_trusted (uid + 1) ps (λ x j. all x (inr j)) edge k deep
+            with_made uid p edge s (all p (inl refl)) e
+        | inr k ↦ from_made (uid + 1) ps (λ x j. all x (inr j)) edge k
       ]
 
-  pub edge_trusted : (edge : EdgeFacts) → Has (edges_of verdicts c t) edge → 1 ≤ edge.depth →
-      IsTrusted verdicts edge.issuer c
-  edge_trusted edge h deep = from_trusted 0 c.user_ids (λ p k. k) edge
-      (united_has (edges_from verdicts (own c) t 0 c.user_ids) edge h) deep
+  edge_made : (edge : EdgeFacts) → Has (edges_of verdicts c t) edge → IsMadeBy verdicts c edge
+  edge_made edge h = from_made 0 c.user_ids (λ p k. k) edge
+      (united_has (edges_from verdicts (own c) t 0 c.user_ids) edge h)
+
+trusted_with : (verdicts : Entries) (c : Certificate) (edge : EdgeFacts) → IsMadeBy verdicts c edge → 1 ≤ edge.depth →
+    IsTrusted verdicts edge.issuer c
+trusted_with verdicts c edge m some = record {
+  user_id = m.certified.user_id;
+  on = m.certified.on;
+  signature = m.certified.signature;
+  made = m.certified.made;
+  certification = m.certified.certification;
+  good = m.certified.good;
+  facts = m.facts;
+  says = m.says;
+  deep = let deep = m.deep in omega (arith, deep, some);
+}
 
 -- ---- a row
 
@@ -211,9 +232,18 @@ row_has verdicts certs t u c [] row h = absurd h
 row_has verdicts certs t u c (edge ∷ edges) row (inl e) = inl (ap (λ (r : Row). r.edge) e)
 row_has verdicts certs t u c (edge ∷ edges) row (inr h) = inr (row_has verdicts certs t u c edges row h)
 
-pub rests_on_trust : (certs : Certificates) (verdicts : Entries) (t : ℕ) (u : List ℕ) → RestsOnTrust certs verdicts t u
-rests_on_trust certs verdicts t u fpr row h deep =
-    let (c, found, told) = row_told certs verdicts t u fpr row h in
-    let among = row_has verdicts certs t u c (edges_of verdicts c t) row (subst (λ (entry : Entry). Has entry.rows row)
-    (entry_some certs verdicts t u fpr c found) h) in
-    (c, found, edge_trusted verdicts c t row.edge among deep)
+module _ (certs : Certificates) (verdicts : Entries) (t : ℕ) (u : List ℕ) where
+  row_made : (fpr : Fpr) (row : Row) → Has (rows_into (record_of certs verdicts t u) fpr) row →
+      (c : Certificate) × (lookup (is_fpr fpr) certs ≡ Some c) × IsMadeBy verdicts c row.edge
+  row_made fpr row h =
+      let (c, found, told) = row_told certs verdicts t u fpr row h in
+      let among = row_has verdicts certs t u c (edges_of verdicts c t) row
+      (subst (λ (entry : Entry). Has entry.rows row) (entry_some certs verdicts t u fpr c found) h) in
+      (c, found, edge_made verdicts c t row.edge among)
+
+  pub rests_on_certifications : RestsOnCertifications certs verdicts t u
+  rests_on_certifications fpr row h = let (c, found, made) = row_made fpr row h in (c, found, made.certified)
+
+  pub rests_on_trust : RestsOnTrust certs verdicts t u
+  rests_on_trust fpr row h deep =
+      let (c, found, made) = row_made fpr row h in (c, found, trusted_with verdicts c row.edge made deep)

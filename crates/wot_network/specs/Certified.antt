@@ -31,6 +31,23 @@ RestsOnTrust certs verdicts t u =
     (fpr : Fpr) (row : Row) → Has (rows_into (record_of certs verdicts t u) fpr) row → 1 ≤ row.edge.depth
     → (c : Certificate) × (lookup (is_fpr fpr) certs ≡ Some c) × IsTrusted verdicts row.edge.issuer c
 
+-- A certification on a user ID of the certificate, verified as good by the issuer, of any depth.
+pub record IsCertified (verdicts : Entries) (issuer : Fpr) (c : Certificate) : Type 0 where
+  pub user_id : Component
+  pub on : Has c.user_ids user_id
+  pub signature : Signature
+  pub made : Has user_id.sigs signature
+  pub certification : is_certification signature ≡ true
+  pub good : good_by (verdict_at verdicts signature.number) ≡ Some issuer
+
+-- Each edge leads to a certificate that its issuer certified.
+abbrev pub RestsOnCertifications : Certificates → Entries → ℕ → List ℕ → Type 0
+RestsOnCertifications certs verdicts t u =
+    (fpr : Fpr) (row : Row) → Has (rows_into (record_of certs verdicts t u) fpr) row
+    → (c : Certificate) × (lookup (is_fpr fpr) certs ≡ Some c) × IsCertified verdicts row.edge.issuer c
+
+-- ---- onward from roots
+
 -- A slice: a set that contains each root, and with each member all that the member certified with a depth of at least
 -- 1.
 pub record IsSlice (certs : Certificates) (verdicts : Entries) (amounts : List (Fpr × ℕ)) (set : List Fpr) : Type
@@ -38,3 +55,22 @@ pub record IsSlice (certs : Certificates) (verdicts : Entries) (amounts : List (
   pub roots : (fpr : Fpr) → 0 < root_amount amounts fpr → Has set fpr
   pub onward : (fpr issuer : Fpr) (c : Certificate) → lookup (is_fpr fpr) certs ≡ Some c → IsTrusted verdicts issuer c
       → Has set issuer → Has set fpr
+
+-- ---- back from a target
+
+-- The set has every key that certified this one.
+abbrev pub HasCertifiers : Certificates → Entries → List Fpr → Fpr → Type 0
+HasCertifiers certs verdicts set fpr =
+    (issuer : Fpr) (c : Certificate) → lookup (is_fpr fpr) certs ≡ Some c → IsCertified verdicts issuer c
+    → Has set issuer
+
+-- The set has every key that certified this one with a depth of at least 1.
+abbrev pub HasIntroducers : Certificates → Entries → List Fpr → Fpr → Type 0
+HasIntroducers certs verdicts set fpr =
+    (issuer : Fpr) (c : Certificate) → lookup (is_fpr fpr) certs ≡ Some c → IsTrusted verdicts issuer c → Has set issuer
+
+-- The set has all that leads to the target: every key that certified it and, with each member, every key that
+-- certified the member with a depth of at least 1.
+pub record LeadsTo (certs : Certificates) (verdicts : Entries) (target : Fpr) (set : List Fpr) : Type 0 where
+  pub last : HasCertifiers certs verdicts set target
+  pub before : (fpr : Fpr) → Has set fpr → HasIntroducers certs verdicts set fpr

@@ -5,7 +5,7 @@ ghost use Rattle.wot_verdict.specs.Verdicts.{Entries};
 ghost use Rattle.wot_edge.specs.Record.{IsRecord};
 ghost use Rattle.wot_keyring.specs.Keyring.{Certificates, Keyring};
 ghost use Rattle.wot_keyring.specs.Later.{IsLater};
-ghost use Rattle.wot_network.specs.Certified.{RestsOnTrust};
+ghost use Rattle.wot_network.specs.Certified.{RestsOnCertifications, RestsOnTrust};
 ghost use Rattle.wot_network.specs.Local.{IsLocal};
 ghost use Rattle.wot_network.specs.Net.{Marks, Net, Fits, signatures_in, stale_signatures};
 ghost use Rattle.wot_network.specs.Standings.{DecideStandings, DecideUserIds};
@@ -43,14 +43,17 @@ pub fn records_agree()
         → IsLocal certs verdicts t (record_of certs verdicts t) }
 {}
 
-/// An edge with a depth of at least 1 leads to a certificate that its issuer certified with such a depth. This
-/// certification is found without regard to times, policy or revocations.
+/// An edge leads to a certificate that its issuer certified, and one with a depth of at least 1 to a certificate that
+/// its issuer certified with such a depth. These certifications are found without regard to times, policy or
+/// revocations.
 pub fn edges_rest_on_trust()
+    ensures made { (certs : Certificates) (verdicts : Entries) (t : ℕ) (u : List ℕ)
+        → RestsOnCertifications certs verdicts t u }
     ensures trust { (certs : Certificates) (verdicts : Entries) (t : ℕ) (u : List ℕ) → RestsOnTrust certs verdicts t u }
 {}
 
-/// What verdicts give one certificate rests on the verdicts on its signatures alone: the standing of its key, and on each
-/// user ID what counts and what is revoked.
+/// What verdicts give one certificate depends on the verdicts on its signatures alone: the standing of its key, and on
+/// each user ID what counts and what is revoked.
 pub fn own_verdicts_decide()
     ensures standings { DecideStandings }
     ensures user_ids { DecideUserIds }

@@ -13,7 +13,7 @@ use Rattle.wot_packet.proofs.Lengths.{IsOctet}
 use Rattle.wot_packet.proofs.Headers.{HeadedMeans, headed_means, header_again, cut_again, not_again, partial_again}
 use Rattle.wot_packet.proofs.Headers.{indeterminate_again}
 
--- A packet is at the beginning, and the rest is behind it.
+-- A packet is at the beginning, and the rest follows it.
 pub record HasPacket (octets : List ℕ) (first : First) : Type 0 where
   pub header : List ℕ
   pub is : IsHeader header first.kind (length first.body)
@@ -56,7 +56,7 @@ pub first_means : (tag : ℕ) (octets : List ℕ) → AllByRecursion IsOctet (ta
     → FirstMeans (tag ∷ octets) (first_of (tag ∷ octets))
 first_means tag octets h = body_means (tag ∷ octets) (headed_of (tag ∷ octets)) (headed_means tag octets h)
 
--- A packet that is spelled is found, whatever is behind it.
+-- A packet that is spelled is found, whatever follows it.
 abbrev pub first : ℕ → List ℕ → List ℕ → First
 first kind body rest = record { kind = kind; body = body; rest = rest }
 

@@ -12,7 +12,7 @@ use Rattle.wot_packet.specs.declared.packet.Why.TheVariants.{NotAPacket, CutLeng
 use Rattle.wot_packet.proofs.Lengths.{IsOctet, Found, OpenpgpMeans, LegacyMeans, openpgp_means, legacy_means}
 use Rattle.wot_packet.proofs.Lengths.{openpgp_again, legacy_again, extended, openpgp_extends, legacy_extends}
 
--- A header is at the beginning, and the rest is behind it.
+-- A header is at the beginning, and the rest follows it.
 pub record HasHeader (octets : List ℕ) (headed : Headed) : Type 0 where
   pub header : List ℕ
   pub is : IsHeader header headed.kind headed.size
@@ -94,7 +94,7 @@ headed_means tag octets h =
     (legacy_means ((tag - 128) % 4) octets))
     (λ f. openpgp_headed tag octets (openpgp_length octets) (ltb-false tag 192 f) h.0 (openpgp_means octets h.1)))
 
--- A header that is spelled is found, whatever is behind it.
+-- A header that is spelled is found, whatever follows it.
 abbrev pub headed : ℕ → ℕ → List ℕ → Headed
 headed kind size rest = record { kind = kind; size = size; rest = rest }
 
@@ -132,7 +132,7 @@ pub header_again : (header : List ℕ) (kind size : ℕ) (rest : List ℕ) → I
 header_again header kind size rest h =
     ⊎_elim (openpgp_header_again header kind size rest) (legacy_header_again header kind size rest) h
 
--- More octets behind change nothing if the header isn't cut.
+-- More octets after it change nothing if the header isn't cut.
 abbrev pub headed_extended : Result Headed Why → List ℕ → Result Headed Why
 headed_extended (Ok found) more = Ok (headed found.kind found.size (found.rest ++ more))
 headed_extended (Err why) more = Err why

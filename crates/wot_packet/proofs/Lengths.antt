@@ -15,7 +15,7 @@ IsOctet o = o < 256
 abbrev pub Found : Type 0
 Found = Result (ℕ × List ℕ) Why
 
--- A length is at the beginning, and this is behind it.
+-- A length is at the beginning, and this follows it.
 pub record Reads (IsLength : List ℕ → ℕ → Type 0) (octets : List ℕ) (n : ℕ) (rest : List ℕ) : Type 0 where
   pub prefix : List ℕ
   pub is : IsLength prefix n
@@ -146,7 +146,7 @@ legacy_means type octets =
     (λ g. means-at type 2 octets (four_octets octets) (eqb-true type 2 g) (four_means octets))
     (λ g. let a = eqb-false type 0 e in let b = eqb-false type 1 f in let d = eqb-false type 2 g in omega arith)))
 
--- What is spelled is found, whatever is behind it.
+-- What is spelled is found, whatever follows it.
 pub openpgp_again : (prefix : List ℕ) (n : ℕ) (rest : List ℕ) → IsOpenpgpLength prefix n
     → openpgp_length (prefix ++ rest) ≡ Ok (n, rest)
 openpgp_again [] n rest h = absurd h
@@ -166,7 +166,7 @@ legacy_again type (a ∷ b ∷ c ∷ []) n rest h = absurd h
 legacy_again type (a ∷ b ∷ c ∷ d ∷ []) n rest h = rw (h.0, h.1) refl
 legacy_again type (a ∷ b ∷ c ∷ d ∷ e ∷ more) n rest h = absurd h
 
--- More octets behind change nothing if the length isn't cut.
+-- More octets after it change nothing if the length isn't cut.
 abbrev pub extended : Found → List ℕ → Found
 extended (Ok found) more = Ok (found.0, found.1 ++ more)
 extended (Err why) more = Err why

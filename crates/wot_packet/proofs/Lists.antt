@@ -74,7 +74,7 @@ fault_at zero at (o ∷ rest) why l h = absurd (omega arith)
 fault_at (suc most) at (o ∷ rest) why l h =
     ap (λ x. read_on at (length (o ∷ rest)) x (packets_from most)) (fault_again why (o ∷ rest) h)
 
--- A fault behind packets is returned.
+-- A fault after packets is returned.
 pub told_again : (most at : ℕ) (prefix rest : List ℕ) (packets : List Spelled) (why : Why)
     → length (prefix ++ rest) ≤ most → SpellsFrom at prefix packets → IsFault why rest
     → packets_from most at (prefix ++ rest) ≡ Err (record { at = at + length prefix; why = why })

@@ -7,17 +7,17 @@ use Rattle.wot_packet.specs.declared.packet.PacketFault.{PacketFault}
 use Rattle.wot_packet.specs.declared.packet.Why.{Why}
 use Rattle.wot_packet.specs.declared.packet.Why.TheVariants.{NotAPacket, CutLength, CutBody, Partial, Indeterminate}
 
--- a length of one octet, and what is behind it
+-- a length of one octet, and what follows it
 abbrev pub one_octet : List ℕ → Result (ℕ × List ℕ) Why
 one_octet (a ∷ rest) = Ok (a, rest)
 one_octet _ = Err CutLength
 
--- a length of two octets, and what is behind it
+-- a length of two octets, and what follows it
 abbrev pub two_octets : List ℕ → Result (ℕ × List ℕ) Why
 two_octets (a ∷ b ∷ rest) = Ok (from_be_bytes w16 (a ∷ b ∷ []), rest)
 two_octets _ = Err CutLength
 
--- a length of four octets, and what is behind it
+-- a length of four octets, and what follows it
 abbrev pub four_octets : List ℕ → Result (ℕ × List ℕ) Why
 four_octets (a ∷ b ∷ c ∷ d ∷ rest) = Ok (from_be_bytes w32 (a ∷ b ∷ c ∷ d ∷ []), rest)
 four_octets _ = Err CutLength
@@ -44,7 +44,7 @@ legacy_length type octets =
     else if type == 2 then four_octets octets
     else Err Indeterminate
 
--- a header: the type, the length of the body, and what is behind
+-- a header: the type, the length of the body, and what follows
 pub record Headed : Type 0 where
   pub kind : ℕ
   pub size : ℕ
@@ -61,7 +61,7 @@ headed_of (tag ∷ octets) =
     else if nat_lt tag 192 then with_kind ((tag - 128) / 4) (legacy_length ((tag - 128) % 4) octets)
     else with_kind (tag - 192) (openpgp_length octets)
 
--- a packet: its type, its body, and what is behind
+-- a packet: its type, its body, and what follows
 pub record First : Type 0 where
   pub kind : ℕ
   pub body : List ℕ
@@ -81,7 +81,7 @@ abbrev pub before : Spelled → Result (List Spelled) PacketFault → Result (Li
 before packet (Ok packets) = Ok (packet ∷ packets)
 before packet (Err fault) = Err fault
 
--- the first packet of `count` octets from offset `at` on, and then what `others` makes of the octets behind it
+-- the first packet of `count` octets from offset `at` on, and then what `others` makes of the octets after it
 abbrev pub read_on : ℕ → ℕ → Result First Why → (ℕ → List ℕ → Result (List Spelled) PacketFault)
     → Result (List Spelled) PacketFault
 read_on at count (Err why) others = Err (record { at = at; why = why })

@@ -105,6 +105,6 @@ SpellsSome text = (packets : List Spelled) × Spells text packets
 abbrev pub HasFault : List ℕ → Type 0
 HasFault text = (fault : PacketFault) × IsFirstFault text fault
 
--- if the text behind it spells others, both together spell the concatenation of the lists
+-- if the text after it spells others, both together spell the concatenation of the lists
 abbrev pub SpellsBoth : List ℕ → List ℕ → List Spelled → List Spelled → Type 0
 SpellsBoth text more packets others = Spells more others → Spells (text ++ more) (packets ++ moved (length text) others)

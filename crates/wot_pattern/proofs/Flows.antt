@@ -236,7 +236,7 @@ module _ (text : List ℕ) where
       → Right (single a) B i (flow (holds_empty first last a) f.ended)
   right_single first last i h k B a f e = record { empty = empty_atom first last i h k a; ended = e }
 
-  -- an atom that ends behind where it began takes one character
+  -- an atom that ends after its beginning takes one character
   one_taken : (a : Atom) (j i : ℕ) → j < i → AtomHolds text a j i → OneTaken a text j i
   one_taken start j i l h = let e : i ≡ 0 = h.1 in absurd (omega arith)
   one_taken end j i l h = let e : j ≡ length text = h.0 in let e' : i ≡ length text = h.1 in absurd (omega arith)

@@ -155,7 +155,7 @@ step_here text at c mark l e m s s' t h =
     (sym (drop-cons text at 0 l ∙ ap (λ z. get_or text at 0 ∷ drop z text) (sym (add-one at))))
     (subst (λ z. ParserStepBy z s (get_or text at 0) (drop (at + 1) text) s' t) (m ∙ ap mark_of (here text at c l e)) h)
 
--- and the other way
+-- the converse
 pub no_step_here :
     (text : List ℕ) (at c : ℕ) (mark : Mark) → at < length text → c ≡ get_or text at c → mark ≡ mark_of c → (s : State)
     → ((s' : State) (t : List ℕ) → ParserStepBy mark s (get_or text at 0) (drop (at + 1) text) s' t → ⊥) → (p : Reading)

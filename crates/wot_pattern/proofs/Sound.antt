@@ -20,7 +20,7 @@ Ends n w none u = w ≡ u
 Ends n w (atom a) u = Reads g.atom n w a u
 Ends n w (piece a) u = Reads g.piece n w a u
 
--- the level with n more levels begins at t, behind what the levels around it have read of the text
+-- the level with n more levels begins at t, after what the levels around it have read of the text
 abbrev pub Encloses : List ℕ → ℕ → List ℕ → List Level → Type 0
 Encloses text n t [] = (t ≡ text) × (n ≡ 64)
 Encloses text n t (f ∷ fs) =

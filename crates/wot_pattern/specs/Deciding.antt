@@ -21,7 +21,7 @@ use Rattle.wot_pattern.specs.Steps.{level_so_far, fresh}
 abbrev pub behind_item : Item → Option (List Item × List ℕ) → Option (List Item × List ℕ)
 behind_item x rest = option_map (λ (y : List Item × List ℕ). (x ∷ y.0, y.1)) rest
 
--- the items up to the closing bracket and what is behind it, of at most so many characters
+-- the items up to the closing bracket and what follows it, of at most this many characters
 abbrev pub items_in : ℕ → List ℕ → Option (List Item × List ℕ)
 items_in zero text = None
 items_in (suc n) [] = None
@@ -38,7 +38,7 @@ range_of_items negated text =
     (λ (x : Item × List ℕ). option_map (as_range negated) (behind_item x.0 (items_in (length x.1) x.1)))
     (first_item text)
 
--- the range after an opening bracket, and what is behind it
+-- the range after an opening bracket, and what follows it
 abbrev pub range_in : List ℕ → Option (r.Atom × List ℕ)
 range_in [] = None
 range_in (c ∷ text) = if c == caret then range_of_items true text else range_of_items false (c ∷ text)

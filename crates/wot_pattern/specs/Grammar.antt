@@ -55,7 +55,7 @@ pub data Range : List ℕ → Atom → List ℕ → Type 0 where
       {c : ℕ} {t u rest : List ℕ} {x : Item} {xs : List Item}
       → c ≢ caret → first_item (c ∷ t) ≡ Some (x, u) → Items u xs rest → Range (c ∷ t) (range false (x ∷ xs)) rest
 
--- behind the opening bracket and the mark of negation: items, which make this atom, and then this rest
+-- after the opening bracket and the mark of negation: items, which make this atom, and then this rest
 abbrev pub ReadsRange : Bool → List ℕ → Atom → List ℕ → Type 0
 ReadsRange turned text atom rest =
     (x : Item) × (u : List ℕ) × (xs : List Item) × (first_item text ≡ Some (x, u)) × Items u xs rest

@@ -13,7 +13,8 @@ use Rattle.wot_pattern.specs.Deciding.{pattern_of, matches_in}
 use Rattle.wot_scope.specs.Scope.{TextMatches, OneMatches, ScopeHolds}
 use Rattle.wot_scope.specs.Deciding.{text_matches, scope_holds}
 
-module _ (reads : (text : List ℕ) (p : Reading) → (pattern_of text ≡ Some p) ↔ Says text p) (matches : (text : List ℕ) (p : Reading) → (matches_in p text ≡ true) ↔ Matches text p) where
+module _ (reads : (text : List ℕ) (p : Reading) → (pattern_of text ≡ Some p) ↔ Says text p)
+    (matches : (text : List ℕ) (p : Reading) → (matches_in p text ≡ true) ↔ Matches text p) where
   text_says : (uid octets : List ℕ) → text_matches uid octets ≡ true → TextMatches octets uid
   unfolding text_matches
   text_says uid octets e =

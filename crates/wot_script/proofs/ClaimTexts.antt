@@ -1,4 +1,4 @@
--- Paths that are claimed, and labels, printed and read.
+-- Claimed paths and labels are printed and read back.
 use Rattle.std.proofs.Common.{◌≡◌, ℕ, ◌+◌, ◌*◌, ◌<◌, ◌≤◌, ◌^◌, true, List, [], ◌∷◌, ◌++◌, length, Option, Some, refl}
 use Rattle.std.proofs.Common.{◌∙◌, arith, length-append}
 use Rattle.std.specs.Prelude.{nat_le}
@@ -23,7 +23,7 @@ use Rattle.wot_script.proofs.OneLine.{length-fpr_digits}
 use Rattle.wot_script.proofs.Readings.{bound}
 use Rattle.wot_script.proofs.Spaceless.{Lacks, cut_lacking, lacks_decimal, lacks_digits, lacks_test}
 
--- digits, an octet between, a number
+-- digits, a separator, a number
 parts_lack : (x middle : ℕ) (fpr : Fpr) (n : ℕ) → 0 < x → lacks_test x lower_digits ≡ true → (middle ≡ x → ⊥)
     → Lacks x (decimal n) → Lacks x (digits_of fpr ++ middle ∷ decimal n)
 parts_lack x middle fpr n some digits apart number =
@@ -157,7 +157,7 @@ length-items separator most text (item ∷ items) all =
     let parts = length-append (text item) (flat_map (λ other. separator ∷ text other) items) in
     omega (arith, later, parts, all.0)
 
--- a path lacks what its steps and its amount lack
+-- a path's text has no octet that the texts of its amount and its steps lack
 path_lacks : (x : ℕ) (claim : ClaimLine) → (47 ≡ x → ⊥) → Lacks x (decimal claim.0)
     → AllByRecursion (λ step. Lacks x (step_text step)) claim.1 → Lacks x (claim_text claim)
 path_lacks x claim apart amount all =
@@ -194,7 +194,7 @@ claim_printed claim spelled amount small all = record {
 
 -- ---- PATHS and TABLE
 
--- a field of a line: it is read, has neither line feed nor space, and is no longer than this
+-- a field that is read back, has no line feed or space, and is at most this long
 pub record IsField {A : Type 0} (read : List ℕ → Option A) (most : ℕ) (text : List ℕ) (value : A) : Type 0 where
   pub back : read text ≡ Some value
   pub line : Lacks 10 text

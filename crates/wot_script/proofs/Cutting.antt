@@ -1,4 +1,4 @@
--- Where the first such octet is, there a text is cut.
+-- A text is cut at the first separator.
 use Rattle.std.proofs.Common.{◌≡◌, ℕ, zero, suc, ◌+◌, ◌-◌, ◌<◌, ◌==◌, Bool, true, false, List, [], ◌∷◌, Option, Some}
 use Rattle.std.proofs.Common.{None, length, take, drop, get_or, refl, ap, ◌∙◌, arith, length-drop}
 use Rattle.std.proofs.lemmas.Bool.{eq-eqb, ne_eqb}
@@ -7,12 +7,12 @@ use Rattle.std.proofs.lemmas.Option.{same_Some}
 use Rattle.std.specs.Option.{option_map}
 use Rattle.wot_script.specs.Fields.{cut_at}
 
--- a first octet that is another one stays in the field
+-- a first octet that isn't the separator stays in the field
 pub cut_at-cons : (separator octet : ℕ) (octets : List ℕ) → (octet ≡ separator → ⊥)
     → cut_at separator (octet ∷ octets) ≡ option_map (λ parts. (octet ∷ parts.0, parts.1)) (cut_at separator octets)
 cut_at-cons separator octet octets apart = rw (ne_eqb octet separator apart) refl
 
--- the first one is at k
+-- the first separator is at k
 pub cut_there : (separator : ℕ) (text : List ℕ) (k : ℕ) → k < length text → get_or text k 0 ≡ separator
     → ((j : ℕ) → j < k → get_or text j 0 ≡ separator → ⊥)
     → cut_at separator text ≡ Some (take k text, drop (suc k) text)
@@ -23,7 +23,7 @@ cut_there separator (octet ∷ octets) (suc k) within same before =
     ∙ ap (option_map (λ parts. (octet ∷ parts.0, parts.1)))
     (cut_there separator octets k (omega arith) same (λ j h. before (suc j) (omega arith)))
 
--- none is there
+-- there is no separator
 pub cut_nowhere : (separator : ℕ) (text : List ℕ) → ((j : ℕ) → j < length text → get_or text j 0 ≡ separator → ⊥)
     → cut_at separator text ≡ None
 cut_nowhere separator [] none = refl
@@ -32,11 +32,11 @@ cut_nowhere separator (octet ∷ octets) none =
     ∙ ap (option_map (λ parts. (octet ∷ parts.0, parts.1)))
     (cut_nowhere separator octets (λ j h. none (suc j) (omega arith)))
 
--- all that is behind a place
+-- everything after an offset
 pub take_behind : (text : List ℕ) (n : ℕ) → take (length text - n) (drop n text) ≡ drop n text
 take_behind text n = take_all (length text - n) (drop n text) (omega (arith, length-drop n text))
 
--- how long a text is that is cut
+-- the length of a text that is cut
 pub cut_short : (separator : ℕ) (text : List ℕ) (parts : List ℕ × List ℕ) → cut_at separator text ≡ Some parts
     → length parts.0 + (1 + length parts.1) ≡ length text
 cut_short separator [] parts e = absurd cc

@@ -1,4 +1,4 @@
--- User IDs, printed and read.
+-- User IDs are printed and read back.
 use Rattle.std.proofs.Common.{◌≡◌, ℕ, zero, suc, ◌+◌, ◌<◌, ◌==◌, Bool, true, false, ◌&&◌, inl, inr, List, [], ◌∷◌, ◌++◌}
 use Rattle.std.proofs.Common.{Option, Some, None, length, drop, get_or, refl, sym, ap, ◌∙◌, arith, add-one, drop-cons}
 use Rattle.std.proofs.Common.{append_assoc}
@@ -39,7 +39,7 @@ turned old new next octets (Some read) h =
 drop_first : (text : List ℕ) (i : ℕ) → i < length text → drop i text ≡ get_or text i 0 ∷ drop (i + 1) text
 drop_first text i h = rw (add-one, drop-cons text i 0) refl
 
--- what one turn of the reading leaves as it is
+-- what one step of the reading leaves unchanged
 pub turn_kept : (old new text : List ℕ) (i : ℕ) (place next : Place) → i < length text
     → Turned old new (turn place (get_or text i 0)) (Some next)
     → option_map (λ others. new ++ others) (unescaped_from (drop (i + 1) text) next)
@@ -50,7 +50,7 @@ turn_kept old new text i place next h t =
 
 -- ---- printing
 
--- what an octet and others spell
+-- what an octet and the ones after it spell
 abbrev with_octet : ℕ → Option (List ℕ) → Option (List ℕ)
 with_octet octet o = option_map (λ others. octet ∷ others) o
 
@@ -62,7 +62,7 @@ one_byte : (octet : ℕ) → octet < 256 → IsBytes (octet ∷ [])
 one_byte octet small zero = small
 one_byte octet small (suc i) = omega arith
 
--- two digits behind `\x`
+-- two digits after `\x`
 pair_read : (octet : ℕ) (rest : List ℕ) → octet < 256
     → unescaped_from (encode_lower (octet ∷ []) ++ rest) High ≡ with_octet octet (unescaped_from rest Outside)
 unfolding encode_with

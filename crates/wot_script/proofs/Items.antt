@@ -1,4 +1,4 @@
--- Items of a list, read and printed.
+-- Items of a list, read and printed back.
 use Rattle.std.proofs.Common.{◌≡◌, ℕ, zero, suc, ◌<◌, ◌≤◌, ◌==◌, Bool, true, false, List, [], ◌∷◌, ◌++◌, length, take}
 use Rattle.std.proofs.Common.{get_or, Option, Some, None, refl, ap, ◌∙◌, arith, append-nil, append_assoc}
 use Rattle.std.specs.List.{slice_split, flat_map, AllByRecursion}
@@ -12,7 +12,7 @@ use Rattle.wot_script.specs.Claims.{field_of, field_text, items_of, items_text}
 use Rattle.wot_script.specs.Fields.{cut_at}
 use Rattle.wot_script.proofs.Spaceless.{Lacks}
 
--- the parts between such octets
+-- the parts between separators
 abbrev pub parts_of : ℕ → List ℕ → List (List ℕ)
 parts_of separator text = slice_split (λ octet. octet == separator) text
 
@@ -103,7 +103,7 @@ whole_lacking separator [] none = refl
 whole_lacking separator (octet ∷ octets) none =
     rw (ne_eqb octet separator none.0, whole_lacking separator octets none.1) refl
 
--- an item that is read of its text, without this octet
+-- an item is read from its text, which doesn't contain the separator
 pub record IsItem {A : Type 0} (separator : ℕ) (read : List ℕ → Option A) (text : A → List ℕ) (item : A) : Type 0 where
   pub back : read (text item) ≡ Some item
   pub free : Lacks separator (text item)

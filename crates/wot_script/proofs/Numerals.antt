@@ -1,4 +1,4 @@
--- Decimal numbers, printed and read.
+-- Decimal numbers are printed and read back.
 use Rattle.std.proofs.Common.{◌≡◌, ℕ, ◌+◌, ◌*◌, ◌-◌, ◌^◌, ◌<◌, ◌≤◌, true, false, ◌&&◌, ◌⊎◌, inl, inr, List, [], ◌∷◌}
 use Rattle.std.proofs.Common.{length, get_or, Some, refl, ap, arith}
 use Rattle.std.specs.Prelude.{nat_lt, nat_le}
@@ -11,7 +11,7 @@ use Rattle.std.proofs.lemmas.Str.Parse.{IsNumeralModel, numerals_by_value, tells
 use Rattle.std.proofs.lemmas.Fmt.{digits_decimal, digits_value-decimal, decimal_nonempty, first_decimal, decimal_digit}
 use Rattle.wot_script.specs.Decimal.{is_decimal, decimal_up_to, positive_up_to}
 
--- further digits make no number smaller
+-- more digits never make a number smaller
 pub digits_value_grows : (n : ℕ) (digits : List ℕ) → n ≤ digits_value_after 10 n digits
 digits_value_grows n [] = omega arith
 digits_value_grows n (digit ∷ digits) = omega (arith, digits_value_grows (n * 10 + digit_value digit) digits)
@@ -19,11 +19,11 @@ digits_value_grows n (digit ∷ digits) = omega (arith, digits_value_grows (n * 
 own : IsNumeralModel (λ digits. all_ascii_digits digits ≡ true) (digits_value 10)
 own = numerals_by_value (λ digits. all_ascii_digits digits ≡ true) tells_all_ascii_digits
 
--- what is printed of a number are digits
+-- a number is printed as digits
 pub digits-decimal : (n : ℕ) → n < 2 ^ 64 → all_ascii_digits (decimal n) ≡ true
 digits-decimal n small = digits_decimal own n small
 
--- and its value is the number
+-- whose value is the number
 pub value-decimal : (n : ℕ) → n < 2 ^ 64 → digits_value 10 (decimal n) ≡ n
 value-decimal n small = digits_value-decimal own n small
 
@@ -36,7 +36,7 @@ is_decimal_from (digit ∷ next ∷ digits) all some (inl one) = absurd (omega a
 is_decimal_from (digit ∷ next ∷ digits) all some (inr first) =
     and_from (nat_lt 48 digit) (all_ascii_digits (digit ∷ next ∷ digits)) (lt-ltb 48 digit first) all
 
--- what is printed of a number has no leading zero
+-- a printed number has no leading zero
 pub is_decimal-decimal : (n : ℕ) → n < 2 ^ 64 → is_decimal (decimal n) ≡ true
 is_decimal-decimal n small =
     elim (cases_eq n 0) [
@@ -46,7 +46,7 @@ is_decimal-decimal n small =
           (inr (first_decimal n (omega arith) small))
     ]
 
--- a number that is printed is read
+-- a printed number is read back
 pub decimal_up_to-decimal : (most n : ℕ) → n < 2 ^ 64 → n ≤ most → decimal_up_to most (decimal n) ≡ Some n
 unfolding decimal_up_to
 decimal_up_to-decimal most n small within =
@@ -64,7 +64,7 @@ digit_value-digit digit h =
     let high : digit < 58 = omega (arith, leb-true digit 57 parts.1) in
     rw (le-ltb digit 48 low, lt-ltb digit 58 high) refl
 
--- a number that is too large behind its first digit stays so
+-- a number that is too large after some digits stays too large
 pub too_large : (most value : ℕ) (digits : List ℕ) → 1 ≤ length digits → is_ascii_digit (get_or digits 0 0) ≡ true
     → most < value * 10 + (get_or digits 0 0 - 48)
     → (all_ascii_digits digits && nat_le (digits_value_after 10 value digits) most) ≡ false

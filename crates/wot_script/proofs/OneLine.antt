@@ -73,7 +73,7 @@ feedless_escaped octets = escapes_feedless octets
 
 -- ---- lengths
 
--- digits that are read as so many octets are twice as many
+-- digits are twice as many as the octets that they spell
 read_sized : (odd right : Bool) (r : Result (List ℕ) FromHexError) (octets : List ℕ)
     → result_ok (cond odd (Err OddLength) (cond right r (Err InvalidStringLength))) ≡ Some octets
     → (odd ≡ false) × (right ≡ true)
@@ -283,7 +283,7 @@ close_line view name =
     one_line (Close view) 118 (codes "iew ") (view ∷ codes " close" ∷ []) refl (λ e. omega arith)
     (name.free, (word (codes " close") refl, tt)) (omega (arith, name.size))
 
--- a question from a view, behind a short word
+-- a question from a view, after a short word
 asking_line : (command : Command) (first : ℕ) (prefix view uid ds ws : List ℕ) → lacks_test 10 (first ∷ prefix) ≡ true
     → (first ≡ 35 → ⊥) → length prefix ≤ 7 → 128 + 4 * length uid ≤ most_octets command
     → IsName view → AreDigits ds → IsNumeral ws

@@ -1,4 +1,4 @@
--- Texts that are put piece by piece.
+-- Texts that are appended piece by piece.
 use Rattle.std.proofs.Common.{◌≡◌, ℕ, zero, suc, ◌+◌, ◌<◌, ◌≤◌, List, [], ◌∷◌, ◌++◌, length, take, refl, ap, ◌∙◌, arith}
 use Rattle.std.proofs.Common.{length-append, get_or, Err}
 use Rattle.std.specs.Prelude.{Vec, vec_len, vec_capacity}
@@ -9,12 +9,12 @@ use Rattle.hex.specs.Hex.{encode_lower, encode_with}
 use Rattle.wot_types.specs.declared.memory.Memory.{Memory}
 use Rattle.wot_script.specs.Appends.{Appends}
 
--- the octets of what was put so far
+-- the octets of the pieces appended so far
 pub record PutSoFar (before now made : List ℕ) (capacity_before capacity : ℕ) : Type 0 where
   pub text : now ≡ before ++ made
   pub grows : capacity_before ≤ capacity
 
--- the pieces before a place, and that at the place, are no longer than all pieces
+-- the pieces up to an index are no longer than all pieces
 pub length-put_so_far : {X : Type 0} (f : X → List ℕ) (xs : List X) (i : ℕ) (d : X) → i < length xs
     → length (flat_map f (take i xs)) + length (f (get_or xs i d)) ≤ length (flat_map f xs)
 length-put_so_far f [] i d lt = absurd (omega arith)
@@ -27,14 +27,14 @@ length-put_so_far f (x ∷ xs) (suc i) d lt =
       length-append (f x) (flat_map f xs),
     )
 
--- the digits of octets are the digits of each, one after another
+-- the digits of octets are the digits of each octet, one after another
 pub encode_lower_by_octets : (octets : List ℕ)
     → encode_lower octets ≡ flat_map (λ octet. encode_lower (octet ∷ [])) octets
 unfolding encode_with
 encode_lower_by_octets [] = refl
 encode_lower_by_octets (octet ∷ octets) = ap (λ text. encode_lower (octet ∷ []) ++ text) (encode_lower_by_octets octets)
 
--- where there was no room for a piece, there was none for all of them
+-- no room for one piece means no room for all of them
 full_so_far : {X : Type 0} (f : X → List ℕ) (xs : List X) (i : ℕ) (d : X) (before now : List ℕ)
     (cap_before cap len_before len : ℕ)
     → i < length xs → PutSoFar before now (flat_map f (take i xs)) cap_before cap
@@ -46,7 +46,7 @@ full_so_far f xs i d before now cap_before cap len_before len h so_far is_before
     let parts = length-append before (flat_map f (take i xs)) in
     omega (arith, so_far.grows, fits, size, parts)
 
--- what was put so far is cut off again
+-- the pieces appended so far are removed again
 cut_off : (before now again made after : List ℕ) (start : ℕ) → now ≡ before ++ made → again ≡ now
     → start ≡ length before → after ≡ take start again → after ≡ before
 cut_off before now again made after start text same is cut =
@@ -56,7 +56,7 @@ cut_off before now again made after start text same is cut =
     ∙ take-append-le (length before) before made (omega arith)
     ∙ take_all (length before) before (omega arith)
 
--- Where a piece couldn't be put, and what was put before it is cut off again, no piece was put.
+-- If a piece couldn't be appended, and those before it are removed again, nothing was appended.
 pub none_put : {X : Type 0} (f : X → List ℕ) (xs : List X) (i : ℕ) (d : X) (old now again after : Vec ℕ Global)
     (start : ℕ) (fault other : Memory)
     → i < length xs → PutSoFar old.items now.items (flat_map f (take i xs)) (vec_capacity old) (vec_capacity now)
@@ -73,7 +73,7 @@ none_put f xs i d old now again after start fault other lt so_far is_old is_now 
   grows = omega (arith, so_far.grows, failed.grows, same);
 }
 
--- at the end all pieces were put
+-- at the end all pieces are appended
 pub all_put : {X : Type 0} (f : X → List ℕ) (xs : List X) (i : ℕ) (before now : List ℕ) (cap_before cap : ℕ)
     → length xs ≤ i
     → PutSoFar before now (flat_map f (take i xs)) cap_before cap → now ≡ before ++ flat_map f xs

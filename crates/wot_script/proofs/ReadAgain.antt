@@ -1,4 +1,4 @@
--- The spelling of a command is read as it: so are the text of a printed claim and the lines of old dumps.
+-- The spelling of a command is read as the command; so are the text of a printed claim and the lines of old dumps.
 use Rattle.std.proofs.Common.{◌≡◌, ℕ, List, [], ◌∷◌, ◌++◌, Some, sym, ap, ◌∙◌}
 use Rattle.std.specs.Prelude.{codes}
 use Rattle.std.specs.Fmt.{decimal}
@@ -15,7 +15,7 @@ use Rattle.wot_script.specs.Uid.{escaped}
 use Rattle.wot_script.specs.declared.command.Command.{Command}
 use Rattle.wot_script.specs.declared.command.Command.TheVariants.{Import, Good, Bad, Time, Root, Check}
 
--- a claim in a line, and what stands behind it
+-- a claim in a line, and what follows it
 claim_in : (paths table rest : List ℕ) → paths ++ 32 ∷ (table ++ rest) ≡ (paths ++ 32 ∷ (table ++ [])) ++ rest
 claim_in [] table rest = ap (λ (text : List ℕ). 32 ∷ (text ++ rest)) (sym (append-nil table))
 claim_in (octet ∷ octets) table rest = ap (λ (text : List ℕ). octet ∷ text) (claim_in octets table rest)

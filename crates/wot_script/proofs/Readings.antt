@@ -1,4 +1,4 @@
--- The lines of commands, joined of their fields, are read as these commands.
+-- The lines of commands, joined from their fields, are read as these commands.
 use Rattle.std.proofs.Common.{◌≡◌, ℕ, true, List, [], ◌∷◌, ◌++◌, Option, Some, refl, ap, ◌∙◌, append-nil}
 use Rattle.std.specs.Prelude.{codes}
 use Rattle.std.specs.Option.{option_map}
@@ -29,7 +29,7 @@ use Rattle.wot_script.specs.declared.read.About.TheVariants.{Watched}
 use Rattle.wot_script.specs.declared.read.Question.{Question}
 use Rattle.wot_script.proofs.Spaceless.{Spaceless, cut_spaceless, spaceless_view_name}
 
--- a second reading behind a first one that gave a
+-- a second reading after a first one that returned `a`
 pub bound : {A B : Type 0} (o : Option A) (a : A) (f : A → Option B) → o ≡ Some a → (o >>= f) ≡ f a
 bound o a f e = rw e refl
 
@@ -180,7 +180,7 @@ close_reads name h = setting_reads name (codes "close") (Close name) h (close_se
 abbrev pub question : Fpr → ℕ → List ℕ → Question
 question fpr wanted uid = record { fpr = fpr; wanted = wanted; uid = uid }
 
--- FPR N UID, joined of its fields
+-- FPR N UID, joined from its fields
 abbrev asking : List ℕ → List ℕ → List ℕ → List ℕ
 asking ds ws us = ds ++ 32 ∷ (ws ++ 32 ∷ us)
 

@@ -1,4 +1,4 @@
--- Octets that a text doesn't have. Fields have no space in them, so a line that was joined of them is cut there again.
+-- Octets that a text doesn't contain. Fields contain no space, so a line that was joined from them is cut there again.
 use Rattle.std.proofs.Common.{◌≡◌, ℕ, zero, suc, ◌/◌, ◌%◌, ◌<◌, ◌^◌, ◌==◌, Bool, true, false, not, ◌&&◌, List, [], ◌∷◌}
 use Rattle.std.proofs.Common.{◌++◌, Some, refl, ap, ◌∙◌, arith}
 use Rattle.std.specs.Prelude.{◌≢◌, slice_index}
@@ -32,7 +32,7 @@ cut_lacking separator (octet ∷ octets) rest none =
 pub cut_spaceless : (field rest : List ℕ) → Spaceless field → cut (field ++ 32 ∷ rest) ≡ Some (field, rest)
 cut_spaceless field rest none = cut_lacking 32 field rest none
 
--- each place of a table
+-- each index of a table
 lacks_place : (x : ℕ) (table : List ℕ) (k : ℕ) → 0 < x → Lacks x table → slice_index table k ≡ x → ⊥
 lacks_place x [] k some none e = absurd (omega arith)
 lacks_place x (octet ∷ octets) zero some none e = none.0 e
@@ -80,7 +80,7 @@ pub feedless_digits : (octets : List ℕ) → Lacks 10 (encode_lower octets)
 feedless_digits octets =
     lacks_encoded 10 lower_digits octets (omega arith) (lacks_from_test 10 lower_digits feedless_lower)
 
--- an octet that the test refuses isn't among those that it takes
+-- an octet that fails the test isn't among those that pass
 refused_apart : (test : ℕ → Bool) (x octet : ℕ) → test x ≡ false → test octet ≡ true → octet ≡ x → ⊥
 refused_apart test x octet out h e =
     let at : test x ≡ true = rw e at h in

@@ -52,7 +52,7 @@ behind_short (x ∷ prefix) (y ∷ text) rest e =
     cond_some_of true e = e
     cond_some_of false e = absurd cc
 
--- there are no more parts than octets and one
+-- there is at most one part more than octets
 length-onto_first : (octet : ℕ) (parts : List (List ℕ)) → length (onto_first octet parts) ≤ 1 + length parts
 length-onto_first octet [] = omega arith
 length-onto_first octet (part ∷ parts) = omega arith
@@ -66,7 +66,7 @@ length-parts_of separator (octet ∷ octets) = by (octet == separator) refl (len
     by true same later = rw same (omega (arith, later))
     by false apart later = rw apart (omega (arith, later, length-onto_first octet (parts_of separator octets)))
 
--- ---- what was read of each part
+-- ---- what was read from each part
 
 bound_keeps : {A B : Type 0} (P : B → Type 0) (o : Option A) (f : A → Option B)
     → ((a : A) → o ≡ Some a → IfSome (f a) P) → IfSome (o >>= f) P
@@ -100,7 +100,7 @@ field_keeps {A = A} P read h text =
     by false None h = tt
     by false (Some items) h = (h.0, omega (arith, h.1, length-parts_of 44 text))
 
--- the facts of what was read
+-- what holds of the command that was read
 so : {A : Type 0} (P : A → Type 0) (o : Option A) (a : A) → o ≡ Some a → IfSome o P → P a
 so P o a e h = rw e at h
 
@@ -406,7 +406,7 @@ module _ (size : ℕ) where
       (λ first e. bound (view_name_of first.0) (λ view. about_of about view first.1) (λ view d.
       about_spelled about view first.1 (omega (arith, short, cut_short 32 text first e))))
 
-  -- what stands behind a word is no longer than the line
+  -- what follows a word is no longer than the line
   behind_word : (word line : List ℕ) (read : List ℕ → Option Command) (other : Option Command) → length line ≤ size
       → ((text : List ℕ) → length text ≤ size → Spelled (read text)) → Spelled other
       → Spelled (read_behind (behind word line) read other)
@@ -416,7 +416,7 @@ module _ (size : ℕ) where
       at None e = k
       at (Some text) e = let shorter = behind_short word line text e in h text (omega (arith, shorter, short))
 
-  -- a command that was read has a spelling, and an import's octets are no more than half of the line's
+  -- a command that was read can be printed, and an import's octets are at most half of the line's
   pub spelled_of : (line : List ℕ) → length line ≤ size → Spelled (command_of line)
   unfolding command_of
   spelled_of line short =
@@ -450,7 +450,7 @@ module _ (size : ℕ) where
       behind_either (behind (codes "store ") line) store_of tail store_spelled (
       single_spelled line))))))))))))))
 
--- the same where the reading is known
+-- a command that was read can be printed
 pub spelled_at : (line : List ℕ) (command : Command) → command_of line ≡ Some command
     → HasSpelling command × IsWithin (length line) command
 spelled_at line command e =

@@ -1,4 +1,4 @@
--- What holds of an item that is printed.
+-- What holds of a printed item.
 use Rattle.std.specs.Prelude.{◌≡◌, ◌≢◌, ◌≤◌, ◌+◌, ◌*◌, ℕ, List, [], ◌∷◌, Option, Some, length}
 use Rattle.std.specs.List.{AllByRecursion}
 use Rattle.wot_script.specs.Claims.{claim_of, claim_text, label_of, label_text, step_of, step_text}
@@ -6,11 +6,11 @@ use Rattle.wot_script.specs.declared.reply.ClaimLine.{ClaimLine}
 use Rattle.wot_script.specs.declared.reply.ClaimStepLine.{ClaimStepLine}
 use Rattle.wot_script.specs.declared.reply.LabelLine.{LabelLine}
 
--- None of these octets stands in the text.
+-- the text contains none of these octets
 abbrev pub LacksAll : List ℕ → List ℕ → Type 0
 LacksAll octets text = AllByRecursion (λ x. AllByRecursion (λ octet. octet ≢ x) text) octets
 
--- It is read of its text, which has none of these octets, and no more than so many.
+-- The item is read back from its text, which contains none of these octets and has at most `most` octets.
 pub record IsPrinted {A : Type 0} (read : List ℕ → Option A) (apart : List ℕ) (most : ℕ) (text : List ℕ) (item : A)
     : Type 0 where
   pub back : read text ≡ Some item
@@ -21,7 +21,7 @@ pub record IsPrinted {A : Type 0} (read : List ℕ → Option A) (apart : List �
 abbrev pub separators : List ℕ
 separators = 10 ∷ 32 ∷ 44 ∷ 45 ∷ []
 
--- a slash besides
+-- these and a slash
 abbrev pub IsStepPrinted : ClaimStepLine → Type 0
 IsStepPrinted step = IsPrinted step_of (47 ∷ separators) 96 (step_text step) step
 

@@ -1,4 +1,4 @@
--- Paths that are claimed, and tables of labels, in a line.
+-- Claimed paths, and tables of labels, in a line.
 use Rattle.std.specs.Prelude.{◌≡◌, ◌≤◌, ◌+◌, ◌*◌, ℕ, ◌==◌, ◌&&◌, Bool, true, nat_le, if◌then◌else◌}
 use Rattle.std.specs.Prelude.{List, [], ◌∷◌, ◌++◌, Option, Some, None, codes, length}
 use Rattle.std.specs.Fmt.{decimal}
@@ -15,16 +15,16 @@ use Rattle.wot_script.specs.declared.reply.LabelLine.{LabelLine}
 
 -- ---- items
 
--- what each of these texts spells, where each spells something
+-- what these texts spell, if each spells something
 abbrev pub all_of : {A : Type 0} → (List ℕ → Option A) → List (List ℕ) → Option (List A)
 all_of read [] = Some []
 all_of read (text ∷ texts) = read text >>= (λ item. option_map (λ items. item ∷ items) (all_of read texts))
 
--- the items that a text spells, which is cut at each such octet
+-- the items that a text spells, cut at each separator
 abbrev pub items_of : {A : Type 0} → ℕ → (List ℕ → Option A) → List ℕ → Option (List A)
 items_of separator read text = all_of read (slice_split (λ octet. octet == separator) text)
 
--- items, this octet between them
+-- items with this octet between them
 abbrev pub items_text : {A : Type 0} → ℕ → (A → List ℕ) → List A → List ℕ
 items_text separator text [] = []
 items_text separator text (item ∷ items) = text item ++ flat_map (λ other. separator ∷ text other) items
@@ -37,9 +37,9 @@ abbrev pub field_text : {A : Type 0} → (A → List ℕ) → List A → List �
 field_text text [] = codes "-"
 field_text text (item ∷ items) = items_text 44 text (item ∷ items)
 
--- ---- paths: an amount, and steps behind `/` each
+-- ---- paths: an amount, and steps that each begin with `/`
 
--- FPR, `.` and the place of the user ID
+-- FPR, `.` and the index of the user ID
 unfoldable pub step_of : List ℕ → Option ClaimStepLine
 step_of text = do
   parts ← cut_at 46 text
@@ -81,13 +81,13 @@ label_of text = do
 abbrev pub label_text : LabelLine → List ℕ
 label_text label = digits_of label.0 ++ 61 ∷ decimal label.1
 
--- Each fingerprint is less than the next.
+-- each fingerprint is less than the next
 abbrev pub is_rising : List LabelLine → Bool
 is_rising [] = true
 is_rising (label ∷ []) = true
 is_rising (label ∷ next ∷ labels) = is_lt (fpr_cmp label.0 next.0) && is_rising (next ∷ labels)
 
--- TABLE: labels in strictly rising order
+-- TABLE: labels in strictly ascending order of fingerprints
 abbrev pub rising : List LabelLine → Option (List LabelLine)
 rising labels = if is_rising labels then Some labels else None
 
@@ -100,12 +100,12 @@ labels_of text = field_of label_of text >>= rising
 abbrev pub claim_parts : List ClaimLine → List LabelLine → List ℕ → List ℕ
 claim_parts claims labels tail = field_text claim_text claims ++ 32 ∷ (field_text label_text labels ++ tail)
 
--- how long PATHS are at most
+-- the largest length of PATHS
 abbrev pub most_paths : List ClaimLine → ℕ
 most_paths [] = 0
 most_paths (claim ∷ claims) = 128 + 128 * length claim.1 + most_paths claims
 
--- ---- what has a spelling
+-- ---- what can be printed
 
 -- a path of 1 to 255 steps, with an amount
 abbrev pub IsPathSpelled : ClaimLine → Type 0
@@ -115,7 +115,7 @@ IsPathSpelled claim = (1 ≤ claim.0) × (1 ≤ length claim.1) × (length claim
 abbrev pub IsLabelSpelled : LabelLine → Type 0
 IsLabelSpelled label = (1 ≤ label.1) × (label.1 ≤ 255)
 
--- PATHS and TABLE: such paths; such labels, which rise
+-- PATHS and TABLE: such paths, and such labels in ascending order
 pub record IsClaimSpelled (claims : List ClaimLine) (labels : List LabelLine) : Type 0 where
   pub paths : AllByRecursion IsPathSpelled claims
   pub numbers : AllByRecursion IsLabelSpelled labels

@@ -24,16 +24,16 @@ use Rattle.wot_script.specs.declared.command.Command.TheVariants.{Export, Dump, 
 use Rattle.wot_script.specs.declared.command.Command.TheVariants.{CursorOver, CursorNext, CursorClose}
 use Rattle.wot_script.specs.declared.command.Command.TheVariants.{WatchOn, WatchOff}
 
--- A text with this prefix is read so, and another text otherwise.
+-- a text with this prefix is read so, any other text otherwise
 abbrev pub read_behind : Option (List ℕ) → (List ℕ → Option Command) → Option Command → Option Command
 read_behind (Some rest) read other = read rest
 read_behind None read other = other
 
--- behind `import `: HEX
+-- after `import `: HEX
 unfoldable pub import_of : List ℕ → Option Command
 import_of digits = option_map Import (octets_of_hex digits)
 
--- where this may be read as a fingerprint
+-- the name, by the fingerprint that the text may spell
 abbrev pub entry_else : List ℕ → Option Fpr → Option Name
 entry_else text (Some fpr) = Some (Cert fpr)
 entry_else text None = if bytes_eq text (codes "trust-root") then Some TrustRoot else None
@@ -42,19 +42,19 @@ entry_else text None = if bytes_eq text (codes "trust-root") then Some TrustRoot
 abbrev pub entry_of : List ℕ → Option Name
 entry_of text = entry_else text (fpr_of_digits text)
 
--- behind `load `: NAME
+-- after `load `: NAME
 unfoldable pub load_of : List ℕ → Option Command
 load_of text = option_map Load (entry_of text)
 
--- behind `store `: FPR
+-- after `store `: FPR
 unfoldable pub store_of : List ℕ → Option Command
 store_of digits = option_map Store (fpr_of_digits digits)
 
--- behind `drop `: FPR
+-- after `drop `: FPR
 unfoldable pub drop_of : List ℕ → Option Command
 drop_of digits = option_map Remove (fpr_of_digits digits)
 
--- behind `verdict NUM `: `good FPR`, `bad` or `none`
+-- after `verdict NUM `: `good FPR`, `bad` or `none`
 unfoldable pub judgement_of : SigNumber → List ℕ → Option Command
 judgement_of number text =
     read_behind (behind (codes "good ") text) (λ digits. option_map (Good number) (fpr_of_digits digits)) (
@@ -62,14 +62,14 @@ judgement_of number text =
     else if bytes_eq text (codes "none") then Some (Unjudge number)
     else None)
 
--- behind `verdict `: NUM and a judgement
+-- after `verdict `: NUM and the rest
 unfoldable pub verdict_of : List ℕ → Option Command
 verdict_of text = do
   first ← cut text
   number ← number_of_digits first.0
   judgement_of number first.1
 
--- behind `view V root `: FPR A
+-- after `view V root `: FPR A
 unfoldable pub root_of : List ℕ → List ℕ → Option Command
 root_of view text = do
   first ← cut text
@@ -77,14 +77,14 @@ root_of view text = do
   amount ← decimal_up_to 255 first.1
   Some (Root view fpr amount)
 
--- behind `view V `: `time T`, `root FPR A` or `close`
+-- after `view V `: `time T`, `root FPR A` or `close`
 unfoldable pub setting_of : List ℕ → List ℕ → Option Command
 setting_of view text =
     read_behind (behind (codes "time ") text) (λ digits. option_map (Time view) (decimal_up_to 4294967295 digits)) (
     read_behind (behind (codes "root ") text) (root_of view) (
     if bytes_eq text (codes "close") then Some (Close view) else None))
 
--- FPR N UID, where UID is the rest of the line
+-- FPR N UID; UID is the rest of the line
 unfoldable pub question_of : List ℕ → Option Question
 question_of text = do
   first ← cut text
@@ -94,19 +94,19 @@ question_of text = do
   uid ← unescaped second.1
   Some (record { fpr = fpr; wanted = wanted; uid = uid })
 
--- behind `ask V `: a question
+-- after `ask V `: a question
 abbrev pub asked_of : List ℕ → List ℕ → Option Command
 asked_of view text = option_map (λ question. Ask view question.fpr question.wanted question.uid) (question_of text)
 
--- behind `absence V `: a question
+-- after `absence V `: a question
 abbrev pub missed_of : List ℕ → List ℕ → Option Command
 missed_of view text = option_map (λ question. Absence view question.fpr question.wanted question.uid) (question_of text)
 
--- behind `list V `: N
+-- after `list V `: N
 unfoldable pub listed_of : List ℕ → List ℕ → Option Command
 listed_of view digits = option_map (Command.List view) (positive_up_to 4294967295 digits)
 
--- behind `explain V `: FPR UID, where UID is the rest of the line
+-- after `explain V `: FPR UID; UID is the rest of the line
 unfoldable pub explained_of : List ℕ → List ℕ → Option Command
 explained_of view text = do
   second ← cut text
@@ -114,7 +114,7 @@ explained_of view text = do
   uid ← unescaped second.1
   Some (Explain view fpr uid)
 
--- behind `check V `: FPR PATHS TABLE UID, where UID is the rest of the line
+-- after `check V `: FPR PATHS TABLE UID; UID is the rest of the line
 unfoldable pub checked_of : List ℕ → List ℕ → Option Command
 checked_of view text = do
   first ← cut text
@@ -126,7 +126,7 @@ checked_of view text = do
   uid ← unescaped third.1
   Some (Check view fpr claims labels uid)
 
--- behind `cursor C over `: V N
+-- after `cursor C over `: V N
 unfoldable pub over_of : List ℕ → List ℕ → Option Command
 over_of cursor text = do
   first ← cut text
@@ -134,7 +134,7 @@ over_of cursor text = do
   wanted ← positive_up_to 4294967295 first.1
   Some (CursorOver cursor view wanted)
 
--- behind `cursor C `: `over V N`, `next K` or `close`
+-- after `cursor C `: `over V N`, `next K` or `close`
 unfoldable pub paced_of : List ℕ → List ℕ → Option Command
 paced_of cursor text =
     read_behind (behind (codes "over ") text) (over_of cursor) (
@@ -142,7 +142,7 @@ paced_of cursor text =
     (λ digits. option_map (CursorNext cursor) (positive_up_to 4294967295 digits)) (
     if bytes_eq text (codes "close") then Some (CursorClose cursor) else None))
 
--- behind `watch W on `: V and a question
+-- after `watch W on `: V and a question
 unfoldable pub watch_of : List ℕ → List ℕ → Option Command
 watch_of watch text = do
   first ← cut text
@@ -150,13 +150,13 @@ watch_of watch text = do
   question ← question_of first.1
   Some (WatchOn watch view question.fpr question.wanted question.uid)
 
--- behind `watch W `: `on V FPR N UID` or `off`
+-- after `watch W `: `on V FPR N UID` or `off`
 unfoldable pub watched_of : List ℕ → List ℕ → Option Command
 watched_of watch text =
     read_behind (behind (codes "on ") text) (watch_of watch) (
     if bytes_eq text (codes "off") then Some (WatchOff watch) else None)
 
--- what is read behind the name of a view, of a cursor or of a watch, by what the line is about
+-- what follows the name of a view, a cursor or a watch, by what the line is about
 abbrev pub about_of : About → List ℕ → List ℕ → Option Command
 about_of Setting view text = setting_of view text
 about_of Asked view text = asked_of view text
@@ -167,18 +167,18 @@ about_of Checked view text = checked_of view text
 about_of Paced cursor text = paced_of cursor text
 about_of Watched watch text = watched_of watch text
 
--- V, C or W, and what is read behind its space
+-- V, C or W, and what follows its space
 abbrev pub view_of : About → List ℕ → Option Command
 view_of about text = do
   first ← cut text
   view ← view_name_of first.0
   about_of about view first.1
 
--- behind `export `: FPR
+-- after `export `: FPR
 unfoldable pub export_of : List ℕ → Option Command
 export_of digits = option_map Export (fpr_of_digits digits)
 
--- a line without any such prefix: `pending`, `keys` or `dump`
+-- a line without any of these prefixes: `pending`, `keys` or `dump`
 unfoldable pub single_of : List ℕ → Option Command
 single_of line =
     if bytes_eq line (codes "pending") then Some Pending
@@ -186,7 +186,7 @@ single_of line =
     else if bytes_eq line (codes "dump") then Some Dump
     else None
 
--- the command that a line spells; none where it spells no command
+-- the command that a line spells; None if it isn't a command
 unfoldable pub command_of : List ℕ → Option Command
 command_of line =
     read_behind (behind (codes "import ") line) import_of (

@@ -1,4 +1,4 @@
--- What is printed is made of pieces.
+-- The pieces of printed text.
 use Rattle.std.specs.Prelude.{ℕ, List}
 use Rattle.std.specs.Fmt.{decimal}
 use Rattle.std.specs.List.{flat_map}

@@ -71,7 +71,7 @@ key_line line =
 abbrev pub refused : List (List ℕ) → List ℕ
 refused words = joined_line (codes "refused " ∷ words)
 
--- what was compared, the number then and the number now
+-- what changed, its number then and its number now
 abbrev pub stale : List ℕ → ℕ → ℕ → List ℕ
 stale word was now = joined_line (codes "stale " ∷ word ∷ decimal was ∷ codes " " ∷ decimal now ∷ [])
 
@@ -125,7 +125,7 @@ reply_text FullWatches = refused (codes "full watches" ∷ [])
 
 -- ---- words
 
--- The table of reasons has the number of its word.
+-- the table of reasons has the number of the word
 abbrev pub HasReason : ReasonLine → Type 0
 HasReason (Word number word) = IsWordOf reason_words word
 HasReason (Edge number issuer depth amount) = Unit {0}
@@ -137,7 +137,6 @@ HasWords _ = Unit {0}
 
 -- ---- kinds of replies
 
--- no element
 abbrev pub is_empty : {A : Type 0} → List A → Bool
 is_empty [] = true
 is_empty (x ∷ xs) = false

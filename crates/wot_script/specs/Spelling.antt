@@ -20,8 +20,8 @@ use Rattle.wot_script.specs.declared.command.Command.TheVariants.{Export, Dump, 
 use Rattle.wot_script.specs.declared.command.Command.TheVariants.{CursorOver, CursorNext, CursorClose}
 use Rattle.wot_script.specs.declared.command.Command.TheVariants.{WatchOn, WatchOff}
 
--- What wants a number has a spelling where it wants at least 1, so a piece where it has room for one, and a claim where
--- its paths and its table have one; every other command has one.
+-- A command can be printed if each number that it asks for is at least 1, and the paths and the table of a claim can be
+-- printed.
 abbrev pub HasSpelling : Command → Type 0
 HasSpelling (Ask view fpr wanted uid) = 1 ≤ wanted
 HasSpelling (Command.List view wanted) = 1 ≤ wanted
@@ -32,13 +32,13 @@ HasSpelling (CursorNext cursor count) = 1 ≤ count
 HasSpelling (WatchOn watch view fpr wanted uid) = 1 ≤ wanted
 HasSpelling _ = Unit {0}
 
--- The octets of an import are no more than half as many as the size of its line, and the paths of a claim are fewer.
+-- An import has at most half as many octets as its line, and a claim has fewer paths than its line has octets.
 abbrev pub IsWithin : ℕ → Command → Type 0
 IsWithin size (Import octets) = 2 * length octets ≤ size
 IsWithin size (Check view fpr claims labels uid) = length claims < size
 IsWithin size _ = Unit {0}
 
--- the name of an entry of the shelf
+-- the name of an entry of the certificate directory
 abbrev pub entry_text : Name → List ℕ
 entry_text (Cert fpr) = digits_of fpr
 entry_text TrustRoot = codes "trust-root"
@@ -47,11 +47,11 @@ entry_text TrustRoot = codes "trust-root"
 abbrev pub question_parts : Fpr → ℕ → List ℕ → List (List ℕ)
 question_parts fpr wanted uid = digits_of fpr ∷ codes " " ∷ decimal wanted ∷ codes " " ∷ escaped uid ∷ []
 
--- What is printed of a question is read as it.
+-- the printed question is read back
 abbrev pub IsQuestionRead : Question → Type 0
 IsQuestionRead q = question_of (joined (question_parts q.fpr q.wanted q.uid)) ≡ Some q
 
--- a question from a view, behind a word
+-- a question from a view, after a word
 abbrev pub asking : List ℕ → List ℕ → Fpr → ℕ → List ℕ → List ℕ
 asking word view fpr wanted uid = joined (word ∷ view ∷ codes " " ∷ question_parts fpr wanted uid)
 
@@ -90,7 +90,7 @@ spelling (WatchOff watch) = joined (codes "watch " ∷ watch ∷ codes " off" �
 
 -- ---- lines
 
--- how long the line of a command is at most
+-- the largest length of a command's line
 abbrev pub most_octets : Command → ℕ
 most_octets (Import octets) = 7 + 2 * length octets
 most_octets (Good number fpr) = 142
@@ -101,12 +101,12 @@ most_octets (WatchOn watch view fpr wanted uid) = 192 + 4 * length uid
 most_octets (Check view fpr claims labels uid) = 128 + 4 * length uid + most_paths claims + 128 * length labels
 most_octets _ = 128
 
--- It isn't empty and no comment.
+-- it isn't empty, and isn't a comment
 abbrev pub IsHeard : List ℕ → Type 0
 IsHeard [] = ⊥
 IsHeard (octet ∷ octets) = octet ≢ 35
 
--- This text is one line, which isn't passed over, and no longer than the line of the command can be.
+-- The text is one line, which isn't silent and is no longer than the line of the command can be.
 pub record IsLineFor (command : Command) (text : List ℕ) : Type 0 where
   pub no_feed : AllByRecursion (λ octet. octet ≢ 10) text
   pub heard : IsHeard text

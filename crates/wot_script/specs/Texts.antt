@@ -1,4 +1,4 @@
--- Texts that are made of parts.
+-- Texts that are made from parts.
 use Rattle.std.specs.Prelude.{ℕ, List, [], ◌∷◌, ◌++◌}
 
 -- these texts, one after another

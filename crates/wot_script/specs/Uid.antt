@@ -8,21 +8,21 @@ use Rattle.wot_script.specs.Fields.{◌>>=◌}
 use Rattle.wot_script.specs.declared.uid.Place.{Place}
 use Rattle.wot_script.specs.declared.uid.Place.TheVariants.{Outside, Backslash, High, Low}
 
--- the octets that one octet ends, and where the reading then stands
+-- the octets that are complete after one more octet, and the state of the reading
 abbrev pub turn : Place → ℕ → Option (List ℕ × Place)
 turn Outside octet = if octet == 92 then Some ([], Backslash) else Some (octet ∷ [], Outside)
 turn Backslash octet = if octet == 92 then Some (92 ∷ [], Outside) else if octet == 120 then Some ([], High) else None
 turn High octet = Some ([], Low octet)
 turn (Low high) octet = option_map (λ octets. (octets, Outside)) (array_of_digits 1 (high ∷ octet ∷ []))
 
--- A text ends outside of an escape.
+-- a text ends outside of an escape
 abbrev pub ended : Place → Option (List ℕ)
 ended Outside = Some []
 ended Backslash = None
 ended High = None
 ended (Low high) = None
 
--- the octets that a text spells, read from this place on
+-- the octets that a text spells, read from this state on
 abbrev pub unescaped_from : List ℕ → Place → Option (List ℕ)
 unescaped_from [] place = ended place
 unescaped_from (octet ∷ octets) place =

@@ -1,7 +1,7 @@
--- The words that explain, each at its number.
+-- The words of explanations, each at its number.
 use Rattle.std.specs.Prelude.{ℕ, ◌<◌, List, [], ◌∷◌, codes, length, get_or}
 
--- of the target, by why it isn't in order for the user ID
+-- for the target: why it isn't valid for the user ID
 abbrev pub target_words : List (List ℕ)
 target_words =
     codes "ok"
@@ -13,7 +13,7 @@ target_words =
     ∷ codes "uid"
     ∷ []
 
--- of a certification, by why it isn't a usable edge
+-- for a certification: why it isn't a usable edge
 abbrev pub reason_words : List (List ℕ)
 reason_words =
     codes "edge"
@@ -34,10 +34,10 @@ reason_words =
     ∷ codes "issuer-soft"
     ∷ []
 
--- the word at this number of a table; no octet where the table has no such number
+-- the word with this number in a table; no octets if the table has no such number
 abbrev pub word_at : List (List ℕ) → ℕ → List ℕ
 word_at words number = get_or words number []
 
--- The table has this number.
+-- the table has this number
 abbrev pub IsWordOf : List (List ℕ) → ℕ → Type 0
 IsWordOf words number = number < length words

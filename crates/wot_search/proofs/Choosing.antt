@@ -18,7 +18,8 @@ use Rattle.wot_search.proofs.Order.{not_lt-Less, less_not}
 use Rattle.wot_search.proofs.Suffixes.{links}
 use Rattle.wot_search.proofs.Keeping.{entry_is}
 
-module _ (quest : Quest) (good : IsRecord quest.question.told) (found : Found) (step : Step) (rest : List Step) (kept : Kept quest found rest) (serves : Serves quest step rest) where
+module _ (quest : Quest) (good : IsRecord quest.question.told) (found : Found) (step : Step) (rest : List Step)
+    (kept : Kept quest found rest) (serves : Serves quest step rest) where
   -- the better one is as good as the other
   better_good : (goal : Goal) (x : Step) (xs : List Step) → Kept quest found (x ∷ xs) → x.issuer ≡ step.issuer
       → length xs ≡ length rest
@@ -39,7 +40,7 @@ module _ (quest : Quest) (good : IsRecord quest.question.told) (found : Found) (
       λ less. not_lt-Less (link_cmp step x) b
       (sym (links quest good found step rest x xs (sym e) (sym l) serves k.1 kept k.2) ∙ less)
 
-  -- where it is kept, what was there has as many edges, and isn't better
+  -- if it is kept, what was there has as many edges, and isn't better
   pub kept_free : is_kept quest.goal (node_of quest.used step rest) (found step.issuer) ≡ true → (node : Node)
       → found step.issuer ≡ Some node → node.size ≡ length (step ∷ rest)
   kept_free t node e =
@@ -65,7 +66,7 @@ module _ (quest : Quest) (good : IsRecord quest.question.told) (found : Found) (
             (is_better quest.goal (node_of quest.used step rest) (node_of quest.used x xs)) f).1,
       )
 
-  -- where it isn't kept, it is covered
+  -- if it isn't kept, it is covered
   pub unkept_covered : (size : ℕ) (next : List Fpr) → IsGrowing quest size found next → length rest ≡ size
       → is_kept quest.goal (node_of quest.used step rest) (found step.issuer) ≡ false
       → Covered quest found (step ∷ rest)

@@ -233,13 +233,17 @@ module _ (quest : Quest) (size wide : ℕ) (edge : EdgeFacts) where
       w in
       ap (λ (n : Node). n.step.issuer) (sym (candidate_met node k.0).3)
 
-  module _ (good : IsRecord quest.question.told) (old new : Reached) (node : Node) (w : wanted_of quest (look old.nodes) (demand_of quest.question size) size wide edge ≡ Some node) where
+  module _ (good : IsRecord quest.question.told) (old new : Reached) (node : Node)
+      (w : wanted_of quest (look old.nodes) (demand_of quest.question size) size wide edge ≡ Some node) where
     advances_unput : old ≡ new → IsGrowing quest size (look old.nodes) old.layer.items → Advances quest size old new
     advances_unput e growing =
         subst (λ (r : Reached). Advances quest size old r) e
         (record { growing = growing; onward = onward_refl quest size (look old.nodes) })
 
-    module _ (rest : List Step) (r : IsRest quest (look old.nodes) size edge.target wide rest) (growing : IsGrowing quest size (look old.nodes) old.layer.items) (row : Row) (h : Has (rows_into quest.question.told edge.target) row) (e : row.edge ≡ edge) (stands : may_stand_of size row ≡ true) (put : IsPut old new node) where
+    module _ (rest : List Step) (r : IsRest quest (look old.nodes) size edge.target wide rest)
+        (growing : IsGrowing quest size (look old.nodes) old.layer.items) (row : Row)
+        (h : Has (rows_into quest.question.told edge.target) row) (e : row.edge ≡ edge)
+        (stands : may_stand_of size row ≡ true) (put : IsPut old new node) where
       abbrev parts : (candidate_of quest (demand_of quest.question size) size wide edge ≡ Some node)
           × (is_kept quest.goal node (look old.nodes node.step.issuer) ≡ true)
       parts = if_kept_some quest.goal (look old.nodes)
@@ -266,8 +270,7 @@ module _ (quest : Quest) (size wide : ℕ) (edge : EdgeFacts) where
               shown = ap step_of e;
               reaches = met_reaches quest.question row rest met s;
             };
-            left =
-                m.1;
+            left = m.1;
             high = let far = m.2 in let l = r.long in omega (arith, far, l);
           }
 

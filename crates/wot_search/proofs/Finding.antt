@@ -118,7 +118,8 @@ turned quest size reached set found good small after unrooted turns =
 
 -- ---- the end
 
-module _ (quest : Quest) (size : ℕ) (reached : Reached) (set : Fpr → Type 0) (after : IsAfter quest (suc size) reached set) (unrooted : IsUnrooted quest (look reached.nodes) (suc size)) where
+module _ (quest : Quest) (size : ℕ) (reached : Reached) (set : Fpr → Type 0)
+    (after : IsAfter quest (suc size) reached set) (unrooted : IsUnrooted quest (look reached.nodes) (suc size)) where
   kept_few : (steps : List Step) → Kept quest (look reached.nodes) steps → 1 ≤ length steps → length steps ≤ suc size
   kept_few [] k some = absurd (omega (arith, some))
   kept_few (x ∷ xs) k some = (after.entries x.issuer (node_of quest.used x xs) k.0).few

@@ -31,7 +31,8 @@ twin (x ∷ xs) (z ∷ ys) y e (inl f) =
 twin (x ∷ xs) (z ∷ ys) y e (inr h) =
     let e' : map scoped_edge xs ≡ map scoped_edge ys = cc in let t = twin xs ys y e' h in (t.0, inr t.1, t.2, t.3)
 
-module _ (reach : Fpr → ℕ) (all : (fpr : Fpr) → reach fpr ≡ 255) (q other : Question) (used : Use) (n : ℕ) (set : List Fpr) (a : Agree q other set) (k : IsLooked (widest_quest reach q used) n (Has set)) where
+module _ (reach : Fpr → ℕ) (all : (fpr : Fpr) → reach fpr ≡ 255) (q other : Question) (used : Use) (n : ℕ)
+    (set : List Fpr) (a : Agree q other set) (k : IsLooked (widest_quest reach q used) n (Has set)) where
   start_same : (rest : List Step) → start q.target rest ≡ start other.target rest
   start_same [] = a.target
   start_same (step ∷ rest) = refl
@@ -116,7 +117,7 @@ module _ (reach : Fpr → ℕ) (all : (fpr : Fpr) → reach fpr ≡ 255) (q othe
         before,
       )
 
-  -- where a suffix begins the roots have the same amounts
+  -- at the start of a suffix both questions have the same root amount
   pub root_same : (steps : List Step) → 1 ≤ length steps → length steps ≤ n → Suffix (widest_quest reach q used) steps
       → root_amount q.roots (start q.target steps) ≡ root_amount other.roots (start other.target steps)
   root_same [] some le t = absurd (omega arith)

@@ -30,7 +30,8 @@ amounts_small (x ∷ roots) a fpr = by (is_at (fpr_cmp fpr) x.0) (amounts_small 
     by true ih = a.0.1
     by false ih = ih
 
-module _ (reach : Fpr → ℕ) (q : Question) (used : Use) (holds : Holds reach q used) (ok : (entry_at q.told q.target).in_order ≡ true) where
+module _ (reach : Fpr → ℕ) (q : Question) (used : Use) (holds : Holds reach q used)
+    (ok : (entry_at q.told q.target).in_order ≡ true) where
   -- the path of both searches
   abbrev IsBoth : ℕ → Option Path → Type 0
   IsBoth n None = ⊥

@@ -138,7 +138,8 @@ module _ (quest : Quest) (found : Found) (size : ℕ) where
 
 -- ---- the first paths
 
-module _ (reach : Fpr → ℕ) (q : Question) (good : IsRecord q.told) (used : Use) (holds : Holds reach q used) (ok : (entry_at q.told q.target).in_order ≡ true)
+module _ (reach : Fpr → ℕ) (q : Question) (good : IsRecord q.told) (used : Use) (holds : Holds reach q used)
+    (ok : (entry_at q.told q.target).in_order ≡ true)
     (wide : Path) (first : IsResult (widest_quest reach q used) (Some wide)) (found : Found)
     (entries : (fpr : Fpr) (node : Node) → found fpr ≡ Some node
     → IsEntry (least_quest reach q used wide.amount) found (length wide.steps) fpr node)

@@ -241,7 +241,8 @@ first_offers roots q used n a path paths pos f same =
 
 -- ---- questions that agree
 
-module _ (reach : Fpr → ℕ) (all : (fpr : Fpr) → reach fpr ≡ 255) (q other : Question) (used : Use) (n a : ℕ) (set : List Fpr) (agree : Agree q other set) (looked : IsLooked (widest_quest reach q used) n (Has set)) where
+module _ (reach : Fpr → ℕ) (all : (fpr : Fpr) → reach fpr ≡ 255) (q other : Question) (used : Use) (n a : ℕ)
+    (set : List Fpr) (agree : Agree q other set) (looked : IsLooked (widest_quest reach q used) n (Has set)) where
   one_there : (path : Path) → IsOne q used n a path → IsOne other used n a path
   one_there path one =
       let long = one.long in

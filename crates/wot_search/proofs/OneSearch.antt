@@ -83,7 +83,7 @@ module _ (reach : Fpr → ℕ) (q : Question) (used : Use) where
   rooted_as_wide : (steps : List Step) → Rooted any steps → Rooted wide steps
   rooted_as_wide steps r = record { some = r.some; few = r.few; suffix = suffix_wide steps r.suffix; root = r.root }
 
-  -- where no root has more than this path, it is a widest one
+  -- if no root has more than this path, it is a widest one
   first_wide : (path : Path) → ((fpr : Fpr) → root_left q used fpr ≤ path.amount)
       → path.amount ≡ path_amount q used path.steps → IsFirst any path.steps → IsFirst wide path.steps
   first_wide path most amount f =
@@ -121,7 +121,8 @@ module _ (reach : Fpr → ℕ) (q : Question) (used : Use) where
 
   -- ---- if all that was found has this width, a search for this amount finds the same
 
-  module _ (amount : ℕ) (pos : 1 ≤ amount) (found : Found) (each : (fpr : Fpr) (node : Node) → found fpr ≡ Some node → amount ≤ node.width) where
+  module _ (amount : ℕ) (pos : 1 ≤ amount) (found : Found)
+      (each : (fpr : Fpr) (node : Node) → found fpr ≡ Some node → amount ≤ node.width) where
     abbrev more : Quest
     more = least_quest reach q used amount
 

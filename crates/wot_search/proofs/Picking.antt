@@ -165,7 +165,8 @@ as_good : (used : Use) (goal : Goal) (a b : List Step) → AtMost used goal a b 
 as_good used goal a b (inl lt) e = absurd (omega (arith, lt, e))
 as_good used goal a b (inr m) e = m.1
 
-module _ (quest : Quest) (good : IsRecord quest.question.told) (small : IsSmall quest) (found : Found) (size : ℕ) (layer : List Fpr) where
+module _ (quest : Quest) (good : IsRecord quest.question.told) (small : IsSmall quest) (found : Found) (size : ℕ)
+    (layer : List Fpr) where
   -- the choice that is ahead has the better path
   behind_good : (goal' : Goal) (x : Step) (a : List Step) (y : Step) (b : List Step) → Kept quest found (x ∷ a)
       → Kept quest found (y ∷ b) → length (x ∷ a) ≡ length (y ∷ b)
@@ -243,7 +244,7 @@ module _ (quest : Quest) (good : IsRecord quest.question.told) (small : IsSmall 
             ]
       ]
 
-  -- Where no root was chosen, none is there either.
+  -- If no root was chosen, there is none.
   pub picked_none : IsLayer quest found size layer → IsUnrooted quest found size → IsPicked quest found layer None
       → IsUnrooted quest found (suc size)
   picked_none is unrooted c = λ steps k some lt le. elim (cases_lt (length steps) size) [

@@ -49,7 +49,8 @@ everywhere_reach told roots table all none =
 
 -- ---- by a table
 
-module _ (told : List ℕ → Record) (roots : List (Fpr × ℕ)) (reach : Fpr → ℕ) (is : HaveEnough told roots reach) (uid : List ℕ) (target : Fpr) (used : Use) where
+module _ (told : List ℕ → Record) (roots : List (Fpr × ℕ)) (reach : Fpr → ℕ) (is : HaveEnough told roots reach)
+    (uid : List ℕ) (target : Fpr) (used : Use) where
   abbrev q : Question
   q = asks (told uid) roots target
 

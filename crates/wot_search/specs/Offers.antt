@@ -40,7 +40,7 @@ AreOffers roots q used (path ∷ paths) =
     → is_left later path.amount path.steps ≡ true → IsNextPath q later path)
     × ((later : Use) → IsLater used later → left_at roots later path.root < path.amount → AreOffers roots q later paths)
 
--- so it is with the roots of the question
+-- with the roots of the question
 abbrev pub AreOffersFor : Question → Use → List Path → Type 0
 AreOffersFor q used paths = AreOffers q.roots q used paths
 
@@ -49,7 +49,7 @@ abbrev pub AreNext : List (Fpr × ℕ) → Question → Use → List Path → Ty
 AreNext roots q used [] = IsSpent q used
 AreNext roots q used (path ∷ paths) = IsNextPath q used path × AreOffers roots q used (path ∷ paths)
 
--- so it is with the roots of the question
+-- with the roots of the question
 abbrev pub AreNextFor : Question → Use → List Path → Type 0
 AreNextFor q used paths = AreNext q.roots q used paths
 

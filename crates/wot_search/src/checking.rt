@@ -3,7 +3,6 @@
 //!
 //! It stands on `reach` and `numbers`. A table that fails the check is replaced by one that leaves nothing out, so a
 //! fault in how the numbers were found can cost time and never an answer.
-// A table of reach whose numbers are there: it is filled, and checked fingerprint after fingerprint.
 ghost use Rattle.std.specs.Prelude.{ℕ, List, IfOk};
 ghost use Rattle.wot_types.specs.declared.fpr.Fpr.{Fpr as Print};
 ghost use Rattle.wot_edge.specs.Record.{Record};

@@ -2,8 +2,6 @@
 //!
 //! No contract promises anything about them: `checking` checks them afterwards. So this file can be changed for speed
 //! without a proof.
-// The numbers of a table of reach, found in steps. Nothing is claimed of them here: they are checked once they are
-// there.
 ghost use Rattle.wot_search.specs.Making.{AreKeysOf};
 
 use crate::checking::Numbering;

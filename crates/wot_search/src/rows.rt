@@ -2,8 +2,6 @@
 //! numbers of their issuers next to each other.
 //!
 //! It stands on `slots`, and `reach` reads it through checks that compare fingerprints.
-// The numbers of a table a third time, in the order of edges: a search that goes over the edges into a fingerprint
-// finds those of their issuers side by side.
 ghost use Rattle.std.specs.Prelude.{ℕ, List};
 ghost use Rattle.wot_types.specs.declared.fpr.Fpr.{Fpr as Print};
 ghost use Rattle.wot_search.specs.Slots.{AreSlots, TellsIfSome};

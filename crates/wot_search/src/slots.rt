@@ -2,7 +2,6 @@
 //! a walk down a tree.
 //!
 //! It is a cache of the map in `reach`: a slot counts only if its fingerprint is the wanted one.
-// The numbers of a table once more, in a row: most are found by one look, and not by a walk through a tree.
 ghost use Rattle.std.specs.Prelude.{◌≡◌, ℕ, List};
 ghost use Rattle.wot_types.specs.declared.fpr.Fpr.{Fpr as Print};
 ghost use Rattle.wot_search.specs.Reach.{number_of};

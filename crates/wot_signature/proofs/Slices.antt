@@ -38,7 +38,7 @@ slice_of_drop n xs =
       stands = sym (ap (λ ys. take n xs ++ ys) (append-nil (drop n xs)) ∙ take-append-drop n xs);
     }
 
--- some octets behind the first n
+-- some octets after the first n
 pub slice_of_middle : (n k : ℕ) (xs : List ℕ) → IsSliceOf (take k (drop n xs)) xs
 slice_of_middle n k xs =
     slice_of_slice (take k (drop n xs)) (drop n xs) xs (slice_of_take k (drop n xs)) (slice_of_drop n xs)

@@ -10,16 +10,16 @@ pub record Parts : Type 0 where
   pub hashed : List ℕ
   pub unhashed : List ℕ
 
--- this many octets, and what is behind them
+-- this many octets, and what follows them
 abbrev pub octets_at : ℕ → List ℕ → Option (List ℕ × List ℕ)
 octets_at size octets = if nat_lt (length octets) size then None else Some (take size octets, drop size octets)
 
--- a field after its length in two octets, and what is behind it
+-- a field after its length in two octets, and what follows it
 abbrev pub short_field_at : List ℕ → Option (List ℕ × List ℕ)
 short_field_at (high ∷ low ∷ rest) = octets_at (from_be_bytes w16 (high ∷ low ∷ [])) rest
 short_field_at _ = None
 
--- a field after its length in four octets, and what is behind it
+-- a field after its length in four octets, and what follows it
 abbrev pub long_field_at : List ℕ → Option (List ℕ × List ℕ)
 long_field_at (a ∷ b ∷ c ∷ d ∷ rest) = octets_at (from_be_bytes w32 (a ∷ b ∷ c ∷ d ∷ [])) rest
 long_field_at _ = None

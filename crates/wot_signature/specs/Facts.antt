@@ -18,7 +18,7 @@ number_in body = from_be_bytes w32 body
 abbrev pub is_set : ℕ → Bool
 is_set octet = not (octet == 0)
 
--- the version, and the fingerprint behind it
+-- the version, and the fingerprint after it
 abbrev pub issuer_in : List ℕ → Fpr
 issuer_in body = if slice_index body 0 == 6 then V6 (drop 1 body) else V4 (drop 1 body)
 

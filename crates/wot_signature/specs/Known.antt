@@ -1,4 +1,4 @@
--- Which subpackets are known (RFC 9580, section 5.2.3.7 and those behind it).
+-- Which subpackets are known (RFC 9580, section 5.2.3.7 and those after it).
 use Rattle.std.specs.Prelude.{ℕ, Bool, ◌&&◌, ◌||◌, ◌==◌, nat_le, if◌then◌else◌, List, [], ◌∷◌, length, slice_index, map}
 use Rattle.std.specs.Prelude.{filter, Option, Some, None}
 use Rattle.std.specs.List.{list_any}

@@ -1,5 +1,5 @@
 -- The newest certification of each issuer on a user ID, known by its place there.
-use Rattle.std.specs.Prelude.{◌≡◌, ℕ, max, cond, if◌then◌else◌, List, Option, Some}
+use Rattle.std.specs.Prelude.{◌≡◌, ℕ, max, cond, if◌then◌else◌, ◌&&◌, List, Option, Some, None}
 use Rattle.std.specs.BTreeMap.{is_at}
 use Rattle.std.specs.List.{slice_get}
 use Rattle.std.specs.Map.{lookup}
@@ -8,10 +8,12 @@ use Rattle.wot_types.specs.declared.fpr.Fpr.{Fpr}
 use Rattle.wot_types.specs.Fpr.{fpr_cmp, same_fpr}
 use Rattle.wot_verdict.specs.Verdicts.{Entries}
 use Rattle.wot_cert.specs.Certificate.{Signature, Component}
+use Rattle.wot_cert.specs.Issuer.{issuer_of}
 use Rattle.wot_cert.specs.Ranked.{higher_of}
-use Rattle.wot_cert.specs.Revoked.{revokes_by}
-use Rattle.wot_cert.specs.Time.{made_of, newness}
+use Rattle.wot_cert.specs.Revoked.{has_kind, revokes_by}
+use Rattle.wot_cert.specs.Time.{made_of, is_live, newness}
 use Rattle.wot_standing.specs.declared.kinds.Binding.TheVariants.{Certification}
+use Rattle.wot_standing.specs.Kinds.{is_certification}
 use Rattle.wot_standing.specs.Latest.{revoked_at, is_valid_after}
 use Rattle.wot_standing.specs.Standing.{newest_certification}
 
@@ -34,6 +36,23 @@ kept_for places sigs issuer = option_and_then (slice_get sigs) (number_for place
 abbrev pub KeepsNewest : Entries → ℕ → Component → List (Fpr × ℕ) → Type 0
 KeepsNewest verdicts t uid places =
     (issuer : Fpr) → kept_for places uid.sigs issuer ≡ newest_certification verdicts issuer t uid
+
+-- It is at this place on a user ID whose newest certifications at some time are kept at these places.
+pub record StandsAt (verdicts : Entries) (places : List (Fpr × ℕ)) (at : ℕ) (s : Signature) : Type 0 where
+  pub uid : Component
+  pub t : ℕ
+  pub keeps : KeepsNewest verdicts t uid places
+  pub here : slice_get uid.sigs at ≡ Some s
+
+-- ---- whose a signature is
+
+-- by whom it is a live revocation of certifications
+abbrev pub revoker_of : Entries → ℕ → Signature → Option Fpr
+revoker_of verdicts t s = if has_kind 48 s && is_live t s then issuer_of verdicts s else None
+
+-- by whom it is a live certification
+abbrev pub certifier_of : Entries → ℕ → Signature → Option Fpr
+certifier_of verdicts t s = if is_certification s && is_live t s then issuer_of verdicts s else None
 
 -- ---- one more signature, in front
 

@@ -25,8 +25,11 @@ abbrev pub outlives : Option ℕ → ℕ → Bool
 outlives None made = true
 outlives (Some revoked) made = nat_lt revoked made
 
+-- not revoked, given when the latest revocation was created
+abbrev pub stays : Option ℕ → Signature → Bool
+stays revoked s = not (is_revocable s) || outlives revoked (made_of s)
+
 -- valid, given when the latest revocation was created
 abbrev pub is_valid_after : Entries → Fpr → ℕ → Binding → Option ℕ → Signature → Bool
 is_valid_after verdicts fpr t binding revoked s =
-    is_binding binding s && (counts_by verdicts fpr s && (is_live t s
-    && (not (is_revocable s) || outlives revoked (made_of s))))
+    is_binding binding s && (counts_by verdicts fpr s && (is_live t s && stays revoked s))

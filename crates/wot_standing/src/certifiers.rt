@@ -1,21 +1,23 @@
 //! The newest valid certification of every issuer on a user ID, found in one walk over its signatures.
 //!
 //! It stands on `latest`, `newest` and `kinds`, and on `specs/Certifiers.antt`. `wot_live` makes one edge of each.
-// The newest certifications of all issuers on a user ID, in one walk.
-ghost use Rattle.std.specs.Prelude.{◌≡◌, ◌<◌, ◌^◌, length, Some, OnOk, IfOk, if◌then◌else◌};
+ghost use Rattle.std.specs.Prelude.{◌≡◌, ◌<◌, ◌^◌, length, true, Some, OnOk, IfOk, if◌then◌else◌};
 ghost use Rattle.std.specs.List.{slice_get};
-ghost use Rattle.std.specs.Option.{option_copied};
+ghost use Rattle.std.specs.Option.{option_and_then, option_copied};
 ghost use Rattle.wot_types.specs.declared.fpr.Fpr.{Fpr as TheFpr};
+ghost use Rattle.wot_cert.specs.Certificate.{said_by};
+ghost use Rattle.wot_cert.specs.Issuer.{issuer_of as issuer_in};
 ghost use Rattle.wot_cert.specs.Ranked.{higher_of};
 ghost use Rattle.wot_cert.specs.Time.{newness};
 ghost use Rattle.wot_standing.specs.declared.kinds.Binding.TheVariants.{Certification};
-ghost use Rattle.wot_standing.specs.Certifiers.{kept_for, number_for};
+ghost use Rattle.wot_standing.specs.Certifiers.{certifier_of, kept_for, number_for, revoker_of};
 ghost use Rattle.wot_standing.specs.Valid.{newest_valid};
-ghost use Rattle.wot_standing.specs.Certifiers.{KeepsLatest, KeepsNewest, KeepsNumber, TakesLatest, TakesNewest};
+ghost use Rattle.wot_standing.specs.Certifiers.{KeepsLatest, KeepsNewest, KeepsNumber, StandsAt};
+ghost use Rattle.wot_standing.specs.Certifiers.{TakesLatest, TakesNewest};
 
-use crate::kinds::{Binding, made, revokes};
+use crate::kinds::{CERTIFICATION_REVOCATION, has_kind, is_certification, is_live, made};
 use crate::latest::later;
-use crate::newest::{compare_newness, is_valid_after};
+use crate::newest::{compare_newness, stays};
 use std::alloc::Global;
 use std::cmp::Ordering;
 use std::collections::BTreeMap;
@@ -59,6 +61,37 @@ impl Certifiers {
     {
         number(&self.places, issuer)
     }
+
+    /// By whom the signature at this place on the user ID counts. If it names an issuer and is kept for that one, it's
+    /// that one's, and no verdict has to be looked up.
+    pub fn issuer(&self, sig: &Sig, at: u32, verdicts: &Verdicts) -> Option<Fpr>
+        requires stands { StandsAt verdicts.now self.now at sig.now }
+        ensures issuer { result ≡ issuer_in verdicts.now sig.now }
+    {
+        let Some(named) = named_issuer(sig) else {
+            return issuer_of(sig, verdicts);
+        };
+        if is_kept(&self.places, &named, at) {
+            return Some(named);
+        }
+        issuer_of(sig, verdicts)
+    }
+}
+
+fn named_issuer(sig: &Sig) -> Option<Fpr>
+    ensures { result ≡ option_and_then (λ f. f.issuer) (said_by sig.now) }
+{
+    sig.facts()?.issuer
+}
+
+/// Whether this place is kept for an issuer.
+fn is_kept(places: &Numbers, issuer: &Fpr, at: u32) -> bool
+    ensures { result ≡ true → number_for places.now.entries issuer.now ≡ Some at }
+{
+    match number(places, issuer) {
+        Some(place) => place == at,
+        None => false,
+    }
 }
 
 fn number(numbers: &Numbers, issuer: &Fpr) -> Option<u32>
@@ -72,6 +105,28 @@ fn keep(numbers: &mut Numbers, issuer: Fpr, number: u32) -> Result<(), Memory>
 {
     numbers.insert(issuer, number)?;
     Ok(())
+}
+
+/// By whom a signature is a live revocation. What costs a look at the verdicts is asked last.
+fn revoker(sig: &Sig, verdicts: &Verdicts, t: u32) -> Option<Fpr>
+    ensures { result ≡ revoker_of verdicts.now t sig.now }
+{
+    if has_kind(sig, CERTIFICATION_REVOCATION) && is_live(sig, t) {
+        issuer_of(sig, verdicts)
+    } else {
+        None
+    }
+}
+
+/// By whom a signature is a live certification.
+fn certifier(sig: &Sig, verdicts: &Verdicts, t: u32) -> Option<Fpr>
+    ensures { result ≡ certifier_of verdicts.now t sig.now }
+{
+    if is_certification(sig) && is_live(sig, t) {
+        issuer_of(sig, verdicts)
+    } else {
+        None
+    }
 }
 
 /// When each issuer's latest live revocation among these signatures was created.
@@ -101,12 +156,9 @@ fn note_revocation(
 ) -> Result<(), Memory>
     ensures { OnOk result (TakesLatest verdicts.now t sig.now latest.old.entries latest.new.entries) }
 {
-    let Some(issuer) = issuer_of(sig, verdicts) else {
+    let Some(issuer) = revoker(sig, verdicts, t) else {
         return Ok(());
     };
-    if !revokes(sig, verdicts, &issuer, t) {
-        return Ok(());
-    }
     let best = later(made(sig), number(latest, &issuer));
     keep(latest, issuer, best)?;
     Ok(())
@@ -156,11 +208,10 @@ fn note_certification(
     requires latest { KeepsLatest verdicts.now t sigs.now latest.now.entries }
     ensures { OnOk result (TakesNewest verdicts.now t sigs.now sig.now places.old.entries places.new.entries) }
 {
-    let Some(issuer) = issuer_of(sig, verdicts) else {
+    let Some(issuer) = certifier(sig, verdicts, t) else {
         return Ok(());
     };
-    let revoked = number(latest, &issuer);
-    if !is_valid_after(sig, verdicts, &issuer, t, Binding::Certification, revoked) {
+    if !stays(sig, number(latest, &issuer)) {
         return Ok(());
     }
     if !is_newest(sig, kept(places, sigs, &issuer)) {

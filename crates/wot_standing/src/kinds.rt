@@ -1,8 +1,10 @@
 //! What one signature is: its type, when it was created, whether it is live, whose it is, and whether it revokes.
 //!
 //! It stands on the facts of `wot_signature` and on `specs/Kinds.antt`. Everything else in this crate asks it.
-ghost use Rattle.std.specs.Prelude.{◌≡◌, ◌==◌, ◌&&◌};
-ghost use Rattle.wot_cert.specs.Issuer.{counts_by};
+ghost use Rattle.std.specs.Prelude.{◌≡◌, ◌==◌, ◌&&◌, false};
+ghost use Rattle.std.specs.Option.{option_map_or};
+ghost use Rattle.wot_cert.specs.Certificate.{said_by};
+ghost use Rattle.wot_cert.specs.Issuer.{allows, counts_by};
 ghost use Rattle.wot_cert.specs.Revoked.{has_kind as has_kind_spec, is_revocable as is_revocable_spec, revokes_by};
 ghost use Rattle.wot_cert.specs.Time.{made_of, facts_live, is_live as is_live_spec};
 ghost use Rattle.wot_standing.specs.Kinds.{is_binding as is_binding_spec, is_certification as is_certification_spec};
@@ -20,7 +22,7 @@ const DIRECT_KEY: u8 = 0x1f;
 
 pub(crate) const KEY_REVOCATION: u8 = 0x20;
 
-const CERTIFICATION_REVOCATION: u8 = 0x30;
+pub(crate) const CERTIFICATION_REVOCATION: u8 = 0x30;
 
 /// What a self-signature binds: the key itself, or a user ID.
 #[derive(Clone, Copy)]
@@ -120,10 +122,26 @@ pub fn is_live(sig: &Sig, t: u32) -> bool
     }
 }
 
-/// Whether it counts as a signature by this key.
+/// Whether it names this key as its issuer, or none.
+fn may_be_by(sig: &Sig, fpr: &Fpr) -> bool
+    ensures { result ≡ option_map_or (λ f. allows f.issuer fpr.now) (said_by sig.now) false }
+{
+    match sig.facts() {
+        Some(facts) => match facts.issuer {
+            Some(issuer) => compare_fprs(&issuer, fpr) == Ordering::Equal,
+            None => true,
+        },
+        None => false,
+    }
+}
+
+/// Whether it counts as a signature by this key. Most that don't name another key, and need no look at the verdicts.
 pub(crate) fn counts(sig: &Sig, verdicts: &Verdicts, fpr: &Fpr) -> bool
     ensures { result ≡ counts_by verdicts.now fpr.now sig.now }
 {
+    if !may_be_by(sig, fpr) {
+        return false;
+    }
     match issuer_of(sig, verdicts) {
         Some(issuer) => compare_fprs(fpr, &issuer) == Ordering::Equal,
         None => false,

@@ -6,7 +6,7 @@ ghost use Rattle.std.specs.Prelude.{◌≡◌, filter};
 ghost use Rattle.std.specs.Option.{option_copied};
 ghost use Rattle.wot_cert.specs.Ranked.{greatest, higher as higher_of};
 ghost use Rattle.wot_cert.specs.Time.{newness};
-ghost use Rattle.wot_standing.specs.Latest.{is_valid_after as is_valid_after_spec};
+ghost use Rattle.wot_standing.specs.Latest.{is_valid_after as is_valid_after_spec, stays as stays_spec};
 ghost use Rattle.wot_standing.specs.Standing.{primacy, primary_among};
 ghost use Rattle.wot_standing.specs.Valid.{newest_valid as newest_valid_spec};
 
@@ -61,10 +61,14 @@ pub(crate) fn is_valid_after(
 ) -> bool
     ensures { result ≡ is_valid_after_spec verdicts.now fpr.now t binding revoked sig.now }
 {
-    is_binding(sig, binding)
-        && counts(sig, verdicts, fpr)
-        && is_live(sig, t)
-        && (!is_revocable(sig) || outlives(revoked, made(sig)))
+    is_binding(sig, binding) && counts(sig, verdicts, fpr) && is_live(sig, t) && stays(sig, revoked)
+}
+
+/// Whether it isn't revoked, given when the latest revocation was created.
+pub(crate) fn stays(sig: &Sig, revoked: Option<u32>) -> bool
+    ensures { result ≡ stays_spec revoked sig.now }
+{
+    !is_revocable(sig) || outlives(revoked, made(sig))
 }
 
 /// The newest of the valid signatures, given when the latest revocation was created.

@@ -17,7 +17,7 @@ use Rattle.wot_subpacket.specs.Area.{list_of}
 
 -- ---- where the first one is
 
--- There is something before what is behind.
+-- There is something before what follows.
 record Leads (octets behind : List ℕ) : Type 0 where
   lead : List ℕ
   is_there : 0 < length lead
@@ -46,7 +46,7 @@ length-leads o xs =
       stands = ap (λ ys. o ∷ ys) (sym (take-append-drop 4 xs));
     })))
 
--- The body comes before what is behind, and something before the body.
+-- The body comes before what follows, and something before the body.
 record StandsFirst (octets body behind : List ℕ) : Type 0 where
   lead : List ℕ
   is_there : 0 < length lead
@@ -82,7 +82,7 @@ behind-fits octets (Some found) h = cut-fits octets found.0 found.1 h
 first-fits : (o : ℕ) (xs : List ℕ) → Fits (o ∷ xs) (first_of (o ∷ xs))
 first-fits o xs = behind-fits (o ∷ xs) (length_at (o ∷ xs)) (length-leads o xs)
 
--- no more than n octets are behind the first one
+-- no more than n octets follow the first one
 abbrev Leaves : ℕ → Result (Subpacket × List ℕ) AreaFault → Type 0
 Leaves n (Err fault) = Unit {0}
 Leaves n (Ok found) = length found.1 ≤ n
@@ -100,7 +100,7 @@ leaves_from_fits o xs (Ok found) h = leaves_fewer (length xs) (o ∷ xs) found.0
 first-leaves : (o : ℕ) (xs : List ℕ) → Leaves (length xs) (first_of (o ∷ xs))
 first-leaves o xs = leaves_from_fits o xs (first_of (o ∷ xs)) (first-fits o xs)
 
--- ---- the first one, and then those behind it
+-- ---- the first one, and then those after it
 
 reads_same : (r : Result (Subpacket × List ℕ) AreaFault) (n : ℕ) (f g : List ℕ → Result (List Subpacket) AreaFault)
     → Leaves n r → ((xs : List ℕ) → length xs ≤ n → f xs ≡ g xs) → then_read r f ≡ then_read r g

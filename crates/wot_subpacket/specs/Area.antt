@@ -7,7 +7,7 @@ use Rattle.wot_subpacket.specs.declared.fault.AreaFault.TheVariants.{CutLength, 
 use Rattle.wot_subpacket.specs.Subpacket.{Subpacket, subpacket_of}
 use Rattle.wot_subpacket.specs.Length.{length_at}
 
--- a subpacket of this many octets, and what is behind it
+-- a subpacket of this many octets, and what follows it
 abbrev pub cut_at : ℕ → List ℕ → Result (Subpacket × List ℕ) AreaFault
 cut_at size octets =
     if size == 0 then Err Zero
@@ -18,7 +18,7 @@ abbrev pub behind_length : Option (ℕ × List ℕ) → Result (Subpacket × Lis
 behind_length None = Err CutLength
 behind_length (Some found) = cut_at found.0 found.1
 
--- the subpacket at the beginning of octets, and what is behind it; or its fault
+-- the subpacket at the beginning of octets, and what follows it; or its fault
 abbrev pub first_of : List ℕ → Result (Subpacket × List ℕ) AreaFault
 first_of octets = behind_length (length_at octets)
 
@@ -27,7 +27,7 @@ abbrev pub before : Subpacket → Result (List Subpacket) AreaFault → Result (
 before first (Ok others) = Ok (first ∷ others)
 before first (Err fault) = Err fault
 
--- the first one, in front of those that are read behind it
+-- the first one, followed by those that are read after it
 abbrev pub then_read : Result (Subpacket × List ℕ) AreaFault → (List ℕ → Result (List Subpacket) AreaFault)
     → Result (List Subpacket) AreaFault
 then_read (Err fault) read = Err fault

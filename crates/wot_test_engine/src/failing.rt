@@ -108,7 +108,7 @@ static CASES: [Case; 19] = [
         written: "keys 0\n",
         ..TWICE
     },
-    // Of two devices that fail, the one that fails first is told.
+    // Of two devices that fail, the one that fails first is reported.
     Case {
         reads: &[2],
         writes: &[3],
@@ -132,7 +132,7 @@ key c959bdbafa32a2f89a153b678cfde12197965a9a 0 0
 ",
         ..LOAD
     },
-    // What was loaded stays where a later call fails.
+    // What was loaded stays if a later call fails.
     Case {
         calls: &[2],
         written: "ok taken 1 skipped 0 new 1

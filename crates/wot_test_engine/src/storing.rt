@@ -38,7 +38,7 @@ static CASES: [Case; 3] = [
         replies: "ok taken 1 skipped 0 new 1\nfault shelf\n",
         left: &[KEY_T],
     },
-    // Where the certificate isn't kept no call is made, so that the first is that of `load`.
+    // If the certificate isn't there, `store` makes no call, so the first call is that of `load`.
     Case {
         entries: &[(T_NAME, &[KEY_T])],
         fails: &[1],

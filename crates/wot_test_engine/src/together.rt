@@ -47,7 +47,7 @@ type Case = (usize, usize, &'static [(usize, usize)]);
 static CASES: [Case; 3] = [
     (1000, 65_536, &[(1, 7000)]),
     (6, 7, &[(2, 7), (1, 14), (2, 7)]),
-    // 9,363 replies have more than 65,536 octets. They are written before the line behind theirs is answered.
+    // 9,363 replies have more than 65,536 octets. They are written before the line after theirs is answered.
     (10_000, 65_536, &[(1, 65_541), (1, 4459)]),
 ];
 

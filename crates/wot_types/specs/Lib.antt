@@ -3,6 +3,7 @@ pub mod Fpr
 pub mod FprLaws
 pub mod FprOrder
 pub mod Limits
+pub mod NumberOrder
 pub mod PlainLaws
 pub mod SigNumber
 pub mod ViewName

@@ -1,7 +1,7 @@
 //! Fingerprints of version 4 and version 6 keys: their octets, how they are read and printed, and their order.
 //!
-//! It stands on `hex` and on `specs/Fpr.antt`. Maps everywhere are ordered by fingerprints, and dumps and replies print
-//! them, so a change here touches all of it. The order's own proof is `specs/FprOrder.antt`.
+//! It stands on `hex`, `octets` and `specs/Fpr.antt`. Maps everywhere are ordered by fingerprints, and dumps and
+//! replies print them, so a change here touches all of it. The order's own proof is `specs/FprOrder.antt`.
 ghost use Rattle.std.specs.Prelude.{◌≡◌, ◌<◌, ◌≤◌, ◌+◌, ◌++◌, length, vec_len, vec_capacity, OnOk, OnErr, Some, None};
 ghost use Rattle.std.specs.Cmp.Lexicographic.{slice_cmp};
 ghost use Rattle.std.specs.Option.{option_map};
@@ -12,6 +12,7 @@ ghost use Rattle.wot_types.specs.Fpr.{octets_of, octets_in, version_of, digits_o
 
 use crate::Memory;
 use crate::digits::digits_are_read;
+use crate::octets::compare_octets;
 use std::cmp::Ordering;
 
 /// A key's fingerprint (RFC 9580, section 5.5.4). Fingerprints are ordered by their octets.
@@ -188,29 +189,4 @@ pub fn compare_fprs(left: &Fpr, right: &Fpr) -> Ordering
     ensures plain { result ≡ slice_cmp nat_cmp (octets_of left.now) (octets_of right.now) }
 {
     compare_octets(left.octets(), right.octets())
-}
-
-/// How many octets are compared one by one before the slices are. Most fingerprints differ in one of these.
-const HEADS: u8 = 4;
-
-fn compare_octets(left: &[u8], right: &[u8]) -> Ordering
-    ensures { result ≡ slice_cmp nat_cmp left.now right.now }
-{
-    let mut left_rest = left;
-    let mut right_rest = right;
-    'heads: for _head in 0..HEADS {
-        let Some((a, more)) = left_rest.split_first() else {
-            return left_rest.cmp(right_rest);
-        };
-        let Some((b, others)) = right_rest.split_first() else {
-            return left_rest.cmp(right_rest);
-        };
-        let order = a.cmp(b);
-        if order.is_ne() {
-            return order;
-        }
-        left_rest = more;
-        right_rest = others;
-    }
-    left_rest.cmp(right_rest)
 }

@@ -12,6 +12,7 @@ mod limits;
 mod memory;
 mod name;
 mod number;
+mod octets;
 mod place;
 mod steps;
 mod user_id;

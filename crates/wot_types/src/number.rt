@@ -1,16 +1,17 @@
 //! Signature numbers: how they are read and printed, and their order.
 //!
-//! It stands on `hex` and on `specs/SigNumber.antt`. `wot_verdict` says which number a signature has; verdicts are kept
-//! by these numbers.
+//! It stands on `hex`, `octets` and `specs/SigNumber.antt`. `wot_verdict` says which number a signature has; verdicts
+//! are kept by these numbers. The order's own proof is `specs/NumberOrder.antt`.
 ghost use Rattle.std.specs.Prelude.{◌≡◌, ◌<◌, ◌≤◌, ◌+◌, ◌++◌, length, vec_len, vec_capacity, OnOk, OnErr};
 ghost use Rattle.wot_types.specs.SigNumber.{number_digits, number_cmp, number_of_digits};
 
 use crate::Memory;
 use crate::digits::digits_are_read;
+use crate::octets::compare_octets;
 use std::cmp::Ordering;
 
 /// The number of a signature, a SHA-256 digest. Numbers are ordered by their octets.
-#[derive(Clone, Copy, PartialEq, Eq, PartialOrd, Ord)]
+#[derive(Clone, Copy, PartialEq, Eq)]
 pub struct SigNumber(pub [u8; 32]);
 
 impl SigNumber {
@@ -47,9 +48,43 @@ impl SigNumber {
     }
 }
 
+impl PartialOrd for SigNumber {
+    ghost use Rattle.std.specs.Prelude.{refl};
+    ghost use Rattle.std.specs.Cmp.{partial_order_from_agreeing_total};
+    ghost use Rattle.std.specs.Ordering.{as_partial_cmp};
+    ghost use Rattle.wot_types.specs.SigNumber.{number_cmp};
+    ghost use Rattle.wot_types.specs.NumberOrder.{number_total, number_ties};
+
+    ghost partial_cmp = { as_partial_cmp number_cmp };
+
+    ghost laws = { partial_order_from_agreeing_total number_cmp number_total (λ a b. refl) number_ties };
+
+    fn partial_cmp(&self, other: &SigNumber) -> Option<Ordering> {
+        Some(self.cmp(other))
+    }
+}
+
+impl Ord for SigNumber {
+    ghost use Rattle.std.specs.Prelude.{refl};
+    ghost use Rattle.wot_types.specs.SigNumber.{number_cmp};
+    ghost use Rattle.wot_types.specs.NumberOrder.{number_total, number_ties};
+
+    ghost cmp = { number_cmp };
+
+    ghost total = { number_total };
+
+    ghost matches_partial_cmp = { λ a b. refl };
+
+    ghost matches_eq = { number_ties };
+
+    fn cmp(&self, other: &SigNumber) -> Ordering {
+        compare_numbers(self, other)
+    }
+}
+
 /// Compares two numbers octet by octet.
 pub fn compare_numbers(left: &SigNumber, right: &SigNumber) -> Ordering
     ensures octets { result ≡ number_cmp left.now right.now }
 {
-    left.cmp(right)
+    compare_octets(&left.0, &right.0)
 }

@@ -10,7 +10,7 @@ from ..refusals import TukyamidError
 from .output import open_standard_files, tell
 
 REACHED, NOT_REACHED, WRONG_WORDS, NO_ANSWER, INTERRUPTED = 0, 1, 2, 3, 130
-USAGE = "usage: tukyamid [option..] QUESTION WORD.. (tukyamid --help says more)"
+USAGE = "usage: tukyamid [option..] QUESTION ARGUMENT.. (see tukyamid --help)"
 
 
 class WrongWords(Exception):
@@ -48,9 +48,9 @@ def reason_of(error: Exception) -> str:
         said = error.strerror or str(error)
         return said if error.filename is None else f"{os.fsdecode(error.filename)}: {said}"
     if isinstance(error, MemoryError):
-        return "no memory was found"
+        return "out of memory"
     said = f"{type(error).__name__}: {error}"
-    return f"an error of the command itself; TUKYAMID_TRACEBACK=1 shows where ({said})"
+    return f"a bug in the command; TUKYAMID_TRACEBACK=1 shows where ({said})"
 
 
 def _interrupt(number: int, frame: FrameType | None) -> None:

@@ -8,26 +8,26 @@ from ..shown import FORMS
 from . import values
 from .failures import WrongWords
 
-HELP = """usage: tukyamid [option..] QUESTION WORD..
+HELP = """usage: tukyamid [option..] QUESTION ARGUMENT..
 
 questions:
   authenticate KEY USERID   how confident can I be that this user ID belongs to this key?
-  lookup USERID             which keys does this user ID belong to? the best first
-  identify KEY              which user IDs belong to this key? the best first
-  list [PATTERN]            all bindings that reach the amount; PATTERN is a part of the user ID
+  lookup USERID             which keys does this user ID belong to, best first?
+  identify KEY              which user IDs belong to this key, best first?
+  list [PATTERN]            list all bindings that reach the amount; PATTERN is a part of the user ID
   path KEY.. USERID         is there a path along these certificates, and if not, which step breaks it?
   explain KEY USERID        does each certification of this user ID count, and if not, why?
 
 other commands, each with its own --help:
   verify FILE [SIGNATURE] --for WHOM   is this file signed by WHOM?
-  web                       a page in the browser: who vouches for whom, and what would change that
-  check FILE                does the answer hold that somebody else saved in this file?
-  keyring add|remove|list   the keyrings that the service keeps
-  status                    what the service holds
-  log                       who changed what
-  doctor                    does everything work here?
+  web                       open a page in the browser: who vouches for whom, and what would change that
+  check FILE                check an answer that somebody else saved in a file
+  keyring add|remove|list   change or list the keyrings that the service keeps
+  status                    show what the service holds
+  log                       show who changed what
+  doctor                    check the installation, and say how to repair it
 
-KEY is a fingerprint or a key ID, also with 0x in front."""
+KEY is a fingerprint or a key ID, with or without 0x in front."""
 EPILOG = """exit status: 0 the amount is reached, by at least one binding; 1 it isn't; 2 the arguments are wrong;
 3 there is no answer, and standard error says why; 130 it was interrupted.
 environment: TUKYAMID_ENGINE and TUKYAMID_VERIFIER name the two programs; NO_COLOR turns colours off.
@@ -106,8 +106,8 @@ def add_inputs(made: Parser) -> None:
     group.add_argument("--gpg", action="store_true", help="gpg's own keyring, and its owner trust as roots")
     group.add_argument("--gpg-keyring", action="store_true", help="gpg's own keyring, without its owner trust")
     group.add_argument("--root", action="append", default=[], metavar="KEY[:AMOUNT]", type=typed(values.read_root),
-                       help="a trust root, of amount 120 unless another is given; by default gpg's with --gpg, the "
-                            "directory's trust-root with --directory, and else that of sq")
+                       help="a trust root, with amount 120 by default; without --root, gpg's with --gpg, the "
+                            "directory's trust-root with --directory, otherwise sq's")
 
 
 def _add_answers(made: Parser) -> None:
@@ -115,7 +115,7 @@ def _add_answers(made: Parser) -> None:
     add_time_and_amount(group)
     group.add_argument("--email", action="store_true", help="USERID is an e-mail address, in upper or lower case")
     group.add_argument("--strict", action="store_true",
-                       help="a key that gpg or Sequoia takes as expired isn't reached")
+                       help="a key that gpg or Sequoia treats as expired counts as not reached")
     group.add_argument("--paths", action="store_true", help="list: show the paths too")
     group.add_argument("--format", choices=FORMS, default="tree", help=f"how the answer is shown: {', '.join(FORMS)}",
                        metavar="FORM")
@@ -132,16 +132,16 @@ def add_time_and_amount(group: argparse._ArgumentGroup) -> None:
 
 
 def add_programs(made: Parser) -> None:
-    group = made.add_argument_group("programs, and what is kept")
+    group = made.add_argument_group("programs and caches")
     group.add_argument("--no-service", action="store_true", help="start an engine just for this question")
     group.add_argument("--cache", metavar="FOLDER", help="where verified keyrings are kept")
-    group.add_argument("--no-cache", action="store_true", help="keep nothing, and use nothing that was kept")
-    group.add_argument("--anew", action="store_true", help="verify again what was kept")
+    group.add_argument("--no-cache", action="store_true", help="don't use a cache")
+    group.add_argument("--anew", action="store_true", help="ignore the cache, and verify again")
     group.add_argument("--engine", metavar="PROGRAM", help="the engine's program")
     group.add_argument("--verifier", metavar="PROGRAM", help="the program wot-verdicts")
     group.add_argument("--known-notation", type=_known_notation, help=argparse.SUPPRESS)
-    group.add_argument("--version", action="store_true", help="print the versions, and end")
-    group.add_argument("--help", "-h", action="store_true", help="print this help, and end")
+    group.add_argument("--version", action="store_true", help="print the versions and exit")
+    group.add_argument("--help", "-h", action="store_true", help="print this help and exit")
 
 
 def typed(read_word: Callable[[str], Any]) -> Callable[[str], Any]:
@@ -156,5 +156,5 @@ def typed(read_word: Callable[[str], Any]) -> Callable[[str], Any]:
 
 def _known_notation(name: str) -> NoReturn:
     """An option of sq-wot's, which has no counterpart here."""
-    raise argparse.ArgumentTypeError("no notation can be made known: by the engine's rules a signature with a critical "
-                                     "notation counts for nothing, and `explain` names the notation")
+    raise argparse.ArgumentTypeError("no notation can be made known: in the engine a signature with a critical "
+                                     "notation never counts; `explain` names the notation")

@@ -27,7 +27,7 @@ def read(given: Given) -> Ask:
     """What asks the question; WrongWords if its words are wrong."""
     question = QUESTIONS.get(given.question or "")
     if question is None:
-        raise WrongWords(f"there is no question {given.question!r}")
+        raise WrongWords(f"unknown question {given.question!r}")
     return question(given)
 
 

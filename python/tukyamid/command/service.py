@@ -18,13 +18,13 @@ from .output import printable, tell, write
 from .parser import Parser
 
 HELP = """usage: tukyamid keyring add NAME..      keep these keyrings: a file, a certificate directory, or gpg
-       tukyamid keyring remove NAME..   watch them no longer; what was taken from them stays
-       tukyamid keyring list            the keyrings that are kept
-       tukyamid status                  what the service holds
-       tukyamid log [N]                 the last changes (20), newest first: when, by whom, what
+       tukyamid keyring remove NAME..   stop watching them; their certificates stay
+       tukyamid keyring list            list the keyrings that are kept
+       tukyamid status                  show what the service holds
+       tukyamid log [N]                 show the last N changes (20), newest first: when, by whom, what
 
-The service keeps these keyrings, and answers at once. It starts by itself, and verifies a keyring again when it
-changes. docs/SERVICE.md says more.
+The service keeps these keyrings, so that questions are answered at once. It starts by itself, and verifies a keyring
+again when it changes. See docs/SERVICE.md.
 """
 
 
@@ -46,13 +46,13 @@ def _keyring(client: Client, words: list[str]) -> list[str]:
     word, *names = words or [""]
     if word == "list" and not names:
         return [f"{one.name}: {one.certificates} certificates{'; ' + one.fault if one.fault else ''}"
-                for one in client.keyrings()] or ["no keyring is kept: tukyamid keyring add FILE|DIRECTORY|gpg"]
+                for one in client.keyrings()] or ["no keyring is kept; use tukyamid keyring add FILE|DIRECTORY|gpg"]
     if word == "add" and names:
         return [_add(client, name) for name in names]
     if word == "remove" and names:
         for name in names:
             _remove(client, name)
-        return [f"{name}: no longer watched; what was taken from it stays" for name in names]
+        return [f"{name}: no longer watched; its certificates stay" for name in names]
     raise WrongWords("keyring takes: add NAME.., remove NAME.. or list")
 
 
@@ -90,7 +90,7 @@ def _status(client: Client, words: list[str]) -> list[str]:
 
 
 def _count_expired(keyring: Keyring) -> int:
-    """How many keys gpg or Sequoia take as expired, though the engine doesn't."""
+    """How many keys gpg or Sequoia treat as expired, though the engine doesn't."""
     view = keyring.view(int(time.time()), {}, "status")
     found = 0
     for key in list(keyring.engine.keys()):

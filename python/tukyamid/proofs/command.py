@@ -24,10 +24,10 @@ def run(words: Sequence[str]) -> int:
                     formatter_class=Help)
     parser.add_argument("file", nargs="?")
     parser.add_argument("--root", action="append", default=[], metavar="KEY[:AMOUNT]", type=typed(read_root),
-                        help="a root that you trust; if any is given, the claim may have no others, and no more amount")
+                        help="a root that you trust; if given, the claim may have no others, and no greater amounts")
     parser.add_argument("--engine", metavar="PROGRAM", help="the engine's program")
     parser.add_argument("--verifier", metavar="PROGRAM", help="the program wot-verdicts")
-    parser.add_argument("--help", "-h", action="store_true", help="print this help, and end")
+    parser.add_argument("--help", "-h", action="store_true", help="print this help and exit")
     given = parser.parse_args(list(words))
     if given.help:
         write(parser.format_help())
@@ -54,7 +54,7 @@ def _untrusted(proof: Proof, trusted: Mapping[str, int]) -> str:
     if trusted:
         for fpr, amount in proof.roots.items():
             if amount > max((most for key, most in trusted.items() if fpr == key or fpr.endswith(key)), default=0):
-                return f"its root {fpr}, of amount {amount}, isn't trusted as far as that here"
+                return f"its root {fpr} has amount {amount}, which is more than --root allows"
     return ""
 
 
@@ -66,12 +66,12 @@ def _report(proof: Proof, checked: Checked, why_not: str) -> Iterator[str]:
     yield f"    claimed: amount {proof.amount} of {proof.wanted}, as of {moment(proof.time)}"
     for fpr, amount in proof.roots.items():
         yield f"    root: {fpr}, amount {amount}"
-    yield (f"    checked: {count(checked.keys, 'certificate')} of the file, {count(checked.signatures, 'signature')} "
+    yield (f"    checked: {count(checked.keys, 'certificate')} in the file, {count(checked.signatures, 'signature')} "
            f"found good by {for_people(checked.verifier.encode())}, {count(len(proof.paths), 'path')}")
     yield f"    the engine's own answer over these certificates: amount {checked.amount}"
     if proof.claim == ABSENCE:
         yield "    note: a certificate that isn't in the file could add a path"
-    yield "    note: whether its roots are to be trusted is for you to say"
+    yield "    note: it is up to you whether to trust its roots"
 
 
 def _claimed(proof: Proof) -> str:

@@ -32,8 +32,8 @@ from .whole import write_whole
 ENDED, FAILED = 0, 1
 _DESCRIPTION = """Keeps certificates and verdicts in a database, and answers the lines of Tukyamid's protocol to many
 clients on a Unix socket. Without a command it serves."""
-_EPILOG = """Exit status: 0 done, or ended by SIGTERM, SIGINT or for want of clients; 1 an engine, a socket or the
-database failed, or the database is damaged; 2 wrong words."""
+_EPILOG = """Exit status: 0 done, or ended by SIGTERM, SIGINT or because there were no clients; 1 an engine, a socket or
+the database failed, or the database is damaged; 2 wrong arguments."""
 
 
 def parser() -> argparse.ArgumentParser:
@@ -43,7 +43,7 @@ def parser() -> argparse.ArgumentParser:
         one = commands.add_parser(name, help=told, description=told.capitalize() + ".")
         one.set_defaults(call=call)
         one.add_argument("--database", metavar="FILE|URL", default=None,
-                         help="a file, or a URL as postgresql://HOST,HOST/NAME of a database that machines may share "
+                         help="a file, or a URL such as postgresql://HOST,HOST/NAME of a database that machines share "
                               "(keyring.db in the user's data folder)")
         if name in ("serve", "import-dump"):
             one.add_argument("--engine", metavar="PROGRAM", help="the engine's program")
@@ -56,26 +56,26 @@ def parser() -> argparse.ArgumentParser:
 
 def _add_words_of_serve(words: argparse.ArgumentParser) -> None:
     words.add_argument("--socket", metavar="PATH", type=Path,
-                       help="where to listen; not needed where systemd passes a socket")
+                       help="where to listen; not needed if systemd passes a socket")
     words.add_argument("--mode", metavar="OCTAL", type=_mode, default=0o600,
-                       help="the socket's permissions; whoever may connect may change verdicts (600)")
+                       help="the socket's permissions; any client that can connect can change verdicts (600)")
     words.add_argument("--read-only-socket", metavar="PATH", type=Path,
-                       help="listen here too, for clients that may ask and change nothing")
+                       help="listen here too, for clients that may only ask")
     words.add_argument("--read-only-mode", metavar="OCTAL", type=_mode, default=0o666,
                        help="the permissions of that socket (666)")
     words.add_argument("--idle", metavar="SECONDS", type=_seconds, default=None,
-                       help="end when nobody has been connected for so long (never)")
+                       help="end when nobody has been connected for this long (never)")
     words.add_argument("--engines", metavar="N", type=_count, default=len(os.sched_getaffinity(0)),
                        help="run up to N engines, more than one only while there is much to do (as many as processors)")
     words.add_argument("--budget", metavar="N", type=_count, default=MOST.certificates,
                        help="the most certificates of one engine; a larger keyring is loaded in parts (65536)")
     words.add_argument("--views", metavar="N", type=_count, default=256, help="the most views of one client (256)")
     words.add_argument("--patience", metavar="SECONDS", type=_seconds, default=60.0,
-                       help="drop a client that reads nothing of its replies for so long (60)")
+                       help="disconnect a client that reads none of its replies for this long (60)")
     words.add_argument("--directory", metavar="FOLDER", type=Path, default=None,
                        help="the certificate directory of load and store (pgp.cert.d in the user's data folder)")
     words.add_argument("--verifier", metavar="PROGRAM", help="the program wot-verdicts")
-    words.add_argument("--order", metavar="FILE", help="write down which client's line was sent after which")
+    words.add_argument("--order", metavar="FILE", help="record the order of all clients' lines, for tests")
 
 
 def _mode(text: str) -> int:
@@ -134,7 +134,7 @@ def _doors(given: argparse.Namespace, stack: contextlib.ExitStack) -> list[Door]
             stack.callback(listening.close)
             doors.append(Door(listening, may_change))
     if not doors:
-        raise WrongWords("--socket is missing, and no socket was passed on")
+        raise WrongWords("--socket is missing, and systemd passed no socket")
     return doors
 
 
@@ -168,7 +168,7 @@ def restore_from(given: argparse.Namespace) -> int:
     with chosen.lock():
         aside = chosen.restore(given.file)
     if aside is not None:
-        _tell(f"the database was damaged, and is {aside} now")
+        _tell(f"the database was damaged; it was moved to {aside}")
     return ENDED
 
 
@@ -197,8 +197,8 @@ COMMANDS: dict[str, tuple[Callable[[argparse.Namespace], int], str]] = {
     "serve": (serve, "serve clients"),
     "check": (check, "say what is wrong with the database, if anything"),
     "backup": (backup, "copy the database, also while the service runs"),
-    "restore": (restore_from, "put a copy into the place of the database; no service may run on a file"),
-    "import-dump": (import_from, "merge a script of the engine with the database; no service may run on a file"),
+    "restore": (restore_from, "replace the database with a copy; no service may be running on a file"),
+    "import-dump": (import_from, "merge a script of the engine into the database; no service may be running on a file"),
     "export-dump": (export_to, "write the database as a script of the engine, also while the service runs"),
 }
 FILES = {"backup": "where the copy goes", "restore": "a copy that backup made",

@@ -199,7 +199,7 @@ class Desk:
             sitting.turn(sliced)
         self._held = sliced
         await hub.close()
-        self.tell("the keyring is larger than an engine from now on, and held in slices")
+        self.tell("the keyring is now larger than an engine, and is held in slices")
 
     def _whole(self) -> Hub:
         if isinstance(self.database, Shared):

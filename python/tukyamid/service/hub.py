@@ -154,7 +154,7 @@ class Hub:
         if change.reply is None:
             change.reply = reply
         elif change.reply != reply:
-            self.tell(f"engines answered one line with {change.reply[:80]!r} and {(reply or b'')[:80]!r}")
+            self.tell(f"engines gave different replies to one line: {change.reply[:80]!r} and {(reply or b'')[:80]!r}")
         if not change.left:
             if change.reply is not None and not change.reply.startswith(b"ok"):
                 self._journal.forget(change)
@@ -200,7 +200,7 @@ class Hub:
     def _roll_back(self, failed: list[Change], why: str) -> None:
         """These changes couldn't be committed: all engines go back to where they stood before them."""
         assert self._journal is not None
-        self.tell(f"{len(failed)} changes were refused, since they can't be kept: {why}")
+        self.tell(f"{len(failed)} changes were refused, because they can't be stored: {why}")
         for change in failed:
             self._journal.forget(change)
         for engine in self.engines:

@@ -75,7 +75,7 @@ class Program:
                 await stdin.drain()
         except Exception as error:  # Who reads the program's output meets its end.
             if not isinstance(error, ConnectionError):
-                self._tell(f"an engine can't be brought to where it is to stand: {error!r}")
+                self._tell(f"an engine can't be brought up to date: {error!r}")
             self.kill()
             return
         # Nothing else runs between here and the end, so no line comes between.
@@ -93,7 +93,7 @@ class Program:
                         return
                     self._take(reply)
             except Exception as error:
-                self._tell(f"an engine wrote what is no reply: {error!r}")
+                self._tell(f"an engine wrote something that isn't a reply: {error!r}")
                 return
 
     def end_input(self) -> None:

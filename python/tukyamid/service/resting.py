@@ -52,8 +52,9 @@ def rest_of(word: bytes, value: Value, rest: bytes, slices: Slices, parts: Parts
         return Rest(_NOTHING, frozenset(parts.issuers(target, most) | {target}))
     if word == b"check":
         return Rest(_NOTHING, frozenset(_checked(target, rest, parts, most)))
-    leading = parts.leading_to(target, most) if word == b"absence" else set()
-    return Rest(slice_of(value, slices, parts), frozenset(leading | {target}))
+    if word == b"absence":
+        return Rest(_NOTHING, frozenset(parts.leading_to(target, most) | {target}))
+    return Rest(slice_of(value, slices, parts), frozenset({target}))
 
 
 def _checked(target: bytes, rest: bytes, parts: Parts, most: int) -> set[bytes]:

@@ -107,7 +107,7 @@ class Service:
             now = loop.time()
             for session in list(self._sessions):
                 if session.outbox.drop_where_unread(now, patience):
-                    self._hub.tell(f"client {session.number} doesn't read its replies and is dropped")
+                    self._hub.tell(f"client {session.number} doesn't read its replies and is disconnected")
             if self._sessions or self._keyrings.is_busy:
                 self._last_used = now
             elif idle is not None and now - self._last_used > idle:

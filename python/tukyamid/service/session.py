@@ -198,7 +198,7 @@ class Session(asyncio.Protocol):
     def _answered(self, slot: Slot, reply: bytes | Pieces | None, count: int) -> None:
         try:
             if reply is None:
-                self.hub.tell(f"client {self.number} is dropped: its line ended the engine several times")
+                self.hub.tell(f"client {self.number} is disconnected: its line killed the engine several times")
             elif slot.finish is not None and isinstance(reply, bytes):
                 reply = slot.finish(reply, count)
             self.outbox.answer(slot, reply)

@@ -224,7 +224,7 @@ class Sliced:
             self._over.set()
 
     def _refused(self, failed: list[Change], why: str) -> None:
-        self.access.tell(f"{len(failed)} changes were refused, since they can't be kept: {why}")
+        self.access.tell(f"{len(failed)} changes were refused, because they can't be stored: {why}")
         self._settle()
 
     async def _follow(self, made: list[Change]) -> None:

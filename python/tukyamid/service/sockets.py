@@ -25,7 +25,7 @@ class Listening:
         try:
             self._lock = Lock(beside(path, ".lock"))
         except Taken:
-            raise OSError(f"a service is at {path} already") from None
+            raise OSError(f"a service is already running at {path}") from None
         self.socket = socket.socket(socket.AF_UNIX)
 
     def open(self) -> None:

@@ -81,7 +81,7 @@ def certificates_of(text: bytes) -> Iterator[bytes]:
     if text[:1] and not text[0] & 0x80:
         armored = _ARMOR.findall(text)
         if not armored:
-            raise ValueError("this is no keyring, binary or armored")
+            raise ValueError("this isn't a keyring, neither binary nor armored")
         text = b"".join(map(_dearmored, armored))
     starts = [at for at, kind in _packets(text) if kind == KEY]
     if text and (not starts or starts[0]):

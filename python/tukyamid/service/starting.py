@@ -65,7 +65,7 @@ def _wait_for_the_last(path: Path, patience: float) -> None:
     try:
         Lock(beside(path, ".lock"), patience).release()
     except Taken:
-        raise ServiceFailed(f"the last service at {path} listens no longer, and hasn't ended for {patience:.0f} "
+        raise ServiceFailed(f"the last service at {path} is closing, but hasn't ended for {patience:.0f} "
                             f"seconds; `fuser -k {path}.lock` ends it") from None
 
 

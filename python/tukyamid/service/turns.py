@@ -123,7 +123,7 @@ class Turns:
         self._committer.fault = str(fault)
         waiting, self.waiting = self.waiting, deque()
         if waiting:
-            self._home.tell(f"{len(waiting)} changes were refused, since they can't be kept: {fault}")
+            self._home.tell(f"{len(waiting)} changes were refused, because they can't be stored: {fault}")
         for one in waiting:
             self._refuse(one)
 

@@ -6,7 +6,7 @@ later versions may add kinds of lines, and fields at the end of a line.
 | `tkd` | version of the form (1), question, wanted amount, time, `yes` or `no`: whether it is reached |
 | `rot` | root, amount |
 | `bnd` | fingerprint, user ID, amount, `yes` or `no`, word of the target |
-| `exp` | since when another program takes the key as expired, and the names of these programs |
+| `exp` | since when another program treats the key as expired, and the names of these programs |
 | `pth` | number of the path, amount, count of steps, root |
 | `stp` | number of the path, number of the step, issuer, target, depth, amount, made, ends, signature, user ID |
 | `oth` | word, issuer, target, depth, amount, made, ends, signature, user ID |

@@ -72,7 +72,7 @@ def _binding(report: Report, one: Assessment) -> str:
     why = no_path(one)
     parts = [
         f"<section><h2>{_name(for_people(one.user_id))}</h2><code>{one.fpr}</code>",
-        f'<p>Amount {one.amount} of {one.wanted} ({one.percent} %): <span class="{kind}">{result(one)}</span></p>',
+        f'<p>Amount {one.amount} of {one.wanted} ({one.percent}%): <span class="{kind}">{result(one)}</span></p>',
         f'<div class="meter"><div class="{kind}" style="width: {min(100, one.percent)}%"></div></div>',
         *([f"<p>{_elsewhere(one)}</p>"] if one.expired is not None else []),
         *([f'<p class="no">{escape(why[:1].upper() + why[1:])}.</p>'] if why is not None else []),

@@ -39,7 +39,7 @@ class Tree:
         colour = _GREEN if one.reached else _RED
         mark = self._painted("✓" if one.reached else "✗", colour)
         head = [f"[{mark}] {self._painted(for_people(one.user_id), _BOLD)}", f"    {one.fpr}",
-                f"    amount {one.amount} of {one.wanted} ({one.percent} %): {self._painted(result(one), colour)}"]
+                f"    amount {one.amount} of {one.wanted} ({one.percent}%): {self._painted(result(one), colour)}"]
         branches = [[self._painted(said_elsewhere(one.expired), _RED)]] if one.expired is not None else []
         why = no_path(one)
         branches += [[why]] if why is not None and not one.paths else []
@@ -75,7 +75,7 @@ def _others(report: Report, one: Assessment) -> list[str]:
         return lines + _hang([_other(report, other) for other in one.others])
     alike = Counter((other.word, other.meaning) for other in one.others)
     said = [[f"{times} {word}: {meaning}"] for (word, meaning), times in alike.most_common()]
-    return lines + _hang([*said, ["the question `explain` shows each"]])
+    return lines + _hang([*said, ["use `explain` to see each of them"]])
 
 
 def _other(report: Report, other: Other) -> list[str]:

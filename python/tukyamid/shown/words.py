@@ -44,7 +44,7 @@ def scopes(certification: Certification) -> list[str]:
 def result(one: Assessment) -> str:
     if one.reached:
         return "reached"
-    return "not reached, since --strict is given" if one.amount >= one.wanted else "not reached"
+    return "not reached, because of --strict" if one.amount >= one.wanted else "not reached"
 
 
 def no_path(one: Assessment) -> str | None:
@@ -55,7 +55,7 @@ def no_path(one: Assessment) -> str | None:
 
 
 def said_elsewhere(expired: Expired) -> str:
-    """What other programs say about a key that the engine doesn't take as expired."""
-    verb = "take" if len(expired.programs) > 1 else "takes"
-    return (f"{expired.who} {verb} this key as expired since {day(expired.since)}: a self-signature on a user ID ends "
-            "it. Here another signature governs the key, and it sets no such end")
+    """What other programs say about a key that the engine doesn't treat as expired."""
+    verb = "treat" if len(expired.programs) > 1 else "treats"
+    return (f"{expired.who} {verb} this key as expired (since {day(expired.since)}), because of a self-signature on a "
+            "user ID. Here another signature decides, and it sets no such end")

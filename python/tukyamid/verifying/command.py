@@ -21,13 +21,13 @@ VERIFIED, NOT_VERIFIED = 0, 1
 FORMS = {"tree": shown.for_people, "json": shown.for_programs}
 HELP = """usage: tukyamid verify FILE [SIGNATURE] --for WHOM [option..]
 
-Is this file signed by WHOM? The verifier checks the signatures on FILE: those in SIGNATURE, or those of FILE itself, a
-signed message or a text with a cleartext signature. Then the engine answers whether their signers are WHOM, at the
-time of signing and now.
+Is this file signed by WHOM? The verifier checks the signatures on FILE. They are in SIGNATURE, or in FILE itself if
+that is a signed message or a text with a cleartext signature. Then the engine answers whether their signers are WHOM,
+at the time of signing and now.
 
-WHOM is an address (carol@example.org), a domain (@example.org), or a user ID as it stands."""
-EPILOG = """exit status: 0 enough signers signed, and are WHOM; 1 not so, and the answer says what failed; 2 the words
-are wrong; 3 there is no answer, and standard error says why; 130 it was interrupted.
+WHOM is an address (carol@example.org), a domain (@example.org), or a whole user ID."""
+EPILOG = """exit status: 0 enough signers signed, and are WHOM; 1 otherwise, and the answer says what failed; 2 the
+arguments are wrong; 3 there is no answer, and standard error says why; 130 it was interrupted.
 """
 
 
@@ -63,16 +63,16 @@ def add_arguments(made: Parser) -> None:
     """The options that no other question has."""
     group = made.add_argument_group("what is verified")
     group.add_argument("--for", dest="whom", metavar="WHOM", action="append", default=[], type=typed(Whom.read),
-                       help="who should have signed; if it is given several times, any of them is enough")
+                       help="who should have signed; if given several times, any of them is enough")
     group.add_argument("--threshold", metavar="N", type=typed(read_threshold), default=1,
-                       help="how many signers are needed, by default 1; two keys of one certificate are one signer")
+                       help="how many signers are needed (1); two keys of one certificate are one signer")
     group.add_argument("--when", choices=[str(one) for one in When], default=str(When.BOTH),
                        help="when the signer has to be WHOM: at the time of signing, now, or both (the default)")
     add_time_and_amount(group)
     group.add_argument("--format", choices=FORMS, default="tree", metavar="FORM",
                        help=f"how the answer is shown: {', '.join(FORMS)}")
     group.add_argument("--output", metavar="FILE",
-                       help="once it is verified, write what a signed message or text says to FILE; - is standard "
+                       help="write the content of a signed message or text to FILE, once it is verified; - is standard "
                             "output")
 
 

@@ -18,7 +18,7 @@ def for_people(outcome: Outcome) -> str:
     wanted, count = outcome.wanted, len(outcome.signers)
     mark, said = ("[✓]", "verified") if outcome.is_verified else ("[✗]", "not verified")
     signers = "1 signer" if count == 1 else f"{count} signers"
-    lines = [f"{mark} {said}: {signers} of {wanted.threshold} that are needed",
+    lines = [f"{mark} {said}: {signers} of {wanted.threshold} needed",
              f"    wanted: {' or '.join(_shown(one.text) for one in wanted.whom)}, to the amount {wanted.amount}"]
     if not outcome.judged:
         lines.append("    there is no signature")
@@ -48,7 +48,7 @@ def _origin(signature: DataSignature) -> str:
         parts.append(f"made {_date(signature.made)}")
     if signature.hash_algorithm is not None:
         parts.append(_hash_name(signature.hash_algorithm))
-    return ", ".join(parts) or "nothing else is known of it"
+    return ", ".join(parts) or "nothing else is known about it"
 
 
 def _said(known: Known, wanted: Wanted) -> str:

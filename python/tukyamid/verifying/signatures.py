@@ -25,12 +25,12 @@ class Word(StrEnum):
 
 
 _MEANINGS = {
-    Word.GOOD: "a key of this certificate made it over these data, and could at that time",
+    Word.GOOD: "a key of this certificate made it over these data, and was valid for that at the time",
     Word.BAD: "the key that it names didn't make it over these data",
     Word.ABSENT: "no key that it names is in the input",
-    Word.REFUSED: "its key, its dates or its hash algorithm won't do",
+    Word.REFUSED: "its key, its dates or its hash algorithm aren't acceptable",
     Word.UNSUPPORTED: "the verifier doesn't know its version or one of its algorithms",
-    Word.MALFORMED: "it can't be read as a signature on data",
+    Word.MALFORMED: "it isn't a well-formed signature on data",
 }
 
 
@@ -89,7 +89,7 @@ def _read_all(lines: Iterable[str]) -> Iterator[DataSignature]:
             yield DataSignature(Word(word), _number(made), _number(kind), _number(hash_algorithm),
                                 _known(certificate), _known(key), _known(_for_people(why)))
         except ValueError:
-            raise VerifierFailed(f"the verifier wrote what is no signature: {line[:200]!r}") from None
+            raise VerifierFailed(f"the verifier wrote something else than a signature: {line[:200]!r}") from None
 
 
 def _known(text: str) -> str | None:

@@ -32,7 +32,7 @@ class Whom:
         """`@example.org` is a domain, `carol@example.org` an address, and any other text a user ID as it stands."""
         if text.startswith("@"):
             if address_of(_someone_at(text)) is None:
-                raise ValueError(f"{text!r} is no domain: write it as @example.org")
+                raise ValueError(f"{text!r} isn't a domain: write it as @example.org")
             return cls(text, Kind.DOMAIN)
         if address_of(text.encode("utf-8", "surrogateescape")) is not None and "<" not in text:
             return cls(text, Kind.ADDRESS)

@@ -39,7 +39,7 @@ class Names:
 
 @contextmanager
 def over(keyring: Keyring, subject: Subject) -> Iterator[Keyring]:
-    """The keyring that a question is asked over: the service's, or a copy without what is taken out of account."""
+    """The keyring that a question is asked over: the service's, or a copy without what is left out."""
     if subject.is_whole:
         yield keyring
         return

@@ -78,7 +78,7 @@ class Calls:
         from ..proofs.making import make
         subject = given.read_subject(asked)
         if not subject.is_whole:
-            raise ValueError("a proof is about all that is held: put back what is taken out of account")
+            raise ValueError("a proof is about the whole keyring: include what is left out first")
         return await self._desk.do(lambda keyring: make(
             keyring, subject.fpr, subject.user_id, subject.wanted, subject.standpoint.time,
             dict(subject.standpoint.roots)))

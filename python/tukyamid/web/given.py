@@ -16,7 +16,7 @@ class Standpoint(NamedTuple):
 
 
 class Subject(NamedTuple):
-    """A question: a binding, the wanted amount, and what is taken out of account: keys, and certifications by their
+    """A question: a binding, the wanted amount, and what is left out: keys, and certifications by their
     numbers."""
     fpr: str
     user_id: bytes
@@ -27,7 +27,7 @@ class Subject(NamedTuple):
 
     @property
     def is_whole(self) -> bool:
-        """Whether nothing is taken out of account."""
+        """Whether nothing is left out."""
         return not (self.without_keys or self.without_signatures)
 
 
@@ -46,7 +46,7 @@ def read_subject(asked: Json) -> Subject:
     signatures = frozenset(spelling.number(text(one, "signature")) for one in left_out if "signature" in one)
     fpr = _fingerprint(asked, "fingerprint")
     if fpr in keys:
-        raise ValueError("the key that is asked about can't be taken out of account")
+        raise ValueError("the key that is asked about can't be left out")
     return Subject(fpr, spelling.read_user_id(text(asked, "user_id").encode("ascii")),
                    number(asked, "wanted", 1, MOST_WANTED), read_standpoint(asked), keys, signatures)
 

@@ -24,6 +24,6 @@ def service_for(given: Given, inputs: Inputs, tell: Tell) -> Service:
         return Service(runtime_file("tukyamid.socket"), ensure)
     from ..command.reopening import Reopening
     reopening = Reopening(given, sources, lambda: inputs.as_paths(sources))
-    tell("the inputs are read; the first time this takes as long as to verify them")
+    tell("reading the inputs; the first time, this takes as long as verifying them")
     start = reopening.ensure(lambda: inputs.verified(sources))
     return Service(start(), start)

@@ -22,7 +22,7 @@ class _Survey:
 
     def __init__(self, standpoint: Standpoint, change: int) -> None:
         self.of = (standpoint.time, tuple(sorted(standpoint.roots.items())), change)
-        self.state: dict[str, Any] = {"progress": "the overview begins"}
+        self.state: dict[str, Any] = {"progress": "starting the overview"}
         self.task: asyncio.Task[None] | None = None
 
     async def run(self, words: list[str], asked: bytes) -> None:

@@ -36,7 +36,7 @@ class Overview:
             engine.set_root(VIEW, fpr, amount)
 
     def every_table(self) -> list[tables.Table]:
-        say(progress="the bindings are counted")
+        say(progress="counting the bindings")
         full, partial, some = (self._reached(amount) for amount in (FULL, PARTIAL, ANY))
         return [self._counts(full, partial, some), self._introducers(full, some),
                 tables.ending(self._facts, self._time), tables.hashes(self._facts),
@@ -57,12 +57,12 @@ class Overview:
         on_paths = self._on_paths(some)
         rows = []
         for at, (fpr, paths) in enumerate(on_paths.most_common(MOST_INTRODUCERS), 1):
-            say(progress=f"introducer {at} of {min(len(on_paths), MOST_INTRODUCERS)} is taken out of account")
+            say(progress=f"leaving out introducer {at} of {min(len(on_paths), MOST_INTRODUCERS)}")
             lost_full, lost = self._lost_without(fpr, full, some)
             rows.append((self._facts.name(fpr), "root" if fpr in self._roots else "introducer", paths, lost_full, lost,
                          fpr))
         rows.sort(key=lambda row: (-row[3], -row[4], -row[2]))
-        return tables.table("introducers", "Introducers, by what rests on them alone",
+        return tables.table("introducers", "Introducers, by what depends on them",
                             "How many bindings of others have the key on a path, wouldn't reach full amount without "
                             "it, and wouldn't be reached at all.",
                             ("user ID", "as", "on a path of", "no longer full", "no path left", "key"), rows)
@@ -102,7 +102,7 @@ def main(words: list[str]) -> int:
 def _survey(socket: str, time: int, roots: dict[str, int]) -> None:
     facts = Facts()
     with Engine() as engine:
-        say(progress="the keyring is copied")
+        say(progress="copying the keyring")
         with connect(socket) as client:
             engine.feed(facts.gather(iter(client.dump())))
         shown = Overview(engine, facts, time, roots).every_table()

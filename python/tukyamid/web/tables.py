@@ -79,7 +79,7 @@ def islands(facts: Facts, reached: frozenset[str]) -> Table:
                 rows.append((len(members), facts.name(first), first))
     rows.sort(key=lambda row: -row[0])
     about = ("Groups of keys that certify one another, and to which no path from a root leads. Each is shown by its "
-             f"oldest key. Besides, {alone} keys stand alone.")
+             f"oldest key. Another {alone} keys are alone in their group.")
     return table("islands", "Islands without a path", about, ("keys", "oldest key's user ID", "key"), rows)
 
 

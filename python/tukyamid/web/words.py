@@ -75,12 +75,12 @@ def _read(words: Sequence[str]) -> Wanted | None:
     parser = Parser(prog="tukyamid web", description=HELP, add_help=False, allow_abbrev=False, formatter_class=Help)
     add_inputs(parser)
     group = parser.add_argument_group("the page")
-    group.add_argument("--time", metavar="TIME", type=typed(read_time), help="as of this time, to begin with")
-    group.add_argument("--port", metavar="N", type=typed(_read_port), default=0, help="the port (one that is free)")
-    group.add_argument("--no-browser", action="store_true", help="print the address, and open no browser")
+    group.add_argument("--time", metavar="TIME", type=typed(read_time), help="the time that the page shows first (now)")
+    group.add_argument("--port", metavar="N", type=typed(_read_port), default=0, help="the port (any free one)")
+    group.add_argument("--no-browser", action="store_true", help="print the address, but don't open a browser")
     group.add_argument("--cache", metavar="FOLDER", help="where verified keyrings are kept")
     group.add_argument("--verifier", metavar="PROGRAM", help="the program wot-verdicts")
-    group.add_argument("--help", "-h", action="store_true", help="print this help, and end")
+    group.add_argument("--help", "-h", action="store_true", help="print this help and exit")
     parser.set_defaults(question="web", words=[], no_service=False, no_cache=False, anew=False, engine=None)
     given = parser.parse_args(words, Wanted())
     if given.help:
@@ -91,7 +91,7 @@ def _read(words: Sequence[str]) -> Wanted | None:
 
 def _read_port(text: str) -> int:
     if not (text.isascii() and text.isdigit() and 1024 <= int(text) < 65536):
-        raise ValueError(f"{text!r} is no port: write a number from 1024 to 65535")
+        raise ValueError(f"{text!r} isn't a port: write a number from 1024 to 65535")
     return int(text)
 
 

@@ -49,7 +49,7 @@ def certification(edge: Edge) -> bytes:
 
 
 def script_of(edges: Iterable[Edge], root: str) -> list[bytes]:
-    """Lines that import all certificates, hand in a verdict on each signature, and open a view `p` with this root."""
+    """Lines that import all certificates, supply a verdict on each signature, and open a view `p` with this root."""
     edges = list(edges)
     lines, verdicts = [], []
     direct = signature(0x1F, CREATED)

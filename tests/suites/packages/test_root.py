@@ -93,8 +93,8 @@ class FreshRoot(unittest.TestCase):
         said = self.said("doctor")
         self.assertRegex(said, r"\[ok\] +engine +/usr/bin/tukyamid-engine answers\n")
         self.assertRegex(said, r"\[ok\] +verifier +/usr/bin/wot-verdicts is wot-verdicts " if verifier.built()
-                         else r"\[missing\] +verifier .*\n +mend it with: apt install tukyamid-verifier\n")
-        self.assertRegex(said, r"\[note\] +gpg .*\n +mend it with: apt install gnupg\n")
+                         else r"\[missing\] +verifier .*\n +fix it with: apt install tukyamid-verifier\n")
+        self.assertRegex(said, r"\[note\] +gpg .*\n +fix it with: apt install gnupg\n")
 
     def test_the_quickstart(self):
         self.assert_ended("quickstart")

@@ -3,7 +3,7 @@
     Alice  makes Bob an introducer for example.org (depth 1, amount 120), and Carol and Erin one for all (60 and 120)
     Bob    certifies Carol, Dave (of example.net, out of his scope), Erin, and Frank for 30 days
     Carol  certifies Dave
-    Erin   certifies Frank; later her key is revoked, for all times
+    Erin   certifies Frank; later her key is revoked, with effect at all times
 """
 
 import functools

@@ -45,7 +45,7 @@ class Cache(Asking):
         self.assertEqual([len(self.asked()), len(self.asked())], [2, 2])
         dump = (entry / "dump").read_bytes()
         (entry / "dump").write_bytes(dump.replace(b"import c6", b"import 06", 1))
-        self.asked(status=3, said=rb"\Atukyamid: what was kept of this input is damaged[^\n]*\n\Z")
+        self.asked(status=3, said=rb"\Atukyamid: the cache entry of this input was damaged[^\n]*\n\Z")
         self.assertEqual([len(self.asked()), len(self.asked())], [3, 3])
 
     def test_without_a_folder_that_can_be_written_the_answer_comes_all_the_same(self):

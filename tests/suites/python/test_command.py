@@ -170,7 +170,7 @@ class Questions(Asking):
     def test_the_tree(self):
         shown = self.ask("authenticate", self.fpr["Dave"], PEOPLE["Dave"]).stdout.decode()
         lines = [line.strip(" │├└─") for line in shown.splitlines()]
-        for line in ("[✗] Dave <dave@example.net>", "amount 60 of 120 (50 %): not reached",
+        for line in ("[✗] Dave <dave@example.net>", "amount 60 of 120 (50%): not reached",
                      "path 1: amount 60, 2 steps",
                      f"{self.fpr['Alice']} Alice <alice@example.net> (root, amount 120)",
                      "certified with amount 60, depth 1, made 2025-02-02",
@@ -193,7 +193,7 @@ class Questions(Asking):
         """Of a revoked key, and of one that has expired, no certification is said to be held back by its issuer."""
         (erin,) = self.answer("explain", self.fpr["Erin"], PEOPLE["Erin"])[1]["bindings"]
         meanings = {one["meaning"] for one in erin["others"] if one["word"] == "edge"}
-        self.assertEqual(meanings, {"counts, but no path may end here: the key is revoked, for all times"})
+        self.assertEqual(meanings, {"counts, but no path may end here: the key is revoked, with effect at all times"})
 
     def test_beside_sq_wot(self):
         """Both find the same at 120 and at 40, at the current time: another program says what is expected."""

@@ -86,4 +86,4 @@ class Doctor(unittest.TestCase):
             self.assertRegex(done.stdout, r"(?m)^\[ok\] +engine ")
             self.assertRegex(done.stdout, r"(?m)^\[note\] +service .*\\x1b\[2J\\xe2\\x80\\xae")
             self.assertFalse({"\x1b", "\u202e"} & set(done.stdout))
-        self.assertRegex(done.stdout, r"(?m)^\[missing\] +verifier .*\n +mend it with: " + str(CLIENT.parent))
+        self.assertRegex(done.stdout, r"(?m)^\[missing\] +verifier .*\n +fix it with: " + str(CLIENT.parent))

@@ -1,4 +1,4 @@
-"""Keys that gpg and Sequoia take as expired, and the engine doesn't: the command says so in every form. What both say
+"""Keys that gpg and Sequoia treat as expired, and the engine doesn't: the command says so in every form. What both say
 is asked of them."""
 
 import functools
@@ -121,7 +121,7 @@ class Ended(unittest.TestCase):
 
     def test_every_form_says_so(self):
         key = ended_key()
-        sentence = "gpg and Sequoia take this key as expired since 2025-06-01"
+        sentence = "gpg and Sequoia treat this key as expired (since 2025-06-01)"
         for question in ["authenticate", key.fpr, key.uid], ["identify", key.fpr], ["list"], ["list", "--paths"]:
             shown, is_reached = in_every_form(self.words(*question))
             self.assertTrue(is_reached)
@@ -146,7 +146,7 @@ class Ended(unittest.TestCase):
             self.assertFalse(is_reached)
             self.assertFalse(json.loads(shown["json"])["bindings"][0]["reached"])
             self.assertIn(":120:no:ok\n", shown["colons"])
-        self.assertIn("not reached, since --strict is given", shown["tree"])
+        self.assertIn("not reached, because of --strict", shown["tree"])
         done = run([COMMAND, *self.words("--strict", "identify", key.fpr)])
         self.assertEqual((done.returncode, done.stderr), (1, b""))
 

@@ -60,7 +60,7 @@ class Page(unittest.TestCase):
     def check(self, page):
         """What the page on Carol must say."""
         text = " ".join(page.text)
-        for said in ("amount 120 reached", "Amount 120 of 120 (100 %)", "As of 2025-12-01 00:00:00 UTC", "2 paths"):
+        for said in ("amount 120 reached", "Amount 120 of 120 (100%)", "As of 2025-12-01 00:00:00 UTC", "2 paths"):
             self.assertIn(said, re.sub(r"\s+", " ", text))
         self.assertEqual(page.fetched, [])
         steps = [row[:8] for row in page.rows if len(row) == 10][1:]

@@ -93,7 +93,8 @@ class Words(Asking):
         carol = self.fpr["Carol"]
         for said, words in [
             ("authenticate takes: KEY USERID", ["authenticate", carol]),
-            ("neither a fingerprint", ["authenticate", "carol", "Carol"]), ("no question 'nonsense'", ["nonsense"]),
+            ("neither a fingerprint", ["authenticate", "carol", "Carol"]),
+            ("unknown question 'nonsense'", ["nonsense"]),
             ("a question is missing", []), ("identify takes: KEY", ["identify"]),
             (r"list takes: \[PATTERN\]", ["list", "a", "b"]), ("path takes: KEY.. USERID", ["path", carol]),
             ("isn't a time: write a date as", ["--time", "yesterday", "list"]),
@@ -115,7 +116,7 @@ class Words(Asking):
         self.assertEqual((done.returncode, done.stdout), (2, b""))
         self.assertEqual(done.stderr.decode().splitlines(), [
             "tukyamid: a question is missing",
-            "usage: tukyamid [option..] QUESTION WORD.. (tukyamid --help says more)"])
+            "usage: tukyamid [option..] QUESTION ARGUMENT.. (see tukyamid --help)"])
 
     def test_version_and_help(self):
         done = run([COMMAND, "--version", "--verifier", TRUSTING])

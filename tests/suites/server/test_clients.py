@@ -184,7 +184,7 @@ class OddClients(unittest.TestCase):
     def is_dropped(self):
         """Whether the silent client is dropped; the other one is answered in any case."""
         self.assertEqual(self.other.tell(b"keys"), b"keys 12")
-        return "doesn't read its replies and is dropped" in self.server.said()
+        return "doesn't read its replies and is disconnected" in self.server.said()
 
     def pour(self, client):
         """Sends questions for ever, and reads nothing."""

@@ -1,6 +1,6 @@
 """What was acknowledged is kept, whatever ends the service, and nothing is kept by half.
 
-TUKYAMID_KILLS says how often the service is killed (24); some hundreds take minutes."""
+TUKYAMID_KILLS says how often the service is killed (24); a few hundred take minutes."""
 
 import contextlib
 import os

@@ -234,7 +234,7 @@ class LinesThatEndAnEngine(unittest.TestCase):
                 self.assertEqual(client.tell(ask), before)
                 self.assertNotIn(b"refused", unlucky.rest())
             self.assertEqual(server.stop(), 0)
-            self.assertIn("ended the engine several times", server.said())
+            self.assertIn("killed the engine several times", server.said())
 
     def test_a_question(self):
         self.check(b"ask p %s 120 fa7a1fa7a1" % World(count=5).fprs[0])

@@ -120,7 +120,7 @@ class Starting(unittest.TestCase):
         with places.Lock(places.beside(self.socket, ".lock")):
             with self.assertRaises(starting.ServiceFailed) as failed:
                 starting.ensure(self.socket, patience=0.2)
-            self.assertIn("listens no longer", str(failed.exception))
+            self.assertIn("is closing", str(failed.exception))
             command = self.begin()
             time.sleep(1)
             self.assertIsNone(command.poll())
@@ -140,7 +140,7 @@ class Starting(unittest.TestCase):
         command = self.begin(TUKYAMID_ENGINE="/bin/false")
         _, said = command.communicate(timeout=PATIENCE)
         self.assertEqual(command.returncode, 1)
-        self.assertIn("ServiceFailed: the engine's program ends at once", said)
+        self.assertIn("ServiceFailed: the engine's program ends immediately", said)
         self.assertFalse(self.socket.exists())
 
 

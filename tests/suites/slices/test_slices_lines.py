@@ -89,7 +89,7 @@ class Budgets(unittest.TestCase):
         for line in self.chain.certify(9, 8, bytes([3, 5, 200, 120]), 0x11) + \
                 self.chain.certify(10, 9, bytes([3, 5, 200, 120]), 0x11):
             self.client.tell(line)
-        for line in (self.chain.ask(3), self.chain.ask(15), b"list p 120", self.chain.ask(3, word=b"absence"),
+        for line in (self.chain.ask(3), self.chain.ask(15), b"list p 120", self.chain.ask(10, word=b"absence"),
                      b"watch w on p %s 120 %s" % (self.chain.fprs[3], self.chain.user_ids[3])):
             self.assertEqual(self.client.tell(line), REFUSED, line)
         for line in (b"ask p %s 0 x" % self.chain.fprs[3], b"absence p %s 120" % self.chain.fprs[3], b"list p 0"):
@@ -110,6 +110,19 @@ class Budgets(unittest.TestCase):
         self.assertEqual([line for piece in pieces for line in piece[1:]], told[1:])
         self.client.tell(b"verdict %064x bad" % 1)
         self.assertRegex(self.client.tell(b"cursor c next 1"), b"^stale keyring [0-9]+ [0-9]+$")
+
+    def test_absence_needs_no_slice(self):
+        """Ten keys lead to the tenth. The slice would be eleven, with an introducer that leads nowhere."""
+        more = self.chain.certify(10, 9, bytes([3, 5, 200, 120]), 0x11) + \
+            self.chain.certify(9, 8, bytes([3, 5, 200, 120]), 0x11)
+        for line in more:
+            self.client.tell(line)
+        self.assertEqual(self.client.tell(self.chain.ask(9)), REFUSED)
+        for wanted in (b"120", b"121"):
+            line = b"absence p %s %s %s" % (self.chain.fprs[9], wanted, self.chain.user_ids[9])
+            expected = self.alone(*more, line)
+            self.client.send(line)
+            self.assertEqual([self.client.read_line() for _ in expected], expected)
 
     def test_absence_and_check(self):
         """Nothing leads to the first key but its own certification; all leads to the last introducer."""

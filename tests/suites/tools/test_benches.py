@@ -59,7 +59,7 @@ class Compared(unittest.TestCase):
         write_run(self.b, "keys", [row("kept", 1)])
         _, told, _ = run("bench/compare", self.a, self.b)
         self.assertIn("keys: gone: it is missing in the second run", told)
-        self.assertIn("list: it stands in one run alone", told)
+        self.assertIn("list: it is only in one of the runs", told)
 
 
 class Shown(unittest.TestCase):

@@ -1,4 +1,4 @@
-"""The page in a real browser: it is asked, the time is moved, roots are changed, and keys are taken out of account."""
+"""The page in a real browser: it is asked, the time is moved, roots are changed, and keys are left out."""
 
 import json
 from urllib.parse import quote_plus
@@ -54,7 +54,7 @@ class Asked(InBrowser):
         self.assertEqual(len(labels), 3)
         self.assertIn(r"amount 60 of 120depth 1, made 2025-02-01for <[^>]+[@.]example\.org>$", labels)
         self.assertIn("amount 60 of 60depth 1, made 2025-02-02", labels)
-        self.browser.wait_text("#others", "the key's own, which ends only paths of introducers for the key itself")
+        self.browser.wait_text("#others", "the key's own, which only extends paths that lead to this key")
 
     def short(self, name):
         return f"{self.fpr[name][:8]}…{self.fpr[name][-8:]}"
@@ -72,7 +72,7 @@ class Asked(InBrowser):
         self.browser.wait_text(".verdict", "0 of 120: no path leads here from your roots.")
         self.assertFalse(self.browser.element("#picture").is_displayed())
         self.browser.wait_text("#standpoint", "Seen from Alice <alice@example.net> (120), as of 2025-12-01.")
-        self.browser.wait_text("#others", "the issuer's key is revoked, for all times")
+        self.browser.wait_text("#others", "the issuer's key is revoked, with effect at all times")
 
     def test_the_time_is_moved(self):
         self.open("Carol", CAROL)
@@ -80,7 +80,7 @@ class Asked(InBrowser):
         self.browser.wait_text(".verdict", "60 of 120, by one path")
         self.browser.wait_text("#changes", "From 2025-12-01 to 2025-02-15: amount 120 → 60")
         self.browser.wait_text("#changes", "The certification by Bob <bob@example.org> before: is on a path. "
-                               "After: it was made later.")
+                               "After: it wasn't created yet.")
         self.browser.click("#later")
         self.browser.wait_text(".verdict", "120 of 120")
         self.browser.wait_text("#as-of", "2025-03-01 00:00:00 UTC")
@@ -126,8 +126,8 @@ class Asked(InBrowser):
         self.browser.click("button[aria-label='Without Bob <bob@example.org>']")
         self.browser.wait_text("#if-answer", "Without Bob <bob@example.org>, 60. With everything, 120.")
         self.browser.wait_text(".verdict", "60 of 120, by one path")
-        self.browser.wait_text("#answer", "With everything taken into account it is 120.")
-        self.browser.click("#if button[aria-label^='Take Bob']")
+        self.browser.wait_text("#answer", "With everything included it is 120.")
+        self.browser.click("#if button[aria-label^='Include Bob']")
         self.browser.wait_text(".verdict", "120 of 120, by two paths")
         self.browser.click("#steps button[aria-label^='Without this certification by Alice']")
         self.browser.wait_text(".verdict", "120 of 120, by one path")

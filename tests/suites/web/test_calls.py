@@ -36,7 +36,7 @@ class Calls(Served):
         self.assertEqual(counts, {"edge": 1, "expired": 1, "issuer-hard": 1})
         reply = self.page.call("reasons", **self.subject("Frank", FRANK, word="issuer-hard", begin=0))
         self.assertEqual([(one["issuer"], one["meaning"]) for one in reply["items"]],
-                         [(self.fpr["Erin"], "the issuer's key is revoked, for all times")])
+                         [(self.fpr["Erin"], "the issuer's key is revoked, with effect at all times")])
         self.assertEqual(reply["names"][self.fpr["Erin"]], "Erin <erin@example.org>")
         self.assertEqual(self.page.call("reasons", **self.subject("Frank", FRANK, word="edge", begin=1))["items"], [])
 
@@ -94,7 +94,7 @@ class Calls(Served):
         self.assertEqual((reply["before"], reply["after"]), (60, 120))
         self.assertEqual((reply["paths_before"], reply["paths_after"]), (1, 2))
         self.assertEqual([(one["issuer"], one["before"], one["after"]) for one in reply["items"]],
-                         [(self.fpr["Bob"], "it was made later", "is on a path")])
+                         [(self.fpr["Bob"], "it wasn't created yet", "is on a path")])
         young = self.page.call("changes", **self.subject("Carol", CAROL, since=0))
         self.assertEqual((young["before"], young["word_before"]), (0, "standing"))
 
@@ -145,7 +145,7 @@ class Calls(Served):
         asked = self.subject("Carol", CAROL, without=self.without("Bob"))
         status, _, octets = self.page.send("proof", json.dumps(asked).encode())
         self.assertEqual(status, 400)
-        self.assertIn("put back", json.loads(octets)["error"])
+        self.assertIn("left out first", json.loads(octets)["error"])
 
     def test_a_key_that_is_not_there(self):
         asked = {**self.subject("Carol", CAROL), "fingerprint": "aa" * 20}

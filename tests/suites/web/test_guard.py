@@ -100,8 +100,8 @@ class Guard(Served):
 @needs_page
 class Words(Served):
     def test_words_that_are_wrong(self):
-        for words, said in ((["--port", "80"], "no port"), (["x"], "x"), (["--root", "zz"], "neither a fingerprint"),
-                            (["--time", "never"], "isn't a time")):
+        for words, said in ((["--port", "80"], "isn't a port"), (["x"], "x"),
+                            (["--root", "zz"], "neither a fingerprint"), (["--time", "never"], "isn't a time")):
             done = run([COMMAND, "web", "--no-browser", *words], env=self.page.environment)
             self.assertEqual((done.returncode, done.stdout), (2, b""))
             self.assertIn(said, done.stderr.decode())

@@ -39,7 +39,7 @@ class Proofs(Served):
         status, said = self.check(proof)
         self.assertEqual(status, HOLDS, said)
         for part in ("the claim holds", CAROL, self.fpr["Carol"], "amount 120 of 120, as of 2025-12-01 00:00:00 UTC",
-                     f"root: {self.fpr['Alice']}, amount 120", "3 certificates of the file", "2 paths",
+                     f"root: {self.fpr['Alice']}, amount 120", "3 certificates in the file", "2 paths",
                      "own answer over these certificates: amount 120"):
             self.assertIn(part, said)
 

@@ -1,5 +1,5 @@
-//! How much an engine keeps of its answers. Nothing of it changes an answer, and no contract names an answer that is
-//! kept: these clauses bound them.
+//! How much an engine keeps of its answers. Kept answers change no answer and no contract names them; these clauses
+//! only bound them.
 ghost use Rattle.std.specs.Prelude.{◌≡◌, ◌≤◌, None, IfSome};
 ghost use Rattle.wot_cache.specs.Answers.{RestsOnLeads};
 ghost use Rattle.wot_cache.specs.Views.{view_at};
@@ -9,8 +9,8 @@ use crate::answers::KeptAnswer;
 use wot_types::{Fpr, ViewName};
 
 impl Engine {
-    /// How many answers are kept for a view: at most 1,024, and none for one that isn't open. So all that is kept goes
-    /// with the views, of which there are no more than the limits allow.
+    /// How many answers are kept for a view: at most 1,024, and none if it isn't open. So the limit on views also
+    /// bounds the number of kept answers.
     pub fn kept_answers(&self, view: &ViewName) -> usize
         ensures few { result ≤ 1024 }
         ensures closed { view_at self.now.views view.now ≡ None → result ≡ 0 }
@@ -20,8 +20,8 @@ impl Engine {
             None => 0,
         }
     }
-    /// The answer that is kept under the key of a question from a view, to whatever question. What it rests on is no
-    /// more than the search for it had to look at: each fingerprint led to the target.
+    /// The answer under the key of a question from a view, which may be another question's. It depends on no more than
+    /// its search had to look at: every fingerprint led to the target.
     pub fn kept_answer(
         &self,
         view: &ViewName,

@@ -1,4 +1,4 @@
-//! An entry of a certificate directory is united with what the engine's keyring holds.
+//! Merges an entry of a certificate directory with what the engine's keyring holds.
 ghost use Rattle.std.specs.Prelude.{◌≡◌, ◌<◌, ◌-◌, ◌^◌, length, OnOk, OnErr};
 ghost use Rattle.wot_policy.specs.Kept.{IsFaithful, rows_of, asked_more};
 ghost use Rattle.wot_keyring.specs.Kept.{IsJudgedBy};
@@ -13,7 +13,7 @@ use wot_policy::{Ask, Policy};
 use wot_types::Name;
 
 impl Engine {
-    /// `Keyring::load`, over the engine's keyring.
+    /// `Keyring::load` on the engine's keyring.
     pub fn load<F: Fn(Ask) -> bool>(
         &mut self,
         name: &Name,

@@ -16,8 +16,8 @@ use wot_auth::Answer;
 use wot_types::{Fpr, Steps, ViewName};
 
 impl Engine {
-    /// The sum of the answer that `ask` gives. The basis, which is at the engine's present counts, then says for how
-    /// long it is the sum: until something is altered that it rests on.
+    /// The sum of the answer that `ask` returns. The basis has to be at the engine's current counts. Afterwards it
+    /// depends on everything that the answer depends on, and while it is undisturbed this stays the sum.
     pub fn sum(
         &mut self,
         view: &ViewName,
@@ -44,7 +44,8 @@ impl Engine {
         }
     }
 
-    /// The sum of this answer. From now on the basis rests on what the kept answer rests on, or on all that there is.
+    /// The sum of this answer. The basis then depends on what the kept answer depends on, or on the whole keyring if
+    /// none is kept.
     fn rested(
         &self,
         view: &ViewName,
@@ -70,8 +71,8 @@ impl Engine {
         }
     }
 
-    /// The sum of the answer that is kept for a question, where all that it rests on is as it was. Then the basis rests
-    /// on that too.
+    /// The sum of the answer that is kept for a question, if everything that it depends on is unchanged. The basis then
+    /// depends on that too.
     fn rest(
         &self,
         view: &ViewName,
@@ -86,7 +87,7 @@ impl Engine {
         ensures grown { HasGrown basis.old basis.new }
     {
         let keyring = &self.networked.keyring;
-        // That stamps are counts of changes.
+        // Its contract says that stamps are at most the count of changes.
         let _count = keyring.len();
         match views::find(&self.networked.views, view) {
             Some(from) => kept_sum(
@@ -103,12 +104,12 @@ impl Engine {
         }
     }
 
-    /// Whether all sums that rest on this basis are those of now. Then the basis is at the engine's present counts.
-    /// Where that is false it isn't said: more may have changed than is looked at.
+    /// Whether all sums that depend on this basis are current. If so, the basis is moved to the engine's current
+    /// counts. False doesn't mean that a sum changed: if many fingerprints changed, they aren't checked.
     pub fn stands(&self, basis: &mut Basis) -> bool
         ensures stands { result ≡ true → IsUndisturbed self.now basis.old }
         ensures present { result ≡ true → IsPresent self.now basis.new }
-        // Where nothing was counted since.
+        // It is true if nothing was counted since.
         ensures still { IsPresent self.now basis.old → result ≡ true }
         ensures carries_on { CarriesOn self.now basis.old basis.new }
         ensures kept { result ≡ false → basis.new ≡ basis.old }

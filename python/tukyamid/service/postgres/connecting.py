@@ -70,7 +70,7 @@ class Servers:
         self._settings = {**_SETTINGS, **given}
         count = max(map(len, several.values()), default=1)
         if any(len(values) not in (1, count) for values in several.values()):
-            raise DatabaseFault("the database's URL has not as many ports as hosts")
+            raise DatabaseFault("the database's URL doesn't have as many ports as hosts")
         self._servers = [{name: values[place % len(values)] for name, values in several.items()}
                          for place in range(count)]
         where = ",".join(":".join(filter(None, (one.get("host") or one.get("hostaddr", ""), one.get("port"))))

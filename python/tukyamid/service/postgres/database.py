@@ -110,7 +110,7 @@ class Postgres:
             with wire.reading() as statements:
                 place = Place(*statements.row(PLACE))
                 if not is_primary and self.place not in (place, UNREAD):
-                    raise DatabaseFault(f"{self.name}: the standby isn't where this service is")
+                    raise DatabaseFault(f"{self.name}: the standby doesn't have the same changes as this service")
                 return self._read(statements, place, has_snapshot)
         finally:
             if not is_primary:
@@ -156,7 +156,7 @@ class Postgres:
     def fill(self, lines: Iterable[bytes], what: str, actor: Actor) -> int:
         statements, place = self._begin()
         if self.place not in (place, UNREAD):
-            raise DatabaseFault(f"{self.name}: another service has changed it meanwhile; try again")
+            raise DatabaseFault(f"{self.name}: another service has changed the database meanwhile; try again")
         writing = SharedWriting(statements, self._machine)
         number = writing.fill(lines, Change(what, actor, ()), int(statements.row(_NOW)[0]))
         self._commit(writing)

@@ -82,7 +82,7 @@ class PostgresFinder(Connected):
             self._wire = self._connect()
         statements = Statements(self._wire.connection)
         if statements.row("SELECT number FROM head")[0] < self._database.place.number:
-            raise DatabaseFault(f"{self.name}: the standby is behind what this service has read")
+            raise DatabaseFault(f"{self.name}: the standby lacks changes that this service has read")
         return statements.rows(query, *values)
 
     def _bindings(self, condition: str, *values: object) -> list[Binding]:

@@ -72,7 +72,7 @@ class PostgresParts(QueriedParts):
             now = Place(*statements.row(PLACE))
             if not self._is_primary and place not in (now, UNREAD):
                 self.close()
-                raise DatabaseFault(f"{self._servers.name}: the standby isn't where this service is")
+                raise DatabaseFault(f"{self._servers.name}: the standby doesn't have the same changes as this service")
             lines = () if place == UNREAD else lines_between(statements, place, now)
         except (psycopg.Error, OSError) as error:
             raise self._fail(error) from None

@@ -34,7 +34,7 @@ export function showAnswer(element, reply, binding, present) {
       min: 0, max: reply.wanted, value: Math.min(reply.amount, reply.wanted), "aria-label": "Amount reached",
     }),
     present && present.amount !== reply.amount && make("p", { class: "beside" },
-      `With everything taken into account it is ${present.amount}.`),
+      `With everything included it is ${present.amount}.`),
     reply.expired_elsewhere && make("p", { class: "warn" }, `Note: ${reply.expired_elsewhere}.`));
 }
 
@@ -58,7 +58,7 @@ export function showSteps(element, reply, leaveOut) {
         ...outOfAccount(step, leaveOut)))))) : make("p", {}, "There is no path."));
 }
 
-/** Buttons that take a certification, or its issuer's key, out of account. */
+/** Buttons that leave out a certification, or its issuer's key. */
 function outOfAccount(step, leaveOut) {
   const issuer = nameOf(step.issuer);
   return [
@@ -85,7 +85,7 @@ export function showOthers(element, reply) {
 }
 
 function groupOf(group, isOpen) {
-  const meaning = group.word === "edge" ? "it counts, but no path needs it or may use it" : group.meaning;
+  const meaning = group.word === "edge" ? "it counts, but no path needs it or can use it" : group.meaning;
   const list = make("ul", { class: "others" });
   const box = make("details", { class: "group" },
     make("summary", {}, make("span", { class: "tally" }, group.count.toLocaleString("en")), " ",
@@ -109,7 +109,7 @@ async function more(shown) {
     shown.begin += reply.items.length;
     if (shown.begin < reply.count && reply.items.length) list.append(furtherOf(shown, reply.count - shown.begin));
   } catch (failure) {
-    waiting.replaceChildren(`Not found out: ${failure.message}.`);
+    waiting.replaceChildren(`This couldn’t be loaded: ${failure.message}.`);
   }
 }
 

@@ -71,7 +71,7 @@ function show() {
   document.title = `Tukyamid: ${about}`;
 }
 
-/** Asks, and shows the answer. What is out of account is asked beside the present answer. */
+/** Asks, and shows the answer. If something is left out, it asks for the present answer too. */
 async function ask() {
   byId("subject").hidden = false;
   byId("subject").setAttribute("aria-busy", "true");

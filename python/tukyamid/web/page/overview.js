@@ -45,7 +45,7 @@ function show(reply) {
     make("div", { class: "row" },
       make("button", { type: "button", id: "json", onclick: () => save("overview.json", "application/json",
         `${JSON.stringify(reply, null, 1)}\n`) }, "All as JSON"),
-      make("button", { type: "button", onclick: again }, "Make it again")),
+      make("button", { type: "button", onclick: again }, "Refresh")),
     reply.tables.map(tableOf));
   box.dataset.done = "yes";
 }

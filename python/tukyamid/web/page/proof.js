@@ -9,17 +9,17 @@ export function showProof(reply) {
     ? "The answer with its paths, and the certificates that it rests on."
     : "The claim that no further path is left, and the certificates that it rests on.";
   fill(byId("proof"),
-    make("p", {}, about, " Whoever has Tukyamid checks the file with ", make("code", {}, "tukyamid check FILE"),
+    make("p", {}, about, " Anyone with Tukyamid can check the file with ", make("code", {}, "tukyamid check FILE"),
       ". It verifies all signatures itself."),
     state.without.length
-      ? make("p", { class: "soft" }, "A proof is about all that is held: put back what is out of account first.")
+      ? make("p", { class: "soft" }, "A proof is about the whole keyring: include what is left out first.")
       : make("button", { type: "button", id: "save-proof", onclick: write }, "Save the proof"),
     make("p", { id: "proof-state", role: "status", class: "soft" }));
 }
 
 async function write() {
   const said = byId("proof-state");
-  fill(said, "The file is made…");
+  fill(said, "Making the file…");
   try {
     const reply = await call("proof", subject());
     if (reply === null) return;

@@ -62,7 +62,7 @@ export function attachSearch(input, list, said, chosen) {
       const reply = await call("search", { text }, `search ${input.id}`);
       if (reply !== null && text === typed && document.activeElement === input) show(reply, text);
     } catch (failure) {
-      fill(said, `Not found out: ${failure.message}.`);
+      fill(said, `The search failed: ${failure.message}.`);
     }
     isAsking = false;
     if (typed !== null && typed !== text) search();

@@ -33,7 +33,7 @@ export async function showTime() {
     total = reply.count;
     build();
   } catch (failure) {
-    fill(byId("time"), make("p", { class: "warn" }, `The moments weren’t found: ${failure.message}.`));
+    fill(byId("time"), make("p", { class: "warn" }, `The marks couldn’t be loaded: ${failure.message}.`));
   }
 }
 
@@ -150,7 +150,7 @@ async function compare(since) {
     learn(reply.names);
     showChanges(reply);
   } catch (failure) {
-    fill(byId("changes"), make("p", { class: "warn" }, `What changed wasn’t found: ${failure.message}.`));
+    fill(byId("changes"), make("p", { class: "warn" }, `The changes couldn’t be loaded: ${failure.message}.`));
   }
 }
 

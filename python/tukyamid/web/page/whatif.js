@@ -1,10 +1,10 @@
-// What if: other roots and amounts, and keys or certifications taken out of account. Nothing of it is stored.
+// What if: other roots and amounts, and keys or certifications that are left out. None of it is stored.
 
 import { byId, make, name, refill, short } from "./dom.js";
 import { attachSearch } from "./search.js";
 import { change, nameOf, state } from "./state.js";
 
-/** Takes a key or a certification out of account. */
+/** Leaves out a key or a certification. */
 export function leaveOut(one) {
   const id = one.key ?? one.signature;
   if (!state.without.some((other) => (other.key ?? other.signature) === id)) {
@@ -12,23 +12,23 @@ export function leaveOut(one) {
   }
 }
 
-/** Shows the roots and what is out of account, with the answer beside the present one. */
+/** Shows the roots and what is left out, with the answer beside the present one. */
 export function showWhatIf(reply, present) {
   refill(byId("if"),
-    make("h3", {}, "Roots, and how far each is trusted"),
+    make("h3", {}, "Roots and their amounts"),
     make("ul", { class: "roots plain" }, state.roots.map(rootOf)),
     !state.roots.length && make("p", { class: "warn" }, "No root yet, so nothing is authenticated. Add your own key."),
     adder(),
     isOtherwise() && make("button", {
       type: "button", id: "reset", onclick: () => change({ roots: state.firstRoots, without: [], wanted: 120 }),
-    }, "Back to the beginning"),
+    }, "Reset"),
     make("label", { class: "block", for: "wanted" }, "Wanted amount"),
     make("input", {
       type: "number", id: "wanted", min: 1, max: 100000, value: state.wanted,
       onchange: (event) => setWanted(event.target) }),
-    make("h3", {}, "Out of account"),
+    make("h3", {}, "Left out"),
     state.without.length ? make("ul", { class: "plain" }, state.without.map(leftOut))
-      : make("p", { class: "soft" }, "Nothing. The list of the paths has each certification, to take it out too."),
+      : make("p", { class: "soft" }, "Nothing. The list of the paths has a button for each certification."),
     triedOf(reply),
     make("p", { id: "if-answer", role: "status", class: "beside" }, ...beside(reply, present)));
 }
@@ -104,6 +104,6 @@ const calledOf = (one) => (one.key ? nameOf(one.key) : one.name);
 
 function leftOut(one) {
   return make("li", {}, name(calledOf(one)), " ", make("button", {
-    type: "button", class: "small", "aria-label": `Take ${calledOf(one)} into account again`,
-    onclick: () => change({ without: state.without.filter((other) => other !== one) }) }, "put back"));
+    type: "button", class: "small", "aria-label": `Include ${calledOf(one)} again`,
+    onclick: () => change({ without: state.without.filter((other) => other !== one) }) }, "include"));
 }

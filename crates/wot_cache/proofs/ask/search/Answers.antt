@@ -8,7 +8,8 @@ use Rattle.wot_cache.proofs.ask.search.Goals as goal
 
 pub remember-requires-clause-local : goal.remember-requires-clause-local
 remember-requires-clause-local c =
-    subst (λ (present : Present). IsAnswerAround (asked_over present c.args.parts.now.roots.now c.args.target.now c.args.uid.now) c.args.wanted c.in-Ok.answer.paths
+    subst (λ (present : Present). IsAnswerAround (asked_over present c.args.parts.now.roots.now c.args.target.now
+    c.args.uid.now) c.args.wanted c.in-Ok.answer.paths
     c.authenticate_metered.new.metered.consulted) c.requires.present c.in-Ok.ensures.local
 
 pub remember-requires-clause-leads : goal.remember-requires-clause-leads

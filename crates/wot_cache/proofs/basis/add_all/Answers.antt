@@ -4,7 +4,7 @@ use Rattle.wot_cache.specs.declared.answers.Looked.{Looked}
 use Rattle.wot_cache.specs.Basis.{AllIn}
 use Rattle.wot_cache.proofs.basis.add_all.Goals as goal
 
--- of nothing all is in
+-- an empty list has all its members in the basis
 none_out : (fprs : List Fpr) (looked : List Looked) → length looked ≡ 0 → AllIn fprs looked
 none_out fprs [] none = tt
 none_out fprs (l ∷ ls) none = absurd (omega (arith, none))

@@ -23,13 +23,20 @@ returns c =
       count = c.changes.result;
       turn = 0;
     } in
-    let around = subst (λ (a : Answer). IsAnswerAround (asked_of p c.args.target.now c.in_ok-uid.uid) c.args.wanted a.paths set) (sym c.in_ok-answer.ensures.same)
-    (subst (λ (u : List ℕ). IsAnswerAround (asked_of p c.args.target.now u) c.args.wanted c.args.answer.now.paths set) (sym c.in_ok-uid.ensures.copied) c.requires.local) in
-    let here = subst (λ (a : Answer). IsAnswer (asked_of p c.args.target.now c.in_ok-uid.uid) c.args.wanted a.paths) (sym c.in_ok-answer.ensures.same)
-    (subst (λ (u : List ℕ). IsAnswer (asked_of p c.args.target.now u) c.args.wanted c.args.answer.now.paths) (sym c.in_ok-uid.ensures.copied) c.requires.answer) in
+    let around = subst (λ (a : Answer). IsAnswerAround (asked_of p c.args.target.now c.in_ok-uid.uid) c.args.wanted
+    a.paths set) (sym c.in_ok-answer.ensures.same)
+    (subst (λ (u : List ℕ). IsAnswerAround (asked_of p c.args.target.now u) c.args.wanted c.args.answer.now.paths set)
+    (sym c.in_ok-uid.ensures.copied) c.requires.local) in
+    let here = subst (λ (a : Answer). IsAnswer (asked_of p c.args.target.now c.in_ok-uid.uid) c.args.wanted a.paths)
+    (sym c.in_ok-answer.ensures.same)
+    (subst (λ (u : List ℕ). IsAnswer (asked_of p c.args.target.now u) c.args.wanted c.args.answer.now.paths)
+    (sym c.in_ok-uid.ensures.copied) c.requires.answer) in
     let sum = subst (λ (a : Answer). a.sum ≡ amount_of a.paths) (sym c.in_ok-answer.ensures.same) c.requires.sum in
     record {
-      right = right_made c.records_agree.ensures.local p.keyring.now p.roots.now kept set c.len-count.ensures.stamped c.in_ok-looked.looked refl c.in_ok-looked.ensures.looked sum around
-          (c.later_is_order.ensures.itself p.keyring.now) (subst (λ (u : List ℕ). AllLead (told_of (present_in p) u) c.args.target.now set) (sym c.in_ok-uid.ensures.copied) c.requires.leads);
+      right = right_made c.records_agree.ensures.local p.keyring.now p.roots.now kept set c.len-count.ensures.stamped
+          c.in_ok-looked.looked refl c.in_ok-looked.ensures.looked sum around
+          (c.later_is_order.ensures.itself p.keyring.now)
+          (subst (λ (u : List ℕ). AllLead (told_of (present_in p) u) c.args.target.now set)
+          (sym c.in_ok-uid.ensures.copied) c.requires.leads);
       found = found_made p.keyring.now p.roots.now kept c.changes.ensures.changes here;
     }

@@ -1,4 +1,5 @@
-use Rattle.std.proofs.Common.{rules, ◌≡◌, ◌≢◌, ◌^◌, ◌<◌, inl, inr, ℕ, ◌++◌, List, Option, Ok, refl, sym, arith, subst, ◌∙◌}
+use Rattle.std.proofs.Common.{rules, ◌≡◌, ◌≢◌, ◌^◌, ◌<◌, inl, inr, ℕ, ◌++◌, List, Ok, refl, sym, ap, arith}
+use Rattle.std.proofs.Common.{subst, ◌∙◌}
 use Rattle.std.specs.Prelude.{IfSome}
 use Rattle.wot_io.specs.Counts.{Rose}
 use Rattle.wot_io.specs.Input.{lines_of}
@@ -7,47 +8,74 @@ use Rattle.wot_io.specs.declared.lines.Line.TheVariants.{End, Long, Text}
 use Rattle.wot_policy.specs.declared.rows.PolicyRows.{PolicyRows}
 use Rattle.wot_policy.specs.Kept.{rows_of}
 use Rattle.wot_keyring.specs.Kept.{IsJudgedBy}
-use Rattle.wot_certd.specs.World.{World}
+use Rattle.wot_machine.specs.Asked.{LineAsks}
 use Rattle.wot_machine.specs.Entry.{MayPut}
 use Rattle.wot_machine.specs.Machine.{kept}
 use Rattle.wot_machine.specs.Transcript.{AllTold, Begun}
 use Rattle.wot_machine.proofs.Giving.{told_always}
+use Rattle.wot_engine.specs.Asking.{MayAsk, command_by, done}
 use Rattle.wot_engine.specs.Ended.{Reached}
+use Rattle.wot_engine.specs.Ends.{status_at}
 use Rattle.wot_engine.specs.Turn.{use_by}
 use Rattle.wot_engine.specs.declared.run.Stop.TheVariants.{Memory, Read, TooMuch, Write}
-use Rattle.wot_engine.proofs.Held.{Held, Held-begun, Held-cut, Held-first, Held-most, Held-moves, Held-none, Held-reached, Held-reached_cut, Held-reached_next, Held-reply, Held-written, nothing_held}
+use Rattle.wot_engine.proofs.Asking.{HasAsked-line, asks_between, asks_cut, asks_end, asks_nothing, asks_stop}
+use Rattle.wot_engine.proofs.Held.{Held, Held-begun, Held-cut, Held-first, Held-most, Held-moves, Held-none}
+use Rattle.wot_engine.proofs.Held.{Held-reached, Held-reached_cut, Held-reached_next, Held-reply, Held-written}
+use Rattle.wot_engine.proofs.Held.{nothing_held}
 use Rattle.wot_engine.proofs.Stops.{never, never_ok, on_err, rose_on, stopped}
-use Rattle.wot_engine.proofs.Turns.{Answered-end, Answered-stop, AllTold-weaker, Begun-here, First-reached, Left-end, Most-end, Most-stop, Stood}
+use Rattle.wot_engine.proofs.Turns.{Answered-end, Answered-stop, AllTold-weaker, Begun-here, First-reached, Left-end}
+use Rattle.wot_engine.proofs.Turns.{Most-end, Most-stop, Stood}
 use Rattle.wot_engine.proofs.Replying.{answered, not_end, holds, no_fault, within, counted, turned, judged}
-use Rattle.wot_engine.proofs.Taking.{ends_at, has_most, took_none, took_nothing, took_both, takes_at_most, takes_more, takes_most}
+use Rattle.wot_engine.proofs.Taking.{ends_at, has_most, took_none, took_nothing, took_both, takes_at_most, takes_more}
+use Rattle.wot_engine.proofs.Taking.{takes_most}
 use Rattle.wot_engine.proofs.run.answer_lines.Goals.{After-next}
 use Rattle.wot_engine.proofs.run.answer_lines.Goals as goal
 
--- ---- where the run stands once what was due is written
+-- ---- how far the run has come once the buffer is written
 
--- what was written, and what is held behind it
+-- what was written, and what is buffered after it
 flushed : (g : _) (c : After-next g)
-    → Held (rows_of c.args.policy.now) (g.S.Source.left c.args.input.now) (g.K.Sink.written c.args.output.now) (g.D.Shelf.world c.args.shelf.now) c.lines.lines.held c.lines.lines.taken (g.S.Source.left c.lines.input) (g.K.Sink.written c.flush.new.output) c.flush.new.out.items (g.D.Shelf.world c.lines.shelf) (kept c.lines.machine)
+    → Held (rows_of c.args.policy.now) (g.S.Source.left c.args.input.now) (g.K.Sink.written c.args.output.now)
+    (g.D.Shelf.world c.args.shelf.now) c.lines.lines.held c.lines.lines.taken (g.S.Source.left c.lines.input)
+    (g.K.Sink.written c.flush.new.output) c.flush.new.out.items (g.D.Shelf.world c.lines.shelf) (kept c.lines.machine)
 flushed g c =
-    Held-moves (rows_of c.args.policy.now) (g.S.Source.left c.args.input.now) (g.K.Sink.written c.args.output.now) (g.D.Shelf.world c.args.shelf.now) c.lines.lines.held c.lines.lines.taken (g.S.Source.left c.lines.input) (g.K.Sink.written c.lines.output) c.lines.out.items (g.D.Shelf.world c.lines.shelf) (kept c.lines.machine) (g.K.Sink.written c.flush.new.output) c.flush.new.out.items
+    Held-moves (rows_of c.args.policy.now) (g.S.Source.left c.args.input.now) (g.K.Sink.written c.args.output.now)
+    (g.D.Shelf.world c.args.shelf.now) c.lines.lines.held c.lines.lines.taken (g.S.Source.left c.lines.input)
+    (g.K.Sink.written c.lines.output) c.lines.out.items (g.D.Shelf.world c.lines.shelf) (kept c.lines.machine)
+    (g.K.Sink.written c.flush.new.output) c.flush.new.out.items
     c.lines.invariant.held c.in_ok-flush.ensures.moves
 
--- where no line is given, nothing is held
+-- if no line is available, nothing is buffered
 stood : (g : _) (c : After-next g) → (c.next.result ≡ Ok Text → ⊥) → (c.next.result ≡ Ok Long → ⊥)
-    → Stood (rows_of c.args.policy.now) (g.S.Source.left c.args.input.now) (g.K.Sink.written c.args.output.now) (g.D.Shelf.world c.args.shelf.now) c.lines.lines.held c.lines.lines.taken (g.S.Source.left c.lines.input) (g.K.Sink.written c.flush.new.output) (g.D.Shelf.world c.lines.shelf) (kept c.lines.machine)
+    → Stood (rows_of c.args.policy.now) (g.S.Source.left c.args.input.now) (g.K.Sink.written c.args.output.now)
+    (g.D.Shelf.world c.args.shelf.now) c.lines.lines.held c.lines.lines.taken (g.S.Source.left c.lines.input)
+    (g.K.Sink.written c.flush.new.output) (g.D.Shelf.world c.lines.shelf) (kept c.lines.machine)
 stood g c text long =
-    Held-none (rows_of c.args.policy.now) (g.S.Source.left c.args.input.now) (g.K.Sink.written c.args.output.now) (g.D.Shelf.world c.args.shelf.now) c.lines.lines.held c.lines.lines.taken (g.S.Source.left c.lines.input) (g.K.Sink.written c.flush.new.output) c.flush.new.out.items (g.D.Shelf.world c.lines.shelf) (kept c.lines.machine)
-    (flushed g c) (nothing_held c.next.result c.lines.lines.held c.flush.new.out.items (c.next.ensures.at_hand c.lines.invariant.no_fault) text long c.in_ok-flush.ensures.none)
+    Held-none (rows_of c.args.policy.now) (g.S.Source.left c.args.input.now) (g.K.Sink.written c.args.output.now)
+    (g.D.Shelf.world c.args.shelf.now) c.lines.lines.held c.lines.lines.taken (g.S.Source.left c.lines.input)
+    (g.K.Sink.written c.flush.new.output) c.flush.new.out.items (g.D.Shelf.world c.lines.shelf) (kept c.lines.machine)
+    (flushed g c) (nothing_held c.next.result c.lines.lines.held c.flush.new.out.items
+    (c.next.ensures.at_hand c.lines.invariant.no_fault) text long c.in_ok-flush.ensures.none)
 
 begun : (g : _) (c : After-next g)
-    → AllTold (g.S.Source.left c.args.input.now) (g.K.Sink.written c.args.output.now) (g.D.Shelf.world c.args.shelf.now) (λ input before world. Begun (rows_of c.args.policy.now) world (lines_of input) before (g.K.Sink.written c.flush.new.output))
+    → AllTold (g.S.Source.left c.args.input.now) (g.K.Sink.written c.args.output.now) (g.D.Shelf.world c.args.shelf.now)
+    (λ input before world. Begun (rows_of c.args.policy.now) world (lines_of input) before
+    (g.K.Sink.written c.flush.new.output))
 begun g c =
-    Held-begun (rows_of c.args.policy.now) c.lines.invariant.law (g.S.Source.left c.args.input.now) (g.K.Sink.written c.args.output.now) (g.D.Shelf.world c.args.shelf.now) c.lines.lines.held c.lines.lines.taken (g.S.Source.left c.lines.input) (g.K.Sink.written c.flush.new.output) c.flush.new.out.items (g.D.Shelf.world c.lines.shelf) (kept c.lines.machine) (flushed g c)
+    Held-begun (rows_of c.args.policy.now) c.lines.invariant.law (g.S.Source.left c.args.input.now)
+    (g.K.Sink.written c.args.output.now) (g.D.Shelf.world c.args.shelf.now) c.lines.lines.held c.lines.lines.taken
+    (g.S.Source.left c.lines.input) (g.K.Sink.written c.flush.new.output) c.flush.new.out.items
+    (g.D.Shelf.world c.lines.shelf) (kept c.lines.machine) (flushed g c)
 
 reached : (g : _) (c : After-next g)
-    → AllTold (g.S.Source.left c.args.input.now) (g.K.Sink.written c.args.output.now) (g.D.Shelf.world c.args.shelf.now) (λ input before world. Reached (rows_of c.args.policy.now) world (lines_of input) before (g.K.Sink.written c.flush.new.output) (g.D.Shelf.world c.args.shelf.now) (g.D.Shelf.world c.lines.shelf))
+    → AllTold (g.S.Source.left c.args.input.now) (g.K.Sink.written c.args.output.now) (g.D.Shelf.world c.args.shelf.now)
+    (λ input before world. Reached (rows_of c.args.policy.now) world (lines_of input) before
+    (g.K.Sink.written c.flush.new.output) (g.D.Shelf.world c.args.shelf.now) (g.D.Shelf.world c.lines.shelf))
 reached g c =
-    Held-reached (rows_of c.args.policy.now) (g.S.Source.left c.args.input.now) (g.K.Sink.written c.args.output.now) (g.D.Shelf.world c.args.shelf.now) c.lines.lines.held c.lines.lines.taken (g.S.Source.left c.lines.input) (g.K.Sink.written c.flush.new.output) c.flush.new.out.items (g.D.Shelf.world c.lines.shelf) (kept c.lines.machine) (flushed g c)
+    Held-reached (rows_of c.args.policy.now) (g.S.Source.left c.args.input.now) (g.K.Sink.written c.args.output.now)
+    (g.D.Shelf.world c.args.shelf.now) c.lines.lines.held c.lines.lines.taken (g.S.Source.left c.lines.input)
+    (g.K.Sink.written c.flush.new.output) c.flush.new.out.items (g.D.Shelf.world c.lines.shelf) (kept c.lines.machine)
+    (flushed g c)
 
 -- ---- a write failed
 
@@ -61,23 +89,28 @@ returns-in_err-flush-clause-shelf g c =
 
 pub returns-in_err-flush-clause-first : goal.returns-in_err-flush-clause-first
 returns-in_err-flush-clause-first g c e =
-    absurd (never c.from_residual.result Write Memory (stopped c.from_residual.result Write c.from_residual.ensures.1) tt e)
+    absurd (never c.from_residual.result Write Memory (stopped c.from_residual.result Write c.from_residual.ensures.1)
+    tt e)
 
 pub returns-in_err-flush-clause-source : goal.returns-in_err-flush-clause-source
 returns-in_err-flush-clause-source g c e =
-    absurd (never c.from_residual.result Write Read (stopped c.from_residual.result Write c.from_residual.ensures.1) tt e)
+    absurd (never c.from_residual.result Write Read (stopped c.from_residual.result Write c.from_residual.ensures.1) tt
+    e)
 
 pub returns-in_err-flush-clause-taken : goal.returns-in_err-flush-clause-taken
 returns-in_err-flush-clause-taken g c e =
-    absurd (never c.from_residual.result Write Read (stopped c.from_residual.result Write c.from_residual.ensures.1) tt e)
+    absurd (never c.from_residual.result Write Read (stopped c.from_residual.result Write c.from_residual.ensures.1) tt
+    e)
 
 pub returns-in_err-flush-clause-most : goal.returns-in_err-flush-clause-most
 returns-in_err-flush-clause-most g c e =
-    absurd (never c.from_residual.result Write TooMuch (stopped c.from_residual.result Write c.from_residual.ensures.1) tt e)
+    absurd (never c.from_residual.result Write TooMuch (stopped c.from_residual.result Write c.from_residual.ensures.1)
+    tt e)
 
 pub returns-in_err-flush-clause-much : goal.returns-in_err-flush-clause-much
 returns-in_err-flush-clause-much g c e =
-    absurd (never c.from_residual.result Write TooMuch (stopped c.from_residual.result Write c.from_residual.ensures.1) tt e)
+    absurd (never c.from_residual.result Write TooMuch (stopped c.from_residual.result Write c.from_residual.ensures.1)
+    tt e)
 
 pub returns-in_err-flush-clause-sink : goal.returns-in_err-flush-clause-sink
 returns-in_err-flush-clause-sink g c e =
@@ -85,16 +118,24 @@ returns-in_err-flush-clause-sink g c e =
     c.lines.invariant.sink c.flush.ensures.later c.in_err-flush.ensures.cause
 
 pub returns-in_err-flush-clause-at_most : goal.returns-in_err-flush-clause-at_most
-returns-in_err-flush-clause-at_most g c = takes_at_most (g.S.Source.left c.args.input.now) (g.S.Source.left c.lines.input) c.lines.lines.taken c.lines.invariant.took c.lines.invariant.within
+returns-in_err-flush-clause-at_most g c = takes_at_most (g.S.Source.left c.args.input.now)
+    (g.S.Source.left c.lines.input) c.lines.lines.taken c.lines.invariant.took c.lines.invariant.within
 
 pub returns-in_err-flush-clause-prefix : goal.returns-in_err-flush-clause-prefix
 returns-in_err-flush-clause-prefix g c =
-    Held-cut (rows_of c.args.policy.now) c.lines.invariant.law (g.S.Source.left c.args.input.now) (g.K.Sink.written c.args.output.now) (g.D.Shelf.world c.args.shelf.now) c.lines.lines.held c.lines.lines.taken (g.S.Source.left c.lines.input) (g.K.Sink.written c.lines.output) c.lines.out.items (g.D.Shelf.world c.lines.shelf) (kept c.lines.machine) (g.K.Sink.written c.flush.new.output) c.lines.invariant.held c.in_err-flush.ensures.cut
+    Held-cut (rows_of c.args.policy.now) c.lines.invariant.law (g.S.Source.left c.args.input.now)
+    (g.K.Sink.written c.args.output.now) (g.D.Shelf.world c.args.shelf.now) c.lines.lines.held c.lines.lines.taken
+    (g.S.Source.left c.lines.input) (g.K.Sink.written c.lines.output) c.lines.out.items (g.D.Shelf.world c.lines.shelf)
+    (kept c.lines.machine) (g.K.Sink.written c.flush.new.output) c.lines.invariant.held c.in_err-flush.ensures.cut
 
 pub returns-in_err-flush-clause-most_only : goal.returns-in_err-flush-clause-most_only
 returns-in_err-flush-clause-most_only g c =
-    AllTold-weaker (rows_of c.args.policy.now) (g.S.Source.left c.args.input.now) (g.K.Sink.written c.args.output.now) (g.D.Shelf.world c.args.shelf.now) _ _ (λ input before world no most. absurd (no most))
-    (Held-most (rows_of c.args.policy.now) c.lines.invariant.law (g.S.Source.left c.args.input.now) (g.K.Sink.written c.args.output.now) (g.D.Shelf.world c.args.shelf.now) c.lines.lines.held c.lines.lines.taken (g.S.Source.left c.lines.input) (g.K.Sink.written c.lines.output) c.lines.out.items (g.D.Shelf.world c.lines.shelf) (kept c.lines.machine) (g.K.Sink.written c.flush.new.output) (g.S.Source.left c.lines.input) c.lines.lines.taken
+    AllTold-weaker (rows_of c.args.policy.now) (g.S.Source.left c.args.input.now) (g.K.Sink.written c.args.output.now)
+    (g.D.Shelf.world c.args.shelf.now) _ _ (λ input before world no most. absurd (no most))
+    (Held-most (rows_of c.args.policy.now) c.lines.invariant.law (g.S.Source.left c.args.input.now)
+    (g.K.Sink.written c.args.output.now) (g.D.Shelf.world c.args.shelf.now) c.lines.lines.held c.lines.lines.taken
+    (g.S.Source.left c.lines.input) (g.K.Sink.written c.lines.output) c.lines.out.items (g.D.Shelf.world c.lines.shelf)
+    (kept c.lines.machine) (g.K.Sink.written c.flush.new.output) (g.S.Source.left c.lines.input) c.lines.lines.taken
     c.lines.invariant.held c.in_err-flush.ensures.cut (took_none (g.S.Source.left c.lines.input) c.lines.lines.taken))
 
 pub returns-in_err-flush-clause-faithful : goal.returns-in_err-flush-clause-faithful
@@ -105,7 +146,10 @@ returns-in_err-flush-clause-rows g c = c.lines.invariant.rows
 
 pub returns-in_err-flush-clause-reached : goal.returns-in_err-flush-clause-reached
 returns-in_err-flush-clause-reached g c =
-    Held-reached_cut (rows_of c.args.policy.now) (g.S.Source.left c.args.input.now) (g.K.Sink.written c.args.output.now) (g.D.Shelf.world c.args.shelf.now) c.lines.lines.held c.lines.lines.taken (g.S.Source.left c.lines.input) (g.K.Sink.written c.lines.output) c.lines.out.items (g.D.Shelf.world c.lines.shelf) (kept c.lines.machine) (g.K.Sink.written c.flush.new.output) c.lines.invariant.held c.in_err-flush.ensures.cut
+    Held-reached_cut (rows_of c.args.policy.now) (g.S.Source.left c.args.input.now) (g.K.Sink.written c.args.output.now)
+    (g.D.Shelf.world c.args.shelf.now) c.lines.lines.held c.lines.lines.taken (g.S.Source.left c.lines.input)
+    (g.K.Sink.written c.lines.output) c.lines.out.items (g.D.Shelf.world c.lines.shelf) (kept c.lines.machine)
+    (g.K.Sink.written c.flush.new.output) c.lines.invariant.held c.in_err-flush.ensures.cut
 
 pub returns-in_err-flush-clause-ended : goal.returns-in_err-flush-clause-ended
 returns-in_err-flush-clause-ended g c =
@@ -113,16 +157,18 @@ returns-in_err-flush-clause-ended g c =
 
 pub returns-in_err-flush-clause-took : goal.returns-in_err-flush-clause-took
 returns-in_err-flush-clause-took g c e =
-    absurd (never c.from_residual.result Write TooMuch (stopped c.from_residual.result Write c.from_residual.ensures.1) tt e)
+    absurd (never c.from_residual.result Write TooMuch (stopped c.from_residual.result Write c.from_residual.ensures.1)
+    tt e)
 
--- ---- no line is given
+-- ---- no line is left
 
 pub returns-in-Ok-End-clause-reached : goal.returns-in-Ok-End-clause-reached
 returns-in-Ok-End-clause-reached g c = reached g (goal.at.returns-in-Ok-End-clause-reached g c).After-next
 
 pub returns-in-Ok-End-clause-ended : goal.returns-in-Ok-End-clause-ended
 returns-in-Ok-End-clause-ended g c =
-    ends_at (g.S.Source.left c.args.input.now) (g.S.Source.left c.lines.input) (g.S.Source.left c.next.new.from) c.lines.lines.taken c.lines.lines c.next.new.self
+    ends_at (g.S.Source.left c.args.input.now) (g.S.Source.left c.lines.input) (g.S.Source.left c.next.new.from)
+    c.lines.lines.taken c.lines.lines c.next.new.self
     c.lines.invariant.took (rw c.in-Ok-End.field-0-is at c.in-Ok-End.ensures.ok)
 
 pub returns-in-Ok-End-clause-took : goal.returns-in-Ok-End-clause-took
@@ -145,21 +191,33 @@ returns-in-Err-TooMuch-clause-ended g c = tt
 
 pub returns-in-Err-TooMuch-clause-took : goal.returns-in-Err-TooMuch-clause-took
 returns-in-Err-TooMuch-clause-took g c e =
-    let n : c.next.new.self.taken ≡ 2 ^ 30 = (rw c.in-Err-TooMuch.field-0-is at c.in-Err-TooMuch.ensures.too_much) c.lines.invariant.no_fault refl in
+    let n : c.next.new.self.taken ≡ 2 ^ 30 = (rw c.in-Err-TooMuch.field-0-is at c.in-Err-TooMuch.ensures.too_much)
+    c.lines.invariant.no_fault refl in
     takes_most (g.S.Source.left c.args.input.now) (g.S.Source.left c.next.new.from) c.next.new.self.taken
-    (took_both (g.S.Source.left c.args.input.now) (g.S.Source.left c.lines.input) (g.S.Source.left c.next.new.from) 0 c.lines.lines.taken
+    (took_both (g.S.Source.left c.args.input.now) (g.S.Source.left c.lines.input) (g.S.Source.left c.next.new.from) 0
+    c.lines.lines.taken
     c.next.new.self.taken c.lines.invariant.took c.next.ensures.took) n
 
 pub returns-in-Ok-End-clause-whole : goal.returns-in-Ok-End-clause-whole
 returns-in-Ok-End-clause-whole g c =
-    Answered-end (rows_of c.args.policy.now) (g.S.Source.left c.args.input.now) (g.K.Sink.written c.args.output.now) (g.D.Shelf.world c.args.shelf.now) c.lines.lines (g.S.Source.left c.lines.input) (g.K.Sink.written c.flush.new.output) (g.D.Shelf.world c.lines.shelf) (kept c.lines.machine) c.next.new.self (g.S.Source.left c.next.new.from)
-    (stood g (goal.at.returns-in-Ok-End-clause-whole g c).After-next (λ e. absurd (cc (e, c.in-Ok-End.is, c.in-Ok-End.field-0-is))) (λ e. absurd (cc (e, c.in-Ok-End.is, c.in-Ok-End.field-0-is))))
+    Answered-end (rows_of c.args.policy.now) (g.S.Source.left c.args.input.now) (g.K.Sink.written c.args.output.now)
+    (g.D.Shelf.world c.args.shelf.now) c.lines.lines (g.S.Source.left c.lines.input)
+    (g.K.Sink.written c.flush.new.output) (g.D.Shelf.world c.lines.shelf) (kept c.lines.machine) c.next.new.self
+    (g.S.Source.left c.next.new.from)
+    (stood g (goal.at.returns-in-Ok-End-clause-whole g c).After-next
+    (λ e. absurd (cc (e, c.in-Ok-End.is, c.in-Ok-End.field-0-is)))
+    (λ e. absurd (cc (e, c.in-Ok-End.is, c.in-Ok-End.field-0-is))))
     (rw c.in-Ok-End.field-0-is at c.in-Ok-End.ensures.ok)
 
 pub returns-in-Ok-End-clause-shelf : goal.returns-in-Ok-End-clause-shelf
 returns-in-Ok-End-clause-shelf g c =
-    Left-end (rows_of c.args.policy.now) (g.S.Source.left c.args.input.now) (g.K.Sink.written c.args.output.now) (g.D.Shelf.world c.args.shelf.now) c.lines.lines (g.S.Source.left c.lines.input) (g.K.Sink.written c.flush.new.output) (g.D.Shelf.world c.lines.shelf) (kept c.lines.machine) c.next.new.self (g.S.Source.left c.next.new.from)
-    (stood g (goal.at.returns-in-Ok-End-clause-shelf g c).After-next (λ e. absurd (cc (e, c.in-Ok-End.is, c.in-Ok-End.field-0-is))) (λ e. absurd (cc (e, c.in-Ok-End.is, c.in-Ok-End.field-0-is))))
+    Left-end (rows_of c.args.policy.now) (g.S.Source.left c.args.input.now) (g.K.Sink.written c.args.output.now)
+    (g.D.Shelf.world c.args.shelf.now) c.lines.lines (g.S.Source.left c.lines.input)
+    (g.K.Sink.written c.flush.new.output) (g.D.Shelf.world c.lines.shelf) (kept c.lines.machine) c.next.new.self
+    (g.S.Source.left c.next.new.from)
+    (stood g (goal.at.returns-in-Ok-End-clause-shelf g c).After-next
+    (λ e. absurd (cc (e, c.in-Ok-End.is, c.in-Ok-End.field-0-is)))
+    (λ e. absurd (cc (e, c.in-Ok-End.is, c.in-Ok-End.field-0-is))))
     (rw c.in-Ok-End.field-0-is at c.in-Ok-End.ensures.ok)
 
 pub returns-in-Ok-End-clause-prefix : goal.returns-in-Ok-End-clause-prefix
@@ -167,14 +225,21 @@ returns-in-Ok-End-clause-prefix g c = begun g (goal.at.returns-in-Ok-End-clause-
 
 pub returns-in-Ok-End-clause-most_only : goal.returns-in-Ok-End-clause-most_only
 returns-in-Ok-End-clause-most_only g c =
-    AllTold-weaker (rows_of c.args.policy.now) (g.S.Source.left c.args.input.now) (g.K.Sink.written c.args.output.now) (g.D.Shelf.world c.args.shelf.now) _ _ (λ input before world no most. absurd (no most))
-    (Most-end (rows_of c.args.policy.now) (g.S.Source.left c.args.input.now) (g.K.Sink.written c.args.output.now) (g.D.Shelf.world c.args.shelf.now) c.lines.lines (g.S.Source.left c.lines.input) (g.K.Sink.written c.flush.new.output) (g.D.Shelf.world c.lines.shelf) (kept c.lines.machine) c.next.new.self (g.S.Source.left c.next.new.from)
-    (stood g (goal.at.returns-in-Ok-End-clause-most_only g c).After-next (λ e. absurd (cc (e, c.in-Ok-End.is, c.in-Ok-End.field-0-is))) (λ e. absurd (cc (e, c.in-Ok-End.is, c.in-Ok-End.field-0-is))))
+    AllTold-weaker (rows_of c.args.policy.now) (g.S.Source.left c.args.input.now) (g.K.Sink.written c.args.output.now)
+    (g.D.Shelf.world c.args.shelf.now) _ _ (λ input before world no most. absurd (no most))
+    (Most-end (rows_of c.args.policy.now) (g.S.Source.left c.args.input.now) (g.K.Sink.written c.args.output.now)
+    (g.D.Shelf.world c.args.shelf.now) c.lines.lines (g.S.Source.left c.lines.input)
+    (g.K.Sink.written c.flush.new.output) (g.D.Shelf.world c.lines.shelf) (kept c.lines.machine) c.next.new.self
+    (g.S.Source.left c.next.new.from)
+    (stood g (goal.at.returns-in-Ok-End-clause-most_only g c).After-next
+    (λ e. absurd (cc (e, c.in-Ok-End.is, c.in-Ok-End.field-0-is)))
+    (λ e. absurd (cc (e, c.in-Ok-End.is, c.in-Ok-End.field-0-is))))
     (rw c.in-Ok-End.field-0-is at c.in-Ok-End.ensures.ok))
 
 pub returns-in-Ok-End-clause-at_most : goal.returns-in-Ok-End-clause-at_most
 returns-in-Ok-End-clause-at_most g c =
-    takes_more (g.S.Source.left c.args.input.now) (g.S.Source.left c.lines.input) (g.S.Source.left c.next.new.from) c.lines.lines.taken c.next.new.self.taken c.lines.invariant.took c.next.ensures.took c.next.ensures.within
+    takes_more (g.S.Source.left c.args.input.now) (g.S.Source.left c.lines.input) (g.S.Source.left c.next.new.from)
+    c.lines.lines.taken c.next.new.self.taken c.lines.invariant.took c.next.ensures.took c.next.ensures.within
 
 pub returns-in-Ok-End-clause-first : goal.returns-in-Ok-End-clause-first
 returns-in-Ok-End-clause-first g c e = absurd (never_ok _ tt Memory refl e)
@@ -223,27 +288,41 @@ returns-in-Err-ReadFault-clause-prefix g c = begun g (goal.at.returns-in-Err-Rea
 
 pub returns-in-Err-ReadFault-clause-most_only : goal.returns-in-Err-ReadFault-clause-most_only
 returns-in-Err-ReadFault-clause-most_only g c =
-    let lt : c.next.new.self.taken < 2 ^ 30 = (rw c.in-Err-ReadFault.field-0-is at c.in-Err-ReadFault.ensures.open) c.lines.invariant.no_fault refl in
-    AllTold-weaker (rows_of c.args.policy.now) (g.S.Source.left c.args.input.now) (g.K.Sink.written c.args.output.now) (g.D.Shelf.world c.args.shelf.now) _ _ (λ input before world no most. absurd (no most))
-    (Most-stop (rows_of c.args.policy.now) (g.S.Source.left c.args.input.now) (g.K.Sink.written c.args.output.now) (g.D.Shelf.world c.args.shelf.now) c.lines.lines.held c.lines.lines.taken (g.S.Source.left c.lines.input) (g.K.Sink.written c.flush.new.output) (g.D.Shelf.world c.lines.shelf) (kept c.lines.machine) (g.S.Source.left c.next.new.from) c.next.new.self.taken
-    (stood g (goal.at.returns-in-Err-ReadFault-clause-most_only g c).After-next (λ e. absurd (cc (e, c.in-Err-ReadFault.is))) (λ e. absurd (cc (e, c.in-Err-ReadFault.is))))
+    let lt : c.next.new.self.taken < 2 ^ 30 = (rw c.in-Err-ReadFault.field-0-is at c.in-Err-ReadFault.ensures.open)
+    c.lines.invariant.no_fault refl in
+    AllTold-weaker (rows_of c.args.policy.now) (g.S.Source.left c.args.input.now) (g.K.Sink.written c.args.output.now)
+    (g.D.Shelf.world c.args.shelf.now) _ _ (λ input before world no most. absurd (no most))
+    (Most-stop (rows_of c.args.policy.now) (g.S.Source.left c.args.input.now) (g.K.Sink.written c.args.output.now)
+    (g.D.Shelf.world c.args.shelf.now) c.lines.lines.held c.lines.lines.taken (g.S.Source.left c.lines.input)
+    (g.K.Sink.written c.flush.new.output) (g.D.Shelf.world c.lines.shelf) (kept c.lines.machine)
+    (g.S.Source.left c.next.new.from) c.next.new.self.taken
+    (stood g (goal.at.returns-in-Err-ReadFault-clause-most_only g c).After-next
+    (λ e. absurd (cc (e, c.in-Err-ReadFault.is))) (λ e. absurd (cc (e, c.in-Err-ReadFault.is))))
     (c.in-Err-ReadFault.ensures.stops c.lines.invariant.no_fault) lt)
 
 pub returns-in-Err-ReadFault-clause-at_most : goal.returns-in-Err-ReadFault-clause-at_most
 returns-in-Err-ReadFault-clause-at_most g c =
-    takes_more (g.S.Source.left c.args.input.now) (g.S.Source.left c.lines.input) (g.S.Source.left c.next.new.from) c.lines.lines.taken c.next.new.self.taken c.lines.invariant.took c.next.ensures.took c.next.ensures.within
+    takes_more (g.S.Source.left c.args.input.now) (g.S.Source.left c.lines.input) (g.S.Source.left c.next.new.from)
+    c.lines.lines.taken c.next.new.self.taken c.lines.invariant.took c.next.ensures.took c.next.ensures.within
 
 pub returns-in-Err-ReadFault-clause-taken : goal.returns-in-Err-ReadFault-clause-taken
 returns-in-Err-ReadFault-clause-taken g c e =
-    AllTold-weaker (rows_of c.args.policy.now) (g.S.Source.left c.args.input.now) (g.K.Sink.written c.args.output.now) (g.D.Shelf.world c.args.shelf.now) _ _ (λ input before world both. both.0)
-    (Answered-stop (rows_of c.args.policy.now) (g.S.Source.left c.args.input.now) (g.K.Sink.written c.args.output.now) (g.D.Shelf.world c.args.shelf.now) c.lines.lines.held c.lines.lines.taken (g.S.Source.left c.lines.input) (g.K.Sink.written c.flush.new.output) (g.D.Shelf.world c.lines.shelf) (kept c.lines.machine) (g.S.Source.left c.next.new.from) c.next.new.self.taken
-    (stood g (goal.at.returns-in-Err-ReadFault-clause-taken g c).After-next (λ e. absurd (cc (e, c.in-Err-ReadFault.is))) (λ e. absurd (cc (e, c.in-Err-ReadFault.is))))
+    AllTold-weaker (rows_of c.args.policy.now) (g.S.Source.left c.args.input.now) (g.K.Sink.written c.args.output.now)
+    (g.D.Shelf.world c.args.shelf.now) _ _ (λ input before world both. both.0)
+    (Answered-stop (rows_of c.args.policy.now) (g.S.Source.left c.args.input.now) (g.K.Sink.written c.args.output.now)
+    (g.D.Shelf.world c.args.shelf.now) c.lines.lines.held c.lines.lines.taken (g.S.Source.left c.lines.input)
+    (g.K.Sink.written c.flush.new.output) (g.D.Shelf.world c.lines.shelf) (kept c.lines.machine)
+    (g.S.Source.left c.next.new.from) c.next.new.self.taken
+    (stood g (goal.at.returns-in-Err-ReadFault-clause-taken g c).After-next
+    (λ e. absurd (cc (e, c.in-Err-ReadFault.is))) (λ e. absurd (cc (e, c.in-Err-ReadFault.is))))
     (c.in-Err-ReadFault.ensures.stops c.lines.invariant.no_fault))
 
 pub returns-in-Err-ReadFault-clause-source : goal.returns-in-Err-ReadFault-clause-source
 returns-in-Err-ReadFault-clause-source g c e =
-    let rose : Rose (g.S.Source.faults c.lines.input) (g.S.Source.faults c.next.new.from) = (rw c.in-Err-ReadFault.field-0-is at c.in-Err-ReadFault.ensures.cause) c.lines.invariant.no_fault refl in
-    rose_on (g.S.Source.faults c.args.input.now) (g.S.Source.faults c.lines.input) (g.S.Source.faults c.next.new.from) c.lines.invariant.source c.next.ensures.later rose
+    let rose : Rose (g.S.Source.faults c.lines.input) (g.S.Source.faults c.next.new.from) =
+    (rw c.in-Err-ReadFault.field-0-is at c.in-Err-ReadFault.ensures.cause) c.lines.invariant.no_fault refl in
+    rose_on (g.S.Source.faults c.args.input.now) (g.S.Source.faults c.lines.input) (g.S.Source.faults c.next.new.from)
+    c.lines.invariant.source c.next.ensures.later rose
 
 pub returns-in-Err-ReadFault-clause-faithful : goal.returns-in-Err-ReadFault-clause-faithful
 returns-in-Err-ReadFault-clause-faithful g c = c.lines.invariant.faithful
@@ -274,26 +353,36 @@ returns-in-Err-TooMuch-clause-prefix g c = begun g (goal.at.returns-in-Err-TooMu
 
 pub returns-in-Err-TooMuch-clause-much : goal.returns-in-Err-TooMuch-clause-much
 returns-in-Err-TooMuch-clause-much g c e =
-    let n : c.next.new.self.taken ≡ 2 ^ 30 = (rw c.in-Err-TooMuch.field-0-is at c.in-Err-TooMuch.ensures.too_much) c.lines.invariant.no_fault refl in
+    let n : c.next.new.self.taken ≡ 2 ^ 30 = (rw c.in-Err-TooMuch.field-0-is at c.in-Err-TooMuch.ensures.too_much)
+    c.lines.invariant.no_fault refl in
     has_most (g.S.Source.left c.args.input.now) (g.S.Source.left c.next.new.from) c.next.new.self.taken
-    (took_both (g.S.Source.left c.args.input.now) (g.S.Source.left c.lines.input) (g.S.Source.left c.next.new.from) 0 c.lines.lines.taken
+    (took_both (g.S.Source.left c.args.input.now) (g.S.Source.left c.lines.input) (g.S.Source.left c.next.new.from) 0
+    c.lines.lines.taken
     c.next.new.self.taken c.lines.invariant.took c.next.ensures.took) n
 
 pub returns-in-Err-TooMuch-clause-most : goal.returns-in-Err-TooMuch-clause-most
 returns-in-Err-TooMuch-clause-most g c e =
-    let n : c.next.new.self.taken ≡ 2 ^ 30 = (rw c.in-Err-TooMuch.field-0-is at c.in-Err-TooMuch.ensures.too_much) c.lines.invariant.no_fault refl in
-    AllTold-weaker (rows_of c.args.policy.now) (g.S.Source.left c.args.input.now) (g.K.Sink.written c.args.output.now) (g.D.Shelf.world c.args.shelf.now) _ _ (λ input before world both. both.1 n)
-    (Answered-stop (rows_of c.args.policy.now) (g.S.Source.left c.args.input.now) (g.K.Sink.written c.args.output.now) (g.D.Shelf.world c.args.shelf.now) c.lines.lines.held c.lines.lines.taken (g.S.Source.left c.lines.input) (g.K.Sink.written c.flush.new.output) (g.D.Shelf.world c.lines.shelf) (kept c.lines.machine) (g.S.Source.left c.next.new.from) c.next.new.self.taken
-    (stood g (goal.at.returns-in-Err-TooMuch-clause-most g c).After-next (λ e. absurd (cc (e, c.in-Err-TooMuch.is))) (λ e. absurd (cc (e, c.in-Err-TooMuch.is))))
+    let n : c.next.new.self.taken ≡ 2 ^ 30 = (rw c.in-Err-TooMuch.field-0-is at c.in-Err-TooMuch.ensures.too_much)
+    c.lines.invariant.no_fault refl in
+    AllTold-weaker (rows_of c.args.policy.now) (g.S.Source.left c.args.input.now) (g.K.Sink.written c.args.output.now)
+    (g.D.Shelf.world c.args.shelf.now) _ _ (λ input before world both. both.1 n)
+    (Answered-stop (rows_of c.args.policy.now) (g.S.Source.left c.args.input.now) (g.K.Sink.written c.args.output.now)
+    (g.D.Shelf.world c.args.shelf.now) c.lines.lines.held c.lines.lines.taken (g.S.Source.left c.lines.input)
+    (g.K.Sink.written c.flush.new.output) (g.D.Shelf.world c.lines.shelf) (kept c.lines.machine)
+    (g.S.Source.left c.next.new.from) c.next.new.self.taken
+    (stood g (goal.at.returns-in-Err-TooMuch-clause-most g c).After-next (λ e. absurd (cc (e, c.in-Err-TooMuch.is)))
+    (λ e. absurd (cc (e, c.in-Err-TooMuch.is))))
     (c.in-Err-TooMuch.ensures.stops c.lines.invariant.no_fault))
 
 pub returns-in-Err-TooMuch-clause-most_only : goal.returns-in-Err-TooMuch-clause-most_only
 returns-in-Err-TooMuch-clause-most_only g c =
-    told_always (g.S.Source.left c.args.input.now) (g.K.Sink.written c.args.output.now) (g.D.Shelf.world c.args.shelf.now) _ (λ input before world most. inl refl)
+    told_always (g.S.Source.left c.args.input.now) (g.K.Sink.written c.args.output.now)
+    (g.D.Shelf.world c.args.shelf.now) _ (λ input before world most. inl refl)
 
 pub returns-in-Err-TooMuch-clause-at_most : goal.returns-in-Err-TooMuch-clause-at_most
 returns-in-Err-TooMuch-clause-at_most g c =
-    takes_more (g.S.Source.left c.args.input.now) (g.S.Source.left c.lines.input) (g.S.Source.left c.next.new.from) c.lines.lines.taken c.next.new.self.taken c.lines.invariant.took c.next.ensures.took c.next.ensures.within
+    takes_more (g.S.Source.left c.args.input.now) (g.S.Source.left c.lines.input) (g.S.Source.left c.next.new.from)
+    c.lines.lines.taken c.next.new.self.taken c.lines.invariant.took c.next.ensures.took c.next.ensures.within
 
 pub returns-in-Err-TooMuch-clause-faithful : goal.returns-in-Err-TooMuch-clause-faithful
 returns-in-Err-TooMuch-clause-faithful g c = c.lines.invariant.faithful
@@ -301,34 +390,79 @@ returns-in-Err-TooMuch-clause-faithful g c = c.lines.invariant.faithful
 pub returns-in-Err-TooMuch-clause-rows : goal.returns-in-Err-TooMuch-clause-rows
 returns-in-Err-TooMuch-clause-rows g c = c.lines.invariant.rows
 
--- ---- a line is given
+-- ---- a line is read
 
 pub lines-preserved : goal.lines-preserved
 lines-preserved g c =
-    let replies = answered (rows_of c.lines.policy) (rows_of c.args.policy.now) c.in-Ok.line c.text.result.now c.next.new.self.text (kept c.lines.machine) (g.D.Shelf.world c.lines.shelf) c.flush.new.out.items
-    (kept c.reply_to.new.machine) (g.D.Shelf.world c.reply_to.new.shelf) c.reply_to.new.out.items c.lines.invariant.rows c.text.ensures c.in-Ok-reply_to.ensures.replies in
+    let replies = answered (rows_of c.lines.policy) (rows_of c.args.policy.now) c.in-Ok.line c.text.result.now
+    c.next.new.self.text (kept c.lines.machine) (g.D.Shelf.world c.lines.shelf) c.flush.new.out.items
+    (kept c.reply_to.new.machine) (g.D.Shelf.world c.reply_to.new.shelf) c.reply_to.new.out.items c.lines.invariant.rows
+    c.text.ensures c.in-Ok-reply_to.ensures.replies in
     record {
       law = c.lines.invariant.law;
-      held = Held-reply (rows_of c.args.policy.now) (g.S.Source.left c.args.input.now) (g.K.Sink.written c.args.output.now) (g.D.Shelf.world c.args.shelf.now) c.lines.lines (g.S.Source.left c.lines.input) (g.K.Sink.written c.flush.new.output) c.flush.new.out.items (g.D.Shelf.world c.lines.shelf) (kept c.lines.machine) c.next.new.self (g.S.Source.left c.next.new.from)
-          (g.D.Shelf.world c.reply_to.new.shelf) (kept c.reply_to.new.machine) c.in-Ok.line replies.octets c.reply_to.new.out.items (flushed g (goal.at.lines-preserved g c).After-next)
+      held = Held-reply (rows_of c.args.policy.now) (g.S.Source.left c.args.input.now)
+          (g.K.Sink.written c.args.output.now) (g.D.Shelf.world c.args.shelf.now) c.lines.lines
+          (g.S.Source.left c.lines.input) (g.K.Sink.written c.flush.new.output) c.flush.new.out.items
+          (g.D.Shelf.world c.lines.shelf) (kept c.lines.machine) c.next.new.self (g.S.Source.left c.next.new.from)
+          (g.D.Shelf.world c.reply_to.new.shelf) (kept c.reply_to.new.machine) c.in-Ok.line replies.octets
+          c.reply_to.new.out.items (flushed g (goal.at.lines-preserved g c).After-next)
           c.in-Ok.ensures.ok replies.replies replies.behind;
       no_fault = c.in-Ok.ensures.well.1;
-      took = took_both (g.S.Source.left c.args.input.now) (g.S.Source.left c.lines.input) (g.S.Source.left c.next.new.from) 0 c.lines.lines.taken c.next.new.self.taken c.lines.invariant.took c.next.ensures.took;
+      took = took_both (g.S.Source.left c.args.input.now) (g.S.Source.left c.lines.input)
+          (g.S.Source.left c.next.new.from) 0 c.lines.lines.taken c.next.new.self.taken c.lines.invariant.took
+          c.next.ensures.took;
       within = c.next.ensures.within;
       source = omega (arith, c.next.ensures.later, c.lines.invariant.source);
       sink = omega (arith, c.flush.ensures.later, c.lines.invariant.sink);
-      changes = omega (arith, c.reply_to.ensures.counted, c.in-Ok.ensures.shorter (not_end (rows_of c.args.policy.now) c.in-Ok.line c.next.new.self.text (kept c.lines.machine) (g.D.Shelf.world c.lines.shelf) replies.octets (kept c.reply_to.new.machine) (g.D.Shelf.world c.reply_to.new.shelf) replies.replies), c.lines.invariant.changes, c.next.ensures.within, c.lines.invariant.within);
-      turns = omega (arith, c.reply_to.ensures.turned, c.in-Ok.ensures.shorter (not_end (rows_of c.args.policy.now) c.in-Ok.line c.next.new.self.text (kept c.lines.machine) (g.D.Shelf.world c.lines.shelf) replies.octets (kept c.reply_to.new.machine) (g.D.Shelf.world c.reply_to.new.shelf) replies.replies), c.lines.invariant.turns, c.next.ensures.within, c.lines.invariant.within);
-      judged = subst (λ (r : PolicyRows). IsJudgedBy r c.reply_to.new.machine.engine.keyring) c.lines.invariant.rows c.reply_to.ensures.judged;
+      changes = omega (
+        arith,
+        c.reply_to.ensures.counted,
+        c.in-Ok.ensures.shorter (not_end (rows_of c.args.policy.now) c.in-Ok.line c.next.new.self.text
+            (kept c.lines.machine) (g.D.Shelf.world c.lines.shelf) replies.octets (kept c.reply_to.new.machine)
+            (g.D.Shelf.world c.reply_to.new.shelf) replies.replies),
+        c.lines.invariant.changes,
+        c.next.ensures.within,
+        c.lines.invariant.within,
+      );
+      turns = omega (
+        arith,
+        c.reply_to.ensures.turned,
+        c.in-Ok.ensures.shorter (not_end (rows_of c.args.policy.now) c.in-Ok.line c.next.new.self.text
+            (kept c.lines.machine) (g.D.Shelf.world c.lines.shelf) replies.octets (kept c.reply_to.new.machine)
+            (g.D.Shelf.world c.reply_to.new.shelf) replies.replies),
+        c.lines.invariant.turns,
+        c.next.ensures.within,
+        c.lines.invariant.within,
+      );
+      judged = subst (λ (r : PolicyRows). IsJudgedBy r c.reply_to.new.machine.engine.keyring) c.lines.invariant.rows
+          c.reply_to.ensures.judged;
       rows = c.reply_to.ensures.rows ∙ c.lines.invariant.rows;
       faithful = c.reply_to.ensures.faithful;
+      asked = HasAsked-line (rows_of c.args.policy.now) c.args.policy.now (g.D.Shelf.world c.args.shelf.now)
+          (g.S.Source.left c.args.input.now) (g.K.Sink.written c.args.output.now)
+          c.lines.lines (g.S.Source.left c.lines.input) (g.D.Shelf.world c.lines.shelf) (kept c.lines.machine)
+          c.lines.policy c.next.new.self (g.S.Source.left c.next.new.from)
+          (g.D.Shelf.world c.reply_to.new.shelf) (kept c.reply_to.new.machine) c.reply_to.new.policy c.in-Ok.line
+          replies.octets c.lines.invariant.asked c.in-Ok.ensures.ok replies.replies
+          (subst (λ (x : List ℕ). LineAsks done (command_by c.in-Ok.line x) (kept c.lines.machine).state
+          (kept c.reply_to.new.machine).state c.lines.policy c.reply_to.new.policy) c.text.ensures
+          c.in-Ok-reply_to.ensures.asked);
     }
 
 pub lines-smaller : goal.lines-smaller
 lines-smaller g c =
-    let replies = answered (rows_of c.lines.policy) (rows_of c.args.policy.now) c.in-Ok.line c.text.result.now c.next.new.self.text (kept c.lines.machine) (g.D.Shelf.world c.lines.shelf) c.flush.new.out.items
-    (kept c.reply_to.new.machine) (g.D.Shelf.world c.reply_to.new.shelf) c.reply_to.new.out.items c.lines.invariant.rows c.text.ensures c.in-Ok-reply_to.ensures.replies in
-    omega (arith, c.in-Ok.ensures.shorter (not_end (rows_of c.args.policy.now) c.in-Ok.line c.next.new.self.text (kept c.lines.machine) (g.D.Shelf.world c.lines.shelf) replies.octets (kept c.reply_to.new.machine) (g.D.Shelf.world c.reply_to.new.shelf) replies.replies), c.next.ensures.within, c.lines.invariant.within)
+    let replies = answered (rows_of c.lines.policy) (rows_of c.args.policy.now) c.in-Ok.line c.text.result.now
+    c.next.new.self.text (kept c.lines.machine) (g.D.Shelf.world c.lines.shelf) c.flush.new.out.items
+    (kept c.reply_to.new.machine) (g.D.Shelf.world c.reply_to.new.shelf) c.reply_to.new.out.items c.lines.invariant.rows
+    c.text.ensures c.in-Ok-reply_to.ensures.replies in
+    omega (
+      arith,
+      c.in-Ok.ensures.shorter (not_end (rows_of c.args.policy.now) c.in-Ok.line c.next.new.self.text
+          (kept c.lines.machine) (g.D.Shelf.world c.lines.shelf) replies.octets (kept c.reply_to.new.machine)
+          (g.D.Shelf.world c.reply_to.new.shelf) replies.replies),
+      c.next.ensures.within,
+      c.lines.invariant.within,
+    )
 
 pub reply_to-requires-clause-countable : goal.reply_to-requires-clause-countable
 reply_to-requires-clause-countable g c = omega (arith, c.lines.invariant.changes)
@@ -338,62 +472,85 @@ reply_to-requires-clause-turnable g c = omega (arith, c.lines.invariant.turns)
 
 pub reply_to-requires-clause-judged : goal.reply_to-requires-clause-judged
 reply_to-requires-clause-judged g c =
-    subst (λ (r : PolicyRows). IsJudgedBy r c.lines.machine.engine.keyring) (sym c.lines.invariant.rows) c.lines.invariant.judged
+    subst (λ (r : PolicyRows). IsJudgedBy r c.lines.machine.engine.keyring) (sym c.lines.invariant.rows)
+    c.lines.invariant.judged
 
 pub reply_to-requires-clause-faithful : goal.reply_to-requires-clause-faithful
 reply_to-requires-clause-faithful g c = c.lines.invariant.faithful
 
--- ---- no memory is found for a line
+-- ---- out of memory at a line
 
 pub returns-in_err-write_all-clause-whole : goal.returns-in_err-write_all-clause-whole
 returns-in_err-write_all-clause-whole g c =
-    on_err c.from_residual-in_err-write_all.result Write _ (stopped c.from_residual-in_err-write_all.result Write c.from_residual-in_err-write_all.ensures.1)
+    on_err c.from_residual-in_err-write_all.result Write _
+    (stopped c.from_residual-in_err-write_all.result Write c.from_residual-in_err-write_all.ensures.1)
 
 pub returns-in_err-write_all-clause-shelf : goal.returns-in_err-write_all-clause-shelf
 returns-in_err-write_all-clause-shelf g c =
-    on_err c.from_residual-in_err-write_all.result Write _ (stopped c.from_residual-in_err-write_all.result Write c.from_residual-in_err-write_all.ensures.1)
+    on_err c.from_residual-in_err-write_all.result Write _
+    (stopped c.from_residual-in_err-write_all.result Write c.from_residual-in_err-write_all.ensures.1)
 
 pub returns-in_err-write_all-clause-first : goal.returns-in_err-write_all-clause-first
 returns-in_err-write_all-clause-first g c e =
-    absurd (never c.from_residual-in_err-write_all.result Write Memory (stopped c.from_residual-in_err-write_all.result Write c.from_residual-in_err-write_all.ensures.1) tt e)
+    absurd (never c.from_residual-in_err-write_all.result Write Memory
+    (stopped c.from_residual-in_err-write_all.result Write c.from_residual-in_err-write_all.ensures.1) tt e)
 
 pub returns-in_err-write_all-clause-source : goal.returns-in_err-write_all-clause-source
 returns-in_err-write_all-clause-source g c e =
-    absurd (never c.from_residual-in_err-write_all.result Write Read (stopped c.from_residual-in_err-write_all.result Write c.from_residual-in_err-write_all.ensures.1) tt e)
+    absurd (never c.from_residual-in_err-write_all.result Write Read
+    (stopped c.from_residual-in_err-write_all.result Write c.from_residual-in_err-write_all.ensures.1) tt e)
 
 pub returns-in_err-write_all-clause-taken : goal.returns-in_err-write_all-clause-taken
 returns-in_err-write_all-clause-taken g c e =
-    absurd (never c.from_residual-in_err-write_all.result Write Read (stopped c.from_residual-in_err-write_all.result Write c.from_residual-in_err-write_all.ensures.1) tt e)
+    absurd (never c.from_residual-in_err-write_all.result Write Read
+    (stopped c.from_residual-in_err-write_all.result Write c.from_residual-in_err-write_all.ensures.1) tt e)
 
 pub returns-in_err-write_all-clause-most : goal.returns-in_err-write_all-clause-most
 returns-in_err-write_all-clause-most g c e =
-    absurd (never c.from_residual-in_err-write_all.result Write TooMuch (stopped c.from_residual-in_err-write_all.result Write c.from_residual-in_err-write_all.ensures.1) tt e)
+    absurd (never c.from_residual-in_err-write_all.result Write TooMuch
+    (stopped c.from_residual-in_err-write_all.result Write c.from_residual-in_err-write_all.ensures.1) tt e)
 
 pub returns-in_err-write_all-clause-much : goal.returns-in_err-write_all-clause-much
 returns-in_err-write_all-clause-much g c e =
-    absurd (never c.from_residual-in_err-write_all.result Write TooMuch (stopped c.from_residual-in_err-write_all.result Write c.from_residual-in_err-write_all.ensures.1) tt e)
+    absurd (never c.from_residual-in_err-write_all.result Write TooMuch
+    (stopped c.from_residual-in_err-write_all.result Write c.from_residual-in_err-write_all.ensures.1) tt e)
 
 pub returns-in_err-write_all-clause-at_most : goal.returns-in_err-write_all-clause-at_most
 returns-in_err-write_all-clause-at_most g c =
-    takes_more (g.S.Source.left c.args.input.now) (g.S.Source.left c.lines.input) (g.S.Source.left c.next.new.from) c.lines.lines.taken c.next.new.self.taken c.lines.invariant.took c.next.ensures.took c.next.ensures.within
+    takes_more (g.S.Source.left c.args.input.now) (g.S.Source.left c.lines.input) (g.S.Source.left c.next.new.from)
+    c.lines.lines.taken c.next.new.self.taken c.lines.invariant.took c.next.ensures.took c.next.ensures.within
 
 pub returns-in_err-write_all-clause-prefix : goal.returns-in_err-write_all-clause-prefix
 returns-in_err-write_all-clause-prefix g c =
-    Held-cut (rows_of c.args.policy.now) c.lines.invariant.law (g.S.Source.left c.args.input.now) (g.K.Sink.written c.args.output.now) (g.D.Shelf.world c.args.shelf.now) c.lines.lines.held c.lines.lines.taken (g.S.Source.left c.lines.input) (g.K.Sink.written c.flush.new.output) c.flush.new.out.items (g.D.Shelf.world c.lines.shelf) (kept c.lines.machine) (g.K.Sink.written c.write_all.new.to)
+    Held-cut (rows_of c.args.policy.now) c.lines.invariant.law (g.S.Source.left c.args.input.now)
+    (g.K.Sink.written c.args.output.now) (g.D.Shelf.world c.args.shelf.now) c.lines.lines.held c.lines.lines.taken
+    (g.S.Source.left c.lines.input) (g.K.Sink.written c.flush.new.output) c.flush.new.out.items
+    (g.D.Shelf.world c.lines.shelf) (kept c.lines.machine) (g.K.Sink.written c.write_all.new.to)
     (flushed g (goal.at.returns-in_err-write_all-clause-prefix g c).After-next)
-    (subst (λ (x : List ℕ). IfSome (g.K.Sink.written c.flush.new.output) (λ old. GainsPrefix old (g.K.Sink.written c.write_all.new.to) x)) (c.deref.ensures.value ∙ c.in_default.ensures.kept) c.in_err-write_all.ensures.err)
+    (subst (λ (x : List ℕ). IfSome (g.K.Sink.written c.flush.new.output)
+    (λ old. GainsPrefix old (g.K.Sink.written c.write_all.new.to) x))
+    (c.deref.ensures.value ∙ c.in_default.ensures.kept) c.in_err-write_all.ensures.err)
 
 pub returns-in_err-write_all-clause-most_only : goal.returns-in_err-write_all-clause-most_only
 returns-in_err-write_all-clause-most_only g c =
-    AllTold-weaker (rows_of c.args.policy.now) (g.S.Source.left c.args.input.now) (g.K.Sink.written c.args.output.now) (g.D.Shelf.world c.args.shelf.now) _ _ (λ input before world no most. absurd (no most))
-    (Held-most (rows_of c.args.policy.now) c.lines.invariant.law (g.S.Source.left c.args.input.now) (g.K.Sink.written c.args.output.now) (g.D.Shelf.world c.args.shelf.now) c.lines.lines.held c.lines.lines.taken (g.S.Source.left c.lines.input) (g.K.Sink.written c.flush.new.output) c.flush.new.out.items (g.D.Shelf.world c.lines.shelf) (kept c.lines.machine) (g.K.Sink.written c.write_all.new.to) (g.S.Source.left c.next.new.from) c.next.new.self.taken
+    AllTold-weaker (rows_of c.args.policy.now) (g.S.Source.left c.args.input.now) (g.K.Sink.written c.args.output.now)
+    (g.D.Shelf.world c.args.shelf.now) _ _ (λ input before world no most. absurd (no most))
+    (Held-most (rows_of c.args.policy.now) c.lines.invariant.law (g.S.Source.left c.args.input.now)
+    (g.K.Sink.written c.args.output.now) (g.D.Shelf.world c.args.shelf.now) c.lines.lines.held c.lines.lines.taken
+    (g.S.Source.left c.lines.input) (g.K.Sink.written c.flush.new.output) c.flush.new.out.items
+    (g.D.Shelf.world c.lines.shelf) (kept c.lines.machine) (g.K.Sink.written c.write_all.new.to)
+    (g.S.Source.left c.next.new.from) c.next.new.self.taken
     (flushed g (goal.at.returns-in_err-write_all-clause-most_only g c).After-next)
-    (subst (λ (x : List ℕ). IfSome (g.K.Sink.written c.flush.new.output) (λ old. GainsPrefix old (g.K.Sink.written c.write_all.new.to) x)) (c.deref.ensures.value ∙ c.in_default.ensures.kept) c.in_err-write_all.ensures.err) c.next.ensures.took)
+    (subst (λ (x : List ℕ). IfSome (g.K.Sink.written c.flush.new.output)
+    (λ old. GainsPrefix old (g.K.Sink.written c.write_all.new.to) x))
+    (c.deref.ensures.value ∙ c.in_default.ensures.kept) c.in_err-write_all.ensures.err) c.next.ensures.took)
 
 pub returns-in_err-write_all-clause-sink : goal.returns-in_err-write_all-clause-sink
 returns-in_err-write_all-clause-sink g c e =
-    rose_on (g.K.Sink.faults c.args.output.now) (g.K.Sink.faults c.flush.new.output) (g.K.Sink.faults c.write_all.new.to)
-    (omega (arith, c.lines.invariant.sink, c.flush.ensures.later)) c.write_all.ensures.later c.in_err-write_all.ensures.cause
+    rose_on (g.K.Sink.faults c.args.output.now) (g.K.Sink.faults c.flush.new.output)
+    (g.K.Sink.faults c.write_all.new.to)
+    (omega (arith, c.lines.invariant.sink, c.flush.ensures.later)) c.write_all.ensures.later
+    c.in_err-write_all.ensures.cause
 
 pub returns-in_err-write_all-clause-faithful : goal.returns-in_err-write_all-clause-faithful
 returns-in_err-write_all-clause-faithful g c = c.reply_to.ensures.faithful
@@ -424,37 +581,65 @@ returns-in_default-clause-much g c e = absurd (never _ Memory TooMuch refl tt e)
 
 pub returns-in_default-clause-prefix : goal.returns-in_default-clause-prefix
 returns-in_default-clause-prefix g c =
-    Begun-here (rows_of c.args.policy.now) c.lines.invariant.law (g.S.Source.left c.args.input.now) (g.K.Sink.written c.args.output.now) (g.D.Shelf.world c.args.shelf.now) c.lines.lines.held c.lines.lines.taken (g.S.Source.left c.lines.input) (g.K.Sink.written c.write_all.new.to) (g.D.Shelf.world c.lines.shelf) (kept c.lines.machine)
-    (Held-written (rows_of c.args.policy.now) (g.S.Source.left c.args.input.now) (g.K.Sink.written c.args.output.now) (g.D.Shelf.world c.args.shelf.now) c.lines.lines.held c.lines.lines.taken (g.S.Source.left c.lines.input) (g.K.Sink.written c.flush.new.output) c.flush.new.out.items (g.D.Shelf.world c.lines.shelf) (kept c.lines.machine) (g.K.Sink.written c.write_all.new.to)
+    Begun-here (rows_of c.args.policy.now) c.lines.invariant.law (g.S.Source.left c.args.input.now)
+    (g.K.Sink.written c.args.output.now) (g.D.Shelf.world c.args.shelf.now) c.lines.lines.held c.lines.lines.taken
+    (g.S.Source.left c.lines.input) (g.K.Sink.written c.write_all.new.to) (g.D.Shelf.world c.lines.shelf)
+    (kept c.lines.machine)
+    (Held-written (rows_of c.args.policy.now) (g.S.Source.left c.args.input.now) (g.K.Sink.written c.args.output.now)
+    (g.D.Shelf.world c.args.shelf.now) c.lines.lines.held c.lines.lines.taken (g.S.Source.left c.lines.input)
+    (g.K.Sink.written c.flush.new.output) c.flush.new.out.items (g.D.Shelf.world c.lines.shelf) (kept c.lines.machine)
+    (g.K.Sink.written c.write_all.new.to)
     (flushed g (goal.at.returns-in_default-clause-prefix g c).After-next)
-    (subst (λ (x : List ℕ). Becomes (g.K.Sink.written c.flush.new.output) (λ old. old ++ x) (g.K.Sink.written c.write_all.new.to)) (c.deref.ensures.value ∙ c.in_default.ensures.kept) c.in_ok-write_all.ensures.ok))
+    (subst (λ (x : List ℕ). Becomes (g.K.Sink.written c.flush.new.output)
+    (λ old. old ++ x) (g.K.Sink.written c.write_all.new.to)) (c.deref.ensures.value ∙ c.in_default.ensures.kept)
+    c.in_ok-write_all.ensures.ok))
 
 pub returns-in_default-clause-most_only : goal.returns-in_default-clause-most_only
-returns-in_default-clause-most_only g c = told_always (g.S.Source.left c.args.input.now) (g.K.Sink.written c.args.output.now) (g.D.Shelf.world c.args.shelf.now) _ (λ input before world most. inr refl)
+returns-in_default-clause-most_only g c = told_always (g.S.Source.left c.args.input.now)
+    (g.K.Sink.written c.args.output.now) (g.D.Shelf.world c.args.shelf.now) _ (λ input before world most. inr refl)
 
 pub returns-in_default-clause-at_most : goal.returns-in_default-clause-at_most
 returns-in_default-clause-at_most g c =
-    takes_more (g.S.Source.left c.args.input.now) (g.S.Source.left c.lines.input) (g.S.Source.left c.next.new.from) c.lines.lines.taken c.next.new.self.taken c.lines.invariant.took c.next.ensures.took c.next.ensures.within
+    takes_more (g.S.Source.left c.args.input.now) (g.S.Source.left c.lines.input) (g.S.Source.left c.next.new.from)
+    c.lines.lines.taken c.next.new.self.taken c.lines.invariant.took c.next.ensures.took c.next.ensures.within
 
 pub returns-in_default-clause-first : goal.returns-in_default-clause-first
 returns-in_default-clause-first g c e =
     let some : c.in-Ok.line ≢ End = search rules in
-    let m : MayPut (kept c.lines.machine).state (use_by c.in-Ok.line c.next.new.self.text) (g.D.Shelf.world c.lines.shelf) (g.D.Shelf.world c.reply_to.new.shelf) =
-    subst (λ (x : List ℕ). MayPut (kept c.lines.machine).state (use_by c.in-Ok.line x) (g.D.Shelf.world c.lines.shelf) (g.D.Shelf.world c.reply_to.new.shelf)) c.text.ensures c.in_default.ensures.entries in
-    Held-first (rows_of c.args.policy.now) (g.S.Source.left c.args.input.now) (g.K.Sink.written c.args.output.now) (g.D.Shelf.world c.args.shelf.now) c.lines.lines (g.S.Source.left c.lines.input) (g.K.Sink.written c.flush.new.output) c.flush.new.out.items (g.D.Shelf.world c.lines.shelf) (kept c.lines.machine) (g.K.Sink.written c.write_all.new.to) c.next.new.self (g.S.Source.left c.next.new.from) (g.D.Shelf.world c.reply_to.new.shelf) c.in-Ok.line
+    let m : MayPut (kept c.lines.machine).state (use_by c.in-Ok.line c.next.new.self.text)
+    (g.D.Shelf.world c.lines.shelf) (g.D.Shelf.world c.reply_to.new.shelf) =
+    subst (λ (x : List ℕ). MayPut (kept c.lines.machine).state (use_by c.in-Ok.line x) (g.D.Shelf.world c.lines.shelf)
+    (g.D.Shelf.world c.reply_to.new.shelf)) c.text.ensures c.in_default.ensures.entries in
+    Held-first (rows_of c.args.policy.now) (g.S.Source.left c.args.input.now) (g.K.Sink.written c.args.output.now)
+    (g.D.Shelf.world c.args.shelf.now) c.lines.lines (g.S.Source.left c.lines.input)
+    (g.K.Sink.written c.flush.new.output) c.flush.new.out.items (g.D.Shelf.world c.lines.shelf) (kept c.lines.machine)
+    (g.K.Sink.written c.write_all.new.to) c.next.new.self (g.S.Source.left c.next.new.from)
+    (g.D.Shelf.world c.reply_to.new.shelf) c.in-Ok.line
     (flushed g (goal.at.returns-in_default-clause-first g c).After-next)
-    (subst (λ (x : List ℕ). Becomes (g.K.Sink.written c.flush.new.output) (λ old. old ++ x) (g.K.Sink.written c.write_all.new.to)) (c.deref.ensures.value ∙ c.in_default.ensures.kept) c.in_ok-write_all.ensures.ok)
+    (subst (λ (x : List ℕ). Becomes (g.K.Sink.written c.flush.new.output)
+    (λ old. old ++ x) (g.K.Sink.written c.write_all.new.to)) (c.deref.ensures.value ∙ c.in_default.ensures.kept)
+    c.in_ok-write_all.ensures.ok)
     c.in-Ok.ensures.ok some m c.in-Ok.ensures.near
 
 pub returns-in_default-clause-reached : goal.returns-in_default-clause-reached
 returns-in_default-clause-reached g c =
     let some : c.in-Ok.line ≢ End = search rules in
-    let m : MayPut (kept c.lines.machine).state (use_by c.in-Ok.line c.next.new.self.text) (g.D.Shelf.world c.lines.shelf) (g.D.Shelf.world c.reply_to.new.shelf) =
-    subst (λ (x : List ℕ). MayPut (kept c.lines.machine).state (use_by c.in-Ok.line x) (g.D.Shelf.world c.lines.shelf) (g.D.Shelf.world c.reply_to.new.shelf)) c.text.ensures c.in_default.ensures.entries in
-    First-reached (rows_of c.args.policy.now) (g.S.Source.left c.args.input.now) (g.K.Sink.written c.args.output.now) (g.D.Shelf.world c.args.shelf.now) (g.S.Source.left c.next.new.from) (g.K.Sink.written c.write_all.new.to) (g.D.Shelf.world c.reply_to.new.shelf)
-    (Held-first (rows_of c.args.policy.now) (g.S.Source.left c.args.input.now) (g.K.Sink.written c.args.output.now) (g.D.Shelf.world c.args.shelf.now) c.lines.lines (g.S.Source.left c.lines.input) (g.K.Sink.written c.flush.new.output) c.flush.new.out.items (g.D.Shelf.world c.lines.shelf) (kept c.lines.machine) (g.K.Sink.written c.write_all.new.to) c.next.new.self (g.S.Source.left c.next.new.from) (g.D.Shelf.world c.reply_to.new.shelf) c.in-Ok.line
+    let m : MayPut (kept c.lines.machine).state (use_by c.in-Ok.line c.next.new.self.text)
+    (g.D.Shelf.world c.lines.shelf) (g.D.Shelf.world c.reply_to.new.shelf) =
+    subst (λ (x : List ℕ). MayPut (kept c.lines.machine).state (use_by c.in-Ok.line x) (g.D.Shelf.world c.lines.shelf)
+    (g.D.Shelf.world c.reply_to.new.shelf)) c.text.ensures c.in_default.ensures.entries in
+    First-reached (rows_of c.args.policy.now) (g.S.Source.left c.args.input.now) (g.K.Sink.written c.args.output.now)
+    (g.D.Shelf.world c.args.shelf.now) (g.S.Source.left c.next.new.from) (g.K.Sink.written c.write_all.new.to)
+    (g.D.Shelf.world c.reply_to.new.shelf)
+    (Held-first (rows_of c.args.policy.now) (g.S.Source.left c.args.input.now) (g.K.Sink.written c.args.output.now)
+    (g.D.Shelf.world c.args.shelf.now) c.lines.lines (g.S.Source.left c.lines.input)
+    (g.K.Sink.written c.flush.new.output) c.flush.new.out.items (g.D.Shelf.world c.lines.shelf) (kept c.lines.machine)
+    (g.K.Sink.written c.write_all.new.to) c.next.new.self (g.S.Source.left c.next.new.from)
+    (g.D.Shelf.world c.reply_to.new.shelf) c.in-Ok.line
     (flushed g (goal.at.returns-in_default-clause-reached g c).After-next)
-    (subst (λ (x : List ℕ). Becomes (g.K.Sink.written c.flush.new.output) (λ old. old ++ x) (g.K.Sink.written c.write_all.new.to)) (c.deref.ensures.value ∙ c.in_default.ensures.kept) c.in_ok-write_all.ensures.ok)
+    (subst (λ (x : List ℕ). Becomes (g.K.Sink.written c.flush.new.output)
+    (λ old. old ++ x) (g.K.Sink.written c.write_all.new.to)) (c.deref.ensures.value ∙ c.in_default.ensures.kept)
+    c.in_ok-write_all.ensures.ok)
     c.in-Ok.ensures.ok some m c.in-Ok.ensures.near)
 
 pub returns-in_default-clause-ended : goal.returns-in_default-clause-ended
@@ -466,20 +651,30 @@ returns-in_default-clause-took g c e = absurd (never _ Memory TooMuch refl tt e)
 pub returns-in_err-write_all-clause-reached : goal.returns-in_err-write_all-clause-reached
 returns-in_err-write_all-clause-reached g c =
     let some : c.in-Ok.line ≢ End = search rules in
-    let m : MayPut (kept c.lines.machine).state (use_by c.in-Ok.line c.next.new.self.text) (g.D.Shelf.world c.lines.shelf) (g.D.Shelf.world c.reply_to.new.shelf) =
-    subst (λ (x : List ℕ). MayPut (kept c.lines.machine).state (use_by c.in-Ok.line x) (g.D.Shelf.world c.lines.shelf) (g.D.Shelf.world c.reply_to.new.shelf)) c.text.ensures c.in_default.ensures.entries in
-    Held-reached_next (rows_of c.args.policy.now) (g.S.Source.left c.args.input.now) (g.K.Sink.written c.args.output.now) (g.D.Shelf.world c.args.shelf.now) c.lines.lines (g.S.Source.left c.lines.input) (g.K.Sink.written c.flush.new.output) c.flush.new.out.items (g.D.Shelf.world c.lines.shelf) (kept c.lines.machine) (g.K.Sink.written c.write_all.new.to) c.next.new.self (g.S.Source.left c.next.new.from) (g.D.Shelf.world c.reply_to.new.shelf) c.in-Ok.line
+    let m : MayPut (kept c.lines.machine).state (use_by c.in-Ok.line c.next.new.self.text)
+    (g.D.Shelf.world c.lines.shelf) (g.D.Shelf.world c.reply_to.new.shelf) =
+    subst (λ (x : List ℕ). MayPut (kept c.lines.machine).state (use_by c.in-Ok.line x) (g.D.Shelf.world c.lines.shelf)
+    (g.D.Shelf.world c.reply_to.new.shelf)) c.text.ensures c.in_default.ensures.entries in
+    Held-reached_next (rows_of c.args.policy.now) (g.S.Source.left c.args.input.now)
+    (g.K.Sink.written c.args.output.now) (g.D.Shelf.world c.args.shelf.now) c.lines.lines
+    (g.S.Source.left c.lines.input) (g.K.Sink.written c.flush.new.output) c.flush.new.out.items
+    (g.D.Shelf.world c.lines.shelf) (kept c.lines.machine) (g.K.Sink.written c.write_all.new.to) c.next.new.self
+    (g.S.Source.left c.next.new.from) (g.D.Shelf.world c.reply_to.new.shelf) c.in-Ok.line
     (flushed g (goal.at.returns-in_err-write_all-clause-reached g c).After-next)
-    (subst (λ (x : List ℕ). IfSome (g.K.Sink.written c.flush.new.output) (λ old. GainsPrefix old (g.K.Sink.written c.write_all.new.to) x)) (c.deref.ensures.value ∙ c.in_default.ensures.kept) c.in_err-write_all.ensures.err)
+    (subst (λ (x : List ℕ). IfSome (g.K.Sink.written c.flush.new.output)
+    (λ old. GainsPrefix old (g.K.Sink.written c.write_all.new.to) x))
+    (c.deref.ensures.value ∙ c.in_default.ensures.kept) c.in_err-write_all.ensures.err)
     c.in-Ok.ensures.ok some m
 
 pub returns-in_err-write_all-clause-ended : goal.returns-in_err-write_all-clause-ended
 returns-in_err-write_all-clause-ended g c =
-    on_err c.from_residual-in_err-write_all.result Write _ (stopped c.from_residual-in_err-write_all.result Write c.from_residual-in_err-write_all.ensures.1)
+    on_err c.from_residual-in_err-write_all.result Write _
+    (stopped c.from_residual-in_err-write_all.result Write c.from_residual-in_err-write_all.ensures.1)
 
 pub returns-in_err-write_all-clause-took : goal.returns-in_err-write_all-clause-took
 returns-in_err-write_all-clause-took g c e =
-    absurd (never c.from_residual-in_err-write_all.result Write TooMuch (stopped c.from_residual-in_err-write_all.result Write c.from_residual-in_err-write_all.ensures.1) tt e)
+    absurd (never c.from_residual-in_err-write_all.result Write TooMuch
+    (stopped c.from_residual-in_err-write_all.result Write c.from_residual-in_err-write_all.ensures.1) tt e)
 
 pub returns-in_default-clause-faithful : goal.returns-in_default-clause-faithful
 returns-in_default-clause-faithful g c = c.reply_to.ensures.faithful
@@ -491,8 +686,16 @@ returns-in_default-clause-rows g c = c.reply_to.ensures.rows ∙ c.lines.invaria
 
 pub lines-init : goal.lines-init
 lines-init g c = record {
-  law = (record { some = c.each_line_has_one_outcome.ensures.some (rows_of c.args.policy.now); one = c.each_line_has_one_outcome.ensures.one (rows_of c.args.policy.now); stays = c.each_line_has_one_outcome.ensures.stays (rows_of c.args.policy.now); tells = c.each_line_has_one_outcome.ensures.tells; tells_one = c.each_line_has_one_outcome.ensures.tells_one });
-  held = holds (rows_of c.args.policy.now) (g.S.Source.left c.args.input.now) (g.K.Sink.written c.args.output.now) (g.D.Shelf.world c.args.shelf.now) c.args.lines.now c.args.machine.now c.args.out.now.items c.requires.unread c.requires.engine c.requires.cursors c.requires.watches c.requires.nothing;
+  law = (record {
+    some = c.each_line_has_one_outcome.ensures.some (rows_of c.args.policy.now);
+    one = c.each_line_has_one_outcome.ensures.one (rows_of c.args.policy.now);
+    stays = c.each_line_has_one_outcome.ensures.stays (rows_of c.args.policy.now);
+    tells = c.each_line_has_one_outcome.ensures.tells;
+    tells_one = c.each_line_has_one_outcome.ensures.tells_one;
+  });
+  held = holds (rows_of c.args.policy.now) (g.S.Source.left c.args.input.now) (g.K.Sink.written c.args.output.now)
+      (g.D.Shelf.world c.args.shelf.now) c.args.lines.now c.args.machine.now c.args.out.now.items c.requires.unread
+      c.requires.engine c.requires.cursors c.requires.watches c.requires.nothing;
   no_fault = no_fault c.args.lines.now c.requires.unread;
   took = took_nothing (g.S.Source.left c.args.input.now) c.args.lines.now c.requires.unread;
   within = within c.args.lines.now c.requires.unread;
@@ -503,4 +706,66 @@ lines-init g c = record {
   judged = judged (rows_of c.args.policy.now) c.args.machine.now.engine c.requires.engine;
   rows = refl;
   faithful = c.requires.faithful;
+  asked = asks_nothing (rows_of c.args.policy.now) c.args.policy.now (g.D.Shelf.world c.args.shelf.now)
+      (g.S.Source.left c.args.input.now) (g.K.Sink.written c.args.output.now)
+      c.args.lines.now c.args.machine.now c.requires.unread c.requires.engine c.requires.cursors c.requires.watches;
 }
+
+-- ---- how often the policy was asked
+
+pub returns-in_err-flush-clause-asked : goal.returns-in_err-flush-clause-asked
+returns-in_err-flush-clause-asked g c =
+    asks_between (rows_of c.args.policy.now) c.args.policy.now (g.D.Shelf.world c.args.shelf.now)
+    (status_at c.from_residual.result) (g.S.Source.left c.args.input.now) (g.K.Sink.written c.args.output.now)
+    c.lines.lines.held c.lines.lines.taken (g.S.Source.left c.lines.input) (g.D.Shelf.world c.lines.shelf)
+    (kept c.lines.machine) c.lines.policy (g.S.Source.left c.lines.input)
+    (inl (ap status_at (stopped c.from_residual.result Write c.from_residual.ensures.1))) c.lines.invariant.asked
+
+pub returns-in-Ok-End-clause-asked : goal.returns-in-Ok-End-clause-asked
+returns-in-Ok-End-clause-asked g c =
+    asks_end (rows_of c.args.policy.now) c.args.policy.now (g.D.Shelf.world c.args.shelf.now)
+    (g.S.Source.left c.args.input.now) (g.K.Sink.written c.args.output.now) c.lines.lines
+    (g.S.Source.left c.lines.input) (g.D.Shelf.world c.lines.shelf) (kept c.lines.machine) c.lines.policy
+    c.next.new.self (g.S.Source.left c.next.new.from)
+    c.lines.invariant.asked (rw c.in-Ok-End.field-0-is at c.in-Ok-End.ensures.ok)
+
+pub returns-in-Err-ReadFault-clause-asked : goal.returns-in-Err-ReadFault-clause-asked
+returns-in-Err-ReadFault-clause-asked g c =
+    asks_stop (rows_of c.args.policy.now) c.args.policy.now (g.D.Shelf.world c.args.shelf.now) 3
+    (g.S.Source.left c.args.input.now) (g.K.Sink.written c.args.output.now) c.lines.lines.held c.lines.lines.taken
+    (g.S.Source.left c.lines.input) (g.D.Shelf.world c.lines.shelf) (kept c.lines.machine) c.lines.policy
+    (g.S.Source.left c.next.new.from) c.next.new.self.taken
+    (inl refl) c.lines.invariant.asked (c.in-Err-ReadFault.ensures.stops c.lines.invariant.no_fault)
+
+pub returns-in-Err-TooMuch-clause-asked : goal.returns-in-Err-TooMuch-clause-asked
+returns-in-Err-TooMuch-clause-asked g c =
+    asks_stop (rows_of c.args.policy.now) c.args.policy.now (g.D.Shelf.world c.args.shelf.now) 6
+    (g.S.Source.left c.args.input.now) (g.K.Sink.written c.args.output.now) c.lines.lines.held c.lines.lines.taken
+    (g.S.Source.left c.lines.input) (g.D.Shelf.world c.lines.shelf) (kept c.lines.machine) c.lines.policy
+    (g.S.Source.left c.next.new.from) c.next.new.self.taken
+    (inr refl) c.lines.invariant.asked (c.in-Err-TooMuch.ensures.stops c.lines.invariant.no_fault)
+
+pub returns-in_err-write_all-clause-asked : goal.returns-in_err-write_all-clause-asked
+returns-in_err-write_all-clause-asked g c =
+    let some : c.in-Ok.line ≢ End = search rules in
+    asks_cut (rows_of c.args.policy.now) c.args.policy.now (g.D.Shelf.world c.args.shelf.now)
+    (status_at c.from_residual-in_err-write_all.result) (g.S.Source.left c.args.input.now)
+    (g.K.Sink.written c.args.output.now) c.lines.lines (g.S.Source.left c.lines.input) (g.D.Shelf.world c.lines.shelf)
+    (kept c.lines.machine) c.lines.policy c.reply_to.new.policy c.next.new.self (g.S.Source.left c.next.new.from)
+    c.in-Ok.line
+    (inl (ap status_at (stopped c.from_residual-in_err-write_all.result Write
+    c.from_residual-in_err-write_all.ensures.1)))
+    c.lines.invariant.asked c.in-Ok.ensures.ok some
+    (subst (λ (x : List ℕ). MayAsk (command_by c.in-Ok.line x) c.lines.policy c.reply_to.new.policy) c.text.ensures
+    c.in_default.ensures.may_ask)
+
+pub returns-in_default-clause-asked : goal.returns-in_default-clause-asked
+returns-in_default-clause-asked g c =
+    let some : c.in-Ok.line ≢ End = search rules in
+    asks_cut (rows_of c.args.policy.now) c.args.policy.now (g.D.Shelf.world c.args.shelf.now) 5
+    (g.S.Source.left c.args.input.now) (g.K.Sink.written c.args.output.now) c.lines.lines
+    (g.S.Source.left c.lines.input) (g.D.Shelf.world c.lines.shelf) (kept c.lines.machine) c.lines.policy
+    c.reply_to.new.policy c.next.new.self (g.S.Source.left c.next.new.from) c.in-Ok.line
+    (inr refl) c.lines.invariant.asked c.in-Ok.ensures.ok some
+    (subst (λ (x : List ℕ). MayAsk (command_by c.in-Ok.line x) c.lines.policy c.reply_to.new.policy) c.text.ensures
+    c.in_default.ensures.may_ask)

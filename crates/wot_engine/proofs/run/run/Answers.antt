@@ -1,15 +1,16 @@
-use Rattle.std.proofs.Common.{◌≡◌, inr, ℕ, List, Option, refl}
+use Rattle.std.proofs.Common.{inr, [], refl, ap}
 use Rattle.wot_policy.specs.Kept.{rows_of}
-use Rattle.wot_certd.specs.World.{World}
-use Rattle.wot_machine.specs.Transcript.{AllTold}
+use Rattle.wot_machine.specs.Whole.{beginning}
 use Rattle.wot_machine.proofs.Giving.{told_always}
+use Rattle.wot_engine.specs.Ends.{status_at}
 use Rattle.wot_engine.specs.declared.run.Stop.TheVariants.{Memory, Read, TooMuch, Write}
+use Rattle.wot_engine.proofs.Asking.{HasAsked-init, asks_between}
 use Rattle.wot_engine.proofs.Stops.{never, on_err, stopped}
 use Rattle.wot_engine.proofs.Taking.{takes_nothing}
 use Rattle.wot_engine.proofs.Turns.{Begun-nothing, First-nothing, Reached-nothing}
 use Rattle.wot_engine.proofs.run.run.Goals as goal
 
--- ---- no memory is found for the reader
+-- ---- out of memory for the reader
 
 pub returns-in_err-lines-clause-whole : goal.returns-in_err-lines-clause-whole
 returns-in_err-lines-clause-whole g c =
@@ -21,35 +22,49 @@ returns-in_err-lines-clause-shelf g c =
 
 pub returns-in_err-lines-clause-source : goal.returns-in_err-lines-clause-source
 returns-in_err-lines-clause-source g c e =
-    absurd (never c.from_residual.result Memory Read (stopped c.from_residual.result Memory c.from_residual.ensures.1) tt e)
+    absurd (never c.from_residual.result Memory Read (stopped c.from_residual.result Memory c.from_residual.ensures.1)
+    tt e)
 
 pub returns-in_err-lines-clause-taken : goal.returns-in_err-lines-clause-taken
 returns-in_err-lines-clause-taken g c e =
-    absurd (never c.from_residual.result Memory Read (stopped c.from_residual.result Memory c.from_residual.ensures.1) tt e)
+    absurd (never c.from_residual.result Memory Read (stopped c.from_residual.result Memory c.from_residual.ensures.1)
+    tt e)
 
 pub returns-in_err-lines-clause-sink : goal.returns-in_err-lines-clause-sink
 returns-in_err-lines-clause-sink g c e =
-    absurd (never c.from_residual.result Memory Write (stopped c.from_residual.result Memory c.from_residual.ensures.1) tt e)
+    absurd (never c.from_residual.result Memory Write (stopped c.from_residual.result Memory c.from_residual.ensures.1)
+    tt e)
 
 pub returns-in_err-lines-clause-most : goal.returns-in_err-lines-clause-most
 returns-in_err-lines-clause-most g c e =
-    absurd (never c.from_residual.result Memory TooMuch (stopped c.from_residual.result Memory c.from_residual.ensures.1) tt e)
+    absurd (never c.from_residual.result Memory TooMuch
+    (stopped c.from_residual.result Memory c.from_residual.ensures.1) tt e)
 
 pub returns-in_err-lines-clause-much : goal.returns-in_err-lines-clause-much
 returns-in_err-lines-clause-much g c e =
-    absurd (never c.from_residual.result Memory TooMuch (stopped c.from_residual.result Memory c.from_residual.ensures.1) tt e)
+    absurd (never c.from_residual.result Memory TooMuch
+    (stopped c.from_residual.result Memory c.from_residual.ensures.1) tt e)
 
 pub returns-in_err-lines-clause-prefix : goal.returns-in_err-lines-clause-prefix
 returns-in_err-lines-clause-prefix g c =
-    Begun-nothing (rows_of c.args.policy.now) (record { some = c.each_line_has_one_outcome.ensures.some (rows_of c.args.policy.now); one = c.each_line_has_one_outcome.ensures.one (rows_of c.args.policy.now); stays = c.each_line_has_one_outcome.ensures.stays (rows_of c.args.policy.now); tells = c.each_line_has_one_outcome.ensures.tells; tells_one = c.each_line_has_one_outcome.ensures.tells_one }) (g.S.Source.left c.args.input.now) (g.K.Sink.written c.args.output.now) (g.D.Shelf.world c.args.shelf.now)
+    Begun-nothing (rows_of c.args.policy.now) (record {
+      some = c.each_line_has_one_outcome.ensures.some (rows_of c.args.policy.now);
+      one = c.each_line_has_one_outcome.ensures.one (rows_of c.args.policy.now);
+      stays = c.each_line_has_one_outcome.ensures.stays (rows_of c.args.policy.now);
+      tells = c.each_line_has_one_outcome.ensures.tells;
+      tells_one = c.each_line_has_one_outcome.ensures.tells_one;
+    })
+    (g.S.Source.left c.args.input.now) (g.K.Sink.written c.args.output.now) (g.D.Shelf.world c.args.shelf.now)
 
 pub returns-in_err-lines-clause-first : goal.returns-in_err-lines-clause-first
 returns-in_err-lines-clause-first g c e =
-    First-nothing (rows_of c.args.policy.now) (g.S.Source.left c.args.input.now) (g.K.Sink.written c.args.output.now) (g.D.Shelf.world c.args.shelf.now)
+    First-nothing (rows_of c.args.policy.now) (g.S.Source.left c.args.input.now) (g.K.Sink.written c.args.output.now)
+    (g.D.Shelf.world c.args.shelf.now)
 
 pub returns-in_err-lines-clause-reached : goal.returns-in_err-lines-clause-reached
 returns-in_err-lines-clause-reached g c =
-    Reached-nothing (rows_of c.args.policy.now) (g.S.Source.left c.args.input.now) (g.K.Sink.written c.args.output.now) (g.D.Shelf.world c.args.shelf.now)
+    Reached-nothing (rows_of c.args.policy.now) (g.S.Source.left c.args.input.now) (g.K.Sink.written c.args.output.now)
+    (g.D.Shelf.world c.args.shelf.now)
 
 pub returns-in_err-lines-clause-ended : goal.returns-in_err-lines-clause-ended
 returns-in_err-lines-clause-ended g c =
@@ -57,11 +72,14 @@ returns-in_err-lines-clause-ended g c =
 
 pub returns-in_err-lines-clause-took : goal.returns-in_err-lines-clause-took
 returns-in_err-lines-clause-took g c e =
-    absurd (never c.from_residual.result Memory TooMuch (stopped c.from_residual.result Memory c.from_residual.ensures.1) tt e)
+    absurd (never c.from_residual.result Memory TooMuch
+    (stopped c.from_residual.result Memory c.from_residual.ensures.1) tt e)
 
 pub returns-in_err-lines-clause-most_only : goal.returns-in_err-lines-clause-most_only
 returns-in_err-lines-clause-most_only g c =
-    told_always (g.S.Source.left c.args.input.now) (g.K.Sink.written c.args.output.now) (g.D.Shelf.world c.args.shelf.now) _ (λ input before world most. inr (stopped c.from_residual.result Memory c.from_residual.ensures.1))
+    told_always (g.S.Source.left c.args.input.now) (g.K.Sink.written c.args.output.now)
+    (g.D.Shelf.world c.args.shelf.now) _ (λ input before world most. inr
+    (stopped c.from_residual.result Memory c.from_residual.ensures.1))
 
 pub returns-in_err-lines-clause-at_most : goal.returns-in_err-lines-clause-at_most
 returns-in_err-lines-clause-at_most g c = takes_nothing (g.S.Source.left c.args.input.now)
@@ -72,7 +90,17 @@ returns-in_err-lines-clause-faithful g c = c.requires.faithful
 pub returns-in_err-lines-clause-rows : goal.returns-in_err-lines-clause-rows
 returns-in_err-lines-clause-rows g c = refl
 
--- ---- all else is what is said of the lines
+pub returns-in_err-lines-clause-asked : goal.returns-in_err-lines-clause-asked
+returns-in_err-lines-clause-asked g c =
+    asks_between (rows_of c.args.policy.now) c.args.policy.now (g.D.Shelf.world c.args.shelf.now)
+    (status_at c.from_residual.result) (g.S.Source.left c.args.input.now) (g.K.Sink.written c.args.output.now) [] 0
+    (g.S.Source.left c.args.input.now) (g.D.Shelf.world c.args.shelf.now) beginning c.args.policy.now
+    (g.S.Source.left c.args.input.now)
+    (inr (ap status_at (stopped c.from_residual.result Memory c.from_residual.ensures.1)))
+    (HasAsked-init (rows_of c.args.policy.now) c.args.policy.now (g.D.Shelf.world c.args.shelf.now)
+    (g.S.Source.left c.args.input.now) (g.K.Sink.written c.args.output.now))
+
+-- ---- everything else follows from the contract of `answer_lines`
 
 pub returns-clause-whole : goal.returns-clause-whole
 returns-clause-whole g c = c.answer_lines.ensures.whole
@@ -115,6 +143,9 @@ returns-clause-much g c = c.answer_lines.ensures.much
 
 pub returns-clause-at_most : goal.returns-clause-at_most
 returns-clause-at_most g c = c.answer_lines.ensures.at_most
+
+pub returns-clause-asked : goal.returns-clause-asked
+returns-clause-asked g c = c.answer_lines.ensures.asked
 
 pub returns-clause-faithful : goal.returns-clause-faithful
 returns-clause-faithful g c = c.answer_lines.ensures.faithful

@@ -16,11 +16,14 @@ use Rattle.wot_cache.specs.State.{state_of}
 use Rattle.wot_machine.proofs.Putting.{any_err, puts_still}
 use Rattle.wot_machine.proofs.Stepping.{one_reply, too_long}
 use Rattle.wot_engine.specs.Turn.{SaidBehind, use_by}
+use Rattle.wot_engine.proofs.Asking.{looked_at, passed_over}
 use Rattle.wot_engine.proofs.run.say.Goals as goal
 
--- the refusal of a line that is too long, where there is memory
-refused : {T E : Type 0} (r : Result T E) (rows : PolicyRows) (line : Line) (text : List ℕ) (old : Whole) (world : Option World) (before after : List ℕ)
-    → line ≡ Long → OnOk r (after ≡ before ++ reply_text replies.Long) → OnOk r (SaidBehind rows line text old world before old world after)
+-- the refusal of a line that is too long, unless memory runs out
+refused : {T E : Type 0} (r : Result T E) (rows : PolicyRows) (line : Line) (text : List ℕ) (old : Whole)
+    (world : Option World) (before after : List ℕ)
+    → line ≡ Long → OnOk r (after ≡ before ++ reply_text replies.Long)
+    → OnOk r (SaidBehind rows line text old world before old world after)
 refused (Ok a) rows line text old world before after is e =
     subst (λ (l : Line). SaidBehind rows l text old world before old world after) (sym is) (record {
       given = unserved;
@@ -31,9 +34,11 @@ refused (Ok a) rows line text old world before after is e =
     })
 refused (Err x) rows line text old world before after is e = tt
 
--- the reply to a line that was looked at, where there is memory
-answered : {T E : Type 0} (r : Result T E) (rows : PolicyRows) (line : Line) (text : List ℕ) (old new : Whole) (before after : Seen) (had has : List ℕ)
-    → line ≡ Text → OnOk r (Stepped rows text old before had new after has) → OnOk r (SaidBehind rows line text old before.world had new after.world has)
+-- the reply to any other line, unless memory runs out
+answered : {T E : Type 0} (r : Result T E) (rows : PolicyRows) (line : Line) (text : List ℕ) (old new : Whole)
+    (before after : Seen) (had has : List ℕ)
+    → line ≡ Text → OnOk r (Stepped rows text old before had new after has)
+    → OnOk r (SaidBehind rows line text old before.world had new after.world has)
 answered (Ok a) rows line text old new before after had has is s =
     subst (λ (l : Line). SaidBehind rows l text old before.world had new after.world has) (sym is)
     (record { given = s.given; reply = s.reply; does = s.step; served = s.served; behind = s.octets })
@@ -41,13 +46,16 @@ answered (Err x) rows line text old new before after had has is s = tt
 
 pub returns-in-Text-clause-said : goal.returns-in-Text-clause-said
 returns-in-Text-clause-said g c =
-    answered c.line.result (rows_of c.args.policy.now) c.args.line c.args.text.now (kept c.args.machine.now) (kept c.line.new.self)
-    (record { world = g.D.Shelf.world c.args.shelf.now; faults = g.D.Shelf.faults c.args.shelf.now }) (record { world = g.D.Shelf.world c.line.new.shelf; faults = g.D.Shelf.faults c.line.new.shelf })
+    answered c.line.result (rows_of c.args.policy.now) c.args.line c.args.text.now (kept c.args.machine.now)
+    (kept c.line.new.self)
+    (record { world = g.D.Shelf.world c.args.shelf.now; faults = g.D.Shelf.faults c.args.shelf.now })
+    (record { world = g.D.Shelf.world c.line.new.shelf; faults = g.D.Shelf.faults c.line.new.shelf })
     c.args.out.now.items c.line.new.out.items c.in-Text.is c.line.ensures.step
 
 pub returns-in-Long-clause-said : goal.returns-in-Long-clause-said
 returns-in-Long-clause-said g c =
-    refused c.print_reply.result (rows_of c.args.policy.now) c.args.line c.args.text.now (kept c.args.machine.now) (g.D.Shelf.world c.args.shelf.now) c.args.out.now.items c.print_reply.new.out.items
+    refused c.print_reply.result (rows_of c.args.policy.now) c.args.line c.args.text.now (kept c.args.machine.now)
+    (g.D.Shelf.world c.args.shelf.now) c.args.out.now.items c.print_reply.new.out.items
     c.in-Long.is c.print_reply.ensures.appended
 
 pub returns-in-Text-clause-entries : goal.returns-in-Text-clause-entries
@@ -55,4 +63,18 @@ returns-in-Text-clause-entries g c = rw c.in-Text.is c.line.ensures.entries
 
 pub returns-in-Long-clause-entries : goal.returns-in-Long-clause-entries
 returns-in-Long-clause-entries g c =
-    any_err c.print_reply.result _ (puts_still (state_of c.args.machine.now.engine) (use_by c.args.line c.args.text.now) (g.D.Shelf.world c.args.shelf.now))
+    any_err c.print_reply.result _ (puts_still (state_of c.args.machine.now.engine) (use_by c.args.line c.args.text.now)
+    (g.D.Shelf.world c.args.shelf.now))
+
+-- ---- the policy
+
+pub returns-in-Text-clause-asked : goal.returns-in-Text-clause-asked
+returns-in-Text-clause-asked g c =
+    looked_at c.line.result c.args.line c.args.text.now (state_of c.args.machine.now.engine)
+    (state_of c.line.new.self.engine)
+    c.args.policy.now c.line.new.policy c.in-Text.is c.line.ensures.asked
+
+pub returns-in-Long-clause-asked : goal.returns-in-Long-clause-asked
+returns-in-Long-clause-asked g c =
+    passed_over c.print_reply.result c.args.line c.args.text.now (state_of c.args.machine.now.engine) c.args.policy.now
+    c.in-Long.is

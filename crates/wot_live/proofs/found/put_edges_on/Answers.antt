@@ -1,5 +1,5 @@
-use Rattle.std.proofs.Common.{◌≡◌, ℕ, List, [], ◌∷◌, Option, sym, ap, ◌∙◌}
-use Rattle.std.specs.List.{cons_option, filter_map}
+use Rattle.std.proofs.Common.{◌≡◌, ℕ, List, [], ◌∷◌, length, Option, sym, ap, ◌∙◌}
+use Rattle.std.specs.List.{cons_option, filter_map, slice_get}
 use Rattle.std.specs.Option.{option_and_then}
 use Rattle.wot_types.specs.PlainLaws.{seam}
 use Rattle.wot_types.specs.declared.fpr.Fpr.{Fpr}
@@ -11,6 +11,7 @@ use Rattle.wot_standing.specs.Certifiers.{KeepsNewest}
 use Rattle.wot_live.specs.Edge.{edge_by}
 use Rattle.wot_live.specs.Found.{by_place, edge_kept, with_edges}
 use Rattle.wot_live.specs.Rows.{edge_with}
+use Rattle.wot_live.proofs.Places.{behind}
 use Rattle.wot_live.proofs.Putting.{with_edges-option}
 use Rattle.wot_live.proofs.found.put_edges_on.Goals as goal
 
@@ -21,6 +22,22 @@ kept_is : (verdicts : Entries) (target : Fpr) (t uid : ℕ) (p : Component) (pla
 kept_is verdicts target t uid p places s keeps =
     λ i. option_and_then (λ issuer. option_and_then (edge_by issuer target uid p.sigs) (keeps issuer i))
     (issuer_of verdicts s)
+
+pub edge_with-edge-requires : goal.edge_with-edge-requires
+edge_with-edge-requires c =
+    let a = c.args in
+    let sig = c.in-Some.sig.now in
+    let prefix = c.in-Some.prefix.now in
+    let seen = c.back.invariant.seen in
+    record {
+      stands = record {
+        uid = a.part.now;
+        t = a.t;
+        keeps = c.in_ok-certifiers.ensures.newest;
+        here = ap (λ (ss : List Signature). slice_get ss (length prefix)) (seam a.part.now.sigs c.back.rest.now prefix
+            seen sig c.back.invariant.all c.in-Some.ensures.cases.0) ∙ behind prefix seen sig;
+      };
+    }
 
 pub back-preserved : goal.back-preserved
 back-preserved c =

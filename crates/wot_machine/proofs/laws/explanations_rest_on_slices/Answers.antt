@@ -13,7 +13,10 @@ returns c = λ rows name target one other first second alike line explaining.
       tells_one = c.each_line_has_one_outcome.ensures.tells_one;
     })
     (c.judging.ensures.unmarked rows) name target one other
-    (reached_can_be rows second.world second.lines second.replies (record { whole = other; world = second.after }) second.run)
-    (c.reached_states_are_judged.ensures rows first.world first.lines first.replies (record { whole = one; world = first.after }) first.run)
-    (c.reached_states_are_judged.ensures rows second.world second.lines second.replies (record { whole = other; world = second.after }) second.run)
+    (reached_can_be rows second.world second.lines second.replies (record { whole = other; world = second.after })
+    second.run)
+    (c.reached_states_are_judged.ensures rows first.world first.lines first.replies
+    (record { whole = one; world = first.after }) first.run)
+    (c.reached_states_are_judged.ensures rows second.world second.lines second.replies
+    (record { whole = other; world = second.after }) second.run)
     alike line explaining

@@ -52,7 +52,7 @@ returns-in-Err-Failed-clause-did g c =
     (rw c.in-Err-Failed.field-0-is at c.in-Err-Failed.ensures.answers))
     c.read.ensures.after (λ e. (rw c.in-Err-Failed.field-0-is at c.in-Err-Failed.ensures.cause) refl)
 
--- ---- for want of memory
+-- ---- out of memory
 
 pub returns-in-Ok-Bytes-clause-entries : goal.returns-in-Ok-Bytes-clause-entries
 returns-in-Ok-Bytes-clause-entries g c =

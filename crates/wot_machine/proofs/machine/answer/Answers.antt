@@ -19,48 +19,56 @@ use Rattle.wot_machine.proofs.machine.answer.Goals as goal
 
 pub returns-in-Ok-clause-words : goal.returns-in-Ok-clause-words
 returns-in-Ok-clause-words g c =
-    if_ok c.act.result _ _ (λ told ran. obeys_worded (rows_of c.args.policy.now) (watched (whole_of c.args.engine.now c.args.cursors.now) c.args.watches.now) c.in-Ok.command ran.given told.reply
+    if_ok c.act.result _ _ (λ told ran. obeys_worded (rows_of c.args.policy.now) (watched (whole_of c.args.engine.now c.args.cursors.now) c.args.watches.now) c.sort.result ran.given told.reply
     (watched (whole_of c.act.new.engine (settled told.moved c.act.new.cursors)) c.act.new.watches) ran.answers) c.act.ensures.ran
 
 pub returns-in-Ok-clause-anew : goal.returns-in-Ok-clause-anew
 returns-in-Ok-clause-anew g c =
-    on_ok_weaker c.act.result (on_dump c.args.line.now c.in-Ok.command ((rows : PolicyRows) → IsMadeAnew rows (state_of c.args.engine.now)) c.in-Ok.ensures.read) c.act.ensures.anew
+    on_ok_weaker c.act.result (on_dump c.args.line.now c.in-Ok.command ((rows : PolicyRows) → IsMadeAnew rows (state_of c.args.engine.now)) c.in-Ok.ensures.read) (rw c.sort.ensures.class at c.act.ensures.anew)
 
 pub returns-in-Err-Line-clause-anew : goal.returns-in-Err-Line-clause-anew
 returns-in-Err-Line-clause-anew g c =
-    dump_is_read c.args.line.now ((rows : PolicyRows) → IsMadeAnew rows (state_of c.args.engine.now)) ((rw c.in-Err-Line.field-0-is at c.in-Err-Line.ensures.line) refl)
+    dump_is_read c.args.line.now ((rows : PolicyRows) → IsMadeAnew rows (state_of c.args.engine.now))
+    ((rw c.in-Err-Line.field-0-is at c.in-Err-Line.ensures.line) refl)
 
 pub returns-in-Ok-clause-ran : goal.returns-in-Ok-clause-ran
-returns-in-Ok-clause-ran g c = rw c.in-Ok.ensures.read c.act.ensures.ran
+returns-in-Ok-clause-ran g c = rw c.in-Ok.ensures.read (rw c.sort.ensures.class at c.act.ensures.ran)
 
 pub returns-in-Ok-clause-untouched : goal.returns-in-Ok-clause-untouched
-returns-in-Ok-clause-untouched g c = rw c.in-Ok.ensures.read c.act.ensures.untouched
+returns-in-Ok-clause-untouched g c = rw c.in-Ok.ensures.read (rw c.sort.ensures.class at c.act.ensures.untouched)
 
 pub returns-in-Err-Line-clause-ran : goal.returns-in-Err-Line-clause-ran
 returns-in-Err-Line-clause-ran g c =
-    ran_told_line c.alone.result (rows_of c.args.policy.now) (command_of c.args.line.now) c.args.engine.now c.args.cursors.now c.args.watches.now
-    (record { world = g.D.Shelf.world c.args.shelf.now; faults = g.D.Shelf.faults c.args.shelf.now }) c.alone.ensures.reply c.alone.ensures.moved
+    ran_told_line c.alone.result (rows_of c.args.policy.now) (command_of c.args.line.now) c.args.engine.now
+    c.args.cursors.now c.args.watches.now
+    (record { world = g.D.Shelf.world c.args.shelf.now; faults = g.D.Shelf.faults c.args.shelf.now })
+    c.alone.ensures.reply c.alone.ensures.moved
     ((rw c.in-Err-Line.field-0-is at c.in-Err-Line.ensures.line) refl)
 
 pub returns-in-Ok-clause-entries : goal.returns-in-Ok-clause-entries
-returns-in-Ok-clause-entries g c = rw c.in-Ok.ensures.read c.act.ensures.entries
+returns-in-Ok-clause-entries g c = rw c.in-Ok.ensures.read (rw c.sort.ensures.class at c.act.ensures.entries)
 
 pub returns-in-Err-Memory-clause-entries : goal.returns-in-Err-Memory-clause-entries
 returns-in-Err-Memory-clause-entries g c =
     puts_still (state_of c.args.engine.now) (use_of (command_of c.args.line.now)) (g.D.Shelf.world c.args.shelf.now)
 
 pub returns-in-Ok-clause-asked : goal.returns-in-Ok-clause-asked
-returns-in-Ok-clause-asked g c = rw c.in-Ok.ensures.read c.act.ensures.asked
+returns-in-Ok-clause-asked g c = rw c.in-Ok.ensures.read (rw c.sort.ensures.class at c.act.ensures.asked)
 
 pub returns-in-Err-Line-clause-asked : goal.returns-in-Err-Line-clause-asked
-returns-in-Err-Line-clause-asked g c = asks_not _ (command_of c.args.line.now) (state_of c.args.engine.now) c.args.policy.now
+returns-in-Err-Line-clause-asked g c = asks_not _ (command_of c.args.line.now) (state_of c.args.engine.now)
+    c.args.policy.now
 
 pub returns-in-Err-Memory-clause-asked : goal.returns-in-Err-Memory-clause-asked
-returns-in-Err-Memory-clause-asked g c = asks_not _ (command_of c.args.line.now) (state_of c.args.engine.now) c.args.policy.now
+returns-in-Err-Memory-clause-asked g c = asks_not _ (command_of c.args.line.now) (state_of c.args.engine.now)
+    c.args.policy.now
 
 pub returns-in-Ok-clause-edges : goal.returns-in-Ok-clause-edges
-returns-in-Ok-clause-edges g c = rw c.in-Ok.ensures.read c.act.ensures.edges
+returns-in-Ok-clause-edges g c = rw c.in-Ok.ensures.read (rw c.sort.ensures.class at c.act.ensures.edges)
 
 pub returns-in-Err-Line-clause-edges : goal.returns-in-Err-Line-clause-edges
 returns-in-Err-Line-clause-edges g c =
     none_marks c.args.engine.now (command_of c.args.line.now) ((rw c.in-Err-Line.field-0-is at c.in-Err-Line.ensures.line) refl)
+
+pub returns-in-Ok-clause-makes : goal.returns-in-Ok-clause-makes
+returns-in-Ok-clause-makes g c = rw c.in-Ok.ensures.read (rw c.sort.ensures.class at c.act.ensures.makes)

@@ -46,7 +46,7 @@ returns-in-Err-Failed-clause-stores g c =
     (rw c.in-Err-Failed.field-0-is at c.in-Err-Failed.ensures.answers))
     c.read.ensures.after (λ f. (rw c.in-Err-Failed.field-0-is at c.in-Err-Failed.ensures.cause) refl)
 
--- ---- for want of memory
+-- ---- out of memory
 
 pub returns-in-Ok-text_for-clause-entries : goal.returns-in-Ok-text_for-clause-entries
 returns-in-Ok-text_for-clause-entries g c s kept =

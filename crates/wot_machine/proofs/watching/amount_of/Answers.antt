@@ -28,7 +28,7 @@ returns-in-Err-View-clause-stays c = c.sum.ensures.refreshed.stays
 pub returns-in-Err-Memory-clause-stays : goal.returns-in-Err-Memory-clause-stays
 returns-in-Err-Memory-clause-stays c = c.sum.ensures.refreshed.stays
 
--- ---- what is made
+-- ---- made edges
 
 pub returns-in-Ok-clause-asked : goal.returns-in-Ok-clause-asked
 returns-in-Ok-clause-asked c = λ some.

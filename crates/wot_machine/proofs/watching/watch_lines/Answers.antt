@@ -110,7 +110,7 @@ returns-clause-makes c =
     so_far_done c.args.engine.now c.args.steps.now.made c.args.watches.now c.rest.engine c.rest.steps.made c.rest.rest _
     c.in_default.ensures.steps.0 c.rest.invariant.8
 
--- ---- no memory is found
+-- ---- out of memory
 
 pub returns-in_err-line-clause-makes : goal.returns-in_err-line-clause-makes
 returns-in_err-line-clause-makes c =

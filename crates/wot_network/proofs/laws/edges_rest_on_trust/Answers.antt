@@ -1,5 +1,5 @@
-use Rattle.wot_network.proofs.Certifying.{rests_on_trust}
+use Rattle.wot_network.proofs.Certifying.{rests_on_certifications, rests_on_trust}
 use Rattle.wot_network.proofs.laws.edges_rest_on_trust.Goals as goal
 
 pub returns : goal.returns
-returns c = record { trust = rests_on_trust }
+returns c = record { made = rests_on_certifications; trust = rests_on_trust }

@@ -9,7 +9,8 @@ use Rattle.wot_cache.proofs.engine.Engine.kept_answer.Goals as goal
 pub returns-in-Some : goal.returns-in-Some
 returns-in-Some c =
     let k = c.self.inside.networked.keyring in
-    let right = c.kept.ensures.right k (right_found k c.self.inside.answers.entries c.args.view.now c.in-Some.of_view.now c.self.invariant.right (sym c.in-Some.ensures.value)) in
+    let right = c.kept.ensures.right k (right_found k c.self.inside.answers.entries c.args.view.now
+    c.in-Some.of_view.now c.self.invariant.right (sym c.in-Some.ensures.value)) in
     record {
       leads = subst (λ (e : Engine). IfSome c.kept.result (λ kept. RestsOnLeads e.keyring kept.now)) c.self.view_is
           (if_some c.kept.result _ _ (λ kept is. is.leads) right);

@@ -32,5 +32,6 @@ returns-in-Ok-clause-read_back c =
 
 pub returns-in-Ok-clause-size : goal.returns-in-Ok-clause-size
 returns-in-Ok-clause-size c =
-    subst (λ (k : Keyring). AreLines (commands_of (held_of k)) → length (lines_of (commands_of (held_of k))) ≤ most_dumped k.limits)
+    subst (λ (k : Keyring). AreLines (commands_of (held_of k))
+    → length (lines_of (commands_of (held_of k))) ≤ most_dumped k.limits)
     c.self.view_is (dump_fits _ c.self.invariant.0) (returns-in-Ok-clause-read_back c)

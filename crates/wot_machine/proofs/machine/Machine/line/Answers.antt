@@ -63,7 +63,7 @@ returns-in-Some-clause-makes g c =
     line_makes_as done c.put.result (λ ok. refl) line c.args.self.now.cursors c.args.self.now.engine
     c.put.new.self.engine c.args.self.now.made c.put.new.self.made made
 
--- ---- for want of memory
+-- ---- out of memory
 
 pub returns-in_err-reserve-clause-entries : goal.returns-in_err-reserve-clause-entries
 returns-in_err-reserve-clause-entries g c =

@@ -41,7 +41,7 @@ returns-then-is_settled-clause-tells c =
     subst (λ (m : Machine). TellsBehind (kept c.args.self.now) had (kept m) had) (sym c.is_settled.ensures.same)
     (tells_nothing (kept c.args.self.now) had (c.is_settled.ensures.settled c.if-is_settled.true))
 
--- ---- what is made
+-- ---- made edges
 
 pub returns-clause-makes : goal.returns-clause-makes
 returns-clause-makes c =

@@ -26,6 +26,7 @@ returns-clause-whole c = λ s b.
     (sym b.outer ∙ sym c.in_ok-join.ensures.outer) c.join.new.self.outer.ok.0 (search rules)) in (
       none,
       c.from_nodes.ensures (level_so_far s)
-          (outer_empty (tokens_of c.join.new.self.nodes.items) s.outer (level_so_far s) (c.in_ok-join.ensures.joined s b)
+          (outer_empty (tokens_of c.join.new.self.nodes.items) s.outer (level_so_far s)
+          (c.in_ok-join.ensures.joined s b)
           none),
     )

@@ -1,11 +1,14 @@
-use Rattle.std.proofs.Common.{Some}
 use Rattle.wot_keyring.specs.Held.{cert_in}
 use Rattle.wot_policy.specs.Kept.{rows_of}
 use Rattle.wot_cache.specs.State.{state_of}
-use Rattle.wot_machine.specs.Entry.{use_of}
-use Rattle.wot_machine.proofs.Putting.{any_err, puts_still}
 use Rattle.wot_machine.proofs.Running.{none_kept}
-use Rattle.wot_machine.proofs.machine.obey.Goals as goal
+use Rattle.wot_machine.proofs.state.call.Goals as goal
+
+pub returns-in-Load-clause-did : goal.returns-in-Load-clause-did
+returns-in-Load-clause-did g c = rw c.in-Load.is c.load.ensures.did
+
+pub returns-in-Load-clause-entries : goal.returns-in-Load-clause-entries
+returns-in-Load-clause-entries g c = rw c.in-Load.is c.load.ensures.entries
 
 pub returns-in-Store-clause-did : goal.returns-in-Store-clause-did
 returns-in-Store-clause-did g c = rw c.in-Store.is (c.store.ensures.did (rows_of c.args.policy.now))
@@ -16,15 +19,5 @@ returns-in-Store-clause-untouched g c =
     c.store.ensures.untouched (none_kept (cert_in (state_of c.args.engine.now).held c.in-Store.fpr) c.in-Store.fpr
     none))
 
--- ---- for want of memory
-
-pub returns-in-Load-clause-entries : goal.returns-in-Load-clause-entries
-returns-in-Load-clause-entries g c = rw c.in-Load.is c.load.ensures.entries
-
 pub returns-in-Store-clause-entries : goal.returns-in-Store-clause-entries
 returns-in-Store-clause-entries g c = rw c.in-Store.is c.store.ensures.entries
-
-pub returns-in_default-clause-entries : goal.returns-in_default-clause-entries
-returns-in_default-clause-entries g c =
-    any_err c.run.result _ (puts_still (state_of c.args.engine.now) (use_of (Some c.args.command.now))
-    (g.D.Shelf.world c.args.shelf.now))
