@@ -190,5 +190,5 @@ class Bench:
         self.note("memory of service and engines", int((await talk.status())[b"memory"]) / 1e6, "MB", 300)
         self.note("list from the root that certified most", await talk.timed(b"list v 120") / 1000, SECONDS)
         status = await talk.status()
-        self.note("certificates", int(status[b"certificates"]), "certificates")
+        self.note("kept", int(status[b"certificates"]), "certificates")
         self.note("of these, loaded", int(status[b"loaded"]), "certificates")

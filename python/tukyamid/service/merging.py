@@ -48,7 +48,7 @@ def judged(change: Change) -> bytes | None:
 
 
 def touched_by(changes: Sequence[Change], parts: Parts) -> set[bytes]:
-    """The certificates that these changes bring or drop, or whose signatures they judge."""
+    """The certificates that these changes bring or drop, or on whose signatures they set a verdict."""
     touched = {fpr for change in changes for fpr in change.fprs}
     for change in changes:
         number = judged(change)

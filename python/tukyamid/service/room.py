@@ -16,7 +16,7 @@ _NOTHING = Sizes(0, 0, 0, 0)
 
 
 class Room:
-    """What there is at most, as lines tell it; the database is asked when that is more than an engine may hold."""
+    """Counts what lines add at most, and asks the database when that is more than an engine may hold."""
 
     def __init__(self, database: Database, most: Sizes) -> None:
         self._database = database
