@@ -7,12 +7,11 @@ each refusal. `Keyring` fills an engine from keyring files, and keeps what was v
 A name is imported from its module when it is first used: the command starts faster so.
 """
 
-import importlib
-from typing import TYPE_CHECKING
-
+from .bare import TYPE_CHECKING
 from .version import VERSION as __version__
 
 if TYPE_CHECKING:
+    from .addresses import address
     from .claims import Claim, ClaimedStep, Label
     from .client import Client, connect
     from .engine import Engine, Listing
@@ -22,11 +21,12 @@ if TYPE_CHECKING:
     from .replies import (Accepted, Answer, Binding, Done, Explanation, Exported, Gone, Key, Missed, Path,
                           PendingSignature, Reached, Reason, Rejected, Reply, Stale, Step, Stored, Taken, Watched)
     from .scripts import read_command
-    from .spelling import address, for_people, read_user_id, write_user_id
+    from .spelling import for_people, read_user_id, write_user_id
     from .store import Store
     from .verifier import VerifierFailed
 
 _HOMES = {
+    "addresses": "address",
     "claims": "Claim ClaimedStep Label",
     "client": "Client connect",
     "engine": "Engine Listing",
@@ -35,7 +35,7 @@ _HOMES = {
     "replies": "Accepted Answer Binding Done Explanation Exported Gone Key Missed Path PendingSignature Reached Reason "
                "Rejected Reply Stale Step Stored Taken Watched",
     "scripts": "read_command",
-    "spelling": "address for_people read_user_id write_user_id",
+    "spelling": "for_people read_user_id write_user_id",
     "store": "Store",
     "verifier": "VerifierFailed",
 }
@@ -54,5 +54,6 @@ if not TYPE_CHECKING:
         home = _HOME_OF.get(name)
         if home is None:
             raise AttributeError(f"module {__name__!r} has no attribute {name!r}")
+        import importlib
         value = globals()[name] = getattr(importlib.import_module(f".{home}", __name__), name)
         return value

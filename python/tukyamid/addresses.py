@@ -1,6 +1,21 @@
 """E-mail addresses, compared as mail programs do: letters of either case, and domains in any of their spellings."""
 
-from . import spelling
+import re
+
+from .libraries import find_libraries
+
+_ADDRESS = re.compile(r"<([^<>\s]+@[^<>\s]+)>$|^([^<>\s]+@[^<>\s]+)$")
+
+
+def address(user_id: bytes) -> str | None:
+    """The e-mail address of a user ID, in lower case; None if it has none.
+
+    >>> address(b"Carol (work) <Carol@Example.org>")
+    'carol@example.org'
+    """
+    text = user_id.decode("utf-8", "replace").strip()
+    match = _ADDRESS.search(text)
+    return (match.group(1) or match.group(2)).lower() if match else None
 
 
 def canonical(address: str) -> str:
@@ -15,6 +30,7 @@ def canonical(address: str) -> str:
 
 
 def _ascii(domain: str) -> str:
+    find_libraries()
     import idna  # Its tables take longer to load than all else here, and few domains need them.
     try:
         return idna.encode(domain, uts46=True).decode("ascii")
@@ -28,5 +44,5 @@ def address_of(user_id: bytes) -> str | None:
     >>> address_of(b"Carol (work) <Carol@Example.org>"), address_of(b"Carol")
     ('carol@example.org', None)
     """
-    found = spelling.address(user_id)
+    found = address(user_id)
     return None if found is None else canonical(found)

@@ -1,56 +1,59 @@
 """An answer with what people want to know about it: who, when, by which signature, and why others don't count."""
 
-import functools
-from collections.abc import Callable, Iterable, Mapping
-from typing import NamedTuple, Protocol
+from __future__ import annotations
 
+from .bare import TYPE_CHECKING, Protocol
 from .certificates import Signature
 from .keyring import View
 from .lifetimes import Expired, expired_elsewhere
 from .reasons import MissingWord, ReasonWord, TargetWord
 from .replies import Binding, Explanation, Reason, Step
+from .values import Value
+
+if TYPE_CHECKING:
+    from collections.abc import Callable, Iterable, Mapping
 
 
-class Certification(NamedTuple):
+class Certification(Value):
     """A certification of a user ID. `number`, `made` and `ends` are None if the signature wasn't found."""
-    issuer: str | None
-    target: str
-    user_id: bytes
-    depth: int
-    amount: int
-    number: str | None = None
-    made: int | None = None
-    ends: int | None = None
-    scopes: tuple[bytes, ...] = ()
+    __slots__ = ("issuer", "target", "user_id", "depth", "amount", "number", "made", "ends", "scopes")
+
+    def __init__(self, issuer: str | None, target: str, user_id: bytes, depth: int, amount: int,
+                 number: str | None = None, made: int | None = None, ends: int | None = None,
+                 scopes: tuple[bytes, ...] = ()) -> None:
+        self.issuer, self.target, self.user_id = issuer, target, user_id
+        self.depth, self.amount, self.number = depth, amount, number
+        self.made, self.ends, self.scopes = made, ends, scopes
 
 
-class ShownPath(NamedTuple):
-    amount: int
-    root: str
-    steps: tuple[Certification, ...]
+class ShownPath(Value):
+    """A path, with the certifications that are its steps."""
+    __slots__ = ("amount", "root", "steps")
+
+    def __init__(self, amount: int, root: str, steps: tuple[Certification, ...]) -> None:
+        self.amount, self.root, self.steps = amount, root, steps
 
 
-class Other(NamedTuple):
+class Other(Value):
     """A certification on the user ID that is on no path, with the engine's word for it, and what that means here."""
-    certification: Certification
-    word: ReasonWord
-    meaning: str
+    __slots__ = ("certification", "word", "meaning")
+
+    def __init__(self, certification: Certification, word: ReasonWord, meaning: str) -> None:
+        self.certification, self.word, self.meaning = certification, word, meaning
 
 
-class Assessment(NamedTuple):
+class Assessment(Value):
     """An answer with what is said about it. `word` is the target's, `ok` if it is in order. `expired` says which other
     programs treat the key as expired, and `strict` that the answer then isn't reached. `brief` is for long lists:
     neither paths nor other certifications were asked for."""
-    fpr: str
-    user_id: bytes
-    wanted: int
-    amount: int
-    paths: tuple[ShownPath, ...]
-    word: TargetWord | MissingWord
-    others: tuple[Other, ...]
-    expired: Expired | None = None
-    strict: bool = False
-    brief: bool = False
+    __slots__ = ("fpr", "user_id", "wanted", "amount", "paths", "word", "others", "expired", "strict", "brief")
+
+    def __init__(self, fpr: str, user_id: bytes, wanted: int, amount: int, paths: tuple[ShownPath, ...],
+                 word: TargetWord | MissingWord, others: tuple[Other, ...], expired: Expired | None = None,
+                 strict: bool = False, brief: bool = False) -> None:
+        self.fpr, self.user_id, self.wanted, self.amount = fpr, user_id, wanted, amount
+        self.paths, self.word, self.others = paths, word, others
+        self.expired, self.strict, self.brief = expired, strict, brief
 
     @property
     def reached(self) -> bool:
@@ -67,15 +70,14 @@ class Names(Protocol):
     def get(self, fpr: str | None, /) -> bytes | None: ...
 
 
-class Report(NamedTuple):
+class Report(Value):
     """All that a question of the command came to."""
-    question: str
-    wanted: int
-    time: int
-    roots: Mapping[str, int]
-    assessments: tuple[Assessment, ...]
-    names: Names
-    notes: tuple[str, ...] = ()
+    __slots__ = ("question", "wanted", "time", "roots", "assessments", "names", "notes")
+
+    def __init__(self, question: str, wanted: int, time: int, roots: Mapping[str, int],
+                 assessments: tuple[Assessment, ...], names: Names, notes: tuple[str, ...] = ()) -> None:
+        self.question, self.wanted, self.time, self.roots = question, wanted, time, roots
+        self.assessments, self.names, self.notes = assessments, names, notes
 
     @property
     def reached(self) -> bool:
@@ -87,7 +89,7 @@ def elsewhere(view: View, fpr: str) -> Expired | None:
     certificate = view.keyring.certificate(fpr)
     if certificate is None:
         return None
-    return expired_elsewhere(certificate, functools.partial(view.keyring.index.issuer, fpr), view.time)
+    return expired_elsewhere(certificate, lambda number: view.keyring.index.issuer(fpr, number), view.time)
 
 
 def brief(view: View, binding: Binding, wanted: int) -> Assessment:
@@ -103,7 +105,7 @@ class Question:
     def __init__(self, view: View, fpr: str, user_id: bytes, wanted: int) -> None:
         self.view, self.fpr, self.user_id, self.wanted = view, fpr, user_id, wanted
         answer = view.ask(fpr, wanted, user_id)
-        explain = functools.cache(view.explain)
+        explain = _Explanations(view).of
         self.amount = answer.amount
         self.paths = tuple(ShownPath(path.amount, path.root, tuple(_step(view, explain, step) for step in path.steps))
                            for path in answer.paths)
@@ -177,6 +179,19 @@ def _other(view: View, fpr: str, user_id: bytes, reason: Reason, why: "_WhyUnuse
     if reason.word is ReasonWord.UNSOUND and signature is not None and signature.said.unknown:
         meaning = f"it has a critical {signature.said.unknown[0]}, which the engine doesn't know"
     return Other(_certification(issuer, fpr, user_id, reason, signature), reason.word, meaning)
+
+
+class _Explanations:
+    """What the engine says about user IDs, each of which is asked about once."""
+
+    def __init__(self, view: View) -> None:
+        self._view = view
+        self._kept: dict[tuple[str, bytes], Explanation | None] = {}
+
+    def of(self, fpr: str, user_id: bytes) -> Explanation | None:
+        if (fpr, user_id) not in self._kept:
+            self._kept[fpr, user_id] = self._view.explain(fpr, user_id)
+        return self._kept[fpr, user_id]
 
 
 class _WhyUnused:

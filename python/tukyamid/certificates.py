@@ -1,10 +1,13 @@
 """What a certificate says, read for people: its user IDs, and the signatures on them."""
 
-import hashlib
-from collections.abc import Iterator
+from __future__ import annotations
 
+from .bare import TYPE_CHECKING, sha1, sha256
 from .packets import ATTRIBUTE, KEY, SIGNATURE, SUBKEY, USER_ID, packets
 from .signatures import CERTIFICATIONS, Signature, key_id, read_signature, signature_number
+
+if TYPE_CHECKING:
+    from collections.abc import Iterator
 
 __all__ = ["ATTRIBUTE", "CERTIFICATIONS", "Certificate", "KEY", "SIGNATURE", "SUBKEY", "Signature", "USER_ID",
            "bindings_of", "key_fingerprint", "key_id", "packets", "read_certificate", "read_signature",
@@ -35,8 +38,8 @@ class Certificate:
 
 def key_fingerprint(body: bytes) -> str:
     if body[:1] == b"\6":
-        return hashlib.sha256(b"\x9b" + len(body).to_bytes(4, "big") + body).hexdigest()
-    return hashlib.sha1(b"\x99" + len(body).to_bytes(2, "big") + body).hexdigest()
+        return sha256(b"\x9b" + len(body).to_bytes(4, "big") + body).hexdigest()
+    return sha1(b"\x99" + len(body).to_bytes(2, "big") + body).hexdigest()
 
 
 def read_certificate(octets: bytes) -> Certificate:

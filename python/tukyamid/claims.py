@@ -9,10 +9,14 @@ True
 True
 """
 
-from collections.abc import Iterable
+from __future__ import annotations
 
 from . import spelling
+from .bare import TYPE_CHECKING
 from .values import Value
+
+if TYPE_CHECKING:
+    from collections.abc import Iterable
 
 MOST_PLACE = 2**32 - 1
 MOST_STEPS = 255

@@ -5,15 +5,19 @@ has no spelling is a ValueError when the command is made.
 b'ask me fac804259d6b2997afe074fcd2112d7c6c04741c 120 Alice'
 """
 
-from collections.abc import Iterable
+from __future__ import annotations
 
 from . import claims, spelling
+from .bare import TYPE_CHECKING
 from .claims import Claim, Label
 from .lines import (MOST_WANTED, Command, ListingCommand, Named, OfKey, OfSignature, Question, WantedQuestion,
                     wanted_amount)
 from .replies import (Accepted, Answer, Binding, Done, Explanation, Exported, Key, Missed, PendingSignature, Reached,
                       Rejected, Stored, Taken, Watched)
 from .spelling import UserId
+
+if TYPE_CHECKING:
+    from collections.abc import Iterable
 
 MOST_TIME = 2**32 - 1
 TRUST_ROOT = "trust-root"

@@ -12,6 +12,6 @@ def read_octets(digits: str) -> bytes:
         octets = bytes.fromhex(digits)
     except ValueError:
         octets = b""
-    if octets.hex() != digits:
+    if 2 * len(octets) != len(digits) or digits.lower() != digits:
         raise ProtocolError(f"these aren't octets in hexadecimal digits: {digits[:200]!r}")
     return octets

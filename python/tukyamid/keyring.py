@@ -8,19 +8,21 @@
 from __future__ import annotations
 
 import os
-from collections.abc import Callable, Iterable, Mapping, Sequence
-from typing import TYPE_CHECKING, Protocol
 
+from .bare import TYPE_CHECKING, Protocol
 from .certificates import CERTIFICATIONS, Certificate, Signature, key_id, read_certificate
 from .refusals import RefusedAbsent, RefusedView
 
 # What starts programs and reads files is imported when it is needed: a service that runs needs none of it.
 if TYPE_CHECKING:
+    from collections.abc import Callable, Iterable, Mapping, Sequence
+
     from .client.connection import Connection
     from .client.listing import Listing
     from .replies import Answer, Binding, Explanation
     from .store import Entry, Held, Store
 
+VIEW = "client"
 Bindings = list[tuple[str, bytes]]
 
 
@@ -147,7 +149,7 @@ class Keyring:
         newest = max(own, key=Signature.newness, default=None)
         return (False, 0) if newest is None else (newest.said.primary, newest.said.made)
 
-    def view(self, time: int, roots: Mapping[str, int], name: str = "client") -> View:
+    def view(self, time: int, roots: Mapping[str, int], name: str = VIEW) -> View:
         """Opens a view: the time in seconds since 1970, and the amount of each root. It takes the place of an earlier
         one of its name, so use several names (the engine has 16 views) to ask from several by turns."""
         try:

@@ -11,19 +11,25 @@ module reads the ends as those programs do:
   signature. The primary user ID is the one marked so by its newest self-signature, then the one with the newest.
 """
 
-from collections.abc import Callable, Container
-from typing import NamedTuple
+from __future__ import annotations
 
+from .bare import TYPE_CHECKING
 from .certificates import Certificate
 from .signatures import CERTIFICATIONS, DIRECT, REVOCATION, Signature
+from .values import Value
 
-Issuer = Callable[[str], str | None]
+if TYPE_CHECKING:
+    from collections.abc import Callable, Container
+
+    Issuer = Callable[[str], str | None]
 
 
-class Expired(NamedTuple):
+class Expired(Value):
     """The programs that treat a key as expired, and since when."""
-    programs: tuple[str, ...]
-    since: int
+    __slots__ = ("programs", "since")
+
+    def __init__(self, programs: tuple[str, ...], since: int) -> None:
+        self.programs, self.since = programs, since
 
     @property
     def who(self) -> str:

@@ -1,8 +1,9 @@
 """What commands are: a line, what answers it, and the fields that several of them have."""
 
-from typing import ClassVar, Generic, TypeVar
+from __future__ import annotations
 
 from . import spelling
+from .bare import ClassVar, Generic, TypeVar
 from .refusals import ProtocolError
 from .replies import Reply
 from .spelling import UserId

@@ -1,6 +1,11 @@
 """Framing: the packets of a certificate (RFC 9580, section 4.2) and the subpackets of a signature (section 5.2.3.7)."""
 
-from collections.abc import Iterator
+from __future__ import annotations
+
+from .bare import TYPE_CHECKING
+
+if TYPE_CHECKING:
+    from collections.abc import Iterator
 
 KEY, USER_ID, ATTRIBUTE, SUBKEY, SIGNATURE = 6, 13, 17, 14, 2
 

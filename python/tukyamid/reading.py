@@ -15,28 +15,27 @@ A reader is a generator that asks for a line by each `yield`, so that the plain 
 it.
 """
 
-import functools
+from __future__ import annotations
+
 import os
-import re
-from collections.abc import Callable, Generator
-from enum import StrEnum
-from typing import TypeVar
 
 from . import claims, spelling
+from .bare import TYPE_CHECKING, TypeVar
 from .digits import read_octets
-from .reasons import ReasonWord, TargetWord
+from .forms import match, no_place
+from .reasons import ReasonWord, TargetWord, Word
 from .refusals import ProtocolError, read_refusal
 from .replies import (Accepted, Answer, Binding, Done, Explanation, Exported, Gone, Key, Missed, Path, PendingSignature,
                       Reached, Reason, Rejected, Reply, Stale, Step, Stored, Taken, Watched)
 from .service_lines import Change, Figure, Found, Issued, KeyringAdded, KeyringLine
 
 T = TypeVar("T")
-Word = TypeVar("Word", bound=StrEnum)
-Reader = Generator[None, str, T]
+W = TypeVar("W", bound=Word)
 
-_SHORT = {"N": "(0|[1-9][0-9]{0,19})", "FPR": "([0-9a-f]{40}|[0-9a-f]{64})", "NUM": "([0-9a-f]{64})", "REST": "(.*)",
-          "WORD": "([a-z-]+)", "NAME": "([a-z0-9_-]{1,32})", "FIELD": "([^ ]+)", "HEX": "((?:[0-9a-f]{2})*)",
-          "HINT": "([0-9a-f]{16}|[0-9a-f]{40}|[0-9a-f]{64}|-)"}
+if TYPE_CHECKING:
+    from collections.abc import Callable, Generator
+
+    Reader = Generator[None, str, T]
 
 
 class ListingHead(Reply):
@@ -45,20 +44,6 @@ class ListingHead(Reply):
 
     def __init__(self, count: int, item: type[object], read: Callable[[str], object]) -> None:
         self.count, self.item, self.read = count, item, read
-
-
-@functools.cache
-def _form(text: str) -> re.Pattern[str]:
-    """The regular expression of a line, with the short words above in capitals."""
-    return re.compile(" ".join(_SHORT.get(word, word) for word in text.split(" ")), re.DOTALL)
-
-
-def match(form: str, line: str) -> tuple[str, ...]:
-    """The fields of a line of this form; ProtocolError if it has another."""
-    found = _form(form).fullmatch(line)
-    if found is None:
-        raise ProtocolError(f"this line has no place in the reply: {line[:200]!r}")
-    return found.groups()
 
 
 def read_uid(text: str) -> bytes:
@@ -120,7 +105,7 @@ def _read_step(line: str) -> Step:
     return Step(issuer, target, int(depth), int(amount), read_uid(uid))
 
 
-def _read_word(words: type[Word], text: str) -> Word:
+def _read_word(words: type[W], text: str) -> W:
     try:
         return words(text)
     except ValueError:
@@ -185,11 +170,16 @@ def _read_ok(line: str) -> Reply:
 def _read_checked(line: str) -> Accepted | Rejected:
     if line.startswith("checked yes "):
         return Accepted(int(match("checked yes N", line)[0]))
-    return Rejected(*match("checked no (paths|table)", line))
+    word, = match("checked no WORD", line)
+    if word not in ("paths", "table"):
+        raise no_place(line)
+    return Rejected(word)
 
 
 def _read_stale(line: str) -> Stale:
-    word, then, now = match("stale (keyring|view) N N", line)
+    word, then, now = match("stale WORD N N", line)
+    if word not in ("keyring", "view"):
+        raise no_place(line)
     return Stale(word, int(then), int(now))
 
 
@@ -228,7 +218,9 @@ def read_reply_after(first: str) -> Reader[Reply]:
         return _ONE_LINE[word](first)
     if word in _LONGER:
         return (yield from _LONGER[word](first))
-    listing, count = match(f"({'|'.join(_ITEMS)}) N", first)
+    listing, _, count = first.rpartition(" ")
+    if listing not in _ITEMS or not spelling.is_decimal(count):
+        raise no_place(first)
     return ListingHead(int(count), *_ITEMS[listing])
 
 

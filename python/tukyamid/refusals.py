@@ -3,7 +3,12 @@
 A refused line changed nothing, and the connection can be used on.
 """
 
-from collections.abc import Sequence
+from __future__ import annotations
+
+from .bare import TYPE_CHECKING
+
+if TYPE_CHECKING:
+    from collections.abc import Sequence
 
 
 class TukyamidError(Exception):
@@ -165,6 +170,8 @@ _FAULTS: dict[str, type[Refused]] = {
 
 def read_refusal(reply: str) -> Refused | None:
     """The refusal that a reply's line spells, or None if it is no refusal."""
+    if not reply.startswith(("refused", "fault")):
+        return None
     words = reply.split(" ")
     if reply in _FAULTS:
         return _FAULTS[reply](reply, [])

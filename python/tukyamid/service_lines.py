@@ -1,14 +1,19 @@
 """The commands that only the service answers, and its replies (docs/SERVICE.md). Paths and other texts of the system
 are spelled as user IDs are."""
 
+from __future__ import annotations
+
 import os
-from collections.abc import Iterable
 
 from . import spelling
+from .bare import TYPE_CHECKING
 from .lines import Command, Line, ListingCommand
 from .replies import Done, Reply
 from .spelling import UserId
 from .values import Value
+
+if TYPE_CHECKING:
+    from collections.abc import Iterable
 
 
 class Figure(Value):

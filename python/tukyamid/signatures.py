@@ -3,9 +3,9 @@
 The engine alone decides what counts. What stands here only says more about what it answered.
 """
 
-import functools
-import hashlib
+from __future__ import annotations
 
+from .bare import sha256
 from .packets import subpackets
 from .spelling import for_people
 
@@ -53,18 +53,24 @@ class Said:
 
 class Signature:
     """A signature at its place: the key's body, the number of the kind of component, and the component's body."""
-    __slots__ = ("place", "body", "__dict__")
+    __slots__ = ("place", "body", "_number", "_said")
 
     def __init__(self, place: Place, body: bytes) -> None:
         self.place, self.body = place, body
+        self._number: str | None = None
+        self._said: Said | None = None
 
-    @functools.cached_property
+    @property
     def number(self) -> str:
-        return signature_number(*self.place, self.body)
+        if self._number is None:
+            self._number = signature_number(*self.place, self.body)
+        return self._number
 
-    @functools.cached_property
+    @property
     def said(self) -> Said:
-        return read_signature(self.body)
+        if self._said is None:
+            self._said = read_signature(self.body)
+        return self._said
 
     def newness(self) -> tuple[int, str, bytes]:
         return self.said.made, self.number, self.body
@@ -77,7 +83,7 @@ def key_id(fpr: str) -> str:
 
 def signature_number(key: bytes, kind: int, component: bytes, body: bytes) -> str:
     fields = b"wot1", key, bytes([kind]), component, body
-    return hashlib.sha256(b"".join(len(each).to_bytes(4, "big") + each for each in fields)).hexdigest()
+    return sha256(b"".join(len(each).to_bytes(4, "big") + each for each in fields)).hexdigest()
 
 
 def read_signature(body: bytes) -> Said:

@@ -1,17 +1,20 @@
 """How the fields of lines are spelled: fingerprints, signature numbers, view names, decimals and user IDs."""
 
-import re
+from __future__ import annotations
+
+from .bare import TYPE_CHECKING
+
+if TYPE_CHECKING:
+    from collections.abc import Callable
 
 LONGEST_LINE = 16_777_216
 
 UserId = str | bytes | bytearray | memoryview
 
-_FINGERPRINT = re.compile(r"[0-9a-f]{40}|[0-9a-f]{64}")
-_NUMBER = re.compile(r"[0-9a-f]{64}")
-_VIEW = re.compile(r"[a-z0-9_-]{1,32}")
-_ESCAPE = re.compile(rb"\\(\\|x[0-9a-fA-F]{2})|\\")
-_ADDRESS = re.compile(r"<([^<>\s]+@[^<>\s]+)>$|^([^<>\s]+@[^<>\s]+)$")
 _PLAIN = frozenset(range(0x20, 0x7F)) - {0x5C}
+_DIGITS, _LETTERS = "0123456789", "abcdefghijklmnopqrstuvwxyz"
+_HEXADECIMAL = _DIGITS + "abcdef"
+_EITHER_CASE = b"0123456789abcdefABCDEF"
 
 
 def has_reply(line: bytes) -> bool:
@@ -20,8 +23,36 @@ def has_reply(line: bytes) -> bool:
     return len(line) > LONGEST_LINE or not (line == b"" or line.startswith(b"#"))
 
 
-def _whole(pattern: re.Pattern[str], text: str, what: str) -> str:
-    if not isinstance(text, str) or not pattern.fullmatch(text):
+def is_hexadecimal(text: str) -> bool:
+    """Whether there is nothing but hexadecimal digits in lower case."""
+    return not text.strip(_HEXADECIMAL)
+
+
+def is_fingerprint(text: str) -> bool:
+    return len(text) in (40, 64) and not text.strip(_HEXADECIMAL)
+
+
+def is_number(text: str) -> bool:
+    """Whether it is the number of a signature."""
+    return len(text) == 64 and not text.strip(_HEXADECIMAL)
+
+
+def is_view_name(text: str) -> bool:
+    return 0 < len(text) <= 32 and not text.strip(_LETTERS + _DIGITS + "_-")
+
+
+def is_decimal(text: str) -> bool:
+    """Whether it is a decimal as the other side writes it: of at most 20 digits, without zeros before it."""
+    return 0 < len(text) <= 20 and not text.strip(_DIGITS) and (text[0] != "0" or text == "0")
+
+
+def is_word(text: str) -> bool:
+    """Whether it is a word of letters and hyphens."""
+    return text != "" and not text.strip(_LETTERS + "-")
+
+
+def _whole(is_spelled: Callable[[str], bool], text: str, what: str) -> str:
+    if not isinstance(text, str) or not is_spelled(text):
         raise ValueError(f"{text!r} is no {what}")
     return text
 
@@ -32,17 +63,17 @@ def fingerprint(text: str) -> str:
     >>> fingerprint("FAC8 0425 9D6B 2997 AFE0  74FC D211 2D7C 6C04 741C")
     'fac804259d6b2997afe074fcd2112d7c6c04741c'
     """
-    return _whole(_FINGERPRINT, text.replace(" ", "").lower() if isinstance(text, str) else text, "fingerprint")
+    return _whole(is_fingerprint, text.replace(" ", "").lower() if isinstance(text, str) else text, "fingerprint")
 
 
 def number(text: str) -> str:
     """A signature's number: 64 digits."""
-    return _whole(_NUMBER, text.lower() if isinstance(text, str) else text, "signature number")
+    return _whole(is_number, text.lower() if isinstance(text, str) else text, "signature number")
 
 
 def view_name(text: str) -> str:
     """The name of a view, a cursor or a watch."""
-    return _whole(_VIEW, text, "name of a view")
+    return _whole(is_view_name, text, "name of a view")
 
 
 def decimal(value: int, least: int, most: int, what: str) -> int:
@@ -76,12 +107,16 @@ def read_user_id(spelled: bytes) -> bytes:
     >>> read_user_id(b"a\\\\b\\x00")
     b'a\\b\x00'
     """
-    def octet(match: re.Match[bytes]) -> bytes:
-        pair: bytes | None = match.group(1)
-        if pair is None:
+    first, *behind = bytes(spelled).split(b"\\")
+    octets, parts = [first], iter(behind)
+    for part in parts:
+        if part == b"" and (plain := next(parts, None)) is not None:  # Between two backslashes.
+            octets += b"\\", plain
+        elif part[:1] == b"x" and len(part) > 2 and not part[1:3].strip(_EITHER_CASE):
+            octets += bytes([int(part[1:3], 16)]), part[3:]
+        else:
             raise ValueError(f"a malformed backslash in {spelled!r}")
-        return b"\\" if pair == b"\\" else bytes([int(pair[1:], 16)])
-    return _ESCAPE.sub(octet, spelled) if b"\\" in spelled else bytes(spelled)
+    return b"".join(octets)
 
 
 def for_people(octets: bytes, backslash: str = "\\\\") -> str:
@@ -99,14 +134,3 @@ def for_people(octets: bytes, backslash: str = "\\\\") -> str:
         return "".join(f"\\x{o:02x}" for o in character.encode("utf-8", "surrogateescape"))
 
     return "".join(map(shown, octets.decode("utf-8", "surrogateescape")))
-
-
-def address(user_id: bytes) -> str | None:
-    """The e-mail address of a user ID, in lower case; None if it has none.
-
-    >>> address(b"Carol (work) <Carol@Example.org>")
-    'carol@example.org'
-    """
-    text = user_id.decode("utf-8", "replace").strip()
-    match = _ADDRESS.search(text)
-    return (match.group(1) or match.group(2)).lower() if match else None

@@ -1,10 +1,14 @@
 """The base of the small types in `commands`, `replies` and `claims`.
 
-They aren't dataclasses: importing that module and making forty of them takes 50 ms on a small machine, as long as the
-command takes for all the rest.
+They are no dataclasses, and no named tuples: importing those modules takes longer than a question of the command does.
 """
 
-from typing import ClassVar
+from __future__ import annotations
+
+from .bare import TYPE_CHECKING
+
+if TYPE_CHECKING:
+    from typing import Self
 
 
 class Value:
@@ -18,11 +22,18 @@ class Value:
     (True, False, Point(x=1, y=2))
     """
     __slots__: tuple[str, ...] = ()
-    _names: ClassVar[tuple[str, ...]] = ()
 
-    def __init_subclass__(cls) -> None:
-        super().__init_subclass__()
-        cls._names = tuple(name for kind in reversed(cls.__mro__) for name in kind.__dict__.get("__slots__", ()))
+    @property
+    def _names(self) -> tuple[str, ...]:
+        return tuple(name for kind in reversed(type(self).__mro__) for name in kind.__dict__.get("__slots__", ()))
+
+    def but(self, **changed: object) -> Self:
+        """A value with other fields than these.
+
+        >>> Value().but()
+        Value()
+        """
+        return type(self)(**{name: getattr(self, name) for name in self._names} | changed)
 
     def __eq__(self, other: object) -> bool:
         if type(other) is not type(self):

@@ -23,7 +23,7 @@ use Rattle.wot_cache.specs.Question.{IsLocalTo, IsTold, TellsSpent, asked_of, as
 use Rattle.wot_cache.specs.Dump.{engine_of}
 use Rattle.wot_cache.specs.State.{Engine, ViewMarks, state_of}
 use Rattle.wot_cache.specs.Turns.{Turns}
-use Rattle.wot_cache.specs.Views.{IsWithin, Views, view_at}
+use Rattle.wot_cache.specs.Views.{AreWithinLimits, Views, view_at}
 use Rattle.wot_cache.proofs.Inside.{few_there}
 
 pub if_ok : {A E : Type 0} (r : Result A E) (P Q : A → Type 0) → ((a : A) → P a → Q a) → IfOk r P → IfOk r Q
@@ -66,7 +66,7 @@ pub seen_after : {marks : ViewMarks} {turns : Turns} (engine : Engine) (k new : 
 seen_after engine k new views more name p is same equal seen =
     subst (λ (e : Engine). AreSeen e name p) (same_engine engine k new views more is same equal) seen
 
-few_of : (limits : Limits) (k : Keyring) (views : Views) (name : List ℕ) (p : Parts) → IsWithin limits views →
+few_of : (limits : Limits) (k : Keyring) (views : Views) (name : List ℕ) (p : Parts) → AreWithinLimits limits views →
     limits.roots ≤ 64
     → IsSomeAnd (view_at views name) (λ (v : View). ArePartsOf k v p) → length p.roots.now ≤ 64
 few_of limits k views name p within small seen = by (view_at views name) refl seen
@@ -85,7 +85,7 @@ pub few_seen : {marks : ViewMarks} {turns : Turns} (engine : Engine) (k : Keyrin
     → record { keyring = k; views = views; marks = marks; turns = turns } ≡ engine →
     IsEngine k views networks answers turns → AreSeen engine name p → length p.roots.now ≤ 64
 few_seen engine k views networks answers name p same inside seen =
-    few_of k.limits engine.keyring engine.views name p (subst (λ (e : Engine). IsWithin k.limits e.views) same
+    few_of k.limits engine.keyring engine.views name p (subst (λ (e : Engine). AreWithinLimits k.limits e.views) same
     inside.within) inside.small.roots seen
 
 -- what is local at the time of a view's network is local at the view's time

@@ -10,7 +10,7 @@ use Rattle.wot_keyring.specs.Dump as keyrings
 use Rattle.wot_keyring.specs.Dump.{AreLines, command_line_of, lines_of, most_dumped}
 use Rattle.wot_keyring.specs.Held.{held_of}
 use Rattle.wot_keyring.specs.Kept.{AreSmall}
-use Rattle.wot_cache.specs.Views.{Views, IsWithin}
+use Rattle.wot_cache.specs.Views.{Views, AreWithinLimits}
 use Rattle.wot_cache.specs.State.{Engine, state_of}
 use Rattle.wot_cache.specs.Dump.{commands_of, root_of, view_commands}
 use Rattle.wot_cache.proofs.Lines.{few_commands}
@@ -53,7 +53,7 @@ last_lines : (first last : List Command) → AreLines (first ++ last) → AreLin
 last_lines [] last lines = lines
 last_lines (c ∷ first) last lines = last_lines first last lines.1
 
-pub dump_fits : (engine : Engine) → AreSmall engine.keyring.limits → IsWithin engine.keyring.limits engine.views
+pub dump_fits : (engine : Engine) → AreSmall engine.keyring.limits → AreWithinLimits engine.keyring.limits engine.views
     → length (lines_of (keyrings.commands_of (held_of engine.keyring))) ≤ most_dumped engine.keyring.limits
     → AreLines (commands_of (state_of engine)) → length (lines_of (commands_of (state_of engine))) < 2 ^ 30
 dump_fits engine small within held_fits lines =

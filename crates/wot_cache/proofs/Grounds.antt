@@ -25,7 +25,7 @@ use Rattle.wot_network.specs.Told.{record_of}
 use Rattle.wot_cache.specs.declared.answers.KeptAnswer.{KeptAnswer}
 use Rattle.wot_cache.specs.declared.answers.KeptReach.{KeptReach}
 use Rattle.wot_cache.specs.declared.answers.Looked.{Looked}
-use Rattle.wot_cache.specs.Answers.{AllLead, AllLed, AllStill, Amounts, Answers, AreRight, AreStill, Entries, IsFound}
+use Rattle.wot_cache.specs.Answers.{AllLead, AllLed, AllStill, Amounts, IsTheAnswer, AreRight, AreStill, Entries, IsFound}
 use Rattle.wot_cache.specs.Answers.{IsGood, IsOf, IsReaching, IsRight, IsSameBut, IsStill, look, question_at}
 use Rattle.wot_cache.specs.Question.{IsAnswerAround}
 use Rattle.wot_cache.proofs.Inside.{each_found}
@@ -166,12 +166,12 @@ right_of_all k a none sum = record {
 
 -- a right answer is the current answer if everything that it depends on is unchanged
 pub right_now : ((k : Keyring) → IsLater k k) → (k : Keyring) (roots : Amounts) (a : KeptAnswer) → IsRight k a
-    → AllStill k roots a.looked → Answers k roots a
+    → AllStill k roots a.looked → IsTheAnswer k roots a
 right_now itself k roots a right still = right.answer k roots (itself k) still
 
 pub of_question : (k : Keyring) (roots : List (Fpr × ℕ)) (a : KeptAnswer) (target : Fpr) (wanted : ℕ) (uid : List ℕ)
     (t : ℕ) → IsOf a target wanted uid t
-    → Answers k roots a → IsAnswer (asks (record_of (certificates_in k) k.verdicts t uid) roots target) wanted
+    → IsTheAnswer k roots a → IsAnswer (asks (record_of (certificates_in k) k.verdicts t uid) roots target) wanted
     a.answer.paths
 of_question k roots a target wanted uid t is here =
     subst (λ (w : ℕ). IsAnswer (asks (record_of (certificates_in k) k.verdicts t uid) roots target) w a.answer.paths)
@@ -185,18 +185,18 @@ of_question k roots a target wanted uid t is here =
 
 -- ---- when an answer was last found valid
 
-pub found_made : (k : Keyring) (roots : Amounts) (a : KeptAnswer) → a.count ≡ k.changes → Answers k roots a
+pub found_made : (k : Keyring) (roots : Amounts) (a : KeptAnswer) → a.count ≡ k.changes → IsTheAnswer k roots a
     → IsFound k roots a
 found_made k roots a now here = record { counted = omega (arith, now); now = here }
 
 -- an answer that is revalidated now is valid
 pub good_now : (k : Keyring) (roots : Amounts) (turn : ℕ) (old new : KeptAnswer) → IsSameBut old new
-    → new.count ≡ k.changes → new.turn ≡ turn → Answers k roots old
+    → new.count ≡ k.changes → new.turn ≡ turn → IsTheAnswer k roots old
     → IsGood k roots turn new
 good_now k roots turn old new same count now here = record {
   counted = omega (arith, count);
   turned = omega (arith, now);
-  now = λ e f. subst (Answers k roots) (sym same) here;
+  now = λ e f. subst (IsTheAnswer k roots) (sym same) here;
 }
 
 -- an answer that was found valid is valid at the current turn of the roots

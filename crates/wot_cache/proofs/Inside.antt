@@ -34,7 +34,7 @@ use Rattle.wot_cache.specs.Answers.{AllAnswers, AllLed, Amounts, AreAllRight, Ar
 use Rattle.wot_cache.specs.Answers.{IsReaching, IsRight, OfView}
 use Rattle.wot_cache.specs.Inside.{IsEngine, AllFit, Networks}
 use Rattle.wot_cache.specs.Turns.{Turns}
-use Rattle.wot_cache.specs.Views.{Views, IsWithin, is_name, view_at, with_amount, amount_fault, root_fault}
+use Rattle.wot_cache.specs.Views.{Views, AreWithinLimits, is_name, view_at, with_amount, amount_fault, root_fault}
 use Rattle.wot_cache.specs.Views.{without_view}
 
 -- ---- maps of which each value satisfies P
@@ -161,8 +161,8 @@ few_amounts l roots fpr amount are few none = by (amount == 0) (nat_lt 0 (root_a
 abbrev Few : ℕ → View → Type 0
 Few limit v = length v.roots ≤ limit
 
-pub within_closed : (l : Limits) (views : Views) (name : List ℕ) → IsWithin l views
-    → IsWithin l (without_view views name)
+pub within_closed : (l : Limits) (views : Views) (name : List ℕ) → AreWithinLimits l views
+    → AreWithinLimits l (without_view views name)
 within_closed l views name w =
     let fewer = length_removed (is_name name) views in
     record {
@@ -171,7 +171,7 @@ within_closed l views name w =
     }
 
 -- an open view's roots are within the limit
-pub few_there : (l : Limits) (views : Views) (name : List ℕ) (v : View) → IsWithin l views → view_at views name ≡ Some v
+pub few_there : (l : Limits) (views : Views) (name : List ℕ) (v : View) → AreWithinLimits l views → view_at views name ≡ Some v
     → length v.roots ≤ l.roots
 few_there l views name v w e = each_found (Few l.roots) (is_name name) views v w.few_roots e
 
@@ -303,13 +303,13 @@ fits_found k networks name n all e = each_found (FitsTo k) (is_name name) networ
 
 pub moved_within : (l : Limits) (views new : Views) (name : List ℕ) (t : ℕ) (moved : Bool)
     → MatchOption (view_at views name) ((moved ≡ false) × (new ≡ views))
-    (λ (v : View). (moved ≡ true) × (new ≡ set_value (is_name name) views (record v { time = t }))) → IsWithin l views
-    → IsWithin l new
+    (λ (v : View). (moved ≡ true) × (new ≡ set_value (is_name name) views (record v { time = t }))) → AreWithinLimits l views
+    → AreWithinLimits l new
 moved_within l views new name t moved m w = by (view_at views name) refl m
   where
     by : (o : Option View) → view_at views name ≡ o
         → MatchOption o ((moved ≡ false) × (new ≡ views))
-        (λ (v : View). (moved ≡ true) × (new ≡ set_value (is_name name) views (record v { time = t }))) → IsWithin l new
+        (λ (v : View). (moved ≡ true) × (new ≡ set_value (is_name name) views (record v { time = t }))) → AreWithinLimits l new
     by None e h = rw h.1 w
     by (Some v) e h = rw h.1 (record {
       few = rw (length-set_value (is_name name) views (record v { time = t })) w.few;
@@ -320,7 +320,7 @@ moved_within l views new name t moved m w = by (view_at views name) refl m
 pub opened_within : (l : Limits) (views new : Views) (name : List ℕ) (t : ℕ) (r : Result (Unit {0}) Memory)
     → length views < l.views
     → OnOk r (new ≡ insert_entry view_name_cmp views name (record { time = t; roots = [] })) → OnErr r (new ≡ views)
-    → IsWithin l views → IsWithin l new
+    → AreWithinLimits l views → AreWithinLimits l new
 opened_within l views new name t (Ok done) room e same w =
     let more = length_inserted view_name_cmp views name (record { time = t; roots = [] }) in
     rw e (record {
@@ -334,14 +334,14 @@ pub set_within : (l : Limits) (views new : Views) (name : List ℕ) (fpr : Fpr) 
     (r : Result (Unit {0}) Memory) → IfSome (view_at views name) (λ (v : View). IsRoots v.roots)
     → root_fault l (view_at views name) fpr amount ≡ None
     → OnOk r (MatchOption (view_at views name) ⊥ (λ (v : View). new ≡ set_value (is_name name) views
-    (record v { roots = with_amount v.roots fpr amount }))) → OnErr r (new ≡ views) → IsWithin l views → IsWithin l new
+    (record v { roots = with_amount v.roots fpr amount }))) → OnErr r (new ≡ views) → AreWithinLimits l views → AreWithinLimits l new
 set_within l views new name fpr amount (Err fault) are none set same w = rw same w
 set_within l views new name fpr amount (Ok done) are none set same w = by (view_at views name) refl are none set
   where
     by : (o : Option View) → view_at views name ≡ o → IfSome o (λ (v : View). IsRoots v.roots)
         → root_fault l o fpr amount ≡ None
         → MatchOption o ⊥ (λ (v : View). new ≡ set_value (is_name name) views
-        (record v { roots = with_amount v.roots fpr amount })) → IsWithin l new
+        (record v { roots = with_amount v.roots fpr amount })) → AreWithinLimits l new
     by None e a n h = absurd h
     by (Some v) e a n h =
         let fewer = few_amounts l v.roots fpr amount a (each_found (Few l.roots) (is_name name) views v w.few_roots e) n

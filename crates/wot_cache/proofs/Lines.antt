@@ -11,7 +11,7 @@ use Rattle.wot_keyring.specs.Dump as keyrings
 use Rattle.wot_edge.specs.Roots.{IsRoots}
 use Rattle.wot_script.specs.declared.command.Command.{Command}
 use Rattle.wot_keyring.specs.Dump.{AreLines, command_line_of, lines_of}
-use Rattle.wot_cache.specs.Views.{Views, IsWithin}
+use Rattle.wot_cache.specs.Views.{Views, AreWithinLimits}
 use Rattle.wot_cache.specs.declared.view.View.{View}
 use Rattle.wot_cache.specs.Dump.{HaveRoots, commands_of, root_of, view_commands}
 use Rattle.wot_cache.specs.State.{Engine, state_of}
@@ -81,7 +81,7 @@ few_commands l [] small few = omega arith
 few_commands l (e ∷ views) small few =
     omega (arith, length-view_commands e (flat_map view_commands views), few.0, few_commands l views small few.1)
 
-pub few_lines : (l : Limits) (views : Views) → AreSmall l → IsWithin l views →
+pub few_lines : (l : Limits) (views : Views) → AreSmall l → AreWithinLimits l views →
     length (flat_map view_commands views) < 2 ^ 32
 few_lines l views small within =
     let views_small : l.views ≤ 16 = small.views in

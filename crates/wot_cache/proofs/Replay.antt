@@ -27,7 +27,7 @@ use Rattle.wot_edge.specs.Roots.{IsRoots, AreAmounts, root_amount}
 use Rattle.wot_cache.specs.declared.view.View.{View}
 use Rattle.wot_cache.specs.declared.view.ViewFault.{ViewFault}
 use Rattle.wot_cache.specs.declared.view.ViewFault.TheVariants as faults
-use Rattle.wot_cache.specs.Views.{Views, IsWithin, root_fault, rooted, timed, view_at, with_amount, is_name}
+use Rattle.wot_cache.specs.Views.{Views, AreWithinLimits, root_fault, rooted, timed, view_at, with_amount, is_name}
 use Rattle.wot_cache.specs.State.{Engine, State, rooting, start, state_of, timing}
 use Rattle.wot_cache.specs.Dump.{AreSortedByName, CarriesOver, HaveRoots, IsRestored, after, commands_of, root_of}
 use Rattle.wot_cache.specs.Dump.{unless_refused, view_commands}
@@ -182,7 +182,7 @@ after_both rows l (c ∷ cs) [] None = refl
 after_both rows l (c ∷ cs) (d ∷ ds) None = refl
 after_both rows l (c ∷ cs) ds (Some s) = after_both rows l cs ds (after rows l c s)
 
-views_made : (rows : PolicyRows) (l : Limits) (s : State) (all : Views) → IsWithin l all → HaveRoots all →
+views_made : (rows : PolicyRows) (l : Limits) (s : State) (all : Views) → AreWithinLimits l all → HaveRoots all →
     AreSortedByName all
     → (prefix rest : Views) → prefix ++ rest ≡ all
     → after_all (after rows l) (flat_map view_commands rest) (Some (with_views s prefix)) ≡ Some (with_views s all)
@@ -207,7 +207,7 @@ carried : (rows : PolicyRows) (s new : State) (o : Option State) → o ≡ Some 
 carried rows s new o e same = subst (λ (o : Option State). IsSomeAnd o (CarriesOver rows s)) (sym e) same
 
 pub restored : (rows : PolicyRows) (engine : Engine) → keyrings.IsRestored rows engine.keyring →
-    IsWithin engine.keyring.limits engine.views
+    AreWithinLimits engine.keyring.limits engine.views
     → HaveRoots engine.views → AreSortedByName engine.views → IsRestored rows engine
 restored rows engine keyring within roots order =
     let l : Limits = engine.keyring.limits in

@@ -71,8 +71,8 @@ abbrev pub question_at : Keyring → Amounts → KeptAnswer → Question
 question_at k roots a = asks (record_of (certificates_in k) k.verdicts a.time a.uid) roots a.target
 
 -- the paths are the answer to its question
-abbrev pub Answers : Keyring → Amounts → KeptAnswer → Type 0
-Answers k roots a = IsAnswer (question_at k roots a) a.wanted a.answer.paths
+abbrev pub IsTheAnswer : Keyring → Amounts → KeptAnswer → Type 0
+IsTheAnswer k roots a = IsAnswer (question_at k roots a) a.wanted a.answer.paths
 
 -- An answer depends on no more than its search had to look at: every fingerprint led to the target.
 abbrev pub RestsOnLeads : Keyring → KeptAnswer → Type 0
@@ -83,19 +83,19 @@ RestsOnLeads k a = IfSome a.looked (λ (looked : Vec Looked Global). AllLed k a.
 pub record IsRight (k : Keyring) (a : KeptAnswer) : Type 0 where
   pub sum : a.answer.sum ≡ amount_of a.answer.paths
   pub answer : (later : Keyring) (roots : Amounts) → IsLater k later → AllStill later roots a.looked
-      → Answers later roots a
+      → IsTheAnswer later roots a
   pub leads : RestsOnLeads k a
 
 -- It is the current answer if it was last found valid at the current count of changes and turn of the roots.
 pub record IsGood (k : Keyring) (roots : Amounts) (turn : ℕ) (a : KeptAnswer) : Type 0 where
   pub counted : a.count ≤ k.changes
   pub turned : a.turn ≤ turn
-  pub now : a.count ≡ k.changes → a.turn ≡ turn → Answers k roots a
+  pub now : a.count ≡ k.changes → a.turn ≡ turn → IsTheAnswer k roots a
 
 -- It is the answer from these roots, found valid at a count of changes that isn't in the future.
 pub record IsFound (k : Keyring) (roots : Amounts) (a : KeptAnswer) : Type 0 where
   pub counted : a.count ≤ k.changes
-  pub now : Answers k roots a
+  pub now : IsTheAnswer k roots a
 
 -- only the count and the turn at which it was last found valid differ
 abbrev pub IsSameBut : KeptAnswer → KeptAnswer → Type 0

@@ -17,7 +17,7 @@ use Rattle.wot_keyring.specs.Keyring.{Keyring}
 use Rattle.wot_cache.specs.declared.view.View.{View}
 use Rattle.wot_cache.specs.declared.view.ViewFault.{ViewFault}
 use Rattle.wot_cache.specs.Turns.{no_turns}
-use Rattle.wot_cache.specs.Views.{Views, IsWithin, root_fault, time_fault, view_at}
+use Rattle.wot_cache.specs.Views.{Views, AreWithinLimits, root_fault, time_fault, view_at}
 use Rattle.wot_cache.specs.State.{Engine, State, start, state_of, with_held, rooting, timing}
 
 abbrev pub root_of : List ℕ → Fpr × ℕ → Command
@@ -76,6 +76,6 @@ HaveRoots views = AllByRecursion (λ (e : List ℕ × View). IsRoots e.1.roots) 
 -- what holds of an engine from which a dump is made
 pub record IsDumped (rows : PolicyRows) (engine : Engine) : Type 0 where
   pub keyring : keyrings.IsRestored rows engine.keyring
-  pub within : IsWithin engine.keyring.limits engine.views
+  pub within : AreWithinLimits engine.keyring.limits engine.views
   pub roots : HaveRoots engine.views
   pub sorted : AreSortedByName engine.views

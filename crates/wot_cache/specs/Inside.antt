@@ -8,7 +8,7 @@ use Rattle.wot_network.specs.Net.{Net, Fits, IsRight}
 use Rattle.wot_cache.specs.declared.view.View.{View}
 use Rattle.wot_cache.specs.Answers.{AllAnswers, AreAllRight}
 use Rattle.wot_cache.specs.Turns.{Turns, AreTurnsOf}
-use Rattle.wot_cache.specs.Views.{Views, IsWithin, is_name, view_at}
+use Rattle.wot_cache.specs.Views.{Views, AreWithinLimits, is_name, view_at}
 
 -- networks by view name
 abbrev pub Networks : Type 0
@@ -28,7 +28,7 @@ AreOfOpen views kept = (name : List ℕ) → view_at views name ≡ None → loo
 pub record IsEngine (k : Keyring) (views : Views) (networks : Networks) (answers : AllAnswers) (turns : Turns)
     : Type 0 where
   pub small : AreSmall k.limits
-  pub within : IsWithin k.limits views
+  pub within : AreWithinLimits k.limits views
   pub fit : AllFit networks k
   pub of_open : AreOfOpen views networks
   pub answered : AreOfOpen views answers

@@ -92,7 +92,7 @@ abbrev pub without_view : Views → List ℕ → Views
 without_view views name = remove_entry (is_name name) views
 
 -- the limits on views and on the roots of each
-pub record IsWithin (l : Limits) (views : Views) : Type 0 where
+pub record AreWithinLimits (l : Limits) (views : Views) : Type 0 where
   pub few : length views ≤ l.views
   pub few_roots : AllByRecursion (λ (e : List ℕ × View). length e.1.roots ≤ l.roots) views
 

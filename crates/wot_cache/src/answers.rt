@@ -12,7 +12,7 @@ ghost use Rattle.wot_search.specs.Making.{IsMaking};
 ghost use Rattle.wot_search.specs.Reach.{IsReach};
 ghost use Rattle.wot_network.specs.Net.{told_of};
 ghost use Rattle.wot_cache.specs.Answers.{AllStill, AreFew, AreRight, AreRightIn, AreStill, StayRight, StayRightWith};
-ghost use Rattle.wot_cache.specs.Answers.{Answers as IsTheAnswer, IsFound, IsGood, IsOf, IsReaching, IsRight};
+ghost use Rattle.wot_cache.specs.Answers.{IsTheAnswer, IsFound, IsGood, IsOf, IsReaching, IsRight};
 ghost use Rattle.wot_cache.specs.Answers.{look, looked_by, looked_in, IsSameBut};
 ghost use Rattle.wot_cache.specs.Question.{asked_of, present_in};
 

@@ -6,7 +6,7 @@ ghost use Rattle.std.specs.List.{flat_map};
 ghost use Rattle.wot_edge.specs.Roots.{IsRoots};
 ghost use Rattle.wot_keyring.specs.Dump.{AreLines, IsLine, command_line_of, lines_of};
 ghost use Rattle.wot_policy.specs.declared.rows.PolicyRows.{PolicyRows as Rows};
-ghost use Rattle.wot_cache.specs.Views.{IsWithin};
+ghost use Rattle.wot_cache.specs.Views.{AreWithinLimits};
 ghost use Rattle.wot_cache.specs.State.{Engine as Seen};
 ghost use Rattle.wot_cache.specs.Dump.{AreSortedByName, HaveRoots, IsDumped, IsRestored};
 ghost use Rattle.wot_cache.specs.Dump.{commands_over, engine_of, root_of, view_commands};
@@ -117,7 +117,7 @@ pub fn put_engine(
     views: &Views,
     out: &mut Vec<u8>,
 ) -> Result<u64, Memory>
-    requires within { IsWithin keyring.now.limits views.now.entries }
+    requires within { AreWithinLimits keyring.now.limits views.now.entries }
     ensures lines { OnOk result (out.new.items
         ≡ out.old.items ++ lines_of (commands_over keyring.now views.now.entries)) }
     ensures count { IfOk result (λ count. count ≡ length (commands_over keyring.now views.now.entries)) }

@@ -8,7 +8,7 @@ ghost use Rattle.wot_policy.specs.Kept.{IsFaithful, rows_of, asked_more};
 ghost use Rattle.wot_keyring.specs.Keyring.{verdict_on};
 ghost use Rattle.wot_keyring.specs.Held.{held_of, cert_in, removing, verdict_set, verdict_cleared};
 ghost use Rattle.wot_keyring.specs.Kept.{AreSmall, IsJudgedBy, StaysJudged};
-ghost use Rattle.wot_keyring.specs.Import.{Answers, AsksFor, IsOneChange, imported, importing};
+ghost use Rattle.wot_keyring.specs.Import.{ImportReturns, AsksFor, IsOneChange, imported, importing};
 ghost use Rattle.wot_keyring.specs.Removal.{without_cert};
 ghost use Rattle.wot_keyring.specs.Verdict.{without_verdict_on, SetsVerdict, TellsFull};
 ghost use Rattle.wot_edge.specs.Answer.{IsAnswer, amount_of};
@@ -114,7 +114,7 @@ impl Engine {
         requires short { length bytes.now < 2 ^ 29 }
         requires judged { IsJudgedBy (rows_of policy.old) self.old.keyring }
         requires faithful { IsFaithful F.Fn policy.old }
-        ensures answer { Answers result (rows_of policy.old) self.old.keyring bytes.now }
+        ensures answer { ImportReturns result (rows_of policy.old) self.old.keyring bytes.now }
         ensures imported { OnOk result (self.new.keyring ≡ imported (rows_of policy.old) self.old.keyring bytes.now) }
         ensures state { OnOk result (IsStateAfter (importing (rows_of policy.old) bytes.now) self.old self.new) }
         ensures kept { OnErr result (self.new ≡ self.old) }

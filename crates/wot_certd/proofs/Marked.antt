@@ -8,7 +8,7 @@ use Rattle.wot_types.specs.declared.fpr.Fpr.{Fpr}
 use Rattle.wot_types.specs.declared.name.Name.{Name}
 use Rattle.wot_types.specs.declared.name.Name.TheVariants.{Cert, TrustRoot}
 use Rattle.wot_types.specs.Fpr.{digits_of, octets_of}
-use Rattle.wot_certd.specs.Names.{file_of, folder_of, place_beside, place_of}
+use Rattle.wot_certd.specs.Names.{file_of, folder_of, place_beside, entry_place}
 
 -- no octet is the mark
 abbrev Unmarked : List ℕ → Type 0
@@ -64,7 +64,7 @@ slash = grind arith
 trust_root : Unmarked (codes "trust-root")
 trust_root = grind arith
 
-unmarked : (entry : Name) → Unmarked (place_of entry)
+unmarked : (entry : Name) → Unmarked (entry_place entry)
 unmarked (Cert fpr) =
     joined (take 2 (digits_of fpr) ++ codes "/") (drop 2 (digits_of fpr))
     (joined (take 2 (digits_of fpr)) (codes "/") (taken 2 (digits_of fpr) (digits fpr)) slash)
@@ -82,13 +82,13 @@ marked name number h =
     (front named (file_of name) (front filed (codes ".") (front dotted (decimal number) h)))).0
     refl
 
-is_no_entry : (name entry : Name) (number : ℕ) → place_beside name number ≢ place_of entry
+is_no_entry : (name entry : Name) (number : ℕ) → place_beside name number ≢ entry_place entry
 is_no_entry name entry number e =
     marked name number (let P : List ℕ → Type 0 = Unmarked in subst P (sym e) (unmarked entry))
 
 -- so no text that spells the mark is a place
 pub text_is_no_entry : {T E : Type 0} (result : Result T E) (bytes : T → List ℕ) (name : Name) (number : ℕ)
     → IfOk result (λ text. bytes text ≡ place_beside name number)
-    → IfOk result (λ text. (entry : Name) → bytes text ≢ place_of entry)
+    → IfOk result (λ text. (entry : Name) → bytes text ≢ entry_place entry)
 text_is_no_entry (Ok text) bytes name number e = λ entry f. is_no_entry name entry number (sym e ∙ f)
 text_is_no_entry (Err fault) bytes name number e = tt

@@ -14,7 +14,7 @@ use Rattle.wot_types.specs.declared.fpr.Fpr.TheVariants.{V4, V6}
 use Rattle.wot_types.specs.declared.name.Name.{Name}
 use Rattle.wot_types.specs.declared.name.Name.TheVariants.{Cert, TrustRoot}
 use Rattle.wot_types.specs.Fpr.{digits_of, fpr_of_digits, octets_of, octets_in}
-use Rattle.wot_certd.specs.Names.{IsFpr, IsName, place_of, split_digits}
+use Rattle.wot_certd.specs.Names.{IsFpr, IsName, entry_place, split_digits}
 
 pub first_digits : (octets : List ℕ) → 0 < length octets → encode_lower (take 1 octets) ≡ take 2 (encode_lower octets)
 unfolding encode_with
@@ -117,7 +117,7 @@ stands_there (a ∷ b ∷ slash ∷ rest) h s = ap (λ x. a ∷ b ∷ x ∷ rest
 
 pub each_name : (place : List ℕ) (result : Option Name) → (place ≡ codes "trust-root" → result ≡ Some TrustRoot)
     → ((fpr : Fpr) → IsFpr fpr → place ≡ split_digits (digits_of fpr) → result ≡ Some (Cert fpr))
-    → (name : Name) → IsName name → place ≡ place_of name → result ≡ Some name
+    → (name : Name) → IsName name → place ≡ entry_place name → result ≡ Some name
 each_name place result root certificate (Cert fpr) n e = certificate fpr n e
 each_name place result root certificate TrustRoot n e = root e
 

@@ -22,9 +22,9 @@ abbrev pub split_digits : List ℕ → List ℕ
 split_digits digits = take 2 digits ++ codes "/" ++ drop 2 digits
 
 -- The place of an entry in a directory: for a certificate, the digits of its fingerprint in lower case.
-abbrev pub place_of : Name → List ℕ
-place_of (Cert fpr) = split_digits (digits_of fpr)
-place_of TrustRoot = codes "trust-root"
+abbrev pub entry_place : Name → List ℕ
+entry_place (Cert fpr) = split_digits (digits_of fpr)
+entry_place TrustRoot = codes "trust-root"
 
 -- The folder of an entry in the directory, with a slash at its end. The trust root is in the directory itself.
 abbrev pub folder_of : Name → List ℕ

@@ -9,28 +9,28 @@ use Rattle.wot_certd.specs.declared.shelf.ShelfFault.TheVariants.{Failed, Memory
 use Rattle.wot_certd.specs.World.{World, called, Answer, fault, absent, long, entry, put_by_call, after_replace}
 
 -- An entry that was read isn't too long.
-abbrev pub IsWithin : Given → Type 0
-IsWithin (Bytes bytes) = length bytes.items ≤ 8388608
-IsWithin Absent = Unit {0}
-IsWithin Long = Unit {0}
+abbrev pub FitsEntry : Given → Type 0
+FitsEntry (Bytes bytes) = length bytes.items ≤ 8388608
+FitsEntry Absent = Unit {0}
+FitsEntry Long = Unit {0}
 
 -- What was read is this answer.
-abbrev pub Gives : Given → Answer → Type 0
-Gives (Bytes bytes) answer = answer ≡ entry bytes.items
-Gives Absent answer = answer ≡ absent
-Gives Long answer = answer ≡ long
+abbrev pub IsReadAs : Given → Answer → Type 0
+IsReadAs (Bytes bytes) answer = answer ≡ entry bytes.items
+IsReadAs Absent answer = answer ≡ absent
+IsReadAs Long answer = answer ≡ long
 
 -- A read returns the answer or is out of memory. A read that fails isn't out of memory.
-abbrev pub Answers : Result Given ShelfFault → Answer → Type 0
-Answers (Ok given) answer = Gives given answer
-Answers (Err Failed) answer = answer ≡ fault
-Answers (Err Memory) answer = answer ≢ fault
+abbrev pub ReadReturns : Result Given ShelfFault → Answer → Type 0
+ReadReturns (Ok given) answer = IsReadAs given answer
+ReadReturns (Err Failed) answer = answer ≡ fault
+ReadReturns (Err Memory) answer = answer ≢ fault
 
 -- A replace is out of memory, or fails if and only if its number says so.
-abbrev pub AnswersReplace : Result Unit ShelfFault → Bool → Type 0
-AnswersReplace (Ok done) fails = fails ≡ false
-AnswersReplace (Err Failed) fails = fails ≡ true
-AnswersReplace (Err Memory) fails = Unit {0}
+abbrev pub ReplaceReturns : Result Unit ShelfFault → Bool → Type 0
+ReplaceReturns (Ok done) fails = fails ≡ false
+ReplaceReturns (Err Failed) fails = fails ≡ true
+ReplaceReturns (Err Memory) fails = Unit {0}
 
 -- If the old world is known, the new one is this.
 abbrev pub Becomes : Option World → (World → World) → Option World → Type 0

@@ -5,7 +5,7 @@
 //! over the built program.
 ghost use Rattle.std.specs.Prelude.{◌≡◌, ◌≤◌, None, IfOk, OnOk, IsErrOf};
 ghost use Rattle.wot_io.specs.Counts.{Rose, next_count};
-ghost use Rattle.wot_certd.specs.Shelf.{IsWithin};
+ghost use Rattle.wot_certd.specs.Shelf.{FitsEntry};
 
 use crate::writing::{path_of, read_entry, write_entry};
 use crate::{Given, Shelf, ShelfFault};
@@ -68,7 +68,7 @@ impl<R: Files> Shelf for FolderShelf<'_, R> {
     ghost faults = { λ faults. faults };
 
     fn read(&mut self, name: &Name) -> Result<Given, ShelfFault>
-        ensures within { IfOk result (λ given. IsWithin given) }
+        ensures within { IfOk result (λ given. FitsEntry given) }
         ensures later { self.old ≤ self.new }
         ensures cause { IsErrOf result ShelfFault.Failed → Rose self.old self.new }
         ensures same { OnOk result (self.new ≡ self.old) }
@@ -97,7 +97,7 @@ impl<R: Files> Shelf for FolderShelf<'_, R> {
 }
 
 fn read_at<R: Files>(files: &R, alloc: Global, folder: &str, name: &Name) -> io::Result<Given>
-    ensures within { IfOk result (λ given. IsWithin given) }
+    ensures within { IfOk result (λ given. FitsEntry given) }
 {
     let path = path_of(alloc, folder, name)?;
     read_entry(files, alloc, &path)

@@ -7,7 +7,7 @@ ghost use Rattle.std.specs.Option.{option_copied};
 ghost use Rattle.wot_io.specs.Counts.{Rose, next_count};
 ghost use Rattle.wot_certd.specs.World.{is_one_of, called, fails_next, entry_at, with_entry};
 ghost use Rattle.wot_certd.specs.World.{entry_answer, read_answer};
-ghost use Rattle.wot_certd.specs.Shelf.{IsWithin, Gives, Answers, AnswersReplace, Becomes, Replaces};
+ghost use Rattle.wot_certd.specs.Shelf.{FitsEntry, IsReadAs, ReadReturns, ReplaceReturns, Becomes, Replaces};
 ghost use Rattle.wot_certd.specs.Memory.{entered, faulted};
 
 use crate::shelf::LONGEST;
@@ -51,8 +51,8 @@ fn put(entries: &mut Entries, name: Name, octets: Vec<u8>) -> Result<(), Memory>
 
 /// A copy of an entry's octets, unless they are too many.
 fn copy_of(alloc: Global, octets: &[u8]) -> Result<Given, Memory>
-    ensures gives { IfOk result (λ given. Gives given (entry_answer (Some octets.now))) }
-    ensures within { IfOk result (λ given. IsWithin given) }
+    ensures gives { IfOk result (λ given. IsReadAs given (entry_answer (Some octets.now))) }
+    ensures within { IfOk result (λ given. FitsEntry given) }
 {
     if octets.len() > LONGEST {
         return Ok(Given::Long);
@@ -142,8 +142,9 @@ impl MemoryShelf {
 
     /// Reads the entry under a name.
     fn give(&self, name: &Name) -> Result<Given, ShelfFault>
-        ensures gives { IfOk result (λ given. Gives given (entry_answer (entry_at self.now.world.entries name.now))) }
-        ensures within { IfOk result (λ given. IsWithin given) }
+        ensures gives { IfOk result (λ given.
+            IsReadAs given (entry_answer (entry_at self.now.world.entries name.now))) }
+        ensures within { IfOk result (λ given. FitsEntry given) }
         ensures wanting { IfErr result (λ fault. fault ≡ ShelfFault.Memory) }
     {
         let Some(entry) = find(&self.entries, name) else {
@@ -171,8 +172,8 @@ impl Shelf for MemoryShelf {
     ghost faults = { λ s. s.faults };
 
     fn read(&mut self, name: &Name) -> Result<Given, ShelfFault>
-        ensures within { IfOk result (λ given. IsWithin given) }
-        ensures answers { IfSome (Some self.old.world) (λ old. Answers result (read_answer old name.now)) }
+        ensures within { IfOk result (λ given. FitsEntry given) }
+        ensures answers { IfSome (Some self.old.world) (λ old. ReadReturns result (read_answer old name.now)) }
         ensures after { Becomes (Some self.old.world) called (Some self.new.world) }
         ensures later { self.old.faults ≤ self.new.faults }
         ensures cause { IsErrOf result ShelfFault.Failed → Rose self.old.faults self.new.faults }
@@ -190,7 +191,7 @@ impl Shelf for MemoryShelf {
     }
 
     fn replace(&mut self, name: &Name, bytes: &[u8]) -> Result<(), ShelfFault>
-        ensures answers { IfSome (Some self.old.world) (λ old. AnswersReplace result (fails_next old)) }
+        ensures answers { IfSome (Some self.old.world) (λ old. ReplaceReturns result (fails_next old)) }
         ensures after { Replaces (Some self.old.world) name.now bytes.now result (Some self.new.world) }
         ensures later { self.old.faults ≤ self.new.faults }
         ensures cause { IsErrOf result ShelfFault.Failed → Rose self.old.faults self.new.faults }

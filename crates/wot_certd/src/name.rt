@@ -7,7 +7,7 @@ ghost use Rattle.wot_types.specs.declared.fpr.Fpr.{Fpr as FprOf};
 ghost use Rattle.wot_types.specs.declared.name.Name.{Name as NameOf};
 ghost use Rattle.wot_types.specs.declared.name.Name.TheVariants.{Cert};
 ghost use Rattle.wot_types.specs.Fpr.{digits_of};
-ghost use Rattle.wot_certd.specs.Names.{IsFpr, IsName, file_of, folder_of, place_beside, place_of, split_digits};
+ghost use Rattle.wot_certd.specs.Names.{IsFpr, IsName, file_of, folder_of, place_beside, entry_place, split_digits};
 
 use std::alloc::Global;
 use wot_types::{Fpr, Memory, Name};
@@ -15,7 +15,7 @@ use wot_types::{Fpr, Memory, Name};
 /// The place of an entry in a directory. A certificate lies at the first two digits of its fingerprint, in lower case,
 /// a slash and the other digits. The trust root lies at `trust-root`.
 pub fn name_of(alloc: Global, name: &Name) -> Result<String, Memory>
-    ensures place { IfOk result (λ text. string_bytes text ≡ place_of name.now) }
+    ensures place { IfOk result (λ text. string_bytes text ≡ entry_place name.now) }
 {
     let mut text = folder_text(alloc, name)?;
     let file = file_text(alloc, name)?;
@@ -27,7 +27,7 @@ pub fn name_of(alloc: Global, name: &Name) -> Result<String, Memory>
 /// entry has such a place, so no reader of the directory takes the file for an entry.
 pub fn name_beside(alloc: Global, name: &Name, number: u32) -> Result<String, Memory>
     ensures place { IfOk result (λ text. string_bytes text ≡ place_beside name.now number) }
-    ensures apart { IfOk result (λ text. (entry : NameOf) → string_bytes text ≢ place_of entry) }
+    ensures apart { IfOk result (λ text. (entry : NameOf) → string_bytes text ≢ entry_place entry) }
 {
     text_beside(alloc, name, number)
 }
@@ -87,15 +87,15 @@ fn file_digits(alloc: Global, fpr: &Fpr) -> Result<String, Memory>
 
 /// The name of the entry at this place. `None` for every other text, upper-case digits included.
 pub fn fpr_of(text: &str) -> Option<Name>
-    ensures found { IfSome result (λ name. text.now ≡ place_of name) }
-    ensures again { (name : NameOf) → IsName name → text.now ≡ place_of name → result ≡ Some name }
+    ensures found { IfSome result (λ name. text.now ≡ entry_place name) }
+    ensures again { (name : NameOf) → IsName name → text.now ≡ entry_place name → result ≡ Some name }
 {
     name_at(text.as_bytes())
 }
 
 fn name_at(place: &[u8]) -> Option<Name>
-    ensures found { IfSome result (λ name. place.now ≡ place_of name) }
-    ensures again { (name : NameOf) → IsName name → place.now ≡ place_of name → result ≡ Some name }
+    ensures found { IfSome result (λ name. place.now ≡ entry_place name) }
+    ensures again { (name : NameOf) → IsName name → place.now ≡ entry_place name → result ≡ Some name }
 {
     if is_same(place, b"trust-root") {
         Some(Name::TrustRoot)
@@ -105,7 +105,7 @@ fn name_at(place: &[u8]) -> Option<Name>
 }
 
 fn certificate_at(place: &[u8]) -> Option<Name>
-    ensures found { IfSome result (λ name. place.now ≡ place_of name) }
+    ensures found { IfSome result (λ name. place.now ≡ entry_place name) }
     ensures again { (fpr : FprOf) → IsFpr fpr → place.now ≡ split_digits (digits_of fpr) → result ≡ Some (Cert fpr) }
 {
     match fpr_at(place) {

@@ -5,7 +5,7 @@
 ghost use Rattle.std.specs.Prelude.{◌≤◌, ℕ, Option, IfOk, IfSome, IsErrOf};
 ghost use Rattle.wot_io.specs.Counts.{Rose};
 ghost use Rattle.wot_certd.specs.World.{World, called, fails_next, read_answer};
-ghost use Rattle.wot_certd.specs.Shelf.{IsWithin, Answers, AnswersReplace, Becomes, Replaces};
+ghost use Rattle.wot_certd.specs.Shelf.{FitsEntry, ReadReturns, ReplaceReturns, Becomes, Replaces};
 
 use wot_types::Name;
 
@@ -42,8 +42,8 @@ pub trait Shelf {
 
     /// Reads the entry under a name. No entry changes.
     fn read(&mut self, name: &Name) -> Result<Given, ShelfFault>
-        ensures within { IfOk result (λ given. IsWithin given) }
-        ensures answers { IfSome (world self.old) (λ old. Answers result (read_answer old name.now)) }
+        ensures within { IfOk result (λ given. FitsEntry given) }
+        ensures answers { IfSome (world self.old) (λ old. ReadReturns result (read_answer old name.now)) }
         ensures after { Becomes (world self.old) called (world self.new) }
         ensures later { faults self.old ≤ faults self.new }
         ensures cause { IsErrOf result ShelfFault.Failed → Rose (faults self.old) (faults self.new) };
@@ -51,7 +51,7 @@ pub trait Shelf {
     /// Stores these octets under a name, in place of the old entry. After `Failed` they are stored if and only if the
     /// call is one of the late ones. After `Memory` they may be.
     fn replace(&mut self, name: &Name, bytes: &[u8]) -> Result<(), ShelfFault>
-        ensures answers { IfSome (world self.old) (λ old. AnswersReplace result (fails_next old)) }
+        ensures answers { IfSome (world self.old) (λ old. ReplaceReturns result (fails_next old)) }
         ensures after { Replaces (world self.old) name.now bytes.now result (world self.new) }
         ensures later { faults self.old ≤ faults self.new }
         ensures cause { IsErrOf result ShelfFault.Failed → Rose (faults self.old) (faults self.new) };

@@ -4,8 +4,8 @@
 //! It stands on std's files and on the places of `name`. A change here changes what a crash can leave in a user's
 //! directory.
 ghost use Rattle.std.specs.Prelude.{◌≡◌, IfOk, string_bytes};
-ghost use Rattle.wot_certd.specs.Names.{path_in, place_beside, place_of};
-ghost use Rattle.wot_certd.specs.Shelf.{IsWithin};
+ghost use Rattle.wot_certd.specs.Names.{path_in, place_beside, entry_place};
+ghost use Rattle.wot_certd.specs.Shelf.{FitsEntry};
 
 use crate::shelf::LONGEST;
 use crate::{Given, name_beside, name_of};
@@ -33,7 +33,7 @@ fn joined(alloc: Global, folder: &str, place: &str) -> io::Result<String>
 
 /// The path of an entry.
 pub fn path_of(alloc: Global, folder: &str, name: &Name) -> io::Result<String>
-    ensures { IfOk result (λ path. string_bytes path ≡ path_in folder.now (place_of name.now)) }
+    ensures { IfOk result (λ path. string_bytes path ≡ path_in folder.now (entry_place name.now)) }
 {
     match name_of(alloc, name) {
         Ok(place) => joined(alloc, folder, &place),
@@ -54,7 +54,7 @@ fn path_beside(alloc: Global, folder: &str, name: &Name, number: u32) -> io::Res
 /// Reads an entry's file. The entry is absent if the file or its folder doesn't exist. Links are followed. Anything but
 /// a regular file is an error, and isn't opened: a FIFO would block, and a device may never end.
 pub fn read_entry<R: Files>(files: &R, alloc: Global, path: &str) -> io::Result<Given>
-    ensures within { IfOk result (λ given. IsWithin given) }
+    ensures within { IfOk result (λ given. FitsEntry given) }
 {
     match fs::metadata(files, path) {
         Ok(about) if about.is_file() => read_file(files, alloc, path),
@@ -66,7 +66,7 @@ pub fn read_entry<R: Files>(files: &R, alloc: Global, path: &str) -> io::Result<
 
 /// Reads a regular file, which another program may remove before it is opened.
 fn read_file<R: Files>(files: &R, alloc: Global, path: &str) -> io::Result<Given>
-    ensures within { IfOk result (λ given. IsWithin given) }
+    ensures within { IfOk result (λ given. FitsEntry given) }
 {
     match fs::open(files, path) {
         Ok(mut file) => read_all(alloc, &mut file),
@@ -77,7 +77,7 @@ fn read_file<R: Files>(files: &R, alloc: Global, path: &str) -> io::Result<Given
 
 /// Reads to the end, or until there are more octets than an entry may have.
 fn read_all<F: Read>(alloc: Global, file: &mut F) -> io::Result<Given>
-    ensures within { IfOk result (λ given. IsWithin given) }
+    ensures within { IfOk result (λ given. FitsEntry given) }
 {
     let mut octets = Vec::new(alloc);
     let mut piece = [0u8; PIECE];

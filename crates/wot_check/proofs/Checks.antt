@@ -15,7 +15,7 @@ use Rattle.wot_check.specs.declared.checking.Checked.TheVariants.{BadPaths, BadT
 use Rattle.wot_check.specs.Absence.{Carries, Closes, IsAbsence, IsChecked, MayPrecede, RootsSpent}
 use Rattle.wot_check.specs.Claim.{Claim, EachShows, Shows, claim_of, claimed_step}
 use Rattle.wot_check.specs.Leading.{HasIntroducersOf, ShareChecked}
-use Rattle.wot_check.specs.Table.{IsTable, IsWithin, Labels, label_at}
+use Rattle.wot_check.specs.Table.{IsTable, IsAtMost, Labels, label_at}
 use Rattle.wot_check.proofs.Entries.{label_small}
 
 -- ---- the other direction
@@ -93,7 +93,7 @@ module _ (q other : Question) (claims : List Claim) (table : Labels) (set : List
           (place_same q other (q.target ∷ set) s.agree (inl refl) ∙ place ∙ ap (λ (z : EdgeFacts). Some z.uid) x.edge))
 
       others : (at : Fpr) (label : ℕ) (row : Row) → label_at table at ≡ Some label → label < 255
-          → MayPrecede other used at label row → IsWithin (label + 1) (label_at table row.edge.issuer)
+          → MayPrecede other used at label row → IsAtMost (label + 1) (label_at table row.edge.issuer)
       others at label row e lt m =
           let member : Has (q.target ∷ set) at = inr (s.looks.labelled at label e) in
           let small = (label_small table good.labels at label e).0 in
@@ -101,7 +101,7 @@ module _ (q other : Question) (claims : List Claim) (table : Labels) (set : List
           let from = (share_back q other claims table set s).looks.before at label e row m.carries.into
           (omega (arith, small, depth)) in
           let x = row_here at row member from m.carries.into in
-          label_there (IsWithin (label + 1)) row x.row x.edge
+          label_there (IsAtMost (label + 1)) row x.row x.edge
           (c.others at label x.row e lt (record {
             carries = carries_here used at row x m.carries;
             depth = subst (λ (z : EdgeFacts). label ≤ z.depth) x.edge m.depth;

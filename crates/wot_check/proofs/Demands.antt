@@ -13,7 +13,7 @@ use Rattle.wot_check.specs.declared.demand.Demand.{Demand}
 use Rattle.wot_check.specs.declared.demand.Demand.TheVariants.{On, Before}
 use Rattle.wot_check.specs.Demand.{is_place, is_met, demand_of, is_in_scope, promises, may_stand, is_within, is_covered}
 use Rattle.wot_check.specs.Demand.{Covers}
-use Rattle.wot_check.specs.Table.{Labels, label_at, IsWithin}
+use Rattle.wot_check.specs.Table.{Labels, label_at, IsAtMost}
 use Rattle.wot_check.specs.Absence.{MayPrecede, LastLabelled}
 
 -- ---- fingerprints
@@ -114,25 +114,25 @@ reaches_stands q used row (next ∷ rest) r o =
 
 -- ---- labels
 
-pub within-true : (most : ℕ) (label : Option ℕ) → is_within most label ≡ true → IsWithin most label
+pub within-true : (most : ℕ) (label : Option ℕ) → is_within most label ≡ true → IsAtMost most label
 within-true most None e = absurd cc
 within-true most (Some label) e = leb-true label most e
 
-pub true-within : (most : ℕ) (label : Option ℕ) → IsWithin most label → is_within most label ≡ true
+pub true-within : (most : ℕ) (label : Option ℕ) → IsAtMost most label → is_within most label ≡ true
 true-within most None w = absurd w
 true-within most (Some label) w = le-leb label most w
 
-pub within_some : (most : ℕ) (o : Option ℕ) → IsWithin most o → (label : ℕ) × (o ≡ Some label) × (label ≤ most)
+pub within_some : (most : ℕ) (o : Option ℕ) → IsAtMost most o → (label : ℕ) × (o ≡ Some label) × (label ≤ most)
 within_some most None w = absurd w
 within_some most (Some label) w = (label, refl, w)
 
-pub some_within : (most label : ℕ) (o : Option ℕ) → o ≡ Some label → label ≤ most → IsWithin most o
-some_within most label o e le = subst (IsWithin most) (sym e) le
+pub some_within : (most label : ℕ) (o : Option ℕ) → o ≡ Some label → label ≤ most → IsAtMost most o
+some_within most label o e le = subst (IsAtMost most) (sym e) le
 
 -- a covered edge that may come there
 pub covered_within : (target : Fpr) (used : Use) (demand : Demand) (most : ℕ) (table : Labels) (row : Row)
     → is_covered target used demand most table row ≡ true → may_stand target used demand row ≡ true
-    → IsWithin most (label_at table row.edge.issuer)
+    → IsAtMost most (label_at table row.edge.issuer)
 covered_within target used demand most table row c s =
     elim (or_cases (is_within most (label_at table row.edge.issuer)) (not (may_stand target used demand row)) c) [
       | inl w ↦ within-true most (label_at table row.edge.issuer) w
@@ -145,7 +145,7 @@ true-or false b (inl e) = absurd cc
 true-or false b (inr e) = e
 
 pub within_covered : (target : Fpr) (used : Use) (demand : Demand) (most : ℕ) (table : Labels) (row : Row)
-    → (may_stand target used demand row ≡ true → IsWithin most (label_at table row.edge.issuer))
+    → (may_stand target used demand row ≡ true → IsAtMost most (label_at table row.edge.issuer))
     → is_covered target used demand most table row ≡ true
 within_covered target used demand most table row f = by (may_stand target used demand row) refl
   where
@@ -157,7 +157,7 @@ within_covered target used demand most table row f = by (may_stand target used d
 
 -- ---- the first two points, edge by edge
 
-one_is : (o : Option ℕ) → ((label : ℕ) → o ≡ Some label → 1 ≤ label) → IsWithin 1 o → o ≡ Some 1
+one_is : (o : Option ℕ) → ((label : ℕ) → o ≡ Some label → 1 ≤ label) → IsAtMost 1 o → o ≡ Some 1
 one_is o some w = let s = within_some 1 o w in let le = some s.0 s.1 in s.1 ∙ ap Some (omega (arith, le, s.2))
 
 module _ (q : Question) (used : Use) (table : Labels) where
@@ -177,7 +177,7 @@ module _ (q : Question) (used : Use) (table : Labels) where
   -- the edges into one fingerprint of a label
   abbrev pub LabelledAt : Fpr → ℕ → Type 0
   LabelledAt at label =
-      (row : Row) → MayPrecede q used at label row → IsWithin (label + 1) (label_at table row.edge.issuer)
+      (row : Row) → MayPrecede q used at label row → IsAtMost (label + 1) (label_at table row.edge.issuer)
 
   pub covers_at : (at : Fpr) (label : ℕ) → 1 ≤ label → Covers q used label table at → LabelledAt at label
   covers_at at zero some c row m = absurd (omega (arith, some))

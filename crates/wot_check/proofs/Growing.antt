@@ -11,7 +11,7 @@ use Rattle.wot_edge.specs.Record.{EachRow, Row, Has, rows_into, edges_into}
 use Rattle.wot_edge.specs.Path.{Question, Use, Stands, start, step_of}
 use Rattle.wot_check.specs.declared.growth.Growth.{Growth}
 use Rattle.wot_check.specs.declared.demand.Demand.{Demand}
-use Rattle.wot_check.specs.Table.{Labels, label_at, IsWithin}
+use Rattle.wot_check.specs.Table.{Labels, label_at, IsAtMost}
 use Rattle.wot_check.specs.Demand.{Covers, demand_of, is_covered, may_stand}
 use Rattle.wot_check.specs.Growth.{IsGiven, GivesIf, is_new, Labelled, Leads, IsLayered, Extends, Advances, GrowsInto}
 use Rattle.wot_check.specs.Growth.{CoversLayer, LeadsFromLayer}
@@ -246,7 +246,7 @@ module _ (q : Question) (used : Use) where
     )
 
     grown_same : (may_stand q.target used (demand_of q size) row ≡ true
-        → IsWithin (size + 1) (label_at old.table row.edge.issuer)) → old ≡ new → Grown
+        → IsAtMost (size + 1) (label_at old.table row.edge.issuer)) → old ≡ new → Grown
     grown_same w e = (
       same_advances size old new e layered,
       subst (λ (g : Growth). is_covered q.target used (demand_of q size) (size + 1) g.table row ≡ true) e

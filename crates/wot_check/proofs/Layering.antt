@@ -9,7 +9,7 @@ use Rattle.wot_edge.specs.Record.{Has}
 use Rattle.wot_edge.specs.Path.{Question, Use, use_of, Distinct, issuers, start, root_left, IsNextPath}
 use Rattle.wot_edge.specs.Answer.{EachNext}
 use Rattle.wot_check.specs.declared.growth.Growth.{Growth}
-use Rattle.wot_check.specs.Table.{Labels, label_at, IsWithin, IsTable}
+use Rattle.wot_check.specs.Table.{Labels, label_at, IsAtMost, IsTable}
 use Rattle.wot_check.specs.Claim.{claim_of, Shows, EachShows}
 use Rattle.wot_check.specs.Absence.{RootsSpent, IsLeast, LeastBy, IsLeft, IsMade, is_in_order}
 use Rattle.wot_check.specs.Demand.{Covers}
@@ -186,8 +186,8 @@ module _ (q : Question) (used : Use) where
         let few = is.few in
         let w = trail_within q used other c steps (labelled_trail table steps is.leads.labelled)
         (omega (arith, long, some)) (omega (arith, long, few)) in
-        subst (λ (n : ℕ). IsWithin n (label_at other fpr)) long
-        (subst (λ (f : Fpr). IsWithin (length steps) (label_at other f)) is.leads.there w);
+        subst (λ (n : ℕ). IsAtMost n (label_at other fpr)) long
+        (subst (λ (f : Fpr). IsAtMost (length steps) (label_at other f)) is.leads.there w);
   }
 
   -- ---- what is made

@@ -24,7 +24,7 @@ use Rattle.wot_check.specs.Claim.{claim_of}
 use Rattle.wot_check.specs.Growth.{IsLabel, IsSettled, Labelled}
 use Rattle.wot_check.proofs.Layering.{each_next_shows, rooted_left}
 use Rattle.wot_check.specs.Demand.{Covers, demand_of, may_stand}
-use Rattle.wot_check.specs.Table.{IsTable, IsWithin, Labels, label_at}
+use Rattle.wot_check.specs.Table.{IsTable, IsAtMost, Labels, label_at}
 use Rattle.wot_check.proofs.Demands.{before_whole, covers_at, covers_last, demand_some, reaches_stands, stands_reaches}
 use Rattle.wot_check.proofs.Demands.{within_covered, within_some}
 use Rattle.wot_check.proofs.Entries.{all_has, has_lookup, labels_insert, label_small, lookup_has}
@@ -190,8 +190,8 @@ tables_same a b s t same =
 
 -- ---- the least table is one
 
-same_labels : (a b : Option ℕ) → ((label : ℕ) → a ≡ Some label → IsWithin label b)
-    → ((label : ℕ) → b ≡ Some label → IsWithin label a) → a ≡ b
+same_labels : (a b : Option ℕ) → ((label : ℕ) → a ≡ Some label → IsAtMost label b)
+    → ((label : ℕ) → b ≡ Some label → IsAtMost label a) → a ≡ b
 same_labels None None f g = refl
 same_labels None (Some y) f g = absurd (g y refl)
 same_labels (Some x) None f g = absurd (f x refl)
@@ -356,7 +356,7 @@ module _ (q : Question) (used : Use) where
     good : IsTable table
     only : (fpr : Fpr) (label : ℕ) → label_at table fpr ≡ Some label → Shortest label fpr
     each : (fpr : Fpr) (size : ℕ) → Has of fpr → 1 ≤ size → size ≤ 255 → Led size fpr
-        → IsWithin size (label_at table fpr)
+        → IsAtMost size (label_at table fpr)
 
   built_more : (fpr : Fpr) (of : List Fpr) → Nearest 255 fpr → Built of → Built (fpr ∷ of)
   built_more fpr of n b = record {
@@ -365,7 +365,7 @@ module _ (q : Question) (used : Use) where
     only = λ other label e. only other label (same_fpr other fpr) refl
         (sym (label_insert b.table fpr n.size other) ∙ e);
     each = λ other size h some few l.
-        subst (IsWithin size) (sym (label_insert b.table fpr n.size other))
+        subst (IsAtMost size) (sym (label_insert b.table fpr n.size other))
         (each other size (same_fpr other fpr) refl h some few l);
   }
     where
@@ -378,7 +378,7 @@ module _ (q : Question) (used : Use) where
 
       each : (other : Fpr) (size : ℕ) (s : Bool) → same_fpr other fpr ≡ s → Has (fpr ∷ of) other → 1 ≤ size → size ≤ 255
           → Led size other
-          → IsWithin size (cond s (Some n.size) (label_at b.table other))
+          → IsAtMost size (cond s (Some n.size) (label_at b.table other))
       each other size true same h some few l =
           n.short.least size some (subst (Led size) (same_fpr-true other fpr same) l)
       each other size false apart (inl e) some few l =
@@ -396,7 +396,7 @@ module _ (q : Question) (used : Use) where
       by (inr never) b = record { table = b.table; good = b.good; only = b.only; each = each }
         where
           each : (other : Fpr) (size : ℕ) → Has (fpr ∷ of) other → 1 ≤ size → size ≤ 255 → Led size other
-              → IsWithin size (label_at b.table other)
+              → IsAtMost size (label_at b.table other)
           each other size (inl e) some few l = absurd (never size some few (subst (Led size) e l))
           each other size (inr h) some few l = b.each other size h some few l
 
@@ -458,8 +458,8 @@ module _ (q : Question) (used : Use) where
           let long = l.long in
           let w = trail_within q used other c l.steps l.trail (omega (arith, long, small.0))
           (omega (arith, long, small.1)) in
-          subst (λ (n : ℕ). IsWithin n (label_at other fpr)) long
-          (subst (λ (f : Fpr). IsWithin (length l.steps) (label_at other f)) l.there w);
+          subst (λ (n : ℕ). IsAtMost n (label_at other fpr)) long
+          (subst (λ (f : Fpr). IsAtMost (length l.steps) (label_at other f)) l.there w);
     }
 
     -- ---- its trails

@@ -3,7 +3,7 @@ use Rattle.std.proofs.Common.{◌≡◌, inl, inr, ℕ, ◌+◌, ◌<◌, ◌≤
 use Rattle.wot_types.specs.declared.fpr.Fpr.{Fpr}
 use Rattle.wot_edge.specs.declared.path.Step.{Step}
 use Rattle.wot_edge.specs.Path.{Question, Use, Chain, Stands, IsOpen, IsSpent, start, step_left, root_left, least_left}
-use Rattle.wot_check.specs.Table.{Labels, label_at, IsWithin}
+use Rattle.wot_check.specs.Table.{Labels, label_at, IsAtMost}
 use Rattle.wot_check.specs.Absence.{Closes, Excludes, Carries, MayPrecede, IsAbsence, is_in_order}
 use Rattle.wot_check.proofs.Demands.{within_some, some_within}
 
@@ -44,11 +44,11 @@ issuer_is q step rest s = ap (λ (x : Step). x.issuer) s.shown
 -- A table that meets the first two points has a label at the start of a trail, of at most its length.
 pub trail_within : (q : Question) (used : Use) (table : Labels) → Closes q used table → (steps : List Step)
     → Trail q used steps → 1 ≤ length steps → length steps ≤ 255
-    → IsWithin (length steps) (label_at table (start q.target steps))
+    → IsAtMost (length steps) (label_at table (start q.target steps))
 trail_within q used table c [] t some few = absurd (omega (arith, some))
 trail_within q used table c (x ∷ []) t some few =
     let e = c.last t.0.row (carries_step q used x [] t.0 t.1) t.0.reaches in
-    subst (λ (f : Fpr). IsWithin 1 (label_at table f)) (issuer_is q x [] t.0)
+    subst (λ (f : Fpr). IsAtMost 1 (label_at table f)) (issuer_is q x [] t.0)
     (some_within 1 1 (label_at table t.0.row.edge.issuer) e (omega arith))
 trail_within q used table c (x ∷ y ∷ rest) t some few =
     let ih = within_some (length (y ∷ rest)) (label_at table y.issuer)
@@ -64,7 +64,7 @@ trail_within q used table c (x ∷ y ∷ rest) t some few =
     } in
     let w = within_some (ih.0 + 1) (label_at table t.0.row.edge.issuer)
     (c.others y.issuer ih.0 t.0.row ih.1 (omega (arith, ih.2, few)) m) in
-    subst (λ (f : Fpr). IsWithin (length (x ∷ y ∷ rest)) (label_at table f)) (issuer_is q x (y ∷ rest) t.0)
+    subst (λ (f : Fpr). IsAtMost (length (x ∷ y ∷ rest)) (label_at table f)) (issuer_is q x (y ∷ rest) t.0)
     (some_within (length (x ∷ y ∷ rest)) w.0 (label_at table t.0.row.edge.issuer) w.1 (omega (arith, w.2, ih.2)))
 
 pub open_trail : (q : Question) (used : Use) (steps : List Step) → IsOpen q used steps → Trail q used steps

@@ -12,7 +12,7 @@ use Rattle.wot_edge.specs.Path.{Question, Use, use_of, step_of, step_left, root_
 use Rattle.wot_check.specs.declared.checking.Checked.{Checked}
 use Rattle.wot_check.specs.declared.checking.Checked.TheVariants.{Yes, BadPaths, BadTable}
 use Rattle.wot_check.specs.Claim.{Claim, AreGood, EachShows, claim_of}
-use Rattle.wot_check.specs.Table.{Labels, label_at, IsWithin, IsTable}
+use Rattle.wot_check.specs.Table.{Labels, label_at, IsAtMost, IsTable}
 
 -- a usable edge into a fingerprint with a positive residual amount
 pub record Carries (q : Question) (used : Use) (at : Fpr) (row : Row) : Type 0 where
@@ -37,7 +37,7 @@ pub record MayPrecede (q : Question) (used : Use) (at : Fpr) (label : ℕ) (row 
 abbrev pub OthersLabelled : Question → Use → Labels → Type 0
 OthersLabelled q used table =
     (at : Fpr) (label : ℕ) (row : Row) → label_at table at ≡ Some label → label < 255 → MayPrecede q used at label row
-    → IsWithin (label + 1) (label_at table row.edge.issuer)
+    → IsAtMost (label + 1) (label_at table row.edge.issuer)
 
 -- the third point: no labelled fingerprint is a root with a residual amount
 abbrev pub RootsSpent : Question → Use → Labels → Type 0
@@ -67,7 +67,7 @@ IsAbsence q used table = (is_in_order q ≡ false) ⊎ Excludes q used table
 pub record IsLeast (q : Question) (used : Use) (table : Labels) : Type 0 where
   pub closes : Closes q used table
   pub least : (other : Labels) → IsTable other → Closes q used other
-      → (fpr : Fpr) (label : ℕ) → label_at table fpr ≡ Some label → IsWithin label (label_at other fpr)
+      → (fpr : Fpr) (label : ℕ) → label_at table fpr ≡ Some label → IsAtMost label (label_at other fpr)
 
 abbrev pub LeastBy : Bool → Question → Use → Labels → Type 0
 LeastBy false q used table = table ≡ []

@@ -20,9 +20,9 @@ GivesLabel old new fpr label =
     (other : Fpr) → label_at new other ≡ (if same_fpr fpr other then Some label else label_at old other)
 
 -- there is a label, and it is at most this
-abbrev pub IsWithin : ℕ → Option ℕ → Type 0
-IsWithin most None = ⊥
-IsWithin most (Some label) = label ≤ most
+abbrev pub IsAtMost : ℕ → Option ℕ → Type 0
+IsAtMost most None = ⊥
+IsAtMost most (Some label) = label ≤ most
 
 -- each label is from 1 to 255
 abbrev pub AreLabels : Labels → Type 0

@@ -13,10 +13,10 @@ use Rattle.wot_edge.proofs.Exists.{AreNextOrSpent, next_of_is, root_le}
 use Rattle.wot_edge.proofs.One.{next_path_one}
 
 -- Next paths after earlier ones, until the wanted amount is reached or no path is left.
-abbrev pub Answers : Question → ℕ → List Path → List Path → Type 0
-Answers q wanted earlier [] = (wanted ≡ 0) ⊎ IsSpent q (use_of earlier)
-Answers q wanted earlier (path ∷ paths) =
-    (0 < wanted) × IsNextPath q (use_of earlier) path × Answers q (wanted - path.amount) (earlier ++ path ∷ []) paths
+abbrev pub CompletesAnswer : Question → ℕ → List Path → List Path → Type 0
+CompletesAnswer q wanted earlier [] = (wanted ≡ 0) ⊎ IsSpent q (use_of earlier)
+CompletesAnswer q wanted earlier (path ∷ paths) =
+    (0 < wanted) × IsNextPath q (use_of earlier) path × CompletesAnswer q (wanted - path.amount) (earlier ++ path ∷ []) paths
 
 amount-cons : (path : Path) (paths : List Path) → amount_of (path ∷ paths) ≡ path.amount + amount_of paths
 amount-cons path paths = sum_by-cons (λ p. p.amount) path paths
@@ -25,7 +25,7 @@ amount-cons path paths = sum_by-cons (λ p. p.amount) path paths
 
 module _ (q : Question) where
   taken : (wanted : ℕ) (earlier paths : List Path) → EachNext q earlier paths → amount_of (but_last paths) < wanted
-      → (wanted ≤ amount_of paths) ⊎ IsSpent q (use_of (earlier ++ paths)) → Answers q wanted earlier paths
+      → (wanted ≤ amount_of paths) ⊎ IsSpent q (use_of (earlier ++ paths)) → CompletesAnswer q wanted earlier paths
   taken wanted earlier [] n short (inl le) = inl (omega (arith, le))
   taken wanted earlier [] n short (inr s) =
       inr (subst (λ (ps : List Path). IsSpent q (use_of ps)) (append-nil earlier) s)
@@ -48,14 +48,14 @@ module _ (q : Question) where
       by (inr s) = inr
           (subst (λ (ps : List Path). IsSpent q (use_of ps)) (sym (append_assoc earlier (path ∷ []) (next ∷ paths))) s)
 
-  pub answer_taken : (wanted : ℕ) (paths : List Path) → IsAnswer q wanted paths → Answers q wanted [] paths
+  pub answer_taken : (wanted : ℕ) (paths : List Path) → IsAnswer q wanted paths → CompletesAnswer q wanted [] paths
   answer_taken wanted paths a = taken wanted [] paths a.each a.short a.ends
 
-  pub taken_each : (wanted : ℕ) (earlier paths : List Path) → Answers q wanted earlier paths → EachNext q earlier paths
+  pub taken_each : (wanted : ℕ) (earlier paths : List Path) → CompletesAnswer q wanted earlier paths → EachNext q earlier paths
   taken_each wanted earlier [] a = tt
   taken_each wanted earlier (path ∷ paths) a = (a.1, taken_each (wanted - path.amount) (earlier ++ path ∷ []) paths a.2)
 
-  taken_short : (wanted : ℕ) (earlier paths : List Path) → 0 < wanted → Answers q wanted earlier paths
+  taken_short : (wanted : ℕ) (earlier paths : List Path) → 0 < wanted → CompletesAnswer q wanted earlier paths
       → amount_of (but_last paths) < wanted
   taken_short wanted earlier [] pos a = pos
   taken_short wanted earlier (path ∷ []) pos a = pos
@@ -64,7 +64,7 @@ module _ (q : Question) where
       let more = taken_short (wanted - path.amount) (earlier ++ path ∷ []) (next ∷ paths) a.2.0 a.2 in
       omega (arith, e, more)
 
-  taken_ends : (wanted : ℕ) (earlier paths : List Path) → Answers q wanted earlier paths
+  taken_ends : (wanted : ℕ) (earlier paths : List Path) → CompletesAnswer q wanted earlier paths
       → (wanted ≤ amount_of paths) ⊎ IsSpent q (use_of (earlier ++ paths))
   taken_ends wanted earlier [] (inl e) = inl (omega (arith, e))
   taken_ends wanted earlier [] (inr s) =
@@ -76,7 +76,7 @@ module _ (q : Question) where
       by (inl le) = inl (let e = amount-cons path paths in omega (arith, le, e))
       by (inr s) = inr (subst (λ (ps : List Path). IsSpent q (use_of ps)) (append_assoc earlier (path ∷ []) paths) s)
 
-  pub taken_answer : (wanted : ℕ) (paths : List Path) → 0 < wanted → Answers q wanted [] paths → IsAnswer q wanted paths
+  pub taken_answer : (wanted : ℕ) (paths : List Path) → 0 < wanted → CompletesAnswer q wanted [] paths → IsAnswer q wanted paths
   taken_answer wanted paths pos a = record {
     each = taken_each wanted [] paths a;
     short = taken_short wanted [] paths pos a;
@@ -85,8 +85,8 @@ module _ (q : Question) where
 
 -- ---- there is one answer
 
-taken_one : (q : Question) → IsRecord q.told → (wanted : ℕ) (earlier a b : List Path) → Answers q wanted earlier a
-    → Answers q wanted earlier b → a ≡ b
+taken_one : (q : Question) → IsRecord q.told → (wanted : ℕ) (earlier a b : List Path) → CompletesAnswer q wanted earlier a
+    → CompletesAnswer q wanted earlier b → a ≡ b
 taken_one q r wanted earlier [] [] m n = refl
 taken_one q r wanted earlier [] (y ∷ b) (inl e) n = absurd (omega (arith, e, n.0))
 taken_one q r wanted earlier [] (y ∷ b) (inr s) n = absurd (s y.steps n.1.steps.0)
@@ -94,8 +94,8 @@ taken_one q r wanted earlier (x ∷ a) [] m (inl e) = absurd (omega (arith, e, m
 taken_one q r wanted earlier (x ∷ a) [] m (inr s) = absurd (s x.steps m.1.steps.0)
 taken_one q r wanted earlier (x ∷ a) (y ∷ b) m n =
     let first : x ≡ y = next_path_one q (use_of earlier) r x y m.1 n.1 in
-    let n' : Answers q (wanted - x.amount) (earlier ++ x ∷ []) b =
-    subst (λ (z : Path). Answers q (wanted - z.amount) (earlier ++ z ∷ []) b) (sym first) n.2 in
+    let n' : CompletesAnswer q (wanted - x.amount) (earlier ++ x ∷ []) b =
+    subst (λ (z : Path). CompletesAnswer q (wanted - z.amount) (earlier ++ z ∷ []) b) (sym first) n.2 in
     ap (λ (z : Path). z ∷ a) first
     ∙ ap (λ (z : List Path). y ∷ z) (taken_one q r (wanted - x.amount) (earlier ++ x ∷ []) a b m.2 n')
 
@@ -106,7 +106,7 @@ answer_one q r wanted a b m n = taken_one q r wanted [] a b (answer_taken q want
 -- ---- there is an answer
 
 taken_exists : (q : Question) (most wanted : ℕ) (earlier : List Path) → wanted ≤ most
-    → (paths : List Path) × Answers q wanted earlier paths
+    → (paths : List Path) × CompletesAnswer q wanted earlier paths
 taken_exists q zero wanted earlier le = ([], inl (omega arith))
 taken_exists q (suc n) zero earlier le = ([], inl refl)
 taken_exists q (suc n) (suc w) earlier le =
@@ -114,8 +114,8 @@ taken_exists q (suc n) (suc w) earlier le =
     (next_of (total q.roots) q (use_of earlier)) (next_of_is q (use_of earlier) (total q.roots) (root_le q.roots))
   where
     by : ((path : Path) → suc w - path.amount ≤ n
-        → (paths : List Path) × Answers q (suc w - path.amount) (earlier ++ path ∷ []) paths) → (o : Option (List Step))
-        → AreNextOrSpent q (use_of earlier) o → (paths : List Path) × Answers q (suc w) earlier paths
+        → (paths : List Path) × CompletesAnswer q (suc w - path.amount) (earlier ++ path ∷ []) paths) → (o : Option (List Step))
+        → AreNextOrSpent q (use_of earlier) o → (paths : List Path) × CompletesAnswer q (suc w) earlier paths
     by ih None s = ([], inr s)
     by ih (Some steps) s =
         let path : Path =

@@ -21,10 +21,10 @@ pub record Plain : Type 0 where
   pub lines : List (Fpr × Line)
   pub inside : ℕ
 
-abbrev pub place_of : List ℕ → Option ℕ
-place_of [] = None
-place_of (x ∷ []) = Some x
-place_of (x ∷ y ∷ ys) = None
+abbrev pub octet_place : List ℕ → Option ℕ
+octet_place [] = None
+octet_place (x ∷ []) = Some x
+octet_place (x ∷ y ∷ ys) = None
 
 abbrev pub is_place : Option ℕ → Bool
 is_place None = false
@@ -47,7 +47,7 @@ entry_of inside place line = record {
 }
 
 abbrev pub told_of : Plain → List ℕ → Record
-told_of plain uid = map (λ e. (e.0, entry_of plain.inside (place_of uid) e.1)) plain.lines
+told_of plain uid = map (λ e. (e.0, entry_of plain.inside (octet_place uid) e.1)) plain.lines
 
 abbrev pub AreLines : List (Fpr × Line) → Type 0
 AreLines lines = AllByRecursion (λ e. AreRows e.0 e.1.edges) lines

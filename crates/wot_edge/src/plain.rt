@@ -8,7 +8,7 @@ ghost use Rattle.std.specs.Option.{option_copied};
 ghost use Rattle.wot_types.specs.Fpr.{fpr_cmp};
 ghost use Rattle.wot_edge.specs.Order.{edge_cmp};
 ghost use Rattle.wot_edge.specs.Lawful.{AreRows};
-ghost use Rattle.wot_edge.specs.Plain.{AreLines, MayPrecede, holds_inside, is_place, told_of, place_of, with_line};
+ghost use Rattle.wot_edge.specs.Plain.{AreLines, MayPrecede, holds_inside, is_place, told_of, octet_place, with_line};
 
 use crate::maps::{find, put};
 use crate::{Edge, Roads};
@@ -190,7 +190,7 @@ fn compare_edges(a: &Edge, b: &Edge) -> Ordering
 
 /// The place of a user ID: its one octet.
 fn place_in(uid: &[u8]) -> Option<u32>
-    ensures place { result ≡ place_of uid.now }
+    ensures place { result ≡ octet_place uid.now }
 {
     match uid {
         [octet] => Some(*octet as u32),

@@ -4,7 +4,7 @@ use Rattle.std.proofs.Common.{Result, Ok, refl, sym, ap, subst, ◌∙◌, arith
 use Rattle.std.proofs.Math.Seq.{drop-append_seam}
 use Rattle.std.specs.Prelude.{is_ok}
 use Rattle.wot_types.specs.Limits.{standard_limits}
-use Rattle.wot_io.specs.Fill.{GivesOf, Stops}
+use Rattle.wot_io.specs.Fill.{TakesLineOf, Stops}
 use Rattle.wot_io.specs.Given as given
 use Rattle.wot_io.specs.Input.{lines_of}
 use Rattle.wot_io.specs.ReaderState.{ReaderState}
@@ -23,8 +23,8 @@ use Rattle.wot_machine.specs.Lines.{heard}
 use Rattle.wot_machine.specs.Machine.{Machine, kept}
 use Rattle.wot_machine.specs.Scene.{Scene, opening}
 use Rattle.wot_machine.specs.Transcript.{AllTold, octets_of}
-use Rattle.wot_machine.specs.Watching.{Tells}
-use Rattle.wot_machine.specs.Whole.{Whole, beginning, watched, whole_of}
+use Rattle.wot_machine.specs.Watching.{ReportsWatches}
+use Rattle.wot_machine.specs.Session.{Session, beginning, watched, session_of}
 use Rattle.wot_machine.proofs.Giving.{all_told, all_weaker, over}
 use Rattle.wot_machine.proofs.Judging.{asks_as}
 use Rattle.wot_machine.proofs.Stepping.{heard_long}
@@ -65,11 +65,11 @@ module _ {F : Type 0} where
       asks_as r done (λ ok. ap is_ok is) command old new before after a
 
   -- the watch lines after it ask nothing
-  pub asks_behind : {T E : Type 0} (r : Result T E) (command : Option Command) (old : State) (mid new : Whole)
-      (told : List Reply) (before after : Policy F) → Tells mid told new
+  pub asks_behind : {T E : Type 0} (r : Result T E) (command : Option Command) (old : State) (mid new : Session)
+      (told : List Reply) (before after : Policy F) → ReportsWatches mid told new
       → LineAsks r command old mid.state before after → LineAsks r command old new.state before after
   asks_behind r command old mid new told before after t a =
-      subst (λ (s : State). LineAsks r command old s before after) (sym (ap (λ (w : Whole). w.state) t.left)) a
+      subst (λ (s : State). LineAsks r command old s before after) (sym (ap (λ (w : Session). w.state) t.left)) a
 
   -- ---- one line after another
 
@@ -96,12 +96,12 @@ module _ {F : Type 0} where
 module _ {F : Type 0} (rows : PolicyRows) (start : Policy F) (origin : Option World) where
   -- the policy was asked for the lines that were read
   pub record IsAsked (world : World) (input held : List ℕ) (taken : ℕ) (left : Option (List ℕ)) (shelf : Option World)
-      (state : Whole) (policy : Policy F) : Type 0 where
+      (state : Session) (policy : Policy F) : Type 0 where
     pub written : Option (List ℕ)
     pub stands : Stands rows origin world input [] held taken left written shelf state
     pub asked : AsksInTurn rows stands.done (opening world) start (over state stands.now) policy
 
-  abbrev pub HasAsked : Option (List ℕ) → Option (List ℕ) → List ℕ → ℕ → Option (List ℕ) → Option World → Whole →
+  abbrev pub HasAsked : Option (List ℕ) → Option (List ℕ) → List ℕ → ℕ → Option (List ℕ) → Option World → Session →
       Policy F → Type 0
   HasAsked left0 written0 held taken left shelf state policy =
       AllTold left0 written0 origin (λ input before world. IsAsked world input held taken left shelf state policy)
@@ -122,10 +122,10 @@ module _ {F : Type 0} (rows : PolicyRows) (start : Policy F) (origin : Option Wo
 
   -- a line was read and answered
   pub HasAsked-line : (left0 written0 : Option (List ℕ)) (old : ReaderState) (left : Option (List ℕ))
-      (shelf : Option World) (state : Whole) (policy : Policy F) (new : ReaderState) (left' : Option (List ℕ))
-      (shelf' : Option World) (state' : Whole) (policy' : Policy F) (line : Line) (octets : List ℕ)
+      (shelf : Option World) (state : Session) (policy : Policy F) (new : ReaderState) (left' : Option (List ℕ))
+      (shelf' : Option World) (state' : Session) (policy' : Policy F) (line : Line) (octets : List ℕ)
       → HasAsked left0 written0 old.held old.taken left shelf state policy →
-      given.Answers line old left new left' → Replies rows line new.text state shelf octets state' shelf'
+      given.ReturnsNext line old left new left' → Replies rows line new.text state shelf octets state' shelf'
       → LineAsks done (command_by line new.text) state.state state'.state policy policy' →
       HasAsked left0 written0 new.held new.taken left' shelf' state' policy'
   HasAsked-line left0 written0 old left shelf state policy new left' shelf' state' policy' line octets h g r asks =
@@ -155,14 +155,14 @@ module _ {F : Type 0} (rows : PolicyRows) (start : Policy F) (origin : Option Wo
   -- ---- what was asked in all
 
   all_of : (world : World) (input held : List ℕ) (taken : ℕ) (left : Option (List ℕ)) (shelf : Option World)
-      (state : Whole) (policy : Policy F) (lines : List (List ℕ)) →
+      (state : Session) (policy : Policy F) (lines : List (List ℕ)) →
       (a : IsAsked world input held taken left shelf state policy) → lines ≡ a.stands.done →
       AsksFor rows world lines start policy
   all_of world input held taken left shelf state policy lines a e =
       record { last = over state a.stands.now; in_turn = rw e a.asked }
 
   first_of : (world : World) (input held : List ℕ) (taken : ℕ) (left : Option (List ℕ)) (shelf : Option World)
-      (state : Whole) (policy after : Policy F) → (a : IsAsked world input held taken left shelf state policy) →
+      (state : Session) (policy after : Policy F) → (a : IsAsked world input held taken left shelf state policy) →
       MayAskNext (drop (length a.stands.done) (lines_of input)) policy after →
       AsksFirst rows world (lines_of input) start after
   first_of world input held taken left shelf state policy after a next =
@@ -202,7 +202,7 @@ module _ {F : Type 0} (rows : PolicyRows) (start : Policy F) (origin : Option Wo
 
   -- between two lines
   pub asks_between : (status : ℕ) (left0 written0 : Option (List ℕ)) (held : List ℕ) (taken : ℕ)
-      (left : Option (List ℕ)) (shelf : Option World) (state : Whole) (policy : Policy F) (left' : Option (List ℕ))
+      (left : Option (List ℕ)) (shelf : Option World) (state : Session) (policy : Policy F) (left' : Option (List ℕ))
       → IsEither 4 5 status → HasAsked left0 written0 held taken left shelf state policy
       → AllTold left0 written0 origin (λ input before world. AsksBy status rows world input left' start policy)
   asks_between status left0 written0 held taken left shelf state policy left' is h =
@@ -211,9 +211,9 @@ module _ {F : Type 0} (rows : PolicyRows) (start : Policy F) (origin : Option Wo
 
   -- the line that was read is the next one
   next_is : (world : World) (input held : List ℕ) (taken : ℕ) (left : Option (List ℕ)) (shelf : Option World)
-      (state : Whole) (policy after : Policy F) (held' : List ℕ) (taken' : ℕ) (left' : Option (List ℕ))
+      (state : Session) (policy after : Policy F) (held' : List ℕ) (taken' : ℕ) (left' : Option (List ℕ))
       (line : List ℕ) (command : Option Command) → (a : IsAsked world input held taken left shelf state policy)
-      → GivesOf held a.stands.rest taken held' left' taken' line → heard line ≡ command → MayAsk command policy after
+      → TakesLineOf held a.stands.rest taken held' left' taken' line → heard line ≡ command → MayAsk command policy after
       → MayAskNext (drop (length a.stands.done) (lines_of input)) policy after
   next_is world input held taken left shelf state policy after held' taken' left' line command a g e may =
       let rest : List (List ℕ) = lines_of (held' ++ g.rest) in
@@ -225,8 +225,8 @@ module _ {F : Type 0} (rows : PolicyRows) (start : Policy F) (origin : Option Wo
       subst (λ (ls : List (List ℕ)). MayAskNext ls policy after) (sym is) there
 
   next_of : (world : World) (input : List ℕ) (old : ReaderState) (left : Option (List ℕ)) (shelf : Option World)
-      (state : Whole) (policy after : Policy F) (new : ReaderState) (left' : Option (List ℕ)) (line : Line)
-      → (a : IsAsked world input old.held old.taken left shelf state policy) → given.Answers line old left new left'
+      (state : Session) (policy after : Policy F) (new : ReaderState) (left' : Option (List ℕ)) (line : Line)
+      → (a : IsAsked world input old.held old.taken left shelf state policy) → given.ReturnsNext line old left new left'
       → line ≢ End → MayAsk (command_by line new.text) policy after
       → MayAskNext (drop (length a.stands.done) (lines_of input)) policy after
   next_of world input old left shelf state policy after new left' Text a g some may =
@@ -241,10 +241,10 @@ module _ {F : Type 0} (rows : PolicyRows) (start : Policy F) (origin : Option Wo
 
   -- memory ran out for the line that was read
   pub asks_cut : (status : ℕ) (left0 written0 : Option (List ℕ)) (old : ReaderState) (left : Option (List ℕ))
-      (shelf : Option World) (state : Whole) (policy after : Policy F) (new : ReaderState) (left' : Option (List ℕ))
+      (shelf : Option World) (state : Session) (policy after : Policy F) (new : ReaderState) (left' : Option (List ℕ))
       (line : Line)
       → IsEither 4 5 status → HasAsked left0 written0 old.held old.taken left shelf state policy
-      → given.Answers line old left new left' → line ≢ End → MayAsk (command_by line new.text) policy after
+      → given.ReturnsNext line old left new left' → line ≢ End → MayAsk (command_by line new.text) policy after
       → AllTold left0 written0 origin (λ input before world. AsksBy status rows world input left' start after)
   asks_cut status left0 written0 old left shelf state policy after new left' line is h g some may =
       all_weaker left0 written0 origin _ _ (λ input before world uncalled a. first_alone status world input left' after
@@ -253,8 +253,8 @@ module _ {F : Type 0} (rows : PolicyRows) (start : Policy F) (origin : Option Wo
 
   -- at the end of the input
   pub asks_end : (left0 written0 : Option (List ℕ)) (old : ReaderState) (left : Option (List ℕ))
-      (shelf : Option World) (state : Whole) (policy : Policy F) (new : ReaderState) (left' : Option (List ℕ))
-      → HasAsked left0 written0 old.held old.taken left shelf state policy → given.Answers End old left new left'
+      (shelf : Option World) (state : Session) (policy : Policy F) (new : ReaderState) (left' : Option (List ℕ))
+      → HasAsked left0 written0 old.held old.taken left shelf state policy → given.ReturnsNext End old left new left'
       → AllTold left0 written0 origin (λ input before world. AsksBy 0 rows world input left' start policy)
   asks_end left0 written0 old left shelf state policy new left' h g =
       all_weaker left0 written0 origin _ _ (λ input before world uncalled a.
@@ -269,7 +269,7 @@ module _ {F : Type 0} (rows : PolicyRows) (start : Policy F) (origin : Option Wo
 
   -- after a failed read, or after 2 ^ 30 octets
   pub asks_stop : (status : ℕ) (left0 written0 : Option (List ℕ)) (held : List ℕ) (taken : ℕ)
-      (left : Option (List ℕ)) (shelf : Option World) (state : Whole) (policy : Policy F) (left' : Option (List ℕ))
+      (left : Option (List ℕ)) (shelf : Option World) (state : Session) (policy : Policy F) (left' : Option (List ℕ))
       (taken' : ℕ)
       → IsEither 3 6 status → HasAsked left0 written0 held taken left shelf state policy
       → Stops held left taken left' taken'
@@ -297,8 +297,8 @@ module _ {F : Type 0} (rows : PolicyRows) (start : Policy F) (origin : Option Wo
       → HasAsked left written lines.held lines.taken left origin (kept machine) start
   asks_nothing left written lines machine e m k w =
       let same : beginning ≡ kept machine =
-      sym (ap (λ (x : Engine). watched (whole_of x machine.cursors) machine.watches) m
-      ∙ ap (λ (cs : Cursors). watched (whole_of (empty standard_limits) cs) machine.watches) k
-      ∙ ap (λ (ws : Watches). watched (whole_of (empty standard_limits) []) ws) w) in
+      sym (ap (λ (x : Engine). watched (session_of x machine.cursors) machine.watches) m
+      ∙ ap (λ (cs : Cursors). watched (session_of (empty standard_limits) cs) machine.watches) k
+      ∙ ap (λ (ws : Watches). watched (session_of (empty standard_limits) []) ws) w) in
       subst (λ (r : ReaderState). HasAsked left written r.held r.taken left origin (kept machine) start) (sym e)
-      (subst (λ (s : Whole). HasAsked left written [] 0 left origin s start) same (HasAsked-init left written))
+      (subst (λ (s : Session). HasAsked left written [] 0 left origin s start) same (HasAsked-init left written))

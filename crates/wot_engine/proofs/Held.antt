@@ -13,7 +13,7 @@ use Rattle.wot_io.specs.Given as given
 use Rattle.wot_io.specs.declared.lines.Line.{Line}
 use Rattle.wot_policy.specs.declared.rows.PolicyRows.{PolicyRows}
 use Rattle.wot_certd.specs.World.{World}
-use Rattle.wot_machine.specs.Whole.{Whole, beginning}
+use Rattle.wot_machine.specs.Session.{Session, beginning}
 use Rattle.wot_machine.specs.Law.{OneOutcome}
 use Rattle.wot_machine.specs.Entry.{MayPut}
 use Rattle.wot_machine.specs.Transcript.{AllTold, AnsweredMost, Begun, octets_of}
@@ -50,13 +50,13 @@ some_is x y e = cc
 module _ (rows : PolicyRows) where
   -- the replies to the lines read so far are the written octets and the buffered ones
   pub record IsHeld (origin : Option World) (world : World) (input before held : List ℕ) (taken : ℕ)
-      (left written : Option (List ℕ)) (out : List ℕ) (shelf : Option World) (state : Whole) : Type 0 where
+      (left written : Option (List ℕ)) (out : List ℕ) (shelf : Option World) (state : Session) : Type 0 where
     pub done : List ℕ
     pub written_is : written ≡ Some (before ++ done)
     pub stands : Stands rows origin world input before held taken left (Some ((before ++ done) ++ out)) shelf state
 
   abbrev pub Held : Option (List ℕ) → Option (List ℕ) → Option World → List ℕ → ℕ → Option (List ℕ) → Option (List ℕ) →
-      List ℕ → Option World → Whole → Type 0
+      List ℕ → Option World → Session → Type 0
   Held left0 written0 origin held taken left written out shelf state =
       AllTold left0 written0 origin (λ input before world. IsHeld origin world input before held taken left written out
       shelf state)
@@ -72,7 +72,7 @@ module _ (rows : PolicyRows) where
       })
 
   pub Held-moves : (left0 written0 : Option (List ℕ)) (origin : Option World) (held : List ℕ) (taken : ℕ)
-      (left written : Option (List ℕ)) (out : List ℕ) (shelf : Option World) (state : Whole) (after : Option (List ℕ))
+      (left written : Option (List ℕ)) (out : List ℕ) (shelf : Option World) (state : Session) (after : Option (List ℕ))
       (rest : List ℕ)
       → Held left0 written0 origin held taken left written out shelf state → Moves written out after rest →
       Held left0 written0 origin held taken left after rest shelf state
@@ -91,7 +91,7 @@ module _ (rows : PolicyRows) where
 
   -- if nothing is buffered
   pub Held-none : (left0 written0 : Option (List ℕ)) (origin : Option World) (held : List ℕ) (taken : ℕ)
-      (left written : Option (List ℕ)) (out : List ℕ) (shelf : Option World) (state : Whole)
+      (left written : Option (List ℕ)) (out : List ℕ) (shelf : Option World) (state : Session)
       → Held left0 written0 origin held taken left written out shelf state → out ≡ [] →
       Stood rows left0 written0 origin held taken left written shelf state
   Held-none left0 written0 origin held taken left written out shelf state h none =
@@ -104,10 +104,10 @@ module _ (rows : PolicyRows) where
 
   -- a line was read, and its reply is appended to the buffer
   pub Held-reply : (left0 written0 : Option (List ℕ)) (origin : Option World) (old : ReaderState)
-      (left written : Option (List ℕ)) (out : List ℕ) (shelf : Option World) (state : Whole) (new : ReaderState)
-      (left' : Option (List ℕ)) (shelf' : Option World) (state' : Whole) (line : Line) (octets more : List ℕ)
+      (left written : Option (List ℕ)) (out : List ℕ) (shelf : Option World) (state : Session) (new : ReaderState)
+      (left' : Option (List ℕ)) (shelf' : Option World) (state' : Session) (line : Line) (octets more : List ℕ)
       → Held left0 written0 origin old.held old.taken left written out shelf state →
-      given.Answers line old left new left' → Replies rows line new.text state shelf octets state' shelf' →
+      given.ReturnsNext line old left new left' → Replies rows line new.text state shelf octets state' shelf' →
       more ≡ out ++ octets
       → Held left0 written0 origin new.held new.taken left' written more shelf' state'
   Held-reply left0 written0 origin old left written out shelf state new left' shelf' state' line octets more h a r
@@ -130,7 +130,7 @@ module _ (rows : PolicyRows) where
 
   -- the whole buffer was written
   pub Held-written : (left0 written0 : Option (List ℕ)) (origin : Option World) (held : List ℕ) (taken : ℕ)
-      (left written : Option (List ℕ)) (out : List ℕ) (shelf : Option World) (state : Whole) (after : Option (List ℕ))
+      (left written : Option (List ℕ)) (out : List ℕ) (shelf : Option World) (state : Session) (after : Option (List ℕ))
       → Held left0 written0 origin held taken left written out shelf state → Becomes written (λ old. old ++ out) after →
       Stood rows left0 written0 origin held taken left after shelf state
   Held-written left0 written0 origin held taken left written out shelf state after h b =
@@ -140,7 +140,7 @@ module _ (rows : PolicyRows) where
 
   -- what was written is a prefix, whatever is buffered
   pub Held-begun : OneOutcome rows → (left0 written0 : Option (List ℕ)) (origin : Option World) (held : List ℕ)
-      (taken : ℕ) (left written : Option (List ℕ)) (out : List ℕ) (shelf : Option World) (state : Whole)
+      (taken : ℕ) (left written : Option (List ℕ)) (out : List ℕ) (shelf : Option World) (state : Session)
       → Held left0 written0 origin held taken left written out shelf state →
       AllTold left0 written0 origin (λ input before world. Begun rows world (lines_of input) before written)
   Held-begun law left0 written0 origin held taken left written out shelf state h =
@@ -151,7 +151,7 @@ module _ (rows : PolicyRows) where
 
   -- what was written is a prefix, if a write of the buffer was cut short
   pub Held-cut : OneOutcome rows → (left0 written0 : Option (List ℕ)) (origin : Option World) (held : List ℕ)
-      (taken : ℕ) (left written : Option (List ℕ)) (out : List ℕ) (shelf : Option World) (state : Whole)
+      (taken : ℕ) (left written : Option (List ℕ)) (out : List ℕ) (shelf : Option World) (state : Session)
       (after : Option (List ℕ))
       → Held left0 written0 origin held taken left written out shelf state →
       IfSome written (λ old. GainsPrefix old after out)
@@ -165,7 +165,7 @@ module _ (rows : PolicyRows) where
 
   -- all complete lines of 2 ^ 30 octets are answered, even if more was read
   pub Held-most : OneOutcome rows → (left0 written0 : Option (List ℕ)) (origin : Option World) (held : List ℕ)
-      (taken : ℕ) (left written : Option (List ℕ)) (out : List ℕ) (shelf : Option World) (state : Whole)
+      (taken : ℕ) (left written : Option (List ℕ)) (out : List ℕ) (shelf : Option World) (state : Session)
       (after left' : Option (List ℕ)) (taken' : ℕ)
       → Held left0 written0 origin held taken left written out shelf state →
       IfSome written (λ old. GainsPrefix old after out) → Took left taken left' taken'
@@ -181,7 +181,7 @@ module _ (rows : PolicyRows) where
 
   -- how far the run has come, whatever is buffered
   pub Held-reached : (left0 written0 : Option (List ℕ)) (origin : Option World) (held : List ℕ) (taken : ℕ)
-      (left written : Option (List ℕ)) (out : List ℕ) (shelf : Option World) (state : Whole)
+      (left written : Option (List ℕ)) (out : List ℕ) (shelf : Option World) (state : Session)
       → Held left0 written0 origin held taken left written out shelf state →
       AllTold left0 written0 origin (λ input before world. Reached rows world (lines_of input) before written origin
       shelf)
@@ -194,7 +194,7 @@ module _ (rows : PolicyRows) where
 
   -- how far the run has come if a write of the buffer was cut short
   pub Held-reached_cut : (left0 written0 : Option (List ℕ)) (origin : Option World) (held : List ℕ) (taken : ℕ)
-      (left written : Option (List ℕ)) (out : List ℕ) (shelf : Option World) (state : Whole) (after : Option (List ℕ))
+      (left written : Option (List ℕ)) (out : List ℕ) (shelf : Option World) (state : Session) (after : Option (List ℕ))
       → Held left0 written0 origin held taken left written out shelf state →
       IfSome written (λ old. GainsPrefix old after out)
       → AllTold left0 written0 origin (λ input before world. Reached rows world (lines_of input) before after origin
@@ -209,11 +209,11 @@ module _ (rows : PolicyRows) where
 
   -- how far the run has come if memory ran out for a line
   pub Held-reached_next : (left0 written0 : Option (List ℕ)) (origin : Option World) (old : ReaderState)
-      (left written : Option (List ℕ)) (out : List ℕ) (shelf : Option World) (state : Whole) (after : Option (List ℕ))
+      (left written : Option (List ℕ)) (out : List ℕ) (shelf : Option World) (state : Session) (after : Option (List ℕ))
       (new : ReaderState) (left' : Option (List ℕ)) (shelf' : Option World) (line : Line)
       → Held left0 written0 origin old.held old.taken left written out shelf state →
       IfSome written (λ old. GainsPrefix old after out)
-      → given.Answers line old left new left' → line ≢ End → MayPut state.state (use_by line new.text) shelf shelf'
+      → given.ReturnsNext line old left new left' → line ≢ End → MayPut state.state (use_by line new.text) shelf shelf'
       → AllTold left0 written0 origin (λ input before world. Reached rows world (lines_of input) before after origin
       shelf')
   Held-reached_next left0 written0 origin old left written out shelf state after new left' shelf' line h g a some m =
@@ -227,11 +227,11 @@ module _ (rows : PolicyRows) where
 
   -- the buffer was written after memory ran out for a line
   pub Held-first : (left0 written0 : Option (List ℕ)) (origin : Option World) (old : ReaderState)
-      (left written : Option (List ℕ)) (out : List ℕ) (shelf : Option World) (state : Whole) (after : Option (List ℕ))
+      (left written : Option (List ℕ)) (out : List ℕ) (shelf : Option World) (state : Session) (after : Option (List ℕ))
       (new : ReaderState) (left' : Option (List ℕ)) (shelf' : Option World) (line : Line)
       → Held left0 written0 origin old.held old.taken left written out shelf state →
       Becomes written (λ old. old ++ out) after
-      → given.Answers line old left new left' → line ≢ End → MayPut state.state (use_by line new.text) shelf shelf' →
+      → given.ReturnsNext line old left new left' → line ≢ End → MayPut state.state (use_by line new.text) shelf shelf' →
       length new.held < 65536
       → AllTold left0 written0 origin (λ input before world. ReachedWhole rows world input before left' after origin
       shelf')

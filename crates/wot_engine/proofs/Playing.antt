@@ -7,14 +7,14 @@ use Rattle.wot_policy.specs.declared.rows.PolicyRows.{PolicyRows}
 use Rattle.wot_script.specs.declared.reply.Reply.{Reply}
 use Rattle.wot_certd.specs.World.{World}
 use Rattle.wot_gen.specs.declared.tally.Tally.{Tally}
-use Rattle.wot_gen.specs.Summary.{Tells, amount_in}
+use Rattle.wot_gen.specs.Summary.{Tallies, amount_in}
 use Rattle.wot_types.specs.Limits.{standard_limits}
 use Rattle.wot_cache.specs.State.{empty}
 use Rattle.wot_machine.specs.Machine.{Machine, kept}
-use Rattle.wot_machine.specs.Whole.{Whole, watched, whole_of}
+use Rattle.wot_machine.specs.Session.{Session, watched, session_of}
 use Rattle.wot_machine.specs.Entry.{use_of}
 use Rattle.wot_machine.specs.Lines.{heard}
-use Rattle.wot_machine.specs.Ran.{Seen}
+use Rattle.wot_machine.specs.CommandRun.{Seen}
 use Rattle.wot_machine.specs.Scene.{Scene, Step, opening}
 use Rattle.wot_machine.specs.Stepped.{Replied}
 use Rattle.wot_machine.specs.Transcript.{Run, listed}
@@ -30,31 +30,31 @@ use Rattle.wot_engine.specs.Played.{Adds, AddsReply, AddsTold, IsPlayed}
 pub record AddsUpTo (first now : Tally) (all rest : List Reply) : Type 0 where
   pub done : List Reply
   pub parts : done ++ rest ≡ all
-  pub tells : (told : List Reply) → Tells first told → Tells now (told ++ done)
+  pub tells : (told : List Reply) → Tallies first told → Tallies now (told ++ done)
 
 pub adds_first : (tally : Tally) (all : List Reply) → AddsUpTo tally tally all all
 adds_first tally all = record {
   done = [];
   parts = refl;
-  tells = λ told t. subst (Tells tally) (sym (append-nil told)) t;
+  tells = λ told t. subst (Tallies tally) (sym (append-nil told)) t;
 }
 
 pub adds_next : (first old now : Tally) (all rest others : List Reply) (line : Reply) → AddsUpTo first old all rest →
     rest ≡ line ∷ others
-    → ((told : List Reply) → Tells old told → Tells now (told ++ line ∷ [])) → AddsUpTo first now all others
+    → ((told : List Reply) → Tallies old told → Tallies now (told ++ line ∷ [])) → AddsUpTo first now all others
 adds_next first old now all rest others line s e add = record {
   done = s.done ++ line ∷ [];
   parts = append_assoc s.done (line ∷ []) others ∙ ap (λ (ls : List Reply). s.done ++ ls) (sym e) ∙ s.parts;
-  tells = λ told t. subst (Tells now) (append_assoc told s.done (line ∷ [])) (add (told ++ s.done) (s.tells told t));
+  tells = λ told t. subst (Tallies now) (append_assoc told s.done (line ∷ [])) (add (told ++ s.done) (s.tells told t));
 }
 
 pub adds_last : (first now : Tally) (all rest : List Reply) → AddsUpTo first now all rest → length rest ≡ 0 →
-    (told : List Reply) → Tells first told
-    → Tells now (told ++ all)
+    (told : List Reply) → Tallies first told
+    → Tallies now (told ++ all)
 adds_last first now all rest s none told t =
     let whole : s.done ≡ all = sym (append-nil s.done) ∙ ap (λ (ls : List Reply). s.done ++ ls)
     (sym (nil_from_length rest none)) ∙ s.parts in
-    subst (λ (ls : List Reply). Tells now (told ++ ls)) whole (s.tells told t)
+    subst (λ (ls : List Reply). Tallies now (told ++ ls)) whole (s.tells told t)
 
 -- a watch line isn't the amount of an answer
 pub nothing_told : (line : Reply) → watching.IsWatchLine line → amount_in line ≡ 0
@@ -65,10 +65,10 @@ module _ (rows : PolicyRows) where
   -- ---- one line
 
   -- The reply and the watch lines after it, with a directory whose world is known, are the line's step.
-  pub step_over : (line : List ℕ) (old mid new : Whole) (before after : World) (faults later : ℕ) (reply : Option Reply)
+  pub step_over : (line : List ℕ) (old mid new : Session) (before after : World) (faults later : ℕ) (reply : Option Reply)
       (told : List Reply)
       → Replied rows line old (record { world = Some before; faults = faults }) reply mid
-      (record { world = Some after; faults = later }) → watching.Tells mid told new
+      (record { world = Some after; faults = later }) → watching.ReportsWatches mid told new
       → Step rows (over old before) line reply told (over new after)
   step_over line old mid new before after faults later reply told r t =
       let g : Goes rows (Some before) (Some after) before old new line reply told =
@@ -80,17 +80,17 @@ module _ (rows : PolicyRows) where
       some_is : (x y : World) → Some x ≡ Some y → x ≡ y
       some_is x y e = cc
 
-  pub adds_none : (line : List ℕ) (old new : Whole) (before after : Seen) (tally : Tally) →
+  pub adds_none : (line : List ℕ) (old new : Session) (before after : Seen) (tally : Tally) →
       Replied rows line old before None new after
       → AddsReply rows line old before tally new after tally
   adds_none line old new before after tally replied = record {
     reply = None;
     replied = replied;
-    tells = λ replies t. subst (Tells tally) (sym (append-nil replies)) t;
+    tells = λ replies t. subst (Tallies tally) (sym (append-nil replies)) t;
   }
 
   -- the reply and the watch lines after it were added
-  pub adds_both : (line : List ℕ) (old mid new : Whole) (before after : World) (faults later : ℕ)
+  pub adds_both : (line : List ℕ) (old mid new : Session) (before after : World) (faults later : ℕ)
       (had has total : Tally)
       → AddsReply rows line old (record { world = Some before; faults = faults }) had mid
       (record { world = Some after; faults = later }) has → AddsTold mid has new total
@@ -99,7 +99,7 @@ module _ (rows : PolicyRows) where
     reply = a.reply;
     told = t.told;
     step = step_over line old mid new before after faults later a.reply t.told a.replied t.told_are;
-    tells = λ replies s. subst (Tells total) (append_assoc replies (listed a.reply) t.told)
+    tells = λ replies s. subst (Tallies total) (append_assoc replies (listed a.reply) t.told)
         (t.tells (replies ++ listed a.reply) (a.tells replies s));
   }
 
@@ -111,17 +111,17 @@ module _ (rows : PolicyRows) where
     pub replies : List Reply
     pub lines : lines_of text ≡ done ++ lines_of rest
     pub run : Run rows (opening no_entries) done replies scene
-    pub tells : Tells tally replies
+    pub tells : Tallies tally replies
 
-  pub starts : (text : List ℕ) (tally : Tally) → Tells tally [] → Plays text text (opening no_entries) tally
+  pub starts : (text : List ℕ) (tally : Tally) → Tallies tally [] → Plays text text (opening no_entries) tally
   starts text tally tells = record { done = []; replies = []; lines = refl; run = (refl, refl); tells = tells }
 
   -- a fresh machine has answered no line
   pub starts_with : (text : List ℕ) (machine : Machine) (world : World) (tally : Tally) →
       machine.engine ≡ empty standard_limits → machine.cursors ≡ [] → machine.watches ≡ []
-      → world ≡ no_entries → Tells tally [] → Plays text text (over (kept machine) world) tally
+      → world ≡ no_entries → Tallies tally [] → Plays text text (over (kept machine) world) tally
   starts_with text machine world tally e k w none tells =
-      let same : over (kept machine) world ≡ opening no_entries = λ i. over (watched (whole_of (e i) (k i)) (w i))
+      let same : over (kept machine) world ≡ opening no_entries = λ i. over (watched (session_of (e i) (k i)) (w i))
       (none i) in
       subst (λ (s : Scene). Plays text text s tally) (sym same) (starts text tally tells)
 

@@ -5,12 +5,12 @@ use Rattle.std.proofs.lemmas.List.{append-nil, take_at, take-append-le, append_c
 use Rattle.std.proofs.Math.Seq.{drop-append_seam, take-append-add}
 use Rattle.std.proofs.lemmas.Grind.{flat_map-append}
 use Rattle.wot_io.specs.Input.{lines_of, whole_lines_of, HasNoFeed}
-use Rattle.wot_io.specs.Fill.{GivesOf, StopsOf, Took}
+use Rattle.wot_io.specs.Fill.{TakesLineOf, StopsOf, Took}
 use Rattle.wot_io.specs.Source.{Loses, LosesOf}
 use Rattle.wot_script.specs.declared.reply.Reply.{Reply}
 use Rattle.wot_script.specs.Replies.{reply_text}
 use Rattle.wot_certd.specs.World.{World}
-use Rattle.wot_machine.specs.Whole.{Whole, beginning}
+use Rattle.wot_machine.specs.Session.{Session, beginning}
 use Rattle.wot_machine.specs.Law.{OneOutcome}
 use Rattle.wot_machine.specs.Scene.{Scene, Step, opening}
 use Rattle.wot_machine.specs.Entry.{MayPut, MayPutIn, Use, use_of}
@@ -37,7 +37,7 @@ module _ (rows : PolicyRows) (origin : Option World) (world : World) where
 
   -- these lines were read, and their replies were written
   pub record Stands (input before held : List ℕ) (taken : ℕ) (left written : Option (List ℕ)) (shelf : Option World)
-      (state : Whole) : Type 0 where
+      (state : Session) : Type 0 where
     pub gone : List ℕ
     pub rest : List ℕ
     pub done : List (List ℕ)
@@ -116,7 +116,7 @@ module _ (rows : PolicyRows) (origin : Option World) (world : World) where
 
   -- more octets were read, and are buffered
   pub took_on : (input before held : List ℕ) (taken : ℕ) (left written : Option (List ℕ)) (shelf : Option World)
-      (state : Whole) (left' : Option (List ℕ)) (taken' : ℕ) → Stands input before held taken left written shelf state →
+      (state : Session) (left' : Option (List ℕ)) (taken' : ℕ) → Stands input before held taken left written shelf state →
       (t : Took left taken left' taken')
       → Stands input before (held ++ t.gone) taken' left' written shelf state
   took_on input before held taken left written shelf state left' taken' s t =
@@ -150,9 +150,9 @@ module _ (rows : PolicyRows) (origin : Option World) (world : World) where
 
   -- the line just read is the next one of all
   pub comes_next : (input before held : List ℕ) (taken : ℕ) (left written : Option (List ℕ)) (shelf : Option World)
-      (state : Whole) (held' : List ℕ) (taken' : ℕ) (left' : Option (List ℕ)) (line : List ℕ)
+      (state : Session) (held' : List ℕ) (taken' : ℕ) (left' : Option (List ℕ)) (line : List ℕ)
       → (s : Stands input before held taken left written shelf state) →
-      (g : GivesOf held s.rest taken held' left' taken' line)
+      (g : TakesLineOf held s.rest taken held' left' taken' line)
       → lines_of input ≡ s.done ++ line ∷ lines_of (held' ++ g.rest)
   comes_next input before held taken left written shelf state held' taken' left' line s g =
       elim s.lines [
@@ -174,16 +174,16 @@ module _ (rows : PolicyRows) (origin : Option World) (world : World) where
 
   -- where a run stands after one more line, which is the last one read, and the world after it
   abbrev pub StandsOn : (done : List (List ℕ)) (line : List ℕ) (next : World) (input before held : List ℕ) (taken : ℕ)
-      (left written : Option (List ℕ)) (shelf : Option World) (state : Whole) → Type 0
+      (left written : Option (List ℕ)) (shelf : Option World) (state : Session) → Type 0
   StandsOn done line next input before held taken left written shelf state =
       (s : Stands input before held taken left written shelf state) × (s.done ≡ done ++ line ∷ []) × (s.now ≡ next)
 
   -- one line further
   pub goes_on : (input before held : List ℕ) (taken : ℕ) (left written : Option (List ℕ)) (shelf : Option World)
-      (state : Whole) (held' : List ℕ) (taken' : ℕ) (left' written' : Option (List ℕ)) (shelf' : Option World)
-      (state' : Whole) (line : List ℕ) (reply : Option Reply) (told : List Reply)
+      (state : Session) (held' : List ℕ) (taken' : ℕ) (left' written' : Option (List ℕ)) (shelf' : Option World)
+      (state' : Session) (line : List ℕ) (reply : Option Reply) (told : List Reply)
       → (s : Stands input before held taken left written shelf state) →
-      GivesOf held s.rest taken held' left' taken' line → (next : World) → IsNow origin shelf' next
+      TakesLineOf held s.rest taken held' left' taken' line → (next : World) → IsNow origin shelf' next
       → Step rows (over state s.now) line reply told (over state' next) →
       written' ≡ Some ((before ++ octets_of s.replies) ++ octets_of (listed reply ++ told))
       → StandsOn s.done line next input before held' taken' left' written' shelf' state'
@@ -250,7 +250,7 @@ module _ (rows : PolicyRows) (origin : Option World) (world : World) where
 
   -- the lines read so far are the first ones of all
   pub begins : (input before held : List ℕ) (taken : ℕ) (left written : Option (List ℕ)) (shelf : Option World)
-      (state : Whole) → (s : Stands input before held taken left written shelf state) →
+      (state : Session) → (s : Stands input before held taken left written shelf state) →
       (more : List (List ℕ)) × (lines_of input ≡ s.done ++ more)
   begins input before held taken left written shelf state s =
       elim s.lines [
@@ -263,7 +263,7 @@ module _ (rows : PolicyRows) (origin : Option World) (world : World) where
 
   -- the lines read so far are answered, and each reply is complete
   pub at_first : (input before held : List ℕ) (taken : ℕ) (left written : Option (List ℕ)) (shelf : Option World)
-      (state : Whole) (source : Option (List ℕ)) (shelf' : Option World)
+      (state : Session) (source : Option (List ℕ)) (shelf' : Option World)
       → (s : Stands input before held taken left written shelf state) →
       (source ≡ Some input) ⊎ IsLastTaken (drop (length s.done) (lines_of input)) source
       → MayPutNext (over state s.now) (drop (length s.done) (lines_of input)) origin shelf' →
@@ -295,7 +295,7 @@ module _ (rows : PolicyRows) (origin : Option World) (world : World) where
 
   -- exactly the replies so far
   pub so_far : OneOutcome rows → (input before held : List ℕ) (taken : ℕ) (left written : Option (List ℕ))
-      (shelf : Option World) (state : Whole) → Stands input before held taken left written shelf state →
+      (shelf : Option World) (state : Session) → Stands input before held taken left written shelf state →
       Begun rows world (lines_of input) before written
   so_far law input before held taken left written shelf state s =
       let m = begins input before held taken left written shelf state s in
@@ -314,7 +314,7 @@ module _ (rows : PolicyRows) (origin : Option World) (world : World) where
 
   -- the end
   pub done_all : (input before held : List ℕ) (taken : ℕ) (left written : Option (List ℕ)) (shelf : Option World)
-      (state : Whole) → (s : Stands input before held taken left written shelf state) → held ≡ [] → s.rest ≡ [] →
+      (state : Session) → (s : Stands input before held taken left written shelf state) → held ≡ [] → s.rest ≡ [] →
       lines_of input ≡ s.done
   done_all input before held taken left written shelf state s e f =
       elim s.lines [
@@ -323,7 +323,7 @@ module _ (rows : PolicyRows) (origin : Option World) (world : World) where
       ]
 
   pub at_end : (input before held : List ℕ) (taken : ℕ) (left written : Option (List ℕ)) (shelf : Option World)
-      (state : Whole) → (s : Stands input before held taken left written shelf state) → held ≡ [] → s.rest ≡ [] →
+      (state : Session) → (s : Stands input before held taken left written shelf state) → held ≡ [] → s.rest ≡ [] →
       Answered rows world (lines_of input) before written
   at_end input before held taken left written shelf state s e f =
       let whole : lines_of input ≡ s.done = done_all input before held taken left written shelf state s e f in
@@ -335,7 +335,7 @@ module _ (rows : PolicyRows) (origin : Option World) (world : World) where
       }
 
   pub leaves : (input before held : List ℕ) (taken : ℕ) (left written : Option (List ℕ)) (shelf : Option World)
-      (state : Whole) → (s : Stands input before held taken left written shelf state) → held ≡ [] → s.rest ≡ [] →
+      (state : Session) → (s : Stands input before held taken left written shelf state) → held ≡ [] → s.rest ≡ [] →
       Leaves rows world (lines_of input) origin shelf
   leaves input before held taken left written shelf state s e f =
       let whole : lines_of input ≡ s.done = done_all input before held taken left written shelf state s e f in
@@ -350,7 +350,7 @@ module _ (rows : PolicyRows) (origin : Option World) (world : World) where
 
   -- the octets that were read but are in no line yet have no line feed
   pub has_taken : (input before held : List ℕ) (taken : ℕ) (left written : Option (List ℕ)) (shelf : Option World)
-      (state : Whole) (left' : Option (List ℕ)) (taken' : ℕ) →
+      (state : Session) (left' : Option (List ℕ)) (taken' : ℕ) →
       (s : Stands input before held taken left written shelf state) → StopsOf held s.rest taken left' taken'
       → HasTaken input left' s.done
   has_taken input before held taken left written shelf state left' taken' s t =
@@ -380,7 +380,7 @@ module _ (rows : PolicyRows) (origin : Option World) (world : World) where
       ]
 
   pub at_stop : (input before held : List ℕ) (taken : ℕ) (left written : Option (List ℕ)) (shelf : Option World)
-      (state : Whole) (left' : Option (List ℕ)) (taken' : ℕ) →
+      (state : Session) (left' : Option (List ℕ)) (taken' : ℕ) →
       (s : Stands input before held taken left written shelf state) → StopsOf held s.rest taken left' taken'
       → FinishedTaken rows world input before left' written origin shelf
   at_stop input before held taken left written shelf state left' taken' s t =
@@ -403,7 +403,7 @@ module _ (rows : PolicyRows) (origin : Option World) (world : World) where
       }
 
   pub at_most : (input before held : List ℕ) (taken : ℕ) (left written : Option (List ℕ)) (shelf : Option World)
-      (state : Whole) (left' : Option (List ℕ)) (taken' : ℕ) →
+      (state : Session) (left' : Option (List ℕ)) (taken' : ℕ) →
       (s : Stands input before held taken left written shelf state) → StopsOf held s.rest taken left' taken'
       → taken' ≡ 2 ^ 30 → FinishedMost rows world input before left' written origin shelf
   at_most input before held taken left written shelf state left' taken' s t n =
@@ -439,7 +439,7 @@ module _ (rows : PolicyRows) (origin : Option World) (world : World) where
 
   -- a part of the last reply
   pub takes_more : OneOutcome rows → (input before held : List ℕ) (taken : ℕ) (left : Option (List ℕ))
-      (shelf : Option World) (state : Whole) (replies reply : List ℕ) (n : ℕ) (written : Option (List ℕ))
+      (shelf : Option World) (state : Session) (replies reply : List ℕ) (n : ℕ) (written : Option (List ℕ))
       → (s : Stands input before held taken left (Some ((before ++ replies) ++ reply)) shelf state) → n ≤ length reply →
       written ≡ Some ((before ++ replies) ++ take n reply) → Begun rows world (lines_of input) before written
   takes_more law input before held taken left shelf state replies reply n written s le w =
@@ -474,7 +474,7 @@ module _ (rows : PolicyRows) (origin : Option World) (world : World) where
   -- ---- what the next line writes to the certificate directory
 
   -- nothing is written
-  pub puts_nothing : (shelf : Option World) (now : World) (state : Whole) (lines : List (List ℕ)) →
+  pub puts_nothing : (shelf : Option World) (now : World) (state : Session) (lines : List (List ℕ)) →
       IsNow origin shelf now
       → MayPutNext (over state now) lines origin shelf
   puts_nothing shelf now state lines is = by origin lines is
@@ -485,7 +485,7 @@ module _ (rows : PolicyRows) (origin : Option World) (world : World) where
       by (Some o) (line ∷ ls) is = inl is
 
   -- memory ran out for the line
-  pub puts_next : (shelf shelf' : Option World) (now : World) (state : Whole) (line : List ℕ) (lines : List (List ℕ))
+  pub puts_next : (shelf shelf' : Option World) (now : World) (state : Session) (line : List ℕ) (lines : List (List ℕ))
       (use_ : Use) → use_of (heard line) ≡ use_
       → IsNow origin shelf now → MayPut state.state use_ shelf shelf' →
       MayPutNext (over state now) (line ∷ lines) origin shelf'
@@ -505,10 +505,10 @@ module _ (rows : PolicyRows) (origin : Option World) (world : World) where
     pub next : length held' < 65536 → IsLastTaken unanswered left'
 
   pub cut_short : (input before held : List ℕ) (taken : ℕ) (left written : Option (List ℕ)) (shelf : Option World)
-      (state : Whole) (held' : List ℕ) (taken' : ℕ) (left' : Option (List ℕ)) (line : List ℕ) (use_ : Use)
+      (state : Session) (held' : List ℕ) (taken' : ℕ) (left' : Option (List ℕ)) (line : List ℕ) (use_ : Use)
       (shelf' : Option World)
       → (s : Stands input before held taken left written shelf state) →
-      GivesOf held s.rest taken held' left' taken' line
+      TakesLineOf held s.rest taken held' left' taken' line
       → use_of (heard line) ≡ use_ → MayPut state.state use_ shelf shelf'
       → IsCutShort (drop (length s.done) (lines_of input)) (over state s.now) held' left' shelf'
   cut_short input before held taken left written shelf state held' taken' left' line use_ shelf' s g e m =
@@ -532,7 +532,7 @@ module _ (rows : PolicyRows) (origin : Option World) (world : World) where
 
   -- ---- how far the run has come, whatever was written last
 
-  pub reaches : (input before held : List ℕ) (taken : ℕ) (left : Option (List ℕ)) (shelf : Option World) (state : Whole)
+  pub reaches : (input before held : List ℕ) (taken : ℕ) (left : Option (List ℕ)) (shelf : Option World) (state : Session)
       (replies reply : List ℕ) (n : ℕ) (written : Option (List ℕ)) (shelf' : Option World)
       → (s : Stands input before held taken left (Some ((before ++ replies) ++ reply)) shelf state) →
       written ≡ Some ((before ++ replies) ++ take n reply)

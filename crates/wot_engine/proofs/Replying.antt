@@ -11,20 +11,20 @@ use Rattle.wot_cache.specs.State.{Engine, empty}
 use Rattle.wot_cursor.specs.Cursors.{Cursors}
 use Rattle.wot_watch.specs.Watches.{Watches}
 use Rattle.wot_machine.specs.Machine.{Machine, kept}
-use Rattle.wot_machine.specs.Whole.{Whole, beginning, watched, whole_of}
+use Rattle.wot_machine.specs.Session.{Session, beginning, watched, session_of}
 use Rattle.wot_engine.specs.Turn.{Replies, RepliesBehind}
 use Rattle.wot_engine.proofs.Held.{Held, Held-init}
 
-pub answered : (a b : PolicyRows) (line : Line) (text other : List ℕ) (old : Whole) (before : Option World)
-    (had : List ℕ) (new : Whole) (after : Option World) (has : List ℕ) → a ≡ b → text ≡ other
+pub answered : (a b : PolicyRows) (line : Line) (text other : List ℕ) (old : Session) (before : Option World)
+    (had : List ℕ) (new : Session) (after : Option World) (has : List ℕ) → a ≡ b → text ≡ other
     → RepliesBehind a line text old before had new after has → RepliesBehind b line other old before had new after has
 answered a b line text other old before had new after has e f r =
     subst (λ (x : List ℕ). RepliesBehind b line x old before had new after has) f
     (subst (λ (rows : PolicyRows). RepliesBehind rows line text old before had new after has) e r)
 
 -- a line that has a reply isn't the end of the input
-pub not_end : (rows : PolicyRows) (line : Line) (text : List ℕ) (old : Whole) (before : Option World) (reply : List ℕ)
-    (new : Whole) (after : Option World) → Replies rows line text old before reply new after → line ≢ End
+pub not_end : (rows : PolicyRows) (line : Line) (text : List ℕ) (old : Session) (before : Option World) (reply : List ℕ)
+    (new : Session) (after : Option World) → Replies rows line text old before reply new after → line ≢ End
 not_end rows line text old before reply new after r =
     λ e. let r' : Replies rows End text old before reply new after =
     subst (λ (l : Line). Replies rows l text old before reply new after) e r in absurd r'.does
@@ -43,11 +43,11 @@ holds rows left written origin lines machine out e m k w none =
     subst (λ (r : ReaderState). Held rows left written origin r.held r.taken left written out origin (kept machine))
     (sym e)
     (subst (λ (x : Engine). Held rows left written origin [] 0 left written out origin
-    (watched (whole_of x machine.cursors) machine.watches)) (sym m)
+    (watched (session_of x machine.cursors) machine.watches)) (sym m)
     (subst (λ (cs : Cursors). Held rows left written origin [] 0 left written out origin
-    (watched (whole_of (empty standard_limits) cs) machine.watches)) (sym k)
+    (watched (session_of (empty standard_limits) cs) machine.watches)) (sym k)
     (subst (λ (ws : Watches). Held rows left written origin [] 0 left written out origin
-    (watched (whole_of (empty standard_limits) []) ws)) (sym w)
+    (watched (session_of (empty standard_limits) []) ws)) (sym w)
     (subst (λ (x : List ℕ). Held rows left written origin [] 0 left written x origin beginning) (sym none)
     (Held-init rows left written origin)))))
 

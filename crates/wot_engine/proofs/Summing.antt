@@ -14,7 +14,7 @@ use Rattle.wot_script.specs.declared.reply.Reply.{Reply}
 use Rattle.wot_script.specs.Spelling.{spelling}
 use Rattle.wot_gen.specs.Script.{IsReadBack, commands_of, line_of, text_of}
 use Rattle.wot_gen.specs.declared.tally.Tally.{Tally}
-use Rattle.wot_gen.specs.Summary.{Tells, amounts_in, summary, transcript_digest}
+use Rattle.wot_gen.specs.Summary.{Tallies, amounts_in, summary, transcript_digest}
 use Rattle.wot_machine.specs.Law.{OneOutcome}
 use Rattle.wot_machine.specs.Transcript.{RepliesTo}
 use Rattle.wot_machine.proofs.CutLines.{lines_of-feed}
@@ -44,7 +44,7 @@ pub summed : (rows : PolicyRows) (start count lines amounts : ℕ) (digest out s
     → AllByRecursion IsReadBack (commands_of start count) → script ≡ [] ++ text_of (commands_of start count) →
     lines ≡ length (commands_of start count)
     → IsPlayed rows (lines_of script) tally → amounts ≡ tally.amounts →
-    ((replies : List Reply) → Tells tally replies → digest ≡ transcript_digest replies)
+    ((replies : List Reply) → Tallies tally replies → digest ≡ transcript_digest replies)
     → out ≡ [] ++ summary start count lines amounts digest → IsSummary rows start count out
 summed rows start count lines amounts digest out script tally all script_is lines_are played amounts_are digest_is
     out_is =

@@ -95,10 +95,10 @@ takes_most (Some input) last taken t most = record {
 
 -- at the end nothing is left
 pub ends_at : (first left last : Option (List ℕ)) (taken : ℕ) (old new : ReaderState) → Took first 0 left taken →
-    given.Answers End old left new last
+    given.ReturnsNext End old left new last
     → IsAtEnd first last
 ends_at None left last taken old new t e = tt
 ends_at (Some input) left last taken old new t e =
-    let e' : given.Answers End old (Some t.loses.rest) new last =
-    subst (λ (o : Option (List ℕ)). given.Answers End old o new last) t.loses.left_is e in
+    let e' : given.ReturnsNext End old (Some t.loses.rest) new last =
+    subst (λ (o : Option (List ℕ)). given.ReturnsNext End old o new last) t.loses.left_is e in
     e'.0.3

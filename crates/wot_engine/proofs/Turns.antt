@@ -5,7 +5,7 @@ use Rattle.std.proofs.Common.{refl, sym, ap, subst, ◌∙◌, append_assoc, ari
 use Rattle.std.proofs.lemmas.List.{append_cancel_left, append_cancel_right, length-take}
 use Rattle.std.proofs.lemmas.Grind.{flat_map-append}
 use Rattle.wot_io.specs.Input.{lines_of, whole_lines_of}
-use Rattle.wot_io.specs.Fill.{GivesOf, Stops}
+use Rattle.wot_io.specs.Fill.{TakesLineOf, Stops}
 use Rattle.wot_io.specs.ReaderState.{ReaderState}
 use Rattle.wot_io.specs.Given as given
 use Rattle.wot_io.specs.declared.lines.Line.{Line}
@@ -14,14 +14,14 @@ use Rattle.wot_script.specs.declared.command.Command.{Command}
 use Rattle.wot_script.specs.declared.reply.Reply.{Reply}
 use Rattle.wot_script.specs.Replies.{reply_text}
 use Rattle.wot_certd.specs.World.{World}
-use Rattle.wot_machine.specs.Whole.{Whole, beginning}
+use Rattle.wot_machine.specs.Session.{Session, beginning}
 use Rattle.wot_machine.specs.Entry.{IsServed, MayPut, Use, unused, use_of}
 use Rattle.wot_machine.specs.Law.{OneOutcome}
 use Rattle.wot_machine.specs.Lines.{heard}
 use Rattle.wot_machine.specs.LineStep.{LineStep}
 use Rattle.wot_machine.specs.Scene.{Step, opening}
 use Rattle.wot_machine.specs.Served.{Served}
-use Rattle.wot_machine.specs.Watching.{Tells}
+use Rattle.wot_machine.specs.Watching.{ReportsWatches}
 use Rattle.wot_machine.specs.Transcript.{Run, Answered, Begun, AnsweredMost, AllTold, IsNow, Leaves, listed, octets_of}
 use Rattle.wot_machine.proofs.Giving.{IsUncalled, all_told, all_weaker, goes, may_call, over}
 use Rattle.wot_machine.proofs.Runs.{Run-one, Run-prefix}
@@ -36,7 +36,7 @@ use Rattle.wot_policy.specs.declared.rows.PolicyRows.{PolicyRows}
 
 module _ (rows : PolicyRows) where
   abbrev pub Stood : Option (List ℕ) → Option (List ℕ) → Option World → List ℕ → ℕ → Option (List ℕ) → Option (List ℕ) →
-      Option World → Whole → Type 0
+      Option World → Session → Type 0
   Stood left0 written0 origin held taken left written shelf state =
       AllTold left0 written0 origin (λ input before world. Stands rows origin world input before held taken left written
       shelf state)
@@ -48,13 +48,13 @@ module _ (rows : PolicyRows) where
 
   -- a line was read: its command, its step, and its reply in the buffer
   pub record Turned (origin : Option World) (world : World) (input before held : List ℕ) (taken : ℕ)
-      (left written : Option (List ℕ)) (shelf : Option World) (state : Whole)
+      (left written : Option (List ℕ)) (shelf : Option World) (state : Session)
       (stands : Stands rows origin world input before held taken left written shelf state) (command : Option Command)
       (held' : List ℕ) (taken' : ℕ) (left' : Option (List ℕ)) (octets : List ℕ) (shelf' : Option World)
-      (state' : Whole) : Type 0 where
+      (state' : Session) : Type 0 where
     pub line : List ℕ
     pub heard_is : heard line ≡ command
-    pub gives : GivesOf held stands.rest taken held' left' taken' line
+    pub gives : TakesLineOf held stands.rest taken held' left' taken' line
     pub reply : Option Reply
     pub told : List Reply
     pub next : World
@@ -64,14 +64,14 @@ module _ (rows : PolicyRows) where
 
   -- the line that was read, and what it was answered
   turned_by : (origin : Option World) (world : World) (input before : List ℕ) (old : ReaderState)
-      (left written : Option (List ℕ)) (shelf : Option World) (state : Whole) (new : ReaderState)
-      (left' : Option (List ℕ)) (shelf' : Option World) (state' : Whole) (line : List ℕ) (command : Option Command)
-      (use_ : Use) (what : Served) (reply : Option Reply) (mid : Whole) (told : List Reply) (octets : List ℕ)
+      (left written : Option (List ℕ)) (shelf : Option World) (state : Session) (new : ReaderState)
+      (left' : Option (List ℕ)) (shelf' : Option World) (state' : Session) (line : List ℕ) (command : Option Command)
+      (use_ : Use) (what : Served) (reply : Option Reply) (mid : Session) (told : List Reply) (octets : List ℕ)
       → IsUncalled origin input →
       (s : Stands rows origin world input before old.held old.taken left written shelf state) →
-      GivesOf old.held s.rest old.taken new.held left' new.taken line
+      TakesLineOf old.held s.rest old.taken new.held left' new.taken line
       → heard line ≡ command → use_of command ≡ use_ → IsServed state.state use_ shelf what shelf' →
-      LineStep rows state line what reply mid → Tells mid told state'
+      LineStep rows state line what reply mid → ReportsWatches mid told state'
       → octets ≡ octets_of (listed reply ++ told)
       → Turned origin world input before old.held old.taken left written shelf state s command new.held new.taken left'
       octets shelf' state'
@@ -95,11 +95,11 @@ module _ (rows : PolicyRows) where
       }
 
   pub turned : (origin : Option World) (world : World) (input before : List ℕ) (old : ReaderState)
-      (left written : Option (List ℕ)) (shelf : Option World) (state : Whole) (new : ReaderState)
-      (left' : Option (List ℕ)) (shelf' : Option World) (state' : Whole) (line : Line) (octets : List ℕ)
+      (left written : Option (List ℕ)) (shelf : Option World) (state : Session) (new : ReaderState)
+      (left' : Option (List ℕ)) (shelf' : Option World) (state' : Session) (line : Line) (octets : List ℕ)
       → IsUncalled origin input →
       (s : Stands rows origin world input before old.held old.taken left written shelf state) →
-      given.Answers line old left new left' → Replies rows line new.text state shelf octets state' shelf'
+      given.ReturnsNext line old left new left' → Replies rows line new.text state shelf octets state' shelf'
       → Turned origin world input before old.held old.taken left written shelf state s (command_by line new.text)
       new.held new.taken left' octets shelf' state'
   turned origin world input before old left written shelf state new left' shelf' state' Text octets uncalled s a r =
@@ -117,9 +117,9 @@ module _ (rows : PolicyRows) where
 
   -- the reply that was due is written
   pub wrote : (origin : Option World) (world : World) (input before held : List ℕ) (taken : ℕ)
-      (left written : Option (List ℕ)) (shelf : Option World) (state : Whole) (command : Option Command)
+      (left written : Option (List ℕ)) (shelf : Option World) (state : Session) (command : Option Command)
       (held' : List ℕ) (taken' : ℕ) (left' : Option (List ℕ)) (octets : List ℕ) (shelf' : Option World)
-      (state' : Whole) (written' : Option (List ℕ))
+      (state' : Session) (written' : Option (List ℕ))
       → (s : Stands rows origin world input before held taken left written shelf state)
       → (t : Turned origin world input before held taken left written shelf state s command held' taken' left' octets
       shelf' state') → written' ≡ Some ((before ++ octets_of s.replies) ++ octets)
@@ -131,7 +131,7 @@ module _ (rows : PolicyRows) where
       (w ∙ ap (λ (x : List ℕ). Some ((before ++ octets_of s.replies) ++ x)) t.octets_are)
 
   pub Begun-here : OneOutcome rows → (left0 written0 : Option (List ℕ)) (origin : Option World) (held : List ℕ)
-      (taken : ℕ) (left written : Option (List ℕ)) (shelf : Option World) (state : Whole) →
+      (taken : ℕ) (left written : Option (List ℕ)) (shelf : Option World) (state : Session) →
       Stood left0 written0 origin held taken left written shelf state
       → AllTold left0 written0 origin (λ input before world. Begun rows world (lines_of input) before written)
   Begun-here law left0 written0 origin held taken left written shelf state s =
@@ -140,10 +140,10 @@ module _ (rows : PolicyRows) where
 
   -- the last line that was read got no reply
   pub cut_by : (origin : Option World) (world : World) (input before : List ℕ) (old : ReaderState)
-      (left written : Option (List ℕ)) (shelf : Option World) (state : Whole) (new : ReaderState)
+      (left written : Option (List ℕ)) (shelf : Option World) (state : Session) (new : ReaderState)
       (left' : Option (List ℕ)) (shelf' : Option World) (line : Line)
       → (s : Stands rows origin world input before old.held old.taken left written shelf state) →
-      given.Answers line old left new left' → line ≢ End
+      given.ReturnsNext line old left new left' → line ≢ End
       → MayPut state.state (use_by line new.text) shelf shelf'
       → IsCutShort rows origin world (drop (length s.done) (lines_of input)) (over state s.now) new.held left' shelf'
   cut_by origin world input before old left written shelf state new left' shelf' Text s a some m =
@@ -157,10 +157,10 @@ module _ (rows : PolicyRows) where
   cut_by origin world input before old left written shelf state new left' shelf' End s a some m = absurd (some refl)
 
   pub First-here : (left0 written0 : Option (List ℕ)) (origin : Option World) (old : ReaderState)
-      (left written : Option (List ℕ)) (shelf : Option World) (state : Whole) (new : ReaderState)
+      (left written : Option (List ℕ)) (shelf : Option World) (state : Session) (new : ReaderState)
       (left' : Option (List ℕ)) (shelf' : Option World) (line : Line)
       → Stood left0 written0 origin old.held old.taken left written shelf state →
-      given.Answers line old left new left' → line ≢ End
+      given.ReturnsNext line old left new left' → line ≢ End
       → MayPut state.state (use_by line new.text) shelf shelf' → length new.held < 65536
       → AllTold left0 written0 origin (λ input before world. ReachedWhole rows world input before left' written origin
       shelf')
@@ -181,9 +181,9 @@ module _ (rows : PolicyRows) where
       before source written shelf' r) r
 
   pub Answered-end : (left0 written0 : Option (List ℕ)) (origin : Option World) (old : ReaderState)
-      (left written : Option (List ℕ)) (shelf : Option World) (state : Whole) (new : ReaderState)
+      (left written : Option (List ℕ)) (shelf : Option World) (state : Session) (new : ReaderState)
       (left' : Option (List ℕ))
-      → Stood left0 written0 origin old.held old.taken left written shelf state → given.Answers End old left new left'
+      → Stood left0 written0 origin old.held old.taken left written shelf state → given.ReturnsNext End old left new left'
       → AllTold left0 written0 origin (λ input before world. Answered rows world (lines_of input) before
       written × (left' ≡ Some []))
   Answered-end left0 written0 origin old left written shelf state new left' s e =
@@ -192,9 +192,9 @@ module _ (rows : PolicyRows) where
       (at_end rows origin world input before old.held old.taken left written shelf state s e'.0.0 e'.0.1, e'.0.3)) s
 
   pub Left-end : (left0 written0 : Option (List ℕ)) (origin : Option World) (old : ReaderState)
-      (left written : Option (List ℕ)) (shelf : Option World) (state : Whole) (new : ReaderState)
+      (left written : Option (List ℕ)) (shelf : Option World) (state : Session) (new : ReaderState)
       (left' : Option (List ℕ))
-      → Stood left0 written0 origin old.held old.taken left written shelf state → given.Answers End old left new left'
+      → Stood left0 written0 origin old.held old.taken left written shelf state → given.ReturnsNext End old left new left'
       → AllTold left0 written0 origin (λ input before world. Leaves rows world (lines_of input) origin shelf)
   Left-end left0 written0 origin old left written shelf state new left' s e =
       all_weaker left0 written0 origin _ _ (λ input before world uncalled s.
@@ -202,7 +202,7 @@ module _ (rows : PolicyRows) where
       leaves rows origin world input before old.held old.taken left written shelf state s e'.0.0 e'.0.1) s
 
   pub Answered-stop : (left0 written0 : Option (List ℕ)) (origin : Option World) (held : List ℕ) (taken : ℕ)
-      (left written : Option (List ℕ)) (shelf : Option World) (state : Whole) (left' : Option (List ℕ)) (taken' : ℕ)
+      (left written : Option (List ℕ)) (shelf : Option World) (state : Session) (left' : Option (List ℕ)) (taken' : ℕ)
       → Stood left0 written0 origin held taken left written shelf state → Stops held left taken left' taken'
       → AllTold left0 written0 origin (λ input before world. FinishedTaken rows world input before left' written origin
       shelf × (taken' ≡ 2 ^ 30 → FinishedMost rows world input before left' written origin shelf))
@@ -241,7 +241,7 @@ module _ (rows : PolicyRows) where
 
   -- if a reply was cut short, not all replies were written
   pub cut_most : OneOutcome rows → (origin : Option World) (world : World) (input before held : List ℕ) (taken : ℕ)
-      (left : Option (List ℕ)) (shelf : Option World) (state : Whole) (replies reply : List ℕ) (n : ℕ)
+      (left : Option (List ℕ)) (shelf : Option World) (state : Session) (replies reply : List ℕ) (n : ℕ)
       (written : Option (List ℕ))
       → (s : Stands rows origin world input before held taken left (Some ((before ++ replies) ++ reply)) shelf state) →
       n < length reply → written ≡ Some ((before ++ replies) ++ take n reply) →
@@ -285,7 +285,7 @@ module _ (rows : PolicyRows) where
 
   -- when 2 ^ 30 octets were read
   most_size : (origin : Option World) (world : World) (input before held : List ℕ) (taken : ℕ)
-      (left written : Option (List ℕ)) (shelf : Option World) (state : Whole) (rest : List ℕ)
+      (left written : Option (List ℕ)) (shelf : Option World) (state : Session) (rest : List ℕ)
       (left' written' : Option (List ℕ)) (taken' : ℕ)
       → (s : Stands rows origin world input before held taken left written shelf state) → left' ≡ Some rest →
       taken' + length rest ≡ taken + length s.rest → AnsweredMost rows world input before left' written' →
@@ -303,9 +303,9 @@ module _ (rows : PolicyRows) where
       )
 
   pub Most-end : (left0 written0 : Option (List ℕ)) (origin : Option World) (old : ReaderState)
-      (left written : Option (List ℕ)) (shelf : Option World) (state : Whole) (new : ReaderState)
+      (left written : Option (List ℕ)) (shelf : Option World) (state : Session) (new : ReaderState)
       (left' : Option (List ℕ))
-      → Stood left0 written0 origin old.held old.taken left written shelf state → given.Answers End old left new left' →
+      → Stood left0 written0 origin old.held old.taken left written shelf state → given.ReturnsNext End old left new left' →
       AllTold left0 written0 origin (λ input before world. AnsweredMost rows world input before left' written → ⊥)
   Most-end left0 written0 origin old left written shelf state new left' s e =
       all_weaker left0 written0 origin _ _ (λ input before world uncalled s a.
@@ -319,7 +319,7 @@ module _ (rows : PolicyRows) where
       ))) s
 
   pub Most-stop : (left0 written0 : Option (List ℕ)) (origin : Option World) (held : List ℕ) (taken : ℕ)
-      (left written : Option (List ℕ)) (shelf : Option World) (state : Whole) (left' : Option (List ℕ)) (taken' : ℕ)
+      (left written : Option (List ℕ)) (shelf : Option World) (state : Session) (left' : Option (List ℕ)) (taken' : ℕ)
       → Stood left0 written0 origin held taken left written shelf state → Stops held left taken left' taken' →
       taken' < 2 ^ 30 → AllTold left0 written0 origin (λ input before world. AnsweredMost rows world input before
       left' written → ⊥)

@@ -15,7 +15,7 @@ use Rattle.wot_machine.specs.Both.{Ends}
 use Rattle.wot_machine.specs.Lines.{heard}
 use Rattle.wot_machine.specs.Scene.{Scene, Step, opening}
 use Rattle.wot_machine.specs.Transcript.{IsTaken}
-use Rattle.wot_machine.specs.Whole.{Whole}
+use Rattle.wot_machine.specs.Session.{Session}
 use Rattle.wot_engine.specs.Told.{IsEither, Octets, OnContents}
 
 -- ---- lines that were answered
@@ -75,7 +75,7 @@ command_by Long text = None
 command_by End text = None
 
 -- What a line that was read asks, with what the machine keeps and the policy before and after it.
-abbrev pub ReadAsks : {T E F : Type 0} → Result T E → Line → List ℕ → Ends Whole → Ends (Policy F) → Type 0
+abbrev pub ReadAsks : {T E F : Type 0} → Result T E → Line → List ℕ → Ends Session → Ends (Policy F) → Type 0
 ReadAsks result line text machine policy =
     LineAsks result (command_by line text) machine.old.state machine.new.state policy.old policy.new
 

@@ -5,14 +5,14 @@ use Rattle.wot_script.specs.declared.reply.Reply.{Reply}
 use Rattle.wot_certd.specs.Memory.{ShelfMemory}
 use Rattle.wot_certd.specs.World.{World}
 use Rattle.wot_gen.specs.declared.tally.Tally.{Tally}
-use Rattle.wot_gen.specs.Summary.{Tells}
+use Rattle.wot_gen.specs.Summary.{Tallies}
 use Rattle.wot_machine.specs.Both.{Ends}
 use Rattle.wot_machine.specs.Scene.{Scene, Step}
-use Rattle.wot_machine.specs.Ran.{Seen}
+use Rattle.wot_machine.specs.CommandRun.{Seen}
 use Rattle.wot_machine.specs.Stepped.{Replied}
 use Rattle.wot_machine.specs.Transcript.{RepliesTo, listed}
 use Rattle.wot_machine.specs.Watching as watching
-use Rattle.wot_machine.specs.Whole.{Whole}
+use Rattle.wot_machine.specs.Session.{Session}
 use Rattle.wot_engine.specs.Generated.{no_entries}
 
 -- The line had its step, and its reply and the watch lines after it were added to the tally.
@@ -21,7 +21,7 @@ pub record Adds (rows : PolicyRows) (line : List ℕ) (old : Scene) (before : Ta
   pub reply : Option Reply
   pub told : List Reply
   pub step : Step rows old line reply told new
-  pub tells : (replies : List Reply) → Tells before replies → Tells after (replies ++ (listed reply ++ told))
+  pub tells : (replies : List Reply) → Tallies before replies → Tallies after (replies ++ (listed reply ++ told))
 
 -- the world of a directory in memory, and what a line sees of it
 abbrev pub world_in : ShelfMemory → World
@@ -31,31 +31,31 @@ abbrev pub seen_in : ShelfMemory → Seen
 seen_in shelf = record { world = Some shelf.world; faults = shelf.faults }
 
 -- a line was answered, by what is kept, the directory's world and the tally before and after it
-abbrev pub AddsLine : PolicyRows → List ℕ → Ends Whole → Ends World → Ends Tally → Type 0
+abbrev pub AddsLine : PolicyRows → List ℕ → Ends Session → Ends World → Ends Tally → Type 0
 AddsLine rows line machine shelf tally =
     Adds rows line (record { whole = machine.old; world = shelf.old }) tally.old
     (record { whole = machine.new; world = shelf.new }) tally.new
 
 -- the line was answered, and its reply, if it has one, was added to the tally
-pub record AddsReply (rows : PolicyRows) (line : List ℕ) (old : Whole) (before : Seen) (had : Tally) (new : Whole)
+pub record AddsReply (rows : PolicyRows) (line : List ℕ) (old : Session) (before : Seen) (had : Tally) (new : Session)
     (after : Seen) (has : Tally) : Type 0 where
   pub reply : Option Reply
   pub replied : Replied rows line old before reply new after
-  pub tells : (replies : List Reply) → Tells had replies → Tells has (replies ++ listed reply)
+  pub tells : (replies : List Reply) → Tallies had replies → Tallies has (replies ++ listed reply)
 
 -- a line was answered, by what is kept, what is seen of the directory and the tally before and after it
-abbrev pub AddsOne : PolicyRows → List ℕ → Ends Whole → Ends Seen → Ends Tally → Type 0
+abbrev pub AddsOne : PolicyRows → List ℕ → Ends Session → Ends Seen → Ends Tally → Type 0
 AddsOne rows line machine shelf tally =
     AddsReply rows line machine.old shelf.old tally.old machine.new shelf.new tally.new
 
 -- the watch lines were reported, and added to the tally
-pub record AddsTold (old : Whole) (had : Tally) (new : Whole) (has : Tally) : Type 0 where
+pub record AddsTold (old : Session) (had : Tally) (new : Session) (has : Tally) : Type 0 where
   pub told : List Reply
-  pub told_are : watching.Tells old told new
-  pub tells : (replies : List Reply) → Tells had replies → Tells has (replies ++ told)
+  pub told_are : watching.ReportsWatches old told new
+  pub tells : (replies : List Reply) → Tallies had replies → Tallies has (replies ++ told)
 
 -- the tally of the replies to these lines, with an empty directory
 pub record IsPlayed (rows : PolicyRows) (lines : List (List ℕ)) (tally : Tally) : Type 0 where
   pub replies : List Reply
   pub told : RepliesTo rows no_entries lines replies
-  pub tells : Tells tally replies
+  pub tells : Tallies tally replies

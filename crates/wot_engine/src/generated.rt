@@ -14,7 +14,7 @@ ghost use Rattle.wot_machine.specs.Machine.{kept};
 ghost use Rattle.wot_machine.specs.Watching.{IsWatchLine};
 ghost use Rattle.wot_engine.specs.Generated.{BeginsSummary, IsSummary, WritesSummary, no_entries};
 ghost use Rattle.wot_engine.specs.Played.{AddsLine, AddsOne, AddsTold, IsPlayed, seen_in, world_in};
-ghost use Rattle.wot_gen.specs.Summary.{Tells};
+ghost use Rattle.wot_gen.specs.Summary.{Tallies};
 ghost use Rattle.wot_script.specs.declared.reply.Reply.{Reply as TheReply};
 
 use crate::run::Stop;
@@ -85,7 +85,7 @@ fn play<F: Fn(Ask) -> bool>(
     tally: &mut Tally,
 ) -> Result<(), Memory>
     requires small { length text.now < 2 ^ 30 }
-    requires none { Tells tally.old [] }
+    requires none { Tallies tally.old [] }
     requires amounts { tally.old.amounts ≡ 0 }
     requires faithful { IsFaithful F.Fn policy.old }
     ensures played { OnOk result (IsPlayed (rows_of policy.old) (lines_of text.now) tally.new) }
@@ -110,7 +110,7 @@ fn add_lines<F: Fn(Ask) -> bool>(
     requires cursors { machine.old.cursors ≡ [] }
     requires watches { machine.old.watches ≡ [] }
     requires world { shelf.old.world ≡ no_entries }
-    requires none { Tells tally.old [] }
+    requires none { Tallies tally.old [] }
     requires amounts { tally.old.amounts ≡ 0 }
     requires faithful { IsFaithful F.Fn policy.old }
     ensures played { OnOk result (IsPlayed (rows_of policy.old) (lines_of text.now) tally.new) }
@@ -201,8 +201,8 @@ fn add_told(machine: &mut Machine, tally: &mut Tally) -> Result<(), Memory>
 fn add_all(lines: &[Reply], tally: &mut Tally) -> Result<(), Memory>
     requires each { AllByRecursion IsWatchLine lines.now }
     requires room { tally.old.amounts < 2 ^ 63 }
-    ensures added { OnOk result ((replies : List TheReply) → Tells tally.old replies →
-        Tells tally.new (replies ++ lines.now)) }
+    ensures added { OnOk result ((replies : List TheReply) → Tallies tally.old replies →
+        Tallies tally.new (replies ++ lines.now)) }
     ensures amounts { tally.new.amounts ≤ tally.old.amounts }
 {
     let mut rest = lines;

@@ -21,7 +21,7 @@ use Rattle.wot_keyring.specs.Later.{SaysSame}
 use Rattle.wot_live.specs.Edge.{edge_by}
 use Rattle.wot_network.specs.Local.{AgreeAt}
 use Rattle.wot_network.specs.Standings.{DecideStandings, DecideUserIds}
-use Rattle.wot_network.specs.Told.{place_of}
+use Rattle.wot_network.specs.Told.{user_id_place}
 use Rattle.wot_standing.specs.Kinds.{is_certification}
 use Rattle.wot_standing.specs.Own.{is_own_revoked}
 use Rattle.wot_standing.specs.Standing.{own, standing_of}
@@ -179,16 +179,16 @@ module _ (standings : DecideStandings) (user_ids : DecideUserIds)
   found_same fpr u agree =
       by (lookup (is_fpr fpr) certs) refl
       ∙ ap (option_and_then (λ (c : Certificate). option_and_then (explained_at other others t c)
-      (place_of u c.user_ids)))
+      (user_id_place u c.user_ids)))
       agree.here.same
     where
       by : (o : Option Certificate) → lookup (is_fpr fpr) certs ≡ o
           → option_and_then (λ (c : Certificate). option_and_then (explained_at verdicts certs t c)
-          (place_of u c.user_ids)) o
+          (user_id_place u c.user_ids)) o
           ≡ option_and_then (λ (c : Certificate). option_and_then (explained_at other others t c)
-          (place_of u c.user_ids)) o
+          (user_id_place u c.user_ids)) o
       by None e = refl
-      by (Some c) e = placed (place_of u c.user_ids)
+      by (Some c) e = placed (user_id_place u c.user_ids)
         where
           placed : (o : Option ℕ) → option_and_then (explained_at verdicts certs t c) o ≡ option_and_then
               (explained_at other others t c) o

@@ -29,7 +29,7 @@ use Rattle.wot_edge.specs.declared.path.Step.{Step}
 use Rattle.wot_edge.specs.Path.{step_of}
 use Rattle.wot_edge.specs.Record.{Has}
 use Rattle.wot_keyring.specs.Keyring.{Certificates, is_fpr}
-use Rattle.wot_live.specs.Edge.{edge_facts, edge_by, edge_on, edge_of, place_of}
+use Rattle.wot_live.specs.Edge.{edge_facts, edge_by, edge_on, edge_of, signature_place}
 use Rattle.wot_network.specs.Told.{is_usable_by}
 use Rattle.wot_standing.specs.declared.status.Standing.{Standing}
 use Rattle.wot_standing.specs.Kinds.{is_certification}
@@ -48,10 +48,10 @@ sig_total = on_total (λ (s : Signature). s.body) nat_list_cmp_total
 same_body : (a b : Signature) → is_eq (sig_cmp a b) ≡ true → a.body ≡ b.body
 same_body a b e = exact_bytes a.body b.body ((Equal-is (sig_cmp a b)).0 e)
 
-place_same : (a b : Signature) (ss : List Signature) → a.body ≡ b.body → place_of a ss ≡ place_of b ss
+place_same : (a b : Signature) (ss : List Signature) → a.body ≡ b.body → signature_place a ss ≡ signature_place b ss
 place_same a b [] e = refl
 place_same a b (x ∷ xs) e =
-    ap (λ (body : List ℕ). cond (is_eq (slice_cmp nat_cmp body x.body)) 0 (place_of a xs + 1)) e
+    ap (λ (body : List ℕ). cond (is_eq (slice_cmp nat_cmp body x.body)) 0 (signature_place a xs + 1)) e
     ∙ ap (λ (n : ℕ). cond (is_eq (sig_cmp b x)) 0 (n + 1)) (place_same a b xs e)
 
 below_in : (x a : Signature) (xs : List Signature) → IsBelow sig_cmp x xs → Has xs a → sig_cmp x a ≡ Less
@@ -78,13 +78,13 @@ later_in x a xs (inr g) f = g
 
 -- two elements of a sorted list at one place are equal
 one_place : (ss : List Signature) (a b : Signature) → IsRising sig_cmp ss → Has ss a → Has ss b →
-    place_of a ss ≡ place_of b ss → a ≡ b
+    signature_place a ss ≡ signature_place b ss → a ≡ b
 one_place [] a b h f g e = absurd f
 one_place (x ∷ xs) a b h f g e = by (is_eq (sig_cmp a x)) (is_eq (sig_cmp b x)) refl refl (one_place xs a b h.1) e
   where
     by : (p q : Bool) → is_eq (sig_cmp a x) ≡ p → is_eq (sig_cmp b x) ≡ q →
-        (Has xs a → Has xs b → place_of a xs ≡ place_of b xs → a ≡ b)
-        → cond p 0 (place_of a xs + 1) ≡ cond q 0 (place_of b xs + 1) → a ≡ b
+        (Has xs a → Has xs b → signature_place a xs ≡ signature_place b xs → a ≡ b)
+        → cond p 0 (signature_place a xs + 1) ≡ cond q 0 (signature_place b xs + 1) → a ≡ b
     by true true ep eq more e = first_in x a xs h.0 f ep ∙ sym (first_in x b xs h.0 g eq)
     by true false ep eq more e = absurd (omega (arith, e))
     by false true ep eq more e = absurd (omega (arith, e))
@@ -147,13 +147,13 @@ module _ (verdicts : Entries) (certs : Certificates) (t : ℕ) (c : Certificate)
       here
 
   pub is_usable_where : IsOnUserId c place uid s → reason_word verdicts certs t uid s ≡ 0 →
-      (step : Step) × IsUsableEdge verdicts certs t c place (place_of s uid.sigs) step
+      (step : Step) × IsUsableEdge verdicts certs t c place (signature_place s uid.sigs) step
   is_usable_where on h =
       let w = clear_where verdicts certs t uid s h in
       let newest = so_of (λ (n : Signature). is_eq (sig_cmp s n)) (newest_certification verdicts w.issuer t uid)
       w.newest in
       let body = same_body s newest.0 newest.2 in
-      let edge = edge_facts w.issuer (own c) place (place_of s uid.sigs) w.facts in (
+      let edge = edge_facts w.issuer (own c) place (signature_place s uid.sigs) w.facts in (
         step_of edge,
         record {
           issuer = w.issuer;
@@ -162,9 +162,9 @@ module _ (verdicts : Entries) (certs : Certificates) (t : ℕ) (c : Certificate)
               ∙ ap (option_and_then (edge_by w.issuer (own c) place uid.sigs)) newest.1
               ∙ ap (λ (k : ℕ). option_map (edge_facts w.issuer (own c) place k) (said_by newest.0))
               (sym (place_same s newest.0 uid.sigs body))
-              ∙ ap (λ (b : List ℕ). option_map (edge_facts w.issuer (own c) place (place_of s uid.sigs)) (facts_of b))
+              ∙ ap (λ (b : List ℕ). option_map (edge_facts w.issuer (own c) place (signature_place s uid.sigs)) (facts_of b))
               (sym body)
-              ∙ ap (option_map (edge_facts w.issuer (own c) place (place_of s uid.sigs))) w.read;
+              ∙ ap (option_map (edge_facts w.issuer (own c) place (signature_place s uid.sigs))) w.read;
           place = refl;
           usable = usable_by (λ (x : Certificate). standing_of verdicts x t) (lookup (is_fpr w.issuer) certs) w.standing
               w.facts.made w.kept w.usable;
@@ -207,8 +207,8 @@ module _ (verdicts : Entries) (certs : Certificates) (t : ℕ) (c : Certificate)
 
   -- the edge of the newest
   made_by : (issuer : Fpr) (edge : EdgeFacts) (n : Signature) (f : Option SigFacts) → said_by n ≡ f →
-      option_map (edge_facts issuer (own c) place (place_of n uid.sigs)) f ≡ Some edge
-      → (g : SigFacts) × (said_by n ≡ Some g) × (edge_facts issuer (own c) place (place_of n uid.sigs) g ≡ edge)
+      option_map (edge_facts issuer (own c) place (signature_place n uid.sigs)) f ≡ Some edge
+      → (g : SigFacts) × (said_by n ≡ Some g) × (edge_facts issuer (own c) place (signature_place n uid.sigs) g ≡ edge)
   made_by issuer edge n None e h = absurd cc
   made_by issuer edge n (Some f) e h = (f, e, cc)
 
@@ -221,7 +221,7 @@ module _ (verdicts : Entries) (certs : Certificates) (t : ℕ) (c : Certificate)
   newest_of issuer edge (Some n) e h = (n, e, h)
 
   -- for a usable edge: no word applies, and its step is the one returned
-  clear_edge : (step : Step) → IsOnUserId c place uid s → IsUsableEdge verdicts certs t c place (place_of s uid.sigs)
+  clear_edge : (step : Step) → IsOnUserId c place uid s → IsUsableEdge verdicts certs t c place (signature_place s uid.sigs)
       step → IsClear verdicts certs t uid s × (step_by verdicts (own c) place uid s ≡ Some step)
   clear_edge step on u =
       let newest = newest_of u.issuer u.edge (newest_certification verdicts u.issuer t uid) refl
@@ -229,7 +229,7 @@ module _ (verdicts : Entries) (certs : Certificates) (t : ℕ) (c : Certificate)
       let n = newest.0 in
       let made = made_by u.issuer u.edge n (said_by n) refl newest.2 in
       let found = greatest_in newness (is_valid verdicts u.issuer t uid.sigs) uid.sigs n newest.1 in
-      let places : place_of n uid.sigs ≡ place_of s uid.sigs = ap (λ (e : EdgeFacts). e.sig) made.2 ∙ u.place in
+      let places : signature_place n uid.sigs ≡ signature_place s uid.sigs = ap (λ (e : EdgeFacts). e.sig) made.2 ∙ u.place in
       let same : n ≡ s = one_place uid.sigs n s on.rises found.0 on.there places in
       let valid : is_valid verdicts u.issuer t uid.sigs s ≡ true = ap (is_valid verdicts u.issuer t uid.sigs) (sym same)
       ∙ found.1 in
@@ -267,10 +267,10 @@ module _ (verdicts : Entries) (certs : Certificates) (t : ℕ) (c : Certificate)
             ∙ ap Some u.shown,
       )
 
-  pub zero_is : IsOnUserId c place uid s → (step : Step) → IsUsableEdge verdicts certs t c place (place_of s uid.sigs)
+  pub zero_is : IsOnUserId c place uid s → (step : Step) → IsUsableEdge verdicts certs t c place (signature_place s uid.sigs)
       step → reason_word verdicts certs t uid s ≡ 0
   zero_is on step u = zero_where verdicts certs t uid s (clear_edge step on u).0
 
-  pub step_is : IsOnUserId c place uid s → (step : Step) → IsUsableEdge verdicts certs t c place (place_of s uid.sigs)
+  pub step_is : IsOnUserId c place uid s → (step : Step) → IsUsableEdge verdicts certs t c place (signature_place s uid.sigs)
       step → step_by verdicts (own c) place uid s ≡ Some step
   step_is on step u = (clear_edge step on u).1

@@ -12,7 +12,7 @@ use Rattle.wot_edge.specs.Record.{Entry, Record, blank, entry_at}
 use Rattle.wot_keyring.specs.declared.kept.Kept.{Kept}
 use Rattle.wot_keyring.specs.Keyring.{Keyring, Certificates, is_fpr, cert_at, certificates_in}
 use Rattle.wot_live.specs.Found.{HasFew}
-use Rattle.wot_network.specs.Told.{entry_of, place_of, record_of}
+use Rattle.wot_network.specs.Told.{entry_of, user_id_place, record_of}
 use Rattle.wot_standing.specs.Standing.{standing_of}
 use Rattle.wot_standing.specs.declared.status.Standing.{Standing}
 use Rattle.wot_explain.specs.Explaining.{explained_on, explained_at, explanation}
@@ -27,7 +27,7 @@ kept_at k fpr = lookup-map_values (λ (x : Kept). x.cert) (is_fpr fpr) k.certs
 
 -- the place of a user ID
 abbrev pub placed : List ℕ → Option Certificate → Option ℕ
-placed u found = option_and_then (λ (c : Certificate). place_of u c.user_ids) found
+placed u found = option_and_then (λ (c : Certificate). user_id_place u c.user_ids) found
 
 pub place_told : (certs : Certificates) (verdicts : Entries) (t : ℕ) (u : List ℕ) (fpr : Fpr) →
     (entry_at (record_of certs verdicts t u) fpr).place ≡ placed u (lookup (is_fpr fpr) certs)
@@ -60,7 +60,7 @@ module _ (k : Keyring) (t : ℕ) (fpr : Fpr) (u : List ℕ) where
   -- the explanation of a certificate that is found
   abbrev told : Option Certificate → Option Explained
   told found = option_and_then (λ (c : Certificate). option_and_then (explained_at k.verdicts (certificates_in k) t c)
-      (place_of u c.user_ids)) found
+      (user_id_place u c.user_ids)) found
 
   told_here : explanation (certificates_in k) k.verdicts t fpr u ≡ told (cert_at k fpr)
   told_here = ap told (kept_at k fpr)

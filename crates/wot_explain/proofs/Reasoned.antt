@@ -11,7 +11,7 @@ use Rattle.wot_cert.specs.Ranked.{IsRising}
 use Rattle.wot_edge.specs.Record.{Has, Record, entry_at}
 use Rattle.wot_edge.specs.declared.path.Step.{Step}
 use Rattle.wot_keyring.specs.Keyring.{Certificates, Keyring, cert_at, certificates_in}
-use Rattle.wot_live.specs.Edge.{place_of}
+use Rattle.wot_live.specs.Edge.{signature_place}
 use Rattle.wot_standing.specs.Kinds.{is_certification}
 use Rattle.wot_standing.specs.Standing.{own}
 use Rattle.wot_explain.specs.Reasons.{Reason, reason_of, reason_word, step_by}
@@ -25,7 +25,7 @@ use Rattle.wot_explain.proofs.Places.{kept_at, place_here, placed}
 module _ (verdicts : Entries) (certs : Certificates) (t : ℕ) (c : Certificate) (place : ℕ) (uid : Component)
     (s : Signature) where
   abbrev Usable : Step → Type 0
-  Usable step = IsUsableEdge verdicts certs t c place (place_of s uid.sigs) step
+  Usable step = IsUsableEdge verdicts certs t c place (signature_place s uid.sigs) step
 
   -- the step returned with a word, if the edge's step is this
   shown : (n : ℕ) → reason_word verdicts certs t uid s ≡ n → (b : Bool) → (n == 0) ≡ b → IsOnUserId c place uid s

@@ -8,7 +8,7 @@ use Rattle.wot_types.specs.declared.fpr.Fpr.{Fpr}
 use Rattle.wot_verdict.specs.Verdicts.{Entries}
 use Rattle.wot_cert.specs.Certificate.{Component, Certificate}
 use Rattle.wot_keyring.specs.Keyring.{Certificates, Keyring, certificates_in, is_fpr}
-use Rattle.wot_network.specs.Told.{place_of}
+use Rattle.wot_network.specs.Told.{user_id_place}
 use Rattle.wot_standing.specs.Kinds.{is_certification}
 use Rattle.wot_standing.specs.Own.{is_own_revoked}
 use Rattle.wot_standing.specs.Standing.{own, standing_of}
@@ -40,7 +40,8 @@ explained_at verdicts certs t c place = option_map (explained_on verdicts certs 
 -- nothing if the certificate or the user ID isn't there
 abbrev pub explanation : Certificates → Entries → ℕ → Fpr → List ℕ → Option Explained
 explanation certs verdicts t fpr u =
-    option_and_then (λ (c : Certificate). option_and_then (explained_at verdicts certs t c) (place_of u c.user_ids))
+    option_and_then
+    (λ (c : Certificate). option_and_then (explained_at verdicts certs t c) (user_id_place u c.user_ids))
     (lookup (is_fpr fpr) certs)
 
 -- This is the explanation. `Absent` is returned if and only if there is none. The only other error is "out of memory".

@@ -11,7 +11,7 @@ use Rattle.wot_edge.specs.declared.path.Step.{Step}
 use Rattle.wot_edge.specs.Path.{step_of}
 use Rattle.wot_edge.specs.Record.{Has, Record}
 use Rattle.wot_keyring.specs.Keyring.{Certificates, Keyring, certificates_in, is_fpr}
-use Rattle.wot_live.specs.Edge.{edge_of, place_of}
+use Rattle.wot_live.specs.Edge.{edge_of, signature_place}
 use Rattle.wot_network.specs.Told.{is_usable_by, record_of}
 use Rattle.wot_network.specs.Told as network
 use Rattle.wot_standing.specs.Kinds.{is_certification}
@@ -51,12 +51,12 @@ IsOfEachUserId P =
 abbrev pub ZeroIsUsable : Entries → Certificates → ℕ → Certificate → ℕ → Component → Signature → Type 0
 ZeroIsUsable verdicts certs t c place uid s =
     (reason_word verdicts certs t uid s ≡ 0)
-    ↔ ((step : Step) × IsUsableEdge verdicts certs t c place (place_of s uid.sigs) step)
+    ↔ ((step : Step) × IsUsableEdge verdicts certs t c place (signature_place s uid.sigs) step)
 
 -- Its step is then the edge's.
 abbrev pub TellsStep : Entries → Certificates → ℕ → Certificate → ℕ → Component → Signature → Type 0
 TellsStep verdicts certs t c place uid s =
-    (step : Step) → IsUsableEdge verdicts certs t c place (place_of s uid.sigs) step
+    (step : Step) → IsUsableEdge verdicts certs t c place (signature_place s uid.sigs) step
     → step_by verdicts (own c) place uid s ≡ Some step
 
 -- The reason of a certification: its number, and a step if and only if it is a usable edge; the step is that edge's.
@@ -64,7 +64,8 @@ TellsStep verdicts certs t c place uid s =
 pub record IsReasonFor (verdicts : Entries) (certs : Certificates) (t : ℕ) (c : Certificate) (place : ℕ)
     (uid : Component) (s : Signature) (reason : Reason) : Type 0 where
   pub number : reason.0 ≡ s.number
-  pub edge : (step : Step) → (reason.2 ≡ Some step) ↔ IsUsableEdge verdicts certs t c place (place_of s uid.sigs) step
+  pub edge : (step : Step)
+      → (reason.2 ≡ Some step) ↔ IsUsableEdge verdicts certs t c place (signature_place s uid.sigs) step
   pub word : (reason.1 ≡ 0) ↔ (is_some reason.2 ≡ true)
 
 -- These are the reasons of these signatures, one by one.
@@ -80,7 +81,7 @@ pub record TellsEdges (k : Keyring) (t : ℕ) (fpr : Fpr) (u : List ℕ) (reason
   pub place : ℕ
   pub uid : Component
   pub kept : lookup (is_fpr fpr) (certificates_in k) ≡ Some cert
-  pub placed : network.place_of u cert.user_ids ≡ Some place
+  pub placed : network.user_id_place u cert.user_ids ≡ Some place
   pub here : slice_get cert.user_ids place ≡ Some uid
   pub each : AreTold (IsReasonFor k.verdicts (certificates_in k) t cert place uid)
       (filter is_certification uid.sigs) reasons

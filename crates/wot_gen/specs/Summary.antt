@@ -32,5 +32,5 @@ summary start count lines amounts digest =
     ++ joined_line (codes "transcript " ∷ encode_lower digest ∷ [])
 
 -- A tally stands for these replies: for the sum of their amounts and for their transcript.
-abbrev pub Tells : Tally → List Reply → Type 0
-Tells tally replies = (tally.amounts ≡ amounts_in replies) × Holds256 tally.transcript (flat_map reply_text replies)
+abbrev pub Tallies : Tally → List Reply → Type 0
+Tallies tally replies = (tally.amounts ≡ amounts_in replies) × Holds256 tally.transcript (flat_map reply_text replies)

@@ -1,7 +1,7 @@
 //! The tally of a run: the sum of the amounts and the digest of the replies, so that no transcript is kept in memory.
 //! wot_engine adds each reply, and `summary` prints the result.
 ghost use Rattle.std.specs.Prelude.{◌≡◌, ◌+◌, ◌<◌, ◌≤◌, ◌++◌, ◌∷◌, ◌^◌, [], List, OnOk};
-ghost use Rattle.wot_gen.specs.Summary.{Tells, amount_in as amount_of, transcript_digest};
+ghost use Rattle.wot_gen.specs.Summary.{Tallies, amount_in as amount_of, transcript_digest};
 ghost use Rattle.wot_script.specs.Replies.{HasWords};
 ghost use Rattle.wot_script.specs.declared.reply.Reply.{Reply as TheReply};
 
@@ -22,7 +22,7 @@ pub struct Tally {
 impl Tally {
     /// The tally of no replies.
     pub fn new(alloc: Global) -> Tally
-        ensures none { Tells result [] }
+        ensures none { Tallies result [] }
         ensures amounts { result.amounts ≡ 0 }
     {
         Tally {
@@ -36,8 +36,8 @@ impl Tally {
     pub fn add(&mut self, reply: &Reply) -> Result<(), Memory>
         requires words { HasWords reply.now }
         requires room { self.old.amounts < 2 ^ 63 }
-        ensures added { (replies : List TheReply) → Tells self.old replies →
-            OnOk result (Tells self.new (replies ++ reply.now ∷ [])) }
+        ensures added { (replies : List TheReply) → Tallies self.old replies →
+            OnOk result (Tallies self.new (replies ++ reply.now ∷ [])) }
         ensures amounts { self.new.amounts < self.old.amounts + 2 ^ 32 }
         ensures within { self.new.amounts ≤ self.old.amounts + amount_of reply.now }
     {
@@ -50,7 +50,7 @@ impl Tally {
 
     /// SHA-256 of the octets of all replies.
     pub fn digest(self) -> [u8; 32]
-        ensures { (replies : List TheReply) → Tells self replies → result ≡ transcript_digest replies }
+        ensures { (replies : List TheReply) → Tallies self replies → result ≡ transcript_digest replies }
     {
         self.transcript.finalize()
     }

@@ -9,8 +9,8 @@ use Rattle.wot_io.specs.ReaderState.{ReaderState, Holding, Taking, reader_state}
 use Rattle.wot_io.specs.declared.fault.LinesFault.{LinesFault}
 use Rattle.wot_io.specs.declared.lines.Line.{Line}
 use Rattle.wot_io.specs.declared.lines.Line.TheVariants.{Text, Long, End}
-use Rattle.wot_io.specs.Given.{Answers, answer_of, AnswersLines}
-use Rattle.wot_io.specs.Fill.{Took, Cuts, GivesOf, Stops, IsTooMuch}
+use Rattle.wot_io.specs.Given.{ReturnsNext, answer_of, AnswersLines}
+use Rattle.wot_io.specs.Fill.{Took, Cuts, TakesLineOf, Stops, IsTooMuch}
 use Rattle.wot_io.proofs.Cut.{lines_of-feed, lines_of-last}
 
 -- the line that was cut is the first of the lines
@@ -35,7 +35,7 @@ answer-long lines rest line e lt =
     rw e (ap (λ (b : Bool). cond b Long Text) (sym b))
 
 pub AnswersLines-given : (line : Line) (old : ReaderState) (before : Option (List ℕ)) (new : ReaderState)
-    (after : Option (List ℕ)) → Answers line old before new after → AnswersLines line old before new after
+    (after : Option (List ℕ)) → ReturnsNext line old before new after → AnswersLines line old before new after
 AnswersLines-given Text old None new after a = tt
 AnswersLines-given Long old None new after a = tt
 AnswersLines-given End old None new after a = tt
@@ -69,7 +69,7 @@ feed_in (x ∷ xs) ys [] zs e le h = h.0 (cc)
 feed_in (x ∷ xs) ys (l ∷ line) zs e le h = let e' : xs ++ ys ≡ line ++ 10 ∷ zs = cc in feed_in xs ys line zs e' le h.1
 
 gives_before : (held octets : List ℕ) (taken : ℕ) (now : List ℕ) (left : Option (List ℕ)) (number : ℕ) (line : List ℕ)
-    → number ≤ 2 ^ 30 → GivesOf held octets taken now left number line → IsTooMuch held octets taken → ⊥
+    → number ≤ 2 ^ 30 → TakesLineOf held octets taken now left number line → IsTooMuch held octets taken → ⊥
 gives_before held octets taken now left number line le g m =
     elim g.cuts.parts [
       | inl p ↦ feed_in (held ++ m.prefix) m.rest line (now ++ g.rest)
@@ -97,7 +97,7 @@ gives_before held octets taken now left number line le g m =
     ]
 
 pub IsTooMuch-given : (line : Line) (old : ReaderState) (before : Option (List ℕ)) (new : ReaderState)
-    (after : Option (List ℕ)) → new.taken ≤ 2 ^ 30 → Answers line old before new after
+    (after : Option (List ℕ)) → new.taken ≤ 2 ^ 30 → ReturnsNext line old before new after
     → IfSome before (λ octets. IsTooMuch old.held octets old.taken → ⊥)
 IsTooMuch-given Text old None new after le a = tt
 IsTooMuch-given Long old None new after le a = tt
@@ -133,8 +133,8 @@ IsTooMuch-stopped held (Some octets) taken after number t s n =
 -- a result doesn't depend on the fault
 pub Answers-at : (line : Line) (old new : Holding) (taking taking_new : Taking)
     (f f_new fault fault_new : Option LinesFault) (before after : Option (List ℕ))
-    → Answers line (reader_state old taking f) before (reader_state new taking_new f_new) after
-    → Answers line (reader_state old taking fault) before (reader_state new taking_new fault_new) after
+    → ReturnsNext line (reader_state old taking f) before (reader_state new taking_new f_new) after
+    → ReturnsNext line (reader_state old taking fault) before (reader_state new taking_new fault_new) after
 Answers-at Text old new taking taking_new f f_new fault fault_new before after a = a
 Answers-at Long old new taking taking_new f f_new fault fault_new before after a = a
 Answers-at End old new taking taking_new f f_new fault fault_new before after a = a

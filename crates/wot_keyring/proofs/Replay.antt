@@ -44,7 +44,7 @@ use Rattle.wot_keyring.specs.declared.kept.Kept.{Kept}
 use Rattle.wot_keyring.specs.declared.refusal.Refusal.TheVariants.{Clash}
 use Rattle.wot_keyring.specs.Keyring.{Keyring, Entries, Certificates, is_fpr, stripped}
 use Rattle.wot_keyring.specs.Import.{answer_read, answer_to, answer_united, any, any_clash, clash, first_full, fresh_in}
-use Rattle.wot_keyring.specs.Import.{has_greater, of_packets, united_with, united_in, unless_fault, unless_full, weigh}
+use Rattle.wot_keyring.specs.Import.{has_greater, of_packets, merged_into, united_in, unless_fault, unless_full, weigh}
 use Rattle.wot_keyring.specs.Import.{with_cert, with_certs}
 use Rattle.wot_keyring.specs.Verdict.{is_over}
 use Rattle.wot_keyring.specs.Kept.{AreSortedByFpr, AreNamed, IsNamed, AreSized, AreWhole, IsKeyring}
@@ -99,10 +99,10 @@ put_last : (laws : Laws) (rows : PolicyRows) (certs : Certificates) (e : Fpr × 
 put_last laws rows certs e named before =
     let c : Certificate = e.1.cert in
     let below : AreBelow fpr_cmp e.0 certs = keys_below e.0 certs before in
-    let At : Fpr → Certificates = λ f. insert_entry fpr_cmp certs f (united_with (lookup (is_fpr f) certs)
+    let At : Fpr → Certificates = λ f. insert_entry fpr_cmp certs f (merged_into (lookup (is_fpr f) certs)
     (judged rows (unmarked c))) in
     ap At (sym named)
-    ∙ ap (λ (o : Option Certificate). insert_entry fpr_cmp certs e.0 (united_with o (judged rows (unmarked c))))
+    ∙ ap (λ (o : Option Certificate). insert_entry fpr_cmp certs e.0 (merged_into o (judged rows (unmarked c))))
     (none_before fpr_cmp fpr_total certs e.0 below)
     ∙ ap (λ (d : Certificate). insert_entry fpr_cmp certs e.0 d) (laws.anew rows c)
     ∙ put_behind fpr_cmp fpr_total certs e.0 (judged rows c) below

@@ -15,7 +15,7 @@ use Rattle.wot_cert.specs.Certificate.{Certificate, unite, unmarked}
 use Rattle.wot_cert.specs.Judged.{judged}
 use Rattle.wot_cert.specs.Whole.{IsCertificate}
 use Rattle.wot_keyring.specs.Gather.{clashes_with, taken_one, taken_all, IsWholeState}
-use Rattle.wot_keyring.specs.Import.{united_with, with_cert}
+use Rattle.wot_keyring.specs.Import.{merged_into, with_cert}
 use Rattle.wot_keyring.specs.Keyring.{Certificates, is_fpr}
 use Rattle.wot_keyring.proofs.Clashes.{keys_same}
 use Rattle.wot_keyring.proofs.Inserts.{put_at, found_at, lookup_insert}
@@ -55,19 +55,19 @@ module _ (rows : PolicyRows) where
       → taken_one rows (taken_one rows (Some certs) c) d ≡ cond (clashes_with (lookup (is_fpr (fpr_of c.key)) certs) c)
       None (cond (clashes_with (lookup (is_fpr (fpr_of d.key)) certs) d) None
       (Some (insert_entry fpr_cmp (insert_entry fpr_cmp certs (fpr_of c.key)
-      (united_with (lookup (is_fpr (fpr_of c.key)) certs) (judged rows c))) (fpr_of d.key)
-      (united_with (lookup (is_fpr (fpr_of d.key)) certs) (judged rows d)))))
+      (merged_into (lookup (is_fpr (fpr_of c.key)) certs) (judged rows c))) (fpr_of d.key)
+      (merged_into (lookup (is_fpr (fpr_of d.key)) certs) (judged rows d)))))
   one_then_other certs c d apart =
       let with_c : Certificates = with_cert rows certs c in
       let found : lookup (is_fpr (fpr_of d.key)) with_c ≡ lookup (is_fpr (fpr_of d.key)) certs =
-      lookup_insert (fpr_of d.key) certs (fpr_of c.key) (united_with (lookup (is_fpr (fpr_of c.key)) certs)
+      lookup_insert (fpr_of d.key) certs (fpr_of c.key) (merged_into (lookup (is_fpr (fpr_of c.key)) certs)
       (judged rows c))
-      ∙ ap (λ b. cond b (Some (united_with (lookup (is_fpr (fpr_of c.key)) certs) (judged rows c)))
+      ∙ ap (λ b. cond b (Some (merged_into (lookup (is_fpr (fpr_of c.key)) certs) (judged rows c)))
       (lookup (is_fpr (fpr_of d.key)) certs)) apart in
       then_one rows (clashes_with (lookup (is_fpr (fpr_of c.key)) certs) c) with_c d
       ∙ ap (λ (o : Option Certificate). cond (clashes_with (lookup (is_fpr (fpr_of c.key)) certs) c) None
       (cond (clashes_with o d) None
-      (Some (insert_entry fpr_cmp (with_cert rows certs c) (fpr_of d.key) (united_with o (judged rows d)))))) found
+      (Some (insert_entry fpr_cmp (with_cert rows certs c) (fpr_of d.key) (merged_into o (judged rows d)))))) found
 
   pub swapped : (kept : Option Certificates) (c d : Certificate) → is_fpr (fpr_of d.key) (fpr_of c.key) ≡ false →
       taken_one rows (taken_one rows kept c) d ≡ taken_one rows (taken_one rows kept d) c
@@ -108,9 +108,9 @@ module _ (rows : PolicyRows) (certs : Certificates) (fpr : Fpr) (x d : Certifica
       lookup_insert fpr certs fpr x ∙ ap (λ b. cond b (Some x) (lookup (is_fpr fpr) certs)) (same_fpr-refl fpr) in
       ap (λ (f : Fpr). cond (clashes_with (lookup (is_fpr f) (insert_entry fpr_cmp certs fpr x)) d) None
       (Some (insert_entry fpr_cmp (insert_entry fpr_cmp certs fpr x) f
-      (united_with (lookup (is_fpr f) (insert_entry fpr_cmp certs fpr x)) (judged rows d))))) one
+      (merged_into (lookup (is_fpr f) (insert_entry fpr_cmp certs fpr x)) (judged rows d))))) one
       ∙ ap (λ (o : Option Certificate). cond (clashes_with o d) None
-      (Some (insert_entry fpr_cmp (insert_entry fpr_cmp certs fpr x) fpr (united_with o (judged rows d))))) there
+      (Some (insert_entry fpr_cmp (insert_entry fpr_cmp certs fpr x) fpr (merged_into o (judged rows d))))) there
       ∙ ap (λ (es : Certificates). cond (not (pointwise nat_eq d.key x.key)) None (Some es))
       (put_twice certs fpr x (unite x (judged rows d)))
 
@@ -133,7 +133,7 @@ come_to_nothing rows (Some certs) c d one apart =
   where
     by : (o : Option Certificate) →
         taken_one rows (cond (clashes_with o c) None
-        (Some (insert_entry fpr_cmp certs (fpr_of c.key) (united_with o (judged rows c))))) d ≡ None
+        (Some (insert_entry fpr_cmp certs (fpr_of c.key) (merged_into o (judged rows c))))) d ≡ None
     by None = clashing_behind rows certs (fpr_of c.key) (judged rows c) d one (λ same. apart (sym same))
     by (Some a) =
         (elim (not (pointwise nat_eq c.key a.key)) as (λ b. not (pointwise nat_eq c.key a.key) ≡ b →
@@ -155,7 +155,7 @@ module _ (united : (a b : Certificate) → IsCertificate a → IsCertificate b �
       (elim (lookup (is_fpr (fpr_of c.key)) certs) as (λ (o : Option Certificate). lookup (is_fpr (fpr_of c.key))
       certs ≡ o → IsWholeState
       (cond (clashes_with o c) None
-      (Some (insert_entry fpr_cmp certs (fpr_of c.key) (united_with o (judged rows c)))))) [
+      (Some (insert_entry fpr_cmp certs (fpr_of c.key) (merged_into o (judged rows c)))))) [
         | None ↦ λ none. put_at (λ fpr x. IsCertificate x) certs (fpr_of c.key) (judged rows c) all
             (marked rows c whole)
         | Some a ↦ λ found.
@@ -191,9 +191,9 @@ module _ (unmarks : (rows : PolicyRows) (c : Certificate) → judged rows (unmar
       (elim (lookup (is_fpr (fpr_of c.key)) certs) as (λ (o : Option Certificate). lookup (is_fpr (fpr_of c.key))
       certs ≡ o → taken_one rows
       (cond (clashes_with o c) None
-      (Some (insert_entry fpr_cmp certs (fpr_of c.key) (united_with o (judged rows c))))) d
+      (Some (insert_entry fpr_cmp certs (fpr_of c.key) (merged_into o (judged rows c))))) d
       ≡ cond (clashes_with o (unmarked (unite c d))) None
-      (Some (insert_entry fpr_cmp certs (fpr_of c.key) (united_with o (judged rows (unmarked (unite c d))))))) [
+      (Some (insert_entry fpr_cmp certs (fpr_of c.key) (merged_into o (judged rows (unmarked (unite c d))))))) [
         | None ↦ λ none.
             united_behind rows certs (fpr_of c.key) (judged rows c) d (ap fpr_of (sym same)) (sym same)
             ∙ ap (λ (x : Certificate). Some (insert_entry fpr_cmp certs (fpr_of c.key) x)) (sym as_both)

@@ -11,7 +11,7 @@ use Rattle.wot_cert.specs.Certificate.{Certificate, unite, unmarked}
 use Rattle.wot_cert.specs.Judged.{judged}
 use Rattle.wot_keyring.specs.declared.kept.Kept.{Kept}
 use Rattle.wot_keyring.specs.Keyring.{Entries, Certificates, is_fpr, stripped}
-use Rattle.wot_keyring.specs.Import.{united_with, with_cert, with_certs, weigh}
+use Rattle.wot_keyring.specs.Import.{merged_into, with_cert, with_certs, weigh}
 use Rattle.wot_keyring.specs.Staging.{found_for, joined, kept_as, kept_with, kept_all, weigh_kept}
 use Rattle.wot_keyring.proofs.Inserts.{map_insert}
 
@@ -20,14 +20,14 @@ abbrev pub seen_by : (Certificate → Certificate) → Entries → Certificates
 seen_by change es = map (λ (e : Fpr × Kept). (e.0, change e.1.cert)) es
 
 module _ (rows other : PolicyRows) (stamp : ℕ) (change : Certificate → Certificate)
-    (agrees : (found : Option Kept) (c : Certificate) → change (joined other found c) ≡ united_with
+    (agrees : (found : Option Kept) (c : Certificate) → change (joined other found c) ≡ merged_into
     (option_map (λ (x : Kept). change x.cert) found) (judged rows c)) where
   pub seen_with : (es : Entries) (c : Certificate) → seen_by change (kept_with other stamp es c) ≡ with_cert rows
       (seen_by change es) c
   seen_with es c =
       map_insert (λ (x : Kept). change x.cert) es (fpr_of c.key) (kept_as other stamp (found_for es c) c)
       ∙ ap (insert_entry fpr_cmp (seen_by change es) (fpr_of c.key)) (agrees (found_for es c) c
-      ∙ ap (λ (o : Option Certificate). united_with o (judged rows c))
+      ∙ ap (λ (o : Option Certificate). merged_into o (judged rows c))
       (sym (lookup-map_values (λ (x : Kept). change x.cert) (is_fpr (fpr_of c.key)) es)))
 
   pub seen_all : (es : Entries) (cs : List Certificate) → seen_by change (kept_all other stamp es cs) ≡ with_certs rows
@@ -38,7 +38,7 @@ module _ (rows other : PolicyRows) (stamp : ℕ) (change : Certificate → Certi
 
 -- as they are
 as_is : (rows : PolicyRows) (found : Option Kept) (c : Certificate) →
-    joined rows found c ≡ united_with (option_map (λ (x : Kept). x.cert) found) (judged rows c)
+    joined rows found c ≡ merged_into (option_map (λ (x : Kept). x.cert) found) (judged rows c)
 as_is rows found c = refl
 
 pub certs_all : (rows : PolicyRows) (stamp : ℕ) (es : Entries) (cs : List Certificate) →
@@ -52,7 +52,7 @@ module _ (rows other : PolicyRows) (unmarks : (c : Certificate) → judged rows 
   again : (c : Certificate) → judged rows (judged other c) ≡ judged rows c
   again c = sym (unmarks (judged other c)) ∙ ap (judged rows) (forgets c) ∙ unmarks c
 
-  anew : (found : Option Kept) (c : Certificate) → judged rows (joined other found c) ≡ united_with
+  anew : (found : Option Kept) (c : Certificate) → judged rows (joined other found c) ≡ merged_into
       (option_map (λ (x : Kept). judged rows x.cert) found) (judged rows c)
   anew None c = again c
   anew (Some x) c = unites x.cert (judged other c) ∙ ap (unite (judged rows x.cert)) (again c)

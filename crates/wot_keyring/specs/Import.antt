@@ -35,14 +35,14 @@ use Rattle.wot_keyring.specs.Later.{IsLater}
 
 -- ---- the merge
 
-abbrev pub united_with : Option Certificate → Certificate → Certificate
-united_with (Some kept) c = unite kept c
-united_with None c = c
+abbrev pub merged_into : Option Certificate → Certificate → Certificate
+merged_into (Some kept) c = unite kept c
+merged_into None c = c
 
 -- the certificates with this one, marked by the rows and merged with the one of its fingerprint
 abbrev pub with_cert : PolicyRows → Certificates → Certificate → Certificates
 with_cert rows certs c =
-    insert_entry fpr_cmp certs (fpr_of c.key) (united_with (lookup (is_fpr (fpr_of c.key)) certs) (judged rows c))
+    insert_entry fpr_cmp certs (fpr_of c.key) (merged_into (lookup (is_fpr (fpr_of c.key)) certs) (judged rows c))
 
 -- the certificates with each of these merged in, the first one first
 abbrev pub with_certs : PolicyRows → Certificates → List Certificate → Certificates
@@ -191,12 +191,12 @@ abbrev pub answer_to : PolicyRows → Limits → Certificates → List ℕ → R
 answer_to rows limits certs octets = answer_under any rows limits certs octets
 
 -- That is the answer, or "out of memory".
-abbrev pub AnswersUnder : Demand → Result Imported Refusal → PolicyRows → Keyring → List ℕ → Type 0
-AnswersUnder demand result rows old octets =
+abbrev pub ReturnsUnder : Demand → Result Imported Refusal → PolicyRows → Keyring → List ℕ → Type 0
+ReturnsUnder demand result rows old octets =
     (result ≡ answer_under demand rows old.limits (certificates_in old) octets) ⊎ (result ≡ Err Memory)
 
-abbrev pub Answers : Result Imported Refusal → PolicyRows → Keyring → List ℕ → Type 0
-Answers result rows old octets = AnswersUnder any result rows old octets
+abbrev pub ImportReturns : Result Imported Refusal → PolicyRows → Keyring → List ℕ → Type 0
+ImportReturns result rows old octets = ReturnsUnder any result rows old octets
 
 -- How often the policy was asked: on Ok for all that is new, on a refusal never, and if out of memory at most for all
 -- that is new.

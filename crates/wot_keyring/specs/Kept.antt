@@ -53,7 +53,7 @@ abbrev pub AreSized : ℕ → Entries → Type 0
 AreSized limit entries = AllByRecursion (λ (e : Fpr × Kept). size_of e.1.cert ≤ limit) entries
 
 -- What is held exceeds no limit.
-pub record IsWithin (k : Keyring) : Type 0 where
+pub record IsWithinLimits (k : Keyring) : Type 0 where
   pub certificate : AreSized k.limits.certificate k.certs
   pub certificates : length k.certs ≤ k.limits.certificates
   pub octets : weigh size_of (certificates_in k) ≤ k.limits.octets
@@ -66,7 +66,7 @@ pub record IsKeyring (k : Keyring) : Type 0 where
   pub named : AreNamed k.certs
   pub whole : AreWhole k.certs
   pub sorted : AreSortedByFpr k.certs
-  pub within : IsWithin k
+  pub within : IsWithinLimits k
   pub stamped : AreStamped k.changes k.certs
 
 -- These are the sum of the sizes and the number of the signatures of all certificates.

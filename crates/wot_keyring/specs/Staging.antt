@@ -35,7 +35,7 @@ use Rattle.wot_keyring.specs.declared.staging.Terms.{Terms}
 use Rattle.wot_keyring.specs.declared.tally.Tally.{Tally}
 use Rattle.wot_keyring.specs.declared.tally.Weight.{Weight}
 use Rattle.wot_keyring.specs.Keyring.{Entries, is_fpr}
-use Rattle.wot_keyring.specs.Import.{united_with, stamp_for}
+use Rattle.wot_keyring.specs.Import.{merged_into, stamp_for}
 
 -- ---- one certificate
 
@@ -49,7 +49,7 @@ begun None c = bare c.key
 begun (Some kept) c = kept.cert
 
 abbrev pub joined : PolicyRows → Option Kept → Certificate → Certificate
-joined rows found c = united_with (option_map (λ (x : Kept). x.cert) found) (judged rows c)
+joined rows found c = merged_into (option_map (λ (x : Kept). x.cert) found) (judged rows c)
 
 abbrev pub kept_as : PolicyRows → ℕ → Option Kept → Certificate → Kept
 kept_as rows stamp found c = record { cert = joined rows found c; stamp = stamp_for stamp found (joined rows found c) }

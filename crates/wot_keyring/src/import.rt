@@ -4,7 +4,8 @@
 ghost use Rattle.std.specs.Prelude.{◌≡◌, ◌<◌, ◌^◌, ◌-◌, length, OnOk, OnErr};
 ghost use Rattle.wot_policy.specs.Kept.{IsFaithful, rows_of, asked_more};
 ghost use Rattle.wot_keyring.specs.Held.{held_of};
-ghost use Rattle.wot_keyring.specs.Import.{Answers, AnswersUnder, AsksFor, IsOneChange, imported, importing, is_entry};
+ghost use Rattle.wot_keyring.specs.Import.{ImportReturns, ReturnsUnder, AsksFor, IsOneChange};
+ghost use Rattle.wot_keyring.specs.Import.{imported, importing, is_entry};
 ghost use Rattle.wot_keyring.specs.Kept.{IsJudgedBy};
 ghost use Rattle.wot_keyring.specs.Later.{IsLater};
 
@@ -38,7 +39,7 @@ impl Keyring {
         requires short { length bytes.now < 2 ^ 29 }
         requires judged { IsJudgedBy (rows_of policy.old) self.old }
         requires faithful { IsFaithful F.Fn policy.old }
-        ensures answer { Answers result (rows_of policy.old) self.old bytes.now }
+        ensures answer { ImportReturns result (rows_of policy.old) self.old bytes.now }
         ensures imported { OnOk result (self.new ≡ imported (rows_of policy.old) self.old bytes.now) }
         ensures held { OnOk result (held_of self.new ≡ importing (rows_of policy.old) bytes.now (held_of self.old)) }
         ensures limits { self.new.limits ≡ self.old.limits }
@@ -71,7 +72,7 @@ impl Keyring {
         requires short { length bytes.now < 2 ^ 29 }
         requires judged { IsJudgedBy (rows_of policy.old) self.old }
         requires faithful { IsFaithful F.Fn policy.old }
-        ensures answer { AnswersUnder (is_entry name.now) result (rows_of policy.old) self.old bytes.now }
+        ensures answer { ReturnsUnder (is_entry name.now) result (rows_of policy.old) self.old bytes.now }
         ensures imported { OnOk result (self.new ≡ imported (rows_of policy.old) self.old bytes.now) }
         ensures held { OnOk result (held_of self.new ≡ importing (rows_of policy.old) bytes.now (held_of self.old)) }
         ensures limits { self.new.limits ≡ self.old.limits }

@@ -19,7 +19,7 @@ use Rattle.wot_edge.specs.declared.edge.EdgeFacts.{EdgeFacts}
 use Rattle.wot_edge.specs.Order.{edge_cmp}
 use Rattle.wot_edge.specs.Record.{Has}
 use Rattle.wot_standing.specs.Standing.{own, newest_certification}
-use Rattle.wot_live.specs.Edge.{edge_facts, edge_by, edge_on, place_of}
+use Rattle.wot_live.specs.Edge.{edge_facts, edge_by, edge_on, signature_place}
 use Rattle.wot_live.specs.Found.{with_edge}
 use Rattle.wot_live.specs.Rows.{one_of_both, in_edge_order, is_edge_of, edge_at, edge_with, edges_on, edges_from}
 use Rattle.wot_live.specs.Rows.{edges_of, AreRows, AreInto}
@@ -92,7 +92,7 @@ edge_by-is : (issuer target : Fpr) (uid : ℕ) (sigs : List Signature) (o : Opti
 edge_by-is issuer target uid sigs None e h = absurd cc
 edge_by-is issuer target uid sigs (Some s) e h = by (said_by s) h
   where
-    by : (f : Option SigFacts) → option_map (edge_facts issuer target uid (place_of s sigs)) f ≡ Some e →
+    by : (f : Option SigFacts) → option_map (edge_facts issuer target uid (signature_place s sigs)) f ≡ Some e →
         IsEdge issuer target uid e
     by None g = absurd cc
     by (Some f) g = record { issuer_is = cc; target_is = cc; uid_is = cc }

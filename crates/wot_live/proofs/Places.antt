@@ -15,7 +15,7 @@ use Rattle.wot_cert.specs.Issuer.{issuer_of}
 use Rattle.wot_cert.specs.Ranked.{IsRising, IsBelow}
 use Rattle.wot_edge.specs.declared.edge.EdgeFacts.{EdgeFacts}
 use Rattle.wot_standing.specs.Certifiers.{KeepsNewest, kept_for}
-use Rattle.wot_live.specs.Edge.{place_of, edge_facts, edge_by, edge_on}
+use Rattle.wot_live.specs.Edge.{signature_place, edge_facts, edge_by, edge_on}
 use Rattle.wot_live.specs.Found.{edge_at_place, edge_kept}
 use Rattle.wot_live.specs.Rows.{edge_with}
 
@@ -33,14 +33,14 @@ below_at x s (y ∷ ys) (suc k) h e = below_at x s ys k h.1 e
 
 -- The place of a signature in a sorted list is its index.
 pub place_at : (s : Signature) (ss : List Signature) (k : ℕ) → IsRising sig_cmp ss → slice_get ss k ≡ Some s →
-    place_of s ss ≡ k
+    signature_place s ss ≡ k
 place_at s [] k h e = absurd cc
 place_at s (x ∷ xs) zero h e =
     let same : x ≡ s = cc in
-    ap (λ (y : Signature). cond (is_eq (sig_cmp s y)) 0 (place_of s xs + 1)) same
-    ∙ ap (λ o. cond (is_eq o) 0 (place_of s xs + 1)) (tied_itself sig_total s)
+    ap (λ (y : Signature). cond (is_eq (sig_cmp s y)) 0 (signature_place s xs + 1)) same
+    ∙ ap (λ o. cond (is_eq o) 0 (signature_place s xs + 1)) (tied_itself sig_total s)
 place_at s (x ∷ xs) (suc k) h e =
-    ap (λ b. cond b 0 (place_of s xs + 1)) (not_tied x s (below_at x s xs k h.0 e))
+    ap (λ b. cond b 0 (signature_place s xs + 1)) (not_tied x s (below_at x s xs k h.0 e))
     ∙ (let rest = place_at s xs k h.1 e in omega (arith, rest))
 
 -- the signature behind these
@@ -65,5 +65,5 @@ pub terms_at : (issuer target : Fpr) (uid place : ℕ) (p : Component) (s : Sign
     → e ≡ edge_facts issuer target uid place f → Some e ≡ edge_at_place issuer target uid p place
 terms_at issuer target uid place p s f e rises here said h =
     ap Some (h ∙ ap (λ k. edge_facts issuer target uid k f) (sym (place_at s p.sigs place rises here)))
-    ∙ ap (option_map (edge_facts issuer target uid (place_of s p.sigs))) (sym said)
+    ∙ ap (option_map (edge_facts issuer target uid (signature_place s p.sigs))) (sym said)
     ∙ ap (option_and_then (edge_by issuer target uid p.sigs)) (sym here)

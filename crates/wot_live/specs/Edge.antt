@@ -12,9 +12,9 @@ use Rattle.wot_edge.specs.declared.edge.EdgeFacts.{EdgeFacts}
 use Rattle.wot_standing.specs.Standing.{own, newest_certification}
 
 -- the place of a signature among these, by its body
-abbrev pub place_of : Signature → List Signature → ℕ
-place_of s [] = 0
-place_of s (x ∷ xs) = if is_eq (sig_cmp s x) then 0 else place_of s xs + 1
+abbrev pub signature_place : Signature → List Signature → ℕ
+signature_place s [] = 0
+signature_place s (x ∷ xs) = if is_eq (sig_cmp s x) then 0 else signature_place s xs + 1
 
 -- the terms of an edge: a self-certification has no depth, the full amount and no scope
 abbrev pub edge_facts : Fpr → Fpr → ℕ → ℕ → SigFacts → EdgeFacts
@@ -30,7 +30,7 @@ edge_facts issuer target uid place f = record {
 }
 
 abbrev pub edge_by : Fpr → Fpr → ℕ → List Signature → Signature → Option EdgeFacts
-edge_by issuer target uid sigs s = option_map (edge_facts issuer target uid (place_of s sigs)) (said_by s)
+edge_by issuer target uid sigs s = option_map (edge_facts issuer target uid (signature_place s sigs)) (said_by s)
 
 -- The newest certification by the issuer on the user ID at this place that is live and unrevoked at t makes the edge.
 abbrev pub edge_on : Entries → Fpr → ℕ → Fpr → ℕ → Component → Option EdgeFacts

@@ -30,10 +30,10 @@ use Rattle.wot_machine.specs.Depends.{AsksFrom, bare, IsAsk}
 use Rattle.wot_machine.specs.Law.{OneOutcome}
 use Rattle.wot_machine.specs.Lines.{is_silent, longest}
 use Rattle.wot_machine.specs.Listing.{Lists, explained_from}
-use Rattle.wot_machine.specs.LineStep.{LineStep, HasReply, Answers, Does, Obeys, Stays}
+use Rattle.wot_machine.specs.LineStep.{LineStep, HasReply, ReadLineStep, StateStep, CommandStep, Stays}
 use Rattle.wot_machine.specs.Pacing.{Paces}
 use Rattle.wot_machine.specs.Watching.{Watching}
-use Rattle.wot_machine.specs.Whole.{IsTurnedBy, Whole}
+use Rattle.wot_machine.specs.Session.{IsTurnedBy, Session}
 use Rattle.wot_machine.proofs.Named.{AreNamed, named_all, named_without}
 use Rattle.wot_machine.proofs.Stays.{run_stays}
 use Rattle.wot_machine.specs.Scene.{Scene, opening}
@@ -98,7 +98,7 @@ does_alike : (rows : PolicyRows) (one other : State) (name : List ℕ) (class : 
     (reply : Reply) (new : State) → one.held.certs ≡ other.held.certs
     → one.held.verdicts ≡ other.held.verdicts → view_at one.views name ≡ view_at other.views name →
     AsksFrom name class
-    → Does rows one class given reply new → Does rows other class told reply other
+    → StateStep rows one class given reply new → StateStep rows other class told reply other
 does_alike rows one other name (OfState (kinds.Question view question)) given told reply new c v w a does =
     let W : view_at one.views view ≡ view_at other.views view =
     subst (λ (n : List ℕ). view_at one.views n ≡ view_at other.views n) (sym a) w in
@@ -106,26 +106,26 @@ does_alike rows one other name (OfState (kinds.Question view question)) given to
 does_alike rows one other name class given told reply new c v w a does = absurd a
 
 -- a question changes no turns, cursors or watches
-asking : (name : List ℕ) (class : Class) (s : Whole) (reply : Reply) → AsksFrom name class
+asking : (name : List ℕ) (class : Class) (s : Session) (reply : Reply) → AsksFrom name class
     → IsTurnedBy class s.state.views s.turns s.state.views s.turns × Paces s class reply s.cursors × Watching s
     class reply s.watches
 asking name (OfState (kinds.Question view question)) s reply a = (refl, refl, refl)
 asking name class s reply a = absurd a
 
 -- a step of a question in one state is a step in the other, if the command has the same outcome
-pub step_as : (rows : PolicyRows) (one other : Whole) (name line : List ℕ) (given told : Served) (reply : Option Reply)
-    (new : Whole) (ask : IsAsk name line)
-    → ((r : Reply) (s : State) → Does rows one.state (class_of ask.command) given r s →
-    Does rows other.state (class_of ask.command) told r other.state)
+pub step_as : (rows : PolicyRows) (one other : Session) (name line : List ℕ) (given told : Served) (reply : Option Reply)
+    (new : Session) (ask : IsAsk name line)
+    → ((r : Reply) (s : State) → StateStep rows one.state (class_of ask.command) given r s →
+    StateStep rows other.state (class_of ask.command) told r other.state)
     → LineStep rows one line given reply new → LineStep rows other line told reply other
 step_as rows one other name line given told reply new ask does step = long (nat_lt longest (length line)) step
   where
     answers : (o : Option Command) → o ≡ Some ask.command → (r : Option Reply) →
-        HasReply (Answers rows one o given) r new → HasReply (Answers rows other o told) r other
+        HasReply (ReadLineStep rows one o given) r new → HasReply (ReadLineStep rows other o told) r other
     answers o e None s = absurd s
     answers o e (Some r) s =
-        let Told : Option Command → Type 0 = λ o. Answers rows other o told r other in
-        let s' : Obeys rows one (class_of ask.command) given r new = subst (λ (o : Option Command). Answers rows one o given r new)
+        let Told : Option Command → Type 0 = λ o. ReadLineStep rows other o told r other in
+        let s' : CommandStep rows one (class_of ask.command) given r new = subst (λ (o : Option Command). ReadLineStep rows one o given r new)
         e s in
         let rest = asking name (class_of ask.command) other r ask.asks in
         subst Told (sym e) (record {
@@ -141,8 +141,8 @@ step_as rows one other name line given told reply new ask does step = long (nat_
     refused (Some r) g = (g.0, refl)
 
     silent : (b : Bool) → MatchBool b ((reply ≡ None) × (new ≡ one))
-        (HasReply (Answers rows one (command_of line) given) reply new)
-        → MatchBool b ((reply ≡ None) × (other ≡ other)) (HasReply (Answers rows other (command_of line) told) reply
+        (HasReply (ReadLineStep rows one (command_of line) given) reply new)
+        → MatchBool b ((reply ≡ None) × (other ≡ other)) (HasReply (ReadLineStep rows other (command_of line) told) reply
         other)
     silent true g = (g.0, refl)
     silent false g = answers (command_of line) ask.read reply g
@@ -150,15 +150,15 @@ step_as rows one other name line given told reply new ask does step = long (nat_
     long : (b : Bool)
         → MatchBool b (HasReply (Stays one replies.Long) reply new)
         (MatchBool (is_silent line) ((reply ≡ None) × (new ≡ one))
-        (HasReply (Answers rows one (command_of line) given) reply new))
+        (HasReply (ReadLineStep rows one (command_of line) given) reply new))
         → MatchBool b (HasReply (Stays other replies.Long) reply other)
         (MatchBool (is_silent line) ((reply ≡ None) × (other ≡ other))
-        (HasReply (Answers rows other (command_of line) told) reply other))
+        (HasReply (ReadLineStep rows other (command_of line) told) reply other))
     long true g = refused reply g
     long false g = silent (is_silent line) g
 
-pub step_alike : (rows : PolicyRows) (one other : Whole) (name line : List ℕ) (given told : Served)
-    (reply : Option Reply) (new : Whole) → one.state.held.certs ≡ other.state.held.certs
+pub step_alike : (rows : PolicyRows) (one other : Session) (name line : List ℕ) (given told : Served)
+    (reply : Option Reply) (new : Session) → one.state.held.certs ≡ other.state.held.certs
     → one.state.held.verdicts ≡ other.state.held.verdicts → view_at one.state.views name ≡ view_at other.state.views
     name → IsAsk name line
     → LineStep rows one line given reply new → LineStep rows other line told reply other
@@ -172,11 +172,11 @@ pub reached_can_be : (rows : PolicyRows) (world : World) (lines : List (List ℕ
 reached_can_be rows world lines replies s run = run_stays rows AreNamed (named_all rows) named_without lines
     (opening world) replies s tt run
 
-pub replied_alike : (rows : PolicyRows) → OneOutcome rows → (one other : Whole) (name line : List ℕ) →
+pub replied_alike : (rows : PolicyRows) → OneOutcome rows → (one other : Session) (name line : List ℕ) →
     AreNamed other.state.held.certs → one.state.held.certs ≡ other.state.held.certs
     → one.state.held.verdicts ≡ other.state.held.verdicts → view_at one.state.views name ≡ view_at other.state.views
     name → IsAsk name line → (given told : Served)
-    → (reply second : Option Reply) (new third : Whole) → LineStep rows one line given reply new →
+    → (reply second : Option Reply) (new third : Session) → LineStep rows one line given reply new →
     LineStep rows other line told second third → reply ≡ second
 replied_alike rows law one other name line can c v w ask given told reply second new third p q =
     (law.one other line told reply second other third can (step_alike rows one other name line given told reply new c v

@@ -39,8 +39,8 @@ use Rattle.wot_machine.specs.GoesOn.{is_own}
 use Rattle.wot_machine.specs.Entry.{unused, use_by, use_of}
 use Rattle.wot_machine.specs.Lines.{is_silent}
 use Rattle.wot_machine.specs.Outcome.{Outcome, done, imports, set_verdict, only, unless}
-use Rattle.wot_machine.specs.LineStep.{Answers, Does, Gives, Obeys}
-use Rattle.wot_machine.specs.Whole.{Whole, beginning}
+use Rattle.wot_machine.specs.LineStep.{ReadLineStep, StateStep, ComesTo, CommandStep}
+use Rattle.wot_machine.specs.Session.{Session, beginning}
 use Rattle.wot_machine.specs.Scene.{Step}
 use Rattle.wot_machine.specs.Served.{unserved}
 use Rattle.wot_machine.specs.Transcript.{Run}
@@ -49,7 +49,7 @@ use Rattle.wot_machine.proofs.CutLines.{lines_of-feed}
 use Rattle.wot_machine.proofs.Giving.{over, uncalled_step}
 use Rattle.wot_machine.proofs.Watched.{tells_nothing}
 use Rattle.wot_machine.proofs.Stepping.{heard_read, looked_at}
-use Rattle.wot_machine.proofs.Wholes.{counted_some, turned_some}
+use Rattle.wot_machine.proofs.Sessions.{counted_some, turned_some}
 
 -- a reply that is no refusal
 record Takes (P : Reply → State → Type 0) (new : State) : Type 0 where
@@ -59,7 +59,7 @@ record Takes (P : Reply → State → Type 0) (new : State) : Type 0 where
 
 taken : (rows : PolicyRows) (s : State) (octets : List ℕ) (answer : Result Imported Refusal) (new : State)
     → option_map (with_held s) (keyrings.unless_refused answer (importing rows octets s.held)) ≡ Some new →
-    Takes (Gives (imports rows s octets answer)) new
+    Takes (ComesTo (imports rows s octets answer)) new
 taken rows s octets (Ok counts) new e = record {
   reply = replies.Taken counts.taken counts.skipped counts.fresh;
   well = refl;
@@ -69,7 +69,7 @@ taken rows s octets (Err refusal) new e = absurd (cc e)
 
 chosen : (b : Bool) (refused : Outcome) (s new : State) (held : Held) →
     option_map (with_held s) (if b then None else Some held) ≡ Some new
-    → Takes (Gives (if b then refused else done (with_held s held))) new
+    → Takes (ComesTo (if b then refused else done (with_held s held))) new
 chosen true refused s new held e = absurd (cc e)
 chosen false refused s new held e = record {
   reply = replies.Done;
@@ -79,13 +79,13 @@ chosen false refused s new held e = record {
 }
 
 allowed : (s : State) (fault : Option ViewFault) (done new : State) → unless_refused fault done ≡ Some new →
-    Takes (Gives (unless s fault done)) new
+    Takes (ComesTo (unless s fault done)) new
 allowed s (Some fault) done new e = absurd (cc e)
 allowed s None done new e = record { reply = replies.Done; well = refl; does = (refl, sym (same_Some done new e)) }
 
 judged_so : (s : State) (number : SigNumber) (verdict : Verdict) (new : State)
     → option_map (with_held s) (unless_over standard_limits number verdict s.held) ≡ Some new →
-    Takes (Gives (set_verdict s number verdict)) new
+    Takes (ComesTo (set_verdict s number verdict)) new
 judged_so s number verdict new e =
     chosen (is_over standard_limits s.held.verdicts number) (only s (replies.Full words.Verdicts)) s new
     (verdict_set number verdict s.held) e
@@ -93,7 +93,7 @@ judged_so s number verdict new e =
 -- A command of a dump that isn't refused does what the machine does. It doesn't call the certificate directory, and
 -- isn't about a cursor or a watch.
 record Accepts (rows : PolicyRows) (class : Class) (s new : State) : Type 0 where
-  takes : Takes (Does rows s class unserved) new
+  takes : Takes (StateStep rows s class unserved) new
   uncalled : use_by class ≡ unused
   own : is_own class ≡ true
 
@@ -141,15 +141,15 @@ cut_lines (c ∷ commands) lines =
 -- ---- everything that is kept
 
 -- after this command the machine has this state, and the same cursors and watches
-record Leads (rows : PolicyRows) (old : Whole) (class : Class) (reply : Reply) (new : State) : Type 0 where
-  whole : Whole
+record Leads (rows : PolicyRows) (old : Session) (class : Class) (reply : Reply) (new : State) : Type 0 where
+  whole : Session
   state : whole.state ≡ new
   cursors : whole.cursors ≡ old.cursors
   watches : whole.watches ≡ old.watches
-  obeys : Obeys rows old class unserved reply whole
+  obeys : CommandStep rows old class unserved reply whole
 
-leads : (rows : PolicyRows) (old : Whole) (class : Class) (reply : Reply) (new : State) → is_own class ≡ true
-    → Does rows old.state class unserved reply new → Leads rows old class reply new
+leads : (rows : PolicyRows) (old : Session) (class : Class) (reply : Reply) (new : State) → is_own class ≡ true
+    → StateStep rows old.state class unserved reply new → Leads rows old class reply new
 leads rows old (OfState command) reply new own does =
     let count = counted_some old new.held in
     let turns = turned_some (OfState command) old.state.views new.views old.turns in
@@ -170,11 +170,11 @@ leads rows old (OfCursor name command) reply new own does = absurd (cc own)
 leads rows old (OfWatch name command) reply new own does = absurd (cc own)
 
 -- the step of a command's line, in any world
-stepped : (rows : PolicyRows) (c : Command) (s new : Whole) (reply : Reply) → IsLine c →
-    use_by (class_of c) ≡ unused → Obeys rows s (class_of c) unserved reply new → new.watches ≡ [] → (world : World)
+stepped : (rows : PolicyRows) (c : Command) (s new : Session) (reply : Reply) → IsLine c →
+    use_by (class_of c) ≡ unused → CommandStep rows s (class_of c) unserved reply new → new.watches ≡ [] → (world : World)
     → Step rows (over s world) (spelling c) (Some reply) [] (over new world)
 stepped rows c s new reply line none obeys unwatched world =
-    let Answered : Option Command → Type 0 = λ o. Answers rows s o unserved reply new in
+    let Answered : Option Command → Type 0 = λ o. ReadLineStep rows s o unserved reply new in
     let is_heard : is_silent (spelling c) ≡ false = heard (spelling c) line.heard in
     uncalled_step rows world s new new (spelling c) (Some reply) []
     (ap use_of (heard_read (spelling c) line.short is_heard ∙ line.read) ∙ none)
@@ -183,9 +183,9 @@ stepped rows c s new reply line none obeys unwatched world =
 
 -- ---- runs
 
-record Runs (rows : PolicyRows) (s : Whole) (commands : List Command) (new : State) : Type 0 where
+record Runs (rows : PolicyRows) (s : Session) (commands : List Command) (new : State) : Type 0 where
   replies_are : List Reply
-  whole : Whole
+  whole : Session
   state : whole.state ≡ new
   cursors : whole.cursors ≡ s.cursors
   watches : whole.watches ≡ []
@@ -198,9 +198,9 @@ refused_stays : (rows : PolicyRows) (l : Limits) (commands : List Command) →
 refused_stays rows l [] = refl
 refused_stays rows l (command ∷ commands) = refl
 
-further : (rows : PolicyRows) (c : Command) (commands : List Command) (s : Whole) (new : State) → s.watches ≡ [] →
+further : (rows : PolicyRows) (c : Command) (commands : List Command) (s : Session) (new : State) → s.watches ≡ [] →
     IsLine c
-    → ((mid : Whole) → mid.watches ≡ [] → after_all (after rows standard_limits) commands (Some mid.state) ≡ Some new →
+    → ((mid : Session) → mid.watches ≡ [] → after_all (after rows standard_limits) commands (Some mid.state) ≡ Some new →
     Runs rows mid commands new)
     → (o : Option State) → after rows standard_limits c s.state ≡ o →
     after_all (after rows standard_limits) commands o ≡ Some new → Runs rows s (c ∷ commands) new
@@ -208,7 +208,7 @@ further rows c commands s new none line rest None was e = let stays = refused_st
     absurd (cc (stays, e))
 further rows c commands s new none line rest (Some mid) was e =
     let a : Accepts rows (class_of c) s.state mid = accepted rows c s.state mid was in
-    let t : Takes (Does rows s.state (class_of c) unserved) mid = a.takes in
+    let t : Takes (StateStep rows s.state (class_of c) unserved) mid = a.takes in
     let l : Leads rows s (class_of c) t.reply mid = leads rows s (class_of c) t.reply mid a.own t.does in
     let still : l.whole.watches ≡ [] = l.watches ∙ none in
     let more : Runs rows l.whole commands new =
@@ -232,7 +232,7 @@ further rows c commands s new none line rest (Some mid) was e =
       well = (t.well, more.well);
     }
 
-runs : (rows : PolicyRows) (commands : List Command) (s : Whole) (new : State) → s.watches ≡ [] → AreLines commands
+runs : (rows : PolicyRows) (commands : List Command) (s : Session) (new : State) → s.watches ≡ [] → AreLines commands
     → after_all (after rows standard_limits) commands (Some s.state) ≡ Some new → Runs rows s commands new
 runs rows [] s new none lines e = record {
   replies_are = [];

@@ -31,13 +31,13 @@ use Rattle.wot_machine.specs.Classes.{class_of}
 use Rattle.wot_machine.specs.Entry.{use_of}
 use Rattle.wot_machine.specs.Joined.{AreOfList, Exchange, IsNext, Since, pieces_in}
 use Rattle.wot_machine.specs.Lines.{heard}
-use Rattle.wot_machine.specs.LineStep.{Obeys}
+use Rattle.wot_machine.specs.LineStep.{CommandStep}
 use Rattle.wot_machine.specs.Listing.{Lists, bind_line}
 use Rattle.wot_machine.specs.Pacing.{Begins, Leaves, stamps_in}
 use Rattle.wot_machine.specs.Scene.{Scene, Step, opening, served_in}
 use Rattle.wot_machine.specs.Served.{Served}
 use Rattle.wot_machine.specs.Transcript.{Run}
-use Rattle.wot_machine.specs.Whole.{Whole}
+use Rattle.wot_machine.specs.Session.{Session}
 use Rattle.wot_machine.proofs.Alike.{reached_can_be}
 use Rattle.wot_machine.proofs.Entries.{found_put}
 use Rattle.wot_machine.proofs.Hearing.{Hears, heard_reads, hears, run_keeps}
@@ -45,7 +45,7 @@ use Rattle.wot_machine.proofs.Joining.{Began, Stands, goes_own, later_itself, la
 use Rattle.wot_machine.proofs.Behind.{at_first}
 use Rattle.wot_machine.proofs.Rising.{ordered_binds, reached_ordered}
 use Rattle.wot_machine.proofs.Viewed.{AreSound, does_views, sound_by, turn_few}
-use Rattle.wot_machine.specs.Whole.{turning_of}
+use Rattle.wot_machine.specs.Session.{turning_of}
 
 -- ---- reached states
 
@@ -53,7 +53,7 @@ reached_sound : (rows : PolicyRows) (lines : List (List ℕ)) (old : Scene) (tol
     → Run rows old lines told s
     → AreSound old.whole.state.views old.whole.turns → AreSound s.whole.state.views s.whole.turns
 reached_sound rows =
-    run_keeps rows (λ (w : Whole). AreSound w.state.views w.turns)
+    run_keeps rows (λ (w : Session). AreSound w.state.views w.turns)
     (λ old command answer reply new o s.
     sound_by (turning_of command) old.state.views old.turns new.state.views new.turns
     (does_views rows old.state command answer reply new.state o.does) o.turned s)
@@ -62,12 +62,12 @@ reached_sound rows =
 -- ---- the line with which it began
 
 -- it began from an open view
-record BeganFrom (s : Whole) (name view : List ℕ) (wanted : ℕ) (cursors : Cursors) : Type 0 where
+record BeganFrom (s : Session) (name view : List ℕ) (wanted : ℕ) (cursors : Cursors) : Type 0 where
   shown : View
   seen : view_at s.state.views view ≡ Some shown
   cursors_are : cursors ≡ with_cursor s.cursors name (begun view wanted (stamps_in s view))
 
-began_from : (s : Whole) (name view : List ℕ) (wanted : ℕ) (cursors : Cursors) (o : Option View)
+began_from : (s : Session) (name view : List ℕ) (wanted : ℕ) (cursors : Cursors) (o : Option View)
     → view_at s.state.views view ≡ o
     → Begins s name view wanted o replies.Done cursors → BeganFrom s name view wanted cursors
 began_from s name view wanted cursors None e l = let never : replies.Done ≡ replies.View = l.0 in absurd (cc never)
@@ -80,9 +80,9 @@ began_from s name view wanted cursors (Some shown) e l = by (is_full s.cursors n
     by true l = let never : replies.Done ≡ replies.FullCursors = l.0 in absurd (cc never)
     by false l = record { shown = shown; seen = e; cursors_are = l.1 }
 
-heard_obeys : (rows : PolicyRows) (old : Whole) (o : Option Command) (command : Command) (answer : Served)
-    (reply : Reply) (new : Whole) → o ≡ Some command
-    → Hears rows old o answer (Some reply) new → Obeys rows old (class_of command) answer reply new
+heard_obeys : (rows : PolicyRows) (old : Session) (o : Option Command) (command : Command) (answer : Served)
+    (reply : Reply) (new : Session) → o ≡ Some command
+    → Hears rows old o answer (Some reply) new → CommandStep rows old (class_of command) answer reply new
 heard_obeys rows old o command answer reply new e h =
     subst (λ (c : Option Command). Hears rows old c answer (Some reply) new) e h
 
@@ -106,7 +106,7 @@ module _
     answer : Served
     answer = served_in was (use_of (heard since.line))
 
-    obeys : Obeys rows was.whole (class_of (CursorOver name view wanted)) answer replies.Done since.begins.mid
+    obeys : CommandStep rows was.whole (class_of (CursorOver name view wanted)) answer replies.Done since.begins.mid
     unfolding answer
     obeys =
         heard_obeys rows was.whole (heard since.line) (CursorOver name view wanted) answer replies.Done since.begins.mid

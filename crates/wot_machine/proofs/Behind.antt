@@ -17,13 +17,13 @@ use Rattle.wot_explain.specs.declared.bind.Bind.{Bind}
 use Rattle.wot_explain.specs.Piece.{binds_after, piece_of}
 use Rattle.wot_machine.specs.Joined.{Given, has_end, joined}
 use Rattle.wot_machine.specs.Listing.{bind_line}
-use Rattle.wot_machine.specs.Pacing.{last_place, place_of}
+use Rattle.wot_machine.specs.Pacing.{last_place, bind_place}
 use Rattle.wot_machine.proofs.Entries.{above_is}
 use Rattle.wot_machine.proofs.Rising.{bind_cmp, bind_total}
 
 -- ---- what follows a binding of the list
 
-all_after : (b : Bind) (binds : List Bind) → IsBelow bind_cmp b binds → binds_after (Some (place_of b)) binds ≡ binds
+all_after : (b : Bind) (binds : List Bind) → IsBelow bind_cmp b binds → binds_after (Some (bind_place b)) binds ≡ binds
 all_after b [] all = refl
 all_after b (x ∷ xs) all = rw (above_is bind_cmp bind_total b x all.0)
     (ap (λ (ys : List Bind). x ∷ ys) (all_after b xs all.1))
@@ -33,7 +33,7 @@ first_below x b [] back all = all.0
 first_below x b (y ∷ ys) back all = first_below x b ys back all.1
 
 after_it : (front : List Bind) (b : Bind) (back : List Bind) → IsRising bind_cmp (front ++ b ∷ back)
-    → binds_after (Some (place_of b)) (front ++ b ∷ back) ≡ back
+    → binds_after (Some (bind_place b)) (front ++ b ∷ back) ≡ back
 after_it [] b back r = rw (tied_itself bind_total b) (all_after b back r.0)
 after_it (x ∷ xs) b back r = rw (first_below x b xs back r.0) (after_it xs b back r.1)
 
@@ -43,7 +43,7 @@ record HasLast (x : Bind) (xs : List Bind) : Type 0 where
   front : List Bind
   last : Bind
   parts : x ∷ xs ≡ front ++ last ∷ []
-  place : last_place x xs ≡ place_of last
+  place : last_place x xs ≡ bind_place last
 
 has_last : (x : Bind) (xs : List Bind) → HasLast x xs
 has_last x [] = record { front = []; last = x; parts = refl; place = refl }
@@ -67,7 +67,7 @@ after_last front x xs back all parts r =
     (append_assoc l.front (l.last ∷ []) back)
     ∙ sym (append_assoc front l.front (l.last ∷ back)) in
     ap (λ (place : Place). binds_after (Some place) all) l.place
-    ∙ ap (λ (ys : List Bind). binds_after (Some (place_of l.last)) ys) whole
+    ∙ ap (λ (ys : List Bind). binds_after (Some (bind_place l.last)) ys) whole
     ∙ after_it (front ++ l.front) l.last back (subst (IsRising bind_cmp) whole r)
 
 -- ---- how far a cursor has come

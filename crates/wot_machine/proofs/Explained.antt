@@ -17,11 +17,11 @@ use Rattle.wot_cache.specs.State.{State}
 use Rattle.wot_cache.specs.Views.{view_at}
 use Rattle.wot_machine.specs.Classes.{class_of}
 use Rattle.wot_machine.specs.Law.{OneOutcome}
-use Rattle.wot_machine.specs.LineStep.{Does, LineStep}
+use Rattle.wot_machine.specs.LineStep.{StateStep, LineStep}
 use Rattle.wot_machine.specs.Listing.{explained, explained_from}
 use Rattle.wot_machine.specs.Served.{Served}
 use Rattle.wot_machine.specs.Slices.{AreAlikeAround, HoldAlike, HoldAlikeAtIssuer, IsExplaining}
-use Rattle.wot_machine.specs.Whole.{Whole}
+use Rattle.wot_machine.specs.Session.{Session}
 use Rattle.wot_machine.proofs.Alike.{step_as}
 use Rattle.wot_machine.proofs.Slices.{same_at}
 
@@ -61,17 +61,17 @@ module _ (local : AreExplainedAlike) (rows : PolicyRows) (forgets : (c : Certifi
       ∙ ap (λ (shown : Option View). explained_from other shown target uid) alike.view
 
   pub does_same : (uid : List ℕ) (given told : Served) (reply : Reply) (new : State) →
-      Does rows one (class_of (Explain name target uid)) given reply new
-      → Does rows other (class_of (Explain name target uid)) told reply other
+      StateStep rows one (class_of (Explain name target uid)) given reply new
+      → StateStep rows other (class_of (Explain name target uid)) told reply other
   does_same uid given told reply new does = (does.0 ∙ explained_same uid, refl)
 
 pub replied_same : AreExplainedAlike → (rows : PolicyRows) → OneOutcome rows →
     (forgets : (c : Certificate) → judged rows (unmarked c) ≡ judged rows c)
-    → (name : List ℕ) (target : Fpr) (one other : Whole) → AreOwn other.state.held.certs
+    → (name : List ℕ) (target : Fpr) (one other : Session) → AreOwn other.state.held.certs
     → judged_by rows one.state.held ≡ one.state.held → judged_by rows other.state.held ≡ other.state.held →
     AreAlikeAround name target one.state other.state
     → (line : List ℕ) → IsExplaining name target line → (given told : Served) (reply second : Option Reply)
-    (new third : Whole)
+    (new third : Session)
     → LineStep rows one line given reply new → LineStep rows other line told second third → reply ≡ second
 replied_same local rows law forgets name target one other can p q alike line asks given told reply second new third step
     last =

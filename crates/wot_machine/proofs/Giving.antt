@@ -5,7 +5,7 @@ use Rattle.wot_io.specs.Input.{lines_of}
 use Rattle.wot_policy.specs.declared.rows.PolicyRows.{PolicyRows}
 use Rattle.wot_script.specs.declared.reply.Reply.{Reply}
 use Rattle.wot_certd.specs.World.{World}
-use Rattle.wot_machine.specs.Whole.{Whole}
+use Rattle.wot_machine.specs.Session.{Session}
 use Rattle.wot_machine.specs.Entry.{CallNothing, IsServed, IsWorldAfter, Use, WasGiven, entry_for, given_by, put_for}
 use Rattle.wot_machine.specs.Entry.{unused, use_of, world_after}
 use Rattle.wot_machine.specs.Lines.{heard}
@@ -13,10 +13,10 @@ use Rattle.wot_machine.specs.LineStep.{LineStep}
 use Rattle.wot_machine.specs.Scene.{Scene, Step, served_in, world_behind}
 use Rattle.wot_machine.specs.Served.{Served, unserved}
 use Rattle.wot_machine.specs.Transcript.{AllTold, IsNow}
-use Rattle.wot_machine.specs.Watching.{Tells}
+use Rattle.wot_machine.specs.Watching.{ReportsWatches}
 
 -- what is kept, with a directory in this world
-abbrev pub over : Whole → World → Scene
+abbrev pub over : Session → World → Scene
 over whole world = record { whole = whole; world = world }
 
 -- if the directory's world is unknown, no line of the input uses the directory
@@ -42,10 +42,10 @@ may_call (Some origin) input done line more e uncalled = tt
 
 -- ---- steps
 
-step_by : (rows : PolicyRows) (now : World) (old mid new : Whole) (line : List ℕ) (reply : Option Reply)
+step_by : (rows : PolicyRows) (now : World) (old mid new : Session) (line : List ℕ) (reply : Option Reply)
     (told : List Reply) (use_ : Use) (given : Served)
     → use_of (heard line) ≡ use_ → given ≡ served_in (over old now) use_ → LineStep rows old line given reply mid →
-    Tells mid told new
+    ReportsWatches mid told new
     → Step rows (over old now) line reply told (over new (world_behind (over old now) use_))
 step_by rows now old mid new line reply told use_ given e g does tells =
     let there : LineStep rows old line (served_in (over old now) use_) reply mid =
@@ -56,15 +56,15 @@ step_by rows now old mid new line reply told use_ given e g does tells =
     record { mid = mid; does = both.0; tells = tells; world = both.1 }
 
 -- a line that doesn't use the directory
-pub uncalled_step : (rows : PolicyRows) (now : World) (old mid new : Whole) (line : List ℕ) (reply : Option Reply)
+pub uncalled_step : (rows : PolicyRows) (now : World) (old mid new : Session) (line : List ℕ) (reply : Option Reply)
     (told : List Reply) → use_of (heard line) ≡ unused
-    → LineStep rows old line unserved reply mid → Tells mid told new → Step rows (over old now) line reply told
+    → LineStep rows old line unserved reply mid → ReportsWatches mid told new → Step rows (over old now) line reply told
     (over new now)
 uncalled_step rows now old mid new line reply told e does tells = step_by rows now old mid new line reply told unused
     unserved e refl does tells
 
 -- the line's step, and the world after it
-pub record Goes (rows : PolicyRows) (origin after : Option World) (now : World) (old new : Whole) (line : List ℕ)
+pub record Goes (rows : PolicyRows) (origin after : Option World) (now : World) (old new : Session) (line : List ℕ)
     (reply : Option Reply) (told : List Reply) : Type 0 where
   pub next : World
   pub is_next : IsNow origin after next
@@ -81,11 +81,11 @@ after_so : (entry : Option Name) (put : Option (List ℕ)) (now : World) (after 
 after_so None put now after world = world
 after_so (Some name) put now after world = world
 
-pub goes : (rows : PolicyRows) (origin before after : Option World) (now : World) (old mid new : Whole) (line : List ℕ)
+pub goes : (rows : PolicyRows) (origin before after : Option World) (now : World) (old mid new : Session) (line : List ℕ)
     (use_ : Use) (given : Served) (reply : Option Reply) (told : List Reply)
     → use_of (heard line) ≡ use_ → MayCall origin line → IsNow origin before now →
     IsServed old.state use_ before given after
-    → LineStep rows old line given reply mid → Tells mid told new → Goes rows origin after now old new line reply told
+    → LineStep rows old line given reply mid → ReportsWatches mid told new → Goes rows origin after now old new line reply told
 goes rows None before after now old mid new line use_ given reply told e may is served does tells =
     let idle : IsServed old.state unused before given after =
     subst (λ (u : Use). IsServed old.state u before given after) (sym e ∙ may) served in

@@ -20,11 +20,11 @@ use Rattle.wot_machine.specs.GoesOn.{HaveSameReplies, is_of_state, is_own}
 use Rattle.wot_machine.specs.Joined.{Exchange, Passes, lines_in}
 use Rattle.wot_machine.specs.Law.{LeadToStates}
 use Rattle.wot_machine.specs.Lines.{heard, is_silent, longest}
-use Rattle.wot_machine.specs.LineStep.{Answers, DoesTo, HasReply, LineStep, Obeys, Stays}
+use Rattle.wot_machine.specs.LineStep.{ReadLineStep, DoesTo, HasReply, LineStep, CommandStep, Stays}
 use Rattle.wot_machine.specs.Scene.{Scene, Step, opening, served_in, world_behind}
 use Rattle.wot_machine.specs.Served.{Served}
 use Rattle.wot_machine.specs.Transcript.{Run}
-use Rattle.wot_machine.specs.Whole.{Whole}
+use Rattle.wot_machine.specs.Session.{Session}
 use Rattle.wot_machine.proofs.Alike.{reached_can_be}
 use Rattle.wot_machine.proofs.Outcomes.{IsOne}
 
@@ -40,9 +40,9 @@ module _
 
     -- ---- one line
 
-    same_obeyed : (a b : Whole) (class : Class) (given : Served) (r s : Reply) (m n : Whole) → IsState a.state →
+    same_obeyed : (a b : Session) (class : Class) (given : Served) (r s : Reply) (m n : Session) → IsState a.state →
         b.state ≡ a.state
-        → Obeys rows a class given r m → Obeys rows b class given s n →
+        → CommandStep rows a class given r m → CommandStep rows b class given s n →
         (is_own class ≡ true → Some r ≡ Some s) × (m.state ≡ n.state)
     same_obeyed a b (OfState command) given r s m n can e p q =
         let moved : DoesTo rows a.state command given s n.state =
@@ -54,41 +54,41 @@ module _
     same_obeyed a b (OfWatch name command) given r s m n can e p q =
         (λ own. absurd (cc own), p.does ∙ sym e ∙ sym q.does)
 
-    same_answers : (a b : Whole) (command : Option Command) (given : Served) (r s : Option Reply) (m n : Whole) →
+    same_answers : (a b : Session) (command : Option Command) (given : Served) (r s : Option Reply) (m n : Session) →
         IsState a.state → b.state ≡ a.state
-        → HasReply (Answers rows a command given) r m → HasReply (Answers rows b command given) s n →
+        → HasReply (ReadLineStep rows a command given) r m → HasReply (ReadLineStep rows b command given) s n →
         AreSame command r s m.state n.state
     same_answers a b command given None s m n can e p q = absurd p
     same_answers a b command given (Some r) None m n can e p q = absurd q
     same_answers a b None given (Some r) (Some s) m n can e p q = (
       λ own. ap (λ (x : Reply). Some x) (p.0 ∙ sym q.0),
-      ap (λ (x : Whole). x.state) p.1 ∙ sym e ∙ sym (ap (λ (x : Whole). x.state) q.1),
+      ap (λ (x : Session). x.state) p.1 ∙ sym e ∙ sym (ap (λ (x : Session). x.state) q.1),
     )
     same_answers a b (Some command) given (Some r) (Some s) m n can e p q =
         same_obeyed a b (class_of command) given r s m n can e p q
 
-    same_refused : (a b : Whole) (told : Reply) (command : Option Command) (r s : Option Reply) (m n : Whole) →
+    same_refused : (a b : Session) (told : Reply) (command : Option Command) (r s : Option Reply) (m n : Session) →
         b.state ≡ a.state
         → HasReply (Stays a told) r m → HasReply (Stays b told) s n → AreSame command r s m.state n.state
     same_refused a b told command None s m n e p q = absurd p
     same_refused a b told command (Some r) None m n e p q = absurd q
     same_refused a b told command (Some r) (Some s) m n e p q = (
       λ own. ap (λ (x : Reply). Some x) (p.0 ∙ sym q.0),
-      ap (λ (x : Whole). x.state) p.1 ∙ sym e ∙ sym (ap (λ (x : Whole). x.state) q.1),
+      ap (λ (x : Session). x.state) p.1 ∙ sym e ∙ sym (ap (λ (x : Session). x.state) q.1),
     )
 
-    same_line : (a b : Whole) (line : List ℕ) (given : Served) (r s : Option Reply) (m n : Whole) → IsState a.state →
+    same_line : (a b : Session) (line : List ℕ) (given : Served) (r s : Option Reply) (m n : Session) → IsState a.state →
         b.state ≡ a.state
         → LineStep rows a line given r m → LineStep rows b line given s n → AreSame (heard line) r s m.state n.state
     same_line a b line given r s m n can e p q = long (nat_lt longest (length line)) refl p q
       where
         silent : nat_lt longest (length line) ≡ false → (c : Bool) → is_silent line ≡ c
-            → MatchBool c ((r ≡ None) × (m ≡ a)) (HasReply (Answers rows a (command_of line) given) r m)
-            → MatchBool c ((s ≡ None) × (n ≡ b)) (HasReply (Answers rows b (command_of line) given) s n)
+            → MatchBool c ((r ≡ None) × (m ≡ a)) (HasReply (ReadLineStep rows a (command_of line) given) r m)
+            → MatchBool c ((s ≡ None) × (n ≡ b)) (HasReply (ReadLineStep rows b (command_of line) given) s n)
             → AreSame (heard line) r s m.state n.state
         silent f true g p q = (
           λ own. p.0 ∙ sym q.0,
-          ap (λ (x : Whole). x.state) p.1 ∙ sym e ∙ sym (ap (λ (x : Whole). x.state) q.1),
+          ap (λ (x : Session). x.state) p.1 ∙ sym e ∙ sym (ap (λ (x : Session). x.state) q.1),
         )
         silent f false g p q =
             let is : heard line ≡ command_of line = rw f (rw g refl) in
@@ -97,9 +97,9 @@ module _
 
         long : (c : Bool) → nat_lt longest (length line) ≡ c
             → MatchBool c (HasReply (Stays a replies.Long) r m) (MatchBool (is_silent line) ((r ≡ None) × (m ≡ a))
-            (HasReply (Answers rows a (command_of line) given) r m))
+            (HasReply (ReadLineStep rows a (command_of line) given) r m))
             → MatchBool c (HasReply (Stays b replies.Long) s n) (MatchBool (is_silent line) ((s ≡ None) × (n ≡ b))
-            (HasReply (Answers rows b (command_of line) given) s n))
+            (HasReply (ReadLineStep rows b (command_of line) given) s n))
             → AreSame (heard line) r s m.state n.state
         long true f p q = same_refused a b replies.Long (heard line) r s m n e p q
         long false f p q = silent f (is_silent line) refl p q
@@ -119,8 +119,8 @@ module _
         let both = same_line a.whole b.whole line (served_in a use_) r s p.mid q.mid can e p.does does in
         let world : world_behind b use_ ≡ world_behind a use_ =
         λ i. world_after (w i) (entry_for (e i) use_) (put_for (e i) use_ (given i).read) in
-        let mine : m.whole.state ≡ p.mid.state = ap (λ (x : Whole). x.state) p.tells.left in
-        let theirs : n.whole.state ≡ q.mid.state = ap (λ (x : Whole). x.state) q.tells.left in (
+        let mine : m.whole.state ≡ p.mid.state = ap (λ (x : Session). x.state) p.tells.left in
+        let theirs : n.whole.state ≡ q.mid.state = ap (λ (x : Session). x.state) q.tells.left in (
           both.0,
           theirs ∙ sym both.1 ∙ sym mine,
           q.world ∙ world ∙ sym p.world,

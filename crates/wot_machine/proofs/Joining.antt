@@ -42,14 +42,14 @@ use Rattle.wot_machine.specs.Joined.{Exchange, Given, IsNext, Passes, given_by, 
 use Rattle.wot_machine.specs.Joined.{given_to, is_restart, is_restart_by, pieces_in}
 use Rattle.wot_machine.specs.Entry.{use_of}
 use Rattle.wot_machine.specs.Lines.{heard}
-use Rattle.wot_machine.specs.LineStep.{LineStep, Obeys}
+use Rattle.wot_machine.specs.LineStep.{LineStep, CommandStep}
 use Rattle.wot_machine.specs.Listing.{AreBindings, bind_line}
 use Rattle.wot_machine.specs.Pacing.{Begins, Ends, GivesPiece, Goes, GoesBy, GoesFrom, Leaves, Paces, behind, is_pacing}
 use Rattle.wot_machine.specs.Pacing.{last_place, piece, stamps_in}
 use Rattle.wot_machine.specs.Scene.{Scene, served_in}
 use Rattle.wot_machine.specs.Served.{Served}
-use Rattle.wot_machine.specs.Watching.{Tells, told_all}
-use Rattle.wot_machine.specs.Whole.{IsCounted, Whole, turning_of, watched}
+use Rattle.wot_machine.specs.Watching.{ReportsWatches, told_all}
+use Rattle.wot_machine.specs.Session.{IsCounted, Session, turning_of, watched}
 use Rattle.wot_machine.proofs.Entries.{apart, found_set, other_put, other_set, other_without}
 use Rattle.wot_machine.proofs.Hearing.{Hears, hears, step_keeps}
 use Rattle.wot_machine.proofs.Paced.{paced_cases, plain_paces}
@@ -60,22 +60,22 @@ use Rattle.wot_machine.proofs.Viewed.{AreViewsInOrder, IsShown, does_views, orde
 -- ---- what a list depends on
 
 -- either what is held and the count of changes are unchanged, or the count rose
-abbrev pub IsHeld : Whole → Whole → Type 0
+abbrev pub IsHeld : Session → Session → Type 0
 IsHeld was now = ((now.state.held ≡ was.state.held) × (now.changes ≡ was.changes)) ⊎ (was.changes < now.changes)
 
-held_by : (was old new : Whole) → IsCounted old new → IsHeld was old → IsHeld was new
+held_by : (was old new : Session) → IsCounted old new → IsHeld was old → IsHeld was new
 held_by was old new (inl c) (inl h) = inl (c.0 ∙ h.0, c.1 ∙ h.1)
 held_by was old new (inl c) (inr more) = inr (omega (arith, c.1, more))
 held_by was old new (inr c) (inl h) = inr (omega (arith, c.1, h.1))
 held_by was old new (inr c) (inr more) = inr (omega (arith, c.1, more))
 
-pub record IsLater (view : List ℕ) (was now : Whole) : Type 0 where
+pub record IsLater (view : List ℕ) (was now : Session) : Type 0 where
   pub order : AreViewsInOrder now.state.views
   pub turns : was.turns.count ≤ now.turns.count
   pub held : IsHeld was now
   pub shown : IsShown view was.state.views was.turns now.state.views now.turns
 
-pub later_itself : (view : List ℕ) (was : Whole) → AreViewsInOrder was.state.views → IsLater view was was
+pub later_itself : (view : List ℕ) (was : Session) → AreViewsInOrder was.state.views → IsLater view was was
 later_itself view was order = record {
   order = order;
   turns = omega arith;
@@ -85,13 +85,13 @@ later_itself view was order = record {
 }
 
 -- watches don't matter to it
-later_watched : (view : List ℕ) (was now : Whole) (watches : Watches) → IsLater view was now
+later_watched : (view : List ℕ) (was now : Session) (watches : Watches) → IsLater view was now
     → IsLater view was (watched now watches)
 later_watched view was now watches l = record { order = l.order; turns = l.turns; held = l.held; shown = l.shown }
 
-pub later_obeys : (rows : PolicyRows) (view : List ℕ) (was old : Whole) (class : Class) (answer : Served)
-    (reply : Reply) (new : Whole)
-    → Obeys rows old class answer reply new → IsLater view was old → IsLater view was new
+pub later_obeys : (rows : PolicyRows) (view : List ℕ) (was old : Session) (class : Class) (answer : Served)
+    (reply : Reply) (new : Session)
+    → CommandStep rows old class answer reply new → IsLater view was old → IsLater view was new
 later_obeys rows view was old class answer reply new o l =
     let views = does_views rows old.state class answer reply new.state o.does in
     let more = turns_more (turning_of class) old.state.views old.turns new.state.views new.turns o.turned in
@@ -121,11 +121,11 @@ aged was now = by (was.keyring == now.keyring) (was.view == now.view) refl refl
     by true false e f = (refl, refl, eqb-false was.view now.view f)
     by false c e f = (refl, refl, eqb-false was.keyring now.keyring e)
 
-held_same : (was now : Whole) → IsHeld was now → was.changes ≡ now.changes → now.state.held ≡ was.state.held
+held_same : (was now : Session) → IsHeld was now → was.changes ≡ now.changes → now.state.held ≡ was.state.held
 held_same was now (inl h) e = h.0
 held_same was now (inr more) e = absurd (omega (arith, more, e))
 
-view_same : (view : List ℕ) (was now : Whole) (shown : View) → unwrap_or (turn_at was.turns view) 0 ≤ was.turns.count
+view_same : (view : List ℕ) (was now : Session) (shown : View) → unwrap_or (turn_at was.turns view) 0 ≤ was.turns.count
     → IsShown view was.state.views was.turns now.state.views now.turns
     → unwrap_or (turn_at was.turns view) 0 ≡ unwrap_or (turn_at now.turns view) 0
     → view_at now.state.views view ≡ Some shown → view_at was.state.views view ≡ Some shown
@@ -171,7 +171,7 @@ module _ (name other : List ℕ) (cursors : Cursors) (e : is_name name other ≡
 
 -- ---- a piece of another cursor
 
-module _ (now : Whole) (name other : List ℕ) (count : ℕ) (reply : Reply) (cursors : Cursors)
+module _ (now : Session) (name other : List ℕ) (count : ℕ) (reply : Reply) (cursors : Cursors)
     (e : is_name name other ≡ false) where
   abbrev Same : Type 0
   Same = cursor_at cursors name ≡ cursor_at now.cursors name
@@ -217,7 +217,7 @@ plain_given name (OfCursor cursor command) reply e = absurd (cc e)
 -- ---- the cursor
 
 -- A cursor began in a state from an open view; this is the list there.
-pub record Began (name view : List ℕ) (wanted : ℕ) (was : Whole) (shown : View) (all : List Bind) : Type 0 where
+pub record Began (name view : List ℕ) (wanted : ℕ) (was : Session) (shown : View) (all : List Bind) : Type 0 where
   pub few : unwrap_or (turn_at was.turns view) 0 ≤ was.turns.count
   pub wants : 1 ≤ wanted
   pub seen : view_at was.state.views view ≡ Some shown
@@ -229,7 +229,7 @@ not_restart : (b : Bool) → (b && true) ≡ false → b ≡ false
 not_restart true e = e
 not_restart false e = refl
 
-module _ (name view : List ℕ) (wanted : ℕ) (was : Whole) (shown : View) (all : List Bind)
+module _ (name view : List ℕ) (wanted : ℕ) (was : Session) (shown : View) (all : List Bind)
     (began : Began name view wanted was shown all) where
   abbrev at_place : Option Place → Cursor
   at_place place = record { view = view; wanted = wanted; stamps = stamps_in was view; place = place }
@@ -254,7 +254,7 @@ module _ (name view : List ℕ) (wanted : ℕ) (was : Whole) (shown : View) (all
 
   -- ---- a piece of this cursor
 
-  module _ (now : Whole) (count : ℕ) (reply : Reply) (cursors : Cursors) (given : List Given)
+  module _ (now : Session) (count : ℕ) (reply : Reply) (cursors : Cursors) (given : List Given)
       (later : IsLater view was now) (h : HasCursor now.cursors given) where
     abbrev Goal : Type 0
     Goal = HasCursor cursors (given ++ given_by count (Some reply)) × IsNext was now view count reply
@@ -350,7 +350,7 @@ module _ (name view : List ℕ) (wanted : ℕ) (was : Whole) (shown : View) (all
 
   -- ---- each command of a cursor
 
-  module _ (now : Whole) (reply : Reply) (cursors : Cursors) (given : List Given) (later : IsLater view was now)
+  module _ (now : Session) (reply : Reply) (cursors : Cursors) (given : List Given) (later : IsLater view was now)
       (h : HasCursor now.cursors given) where
     abbrev Comes : Class → Type 0
     Comes class = is_restart_by name class (Some reply) ≡ false →
@@ -418,13 +418,13 @@ module _ (name view : List ℕ) (wanted : ℕ) (was : Whole) (shown : View) (all
   -- ---- lines
 
   module _ (rows : PolicyRows) where
-    step_later : (old : Whole) (line : List ℕ) (answer : Served) (reply : Option Reply) (new : Whole)
+    step_later : (old : Session) (line : List ℕ) (answer : Served) (reply : Option Reply) (new : Session)
         → LineStep rows old line answer reply new
         → IsLater view was old → IsLater view was new
     step_later = step_keeps rows (IsLater view was) (λ old command answer reply new. later_obeys rows view was old
         command answer reply new)
 
-    step_comes : (old : Whole) (line : List ℕ) (answer : Served) (reply : Option Reply) (new : Whole)
+    step_comes : (old : Session) (line : List ℕ) (answer : Served) (reply : Option Reply) (new : Session)
         (given : List Given) → LineStep rows old line answer reply new
         → is_restart name (heard line) reply ≡ false → IsLater view was old → HasCursor old.cursors given
         → HasCursor new.cursors (given ++ given_in name (heard line) reply)
@@ -434,20 +434,20 @@ module _ (name view : List ℕ) (wanted : ℕ) (was : Whole) (shown : View) (all
         by : (o : Option Command) (r : Option Reply) → is_restart name o r ≡ false → Hears rows old o answer r new
             → HasCursor new.cursors (given ++ given_in name o r)
         by None r f e = more_of new.cursors given [] refl
-            (left old.cursors new.cursors given (ap (λ (w : Whole). w.cursors) e) h)
+            (left old.cursors new.cursors given (ap (λ (w : Session). w.cursors) e) h)
         by (Some command) None f g = absurd g
         by (Some command) (Some r) f g = comes old r new.cursors given later h (class_of command)
             g.paces f
 
-    pub record Stands (now : Whole) (given : List Given) : Type 0 where
+    pub record Stands (now : Session) (given : List Given) : Type 0 where
       pub later : IsLater view was now
       pub cursor : HasCursor now.cursors given
 
     -- watch lines don't matter to it
-    pub stands_told : (now : Whole) (told : List Reply) (new : Whole) (given : List Given) → Tells now told new
+    pub stands_told : (now : Session) (told : List Reply) (new : Session) (given : List Given) → ReportsWatches now told new
         → Stands now given → Stands new given
     stands_told now told new given t s =
-        subst (λ (w : Whole). Stands w given) (sym t.left)
+        subst (λ (w : Session). Stands w given) (sym t.left)
         (record { later = later_watched view was now (told_all now.watches told) s.later; cursor = s.cursor })
 
     pub passes_on : (exchanges : List Exchange) (old new : Scene) (given : List Given) → Passes rows old exchanges new

@@ -44,9 +44,9 @@ use Rattle.wot_machine.specs.Depends.{IsAsk}
 use Rattle.wot_machine.specs.Law.{OneOutcome}
 use Rattle.wot_machine.specs.Leading.{AreAlikeBefore, AreAlikeForClaim, Claimed, HasLookedAt, HoldAlikeOn}
 use Rattle.wot_machine.specs.Leading.{IsAbsenceLine, IsCheckLine}
-use Rattle.wot_machine.specs.LineStep.{Does, LineStep}
+use Rattle.wot_machine.specs.LineStep.{StateStep, LineStep}
 use Rattle.wot_machine.specs.Served.{Served}
-use Rattle.wot_machine.specs.Whole.{Whole}
+use Rattle.wot_machine.specs.Session.{Session}
 use Rattle.wot_machine.proofs.Absences.{spelled_table}
 use Rattle.wot_machine.proofs.Alike.{step_as}
 use Rattle.wot_machine.proofs.Slices.{same_at}
@@ -203,8 +203,8 @@ module _ (edges : EdgeLaws) (rows : PolicyRows) (name : List ℕ) (target : Fpr)
   pub does_absence : LeadingLaws → AreAlikeBefore name target one other
       → (wanted : ℕ) (uid : List ℕ) (given told : Served)
       (reply : Reply) (new : State)
-      → Does rows one (class_of (Absence name target wanted uid)) given reply new
-      → Does rows other (class_of (Absence name target wanted uid)) told reply other
+      → StateStep rows one (class_of (Absence name target wanted uid)) given reply new
+      → StateStep rows other (class_of (Absence name target wanted uid)) told reply other
   does_absence laws a wanted uid given told reply new does = (misses_same laws a wanted uid reply does.0, refl)
 
   module _ (claimed : Claimed) where
@@ -224,27 +224,27 @@ module _ (edges : EdgeLaws) (rows : PolicyRows) (name : List ℕ) (target : Fpr)
 
     pub does_check : DoChecksAgree → AreAlikeForClaim name target claimed one other →
         IsClaimSpelled claimed.paths claimed.labels → (uid : List ℕ) (given told : Served) (reply : Reply) (new : State)
-        → Does rows one (class_of (Check name target claimed.paths claimed.labels uid)) given reply new
-        → Does rows other (class_of (Check name target claimed.paths claimed.labels uid)) told reply other
+        → StateStep rows one (class_of (Check name target claimed.paths claimed.labels uid)) given reply new
+        → StateStep rows other (class_of (Check name target claimed.paths claimed.labels uid)) told reply other
     does_check law a spelled uid given told reply new does = (checks_same law a spelled uid reply does.0, refl)
 
 -- ---- one line
 
 -- A well-formed state has one reply, so a question that is answered alike in both has the same reply.
-module _ (rows : PolicyRows) (law : OneOutcome rows) (name : List ℕ) (one other : Whole)
+module _ (rows : PolicyRows) (law : OneOutcome rows) (name : List ℕ) (one other : Session)
     (can : AreOwn other.state.held.certs) (line : List ℕ) (ask : IsAsk name line) (given told : Served) where
-  replied_as : ((r : Reply) (s : State) → Does rows one.state (class_of ask.command) given r s →
-      Does rows other.state (class_of ask.command) told r other.state)
-      → (reply second : Option Reply) (new third : Whole)
+  replied_as : ((r : Reply) (s : State) → StateStep rows one.state (class_of ask.command) given r s →
+      StateStep rows other.state (class_of ask.command) told r other.state)
+      → (reply second : Option Reply) (new third : Session)
       → LineStep rows one line given reply new → LineStep rows other line told second third → reply ≡ second
   replied_as does reply second new third step last =
       (law.one other line told reply second other third can
       (step_as rows one other name line given told reply new ask does step) last).0
 
 module _ (edges : EdgeLaws) (rows : PolicyRows) (one_reply : OneOutcome rows) (name : List ℕ) (target : Fpr)
-    (one other : Whole) (can : AreOwn other.state.held.certs) (marks : AreJudged rows one.state other.state) where
+    (one other : Session) (can : AreOwn other.state.held.certs) (marks : AreJudged rows one.state other.state) where
   pub absence_replied : LeadingLaws → AreAlikeBefore name target one.state other.state → (line : List ℕ) →
-      IsAbsenceLine name target line → (given told : Served) (reply second : Option Reply) (new third : Whole)
+      IsAbsenceLine name target line → (given told : Served) (reply second : Option Reply) (new third : Session)
       → LineStep rows one line given reply new → LineStep rows other line told second third → reply ≡ second
   absence_replied laws a line asks given told =
       replied_as rows one_reply name one other can line
@@ -255,7 +255,7 @@ module _ (edges : EdgeLaws) (rows : PolicyRows) (one_reply : OneOutcome rows) (n
   pub check_replied : DoChecksAgree →
       ((line : List ℕ) (command : Command) → command_of line ≡ Some command → HasSpelling command) →
       (claimed : Claimed) → AreAlikeForClaim name target claimed one.state other.state → (line : List ℕ) →
-      IsCheckLine name target claimed line → (given told : Served) (reply second : Option Reply) (new third : Whole)
+      IsCheckLine name target claimed line → (given told : Served) (reply second : Option Reply) (new third : Session)
       → LineStep rows one line given reply new → LineStep rows other line told second third → reply ≡ second
   check_replied law spells claimed a line asks given told =
       let command = Check name target claimed.paths claimed.labels asks.uid in

@@ -1,6 +1,6 @@
 pub mod CutLines
 mod Known
-mod Wholes
+mod Sessions
 mod Paced
 pub mod Pieces
 pub mod Watched
@@ -17,6 +17,7 @@ mod Storing
 pub mod Giving
 pub mod Putting
 mod Refusing
+mod Faults
 pub mod Running
 mod Keeping
 pub mod Making

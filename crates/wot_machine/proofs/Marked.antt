@@ -13,7 +13,7 @@ use Rattle.wot_cert.specs.Certificate.{Certificate, unite, unmarked}
 use Rattle.wot_cert.specs.Judged.{judged}
 use Rattle.wot_keyring.specs.Keyring.{Certificates, is_fpr}
 use Rattle.wot_keyring.specs.Dump.{judged_anew, judged_by}
-use Rattle.wot_keyring.specs.Import.{spelled_in, united_with, with_cert, with_certs}
+use Rattle.wot_keyring.specs.Import.{spelled_in, merged_into, with_cert, with_certs}
 use Rattle.wot_script.specs.declared.reply.Reply.{Reply}
 use Rattle.wot_certd.specs.World.{World}
 use Rattle.wot_machine.specs.Scene.{Scene, opening}
@@ -58,17 +58,17 @@ module _
     united_marked a b p q = unites a b ∙ ap (λ (x : Certificate). unite x (judged rows b)) p ∙ ap (unite a) q
 
     with_kept : (test : Fpr → Bool) (certs : Certificates) (c : Certificate) → AreMarked rows certs → IsMarked rows c →
-        IsMarked rows (united_with (lookup test certs) c)
+        IsMarked rows (merged_into (lookup test certs) c)
     with_kept test [] c all m = m
     with_kept test (e ∷ es) c all m =
-        elim (test e.0) as (λ b. IsMarked rows (united_with (cond b (Some e.1) (lookup test es)) c)) [
+        elim (test e.0) as (λ b. IsMarked rows (merged_into (cond b (Some e.1) (lookup test es)) c)) [
           | true ↦ united_marked e.1 c all.0 m
           | false ↦ with_kept test es c all.1 m
         ]
 
     with_one : (certs : Certificates) (c : Certificate) → AreMarked rows certs → AreMarked rows (with_cert rows certs c)
     with_one certs c all =
-        inserted rows certs (fpr_of c.key) (united_with (lookup (is_fpr (fpr_of c.key)) certs) (judged rows c))
+        inserted rows certs (fpr_of c.key) (merged_into (lookup (is_fpr (fpr_of c.key)) certs) (judged rows c))
         (with_kept (is_fpr (fpr_of c.key)) certs (judged rows c) all (judged_twice c)) all
 
     with_all : (certs : Certificates) (cs : List Certificate) → AreMarked rows certs →

@@ -14,7 +14,7 @@ use Rattle.wot_policy.specs.declared.rows.PolicyRows.{PolicyRows}
 use Rattle.wot_cert.specs.Certificate.{Certificate}
 use Rattle.wot_cert.specs.Judged.{judged}
 use Rattle.wot_keyring.specs.Keyring.{Certificates, is_fpr}
-use Rattle.wot_keyring.specs.Import.{spelled_in, united_with, with_cert, with_certs}
+use Rattle.wot_keyring.specs.Import.{spelled_in, merged_into, with_cert, with_certs}
 use Rattle.wot_machine.proofs.Stays.{all_without}
 
 abbrev pub AreNamed : Certificates → Type 0
@@ -53,14 +53,14 @@ found_named (x ∷ xs) fpr kept all e = by (found_named xs fpr kept all.1) (is_f
     by rest false f g = rest g
 
 united_named : (certs : Certificates) (fpr : Fpr) (o : Option Certificate) (c : Certificate) → AreNamed certs →
-    lookup (is_fpr fpr) certs ≡ o → fpr ≡ fpr_of c.key → fpr ≡ fpr_of (united_with o c).key
+    lookup (is_fpr fpr) certs ≡ o → fpr ≡ fpr_of c.key → fpr ≡ fpr_of (merged_into o c).key
 united_named certs fpr None c all e f = f
 united_named certs fpr (Some kept) c all e f = found_named certs fpr kept all e
 
 named_one : (rows : PolicyRows) (certs : Certificates) (c : Certificate) → AreNamed certs →
     AreNamed (with_cert rows certs c)
 named_one rows certs c all =
-    named_with certs (fpr_of c.key) (united_with (lookup (is_fpr (fpr_of c.key)) certs) (judged rows c))
+    named_with certs (fpr_of c.key) (merged_into (lookup (is_fpr (fpr_of c.key)) certs) (judged rows c))
     (united_named certs (fpr_of c.key) (lookup (is_fpr (fpr_of c.key)) certs) (judged rows c) all refl refl) all
 
 named_many : (rows : PolicyRows) (certs : Certificates) (cs : List Certificate) → AreNamed certs →

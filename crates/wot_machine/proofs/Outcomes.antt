@@ -46,15 +46,15 @@ use Rattle.wot_machine.specs.Absent.{Checks, Misses, TellsAbsence, claim_in, tab
 use Rattle.wot_machine.specs.Answer.{Asks, told}
 use Rattle.wot_machine.specs.Listing.{Lists, bindings, explained_from}
 use Rattle.wot_machine.specs.Outcome.{Outcome, only}
-use Rattle.wot_machine.specs.LineStep.{LineStep, HasReply, Answers, DoesTo, Gives, Obeys, Stays}
+use Rattle.wot_machine.specs.LineStep.{LineStep, HasReply, ReadLineStep, DoesTo, ComesTo, CommandStep, Stays}
 use Rattle.wot_machine.specs.Served.{Served}
 use Rattle.wot_machine.proofs.Absences.{spelled_table, tells_one, tells_some}
-use Rattle.wot_machine.specs.Whole.{Whole}
+use Rattle.wot_machine.specs.Session.{Session}
 use Rattle.wot_machine.proofs.Named.{AreNamed, named_all, named_without}
 use Rattle.wot_machine.proofs.Paced.{paces_one, paces_some}
 use Rattle.wot_machine.proofs.Stays.{step_stays}
 use Rattle.wot_machine.proofs.Watched.{watching_one, watching_some}
-use Rattle.wot_machine.proofs.Wholes.{counted_one, counted_some, turned_one, turned_some, whole_same}
+use Rattle.wot_machine.proofs.Sessions.{counted_one, counted_some, turned_one, turned_some, whole_same}
 
 -- at most one reply and state
 abbrev pub IsOne : (R M : Type 0) → (R → M → Type 0) → Type 0
@@ -64,43 +64,43 @@ IsOne R M P = (r s : R) (m n : M) → P r m → P s n → (r ≡ s) × (m ≡ n)
 abbrev pub IsSome : (R M : Type 0) → (R → M → Type 0) → Type 0
 IsSome R M P = (r : R) × (m : M) × P r m
 
-Gives-one : (outcome : Outcome) → IsOne Reply State (Gives outcome)
+Gives-one : (outcome : Outcome) → IsOne Reply State (ComesTo outcome)
 Gives-one outcome r s m n p q = (p.0 ∙ sym q.0, p.1 ∙ sym q.1)
 
-Gives-some : (outcome : Outcome) → IsSome Reply State (Gives outcome)
+Gives-some : (outcome : Outcome) → IsSome Reply State (ComesTo outcome)
 Gives-some outcome = (outcome.reply, outcome.state, (refl, refl))
 
-Stays-one : (old : Whole) (told : Reply) → IsOne Reply Whole (Stays old told)
+Stays-one : (old : Session) (told : Reply) → IsOne Reply Session (Stays old told)
 Stays-one old told r s m n p q = (p.0 ∙ sym q.0, p.1 ∙ sym q.1)
 
-Stays-some : (old : Whole) (told : Reply) → IsSome Reply Whole (Stays old told)
+Stays-some : (old : Session) (told : Reply) → IsSome Reply Session (Stays old told)
 Stays-some old told = (told, old, (refl, refl))
 
-HasReply-one : (P : Reply → Whole → Type 0) → IsOne Reply Whole P → IsOne (Option Reply) Whole (HasReply P)
+HasReply-one : (P : Reply → Session → Type 0) → IsOne Reply Session P → IsOne (Option Reply) Session (HasReply P)
 HasReply-one P one None s m n p q = absurd p
 HasReply-one P one (Some r) None m n p q = absurd q
 HasReply-one P one (Some r) (Some s) m n p q = let both = one r s m n p q in (ap (λ (x : Reply). Some x) both.0, both.1)
 
-HasReply-some : (P : Reply → Whole → Type 0) → IsSome Reply Whole P → IsSome (Option Reply) Whole (HasReply P)
+HasReply-some : (P : Reply → Session → Type 0) → IsSome Reply Session P → IsSome (Option Reply) Session (HasReply P)
 HasReply-some P some = (Some some.0, some.1, some.2)
 
-silent-one : (old : Whole) → IsOne (Option Reply) Whole (λ r m. (r ≡ None) × (m ≡ old))
+silent-one : (old : Session) → IsOne (Option Reply) Session (λ r m. (r ≡ None) × (m ≡ old))
 silent-one old r s m n p q = (p.0 ∙ sym q.0, p.1 ∙ sym q.1)
 
-MatchBool-one : (b : Bool) (P Q : Option Reply → Whole → Type 0) → IsOne (Option Reply) Whole P →
-    IsOne (Option Reply) Whole Q → IsOne (Option Reply) Whole (λ r m. MatchBool b (P r m) (Q r m))
+MatchBool-one : (b : Bool) (P Q : Option Reply → Session → Type 0) → IsOne (Option Reply) Session P →
+    IsOne (Option Reply) Session Q → IsOne (Option Reply) Session (λ r m. MatchBool b (P r m) (Q r m))
 MatchBool-one true P Q p q = p
 MatchBool-one false P Q p q = q
 
-MatchBool-some : (b : Bool) (P Q : Option Reply → Whole → Type 0) → IsSome (Option Reply) Whole P →
-    IsSome (Option Reply) Whole Q → IsSome (Option Reply) Whole (λ r m. MatchBool b (P r m) (Q r m))
+MatchBool-some : (b : Bool) (P Q : Option Reply → Session → Type 0) → IsSome (Option Reply) Session P →
+    IsSome (Option Reply) Session Q → IsSome (Option Reply) Session (λ r m. MatchBool b (P r m) (Q r m))
 MatchBool-some true P Q p q = p
 MatchBool-some false P Q p q = q
 
 -- ---- well-formed states
 
-pub LineStep-stays : (rows : PolicyRows) (old : Whole) (line : List ℕ) (given : Served) (reply : Option Reply)
-    (new : Whole) → IsState old.state → LineStep rows old line given reply new → IsState new.state
+pub LineStep-stays : (rows : PolicyRows) (old : Session) (line : List ℕ) (given : Served) (reply : Option Reply)
+    (new : Session) → IsState old.state → LineStep rows old line given reply new → IsState new.state
 LineStep-stays rows = step_stays rows AreNamed (named_all rows) named_without
 
 -- ---- questions
@@ -246,8 +246,8 @@ module _
     lawful_state s t u can = lawful s.held.certs s.held.verdicts t u can
 
     -- from the uniqueness of the reply, the state, the cursors and the watches
-    whole_one : (old : Whole) (class : Class) (given : Served) (r s : Reply) (m n : Whole) →
-        Obeys rows old class given r m → Obeys rows old class given s n
+    whole_one : (old : Session) (class : Class) (given : Served) (r s : Reply) (m n : Session) →
+        CommandStep rows old class given r m → CommandStep rows old class given s n
         → (r ≡ s) × (m.state ≡ n.state) × (m.cursors ≡ n.cursors) × (m.watches ≡ n.watches) → (r ≡ s) × (m ≡ n)
     whole_one old class given r s m n p q same =
         let held = counted_one old m n (ap (λ (x : State). x.held) same.1) p.counted q.counted in
@@ -255,8 +255,8 @@ module _
         (ap (λ (x : State). x.views) same.1) p.turned q.turned in
         (same.0, whole_same m n same.1 held turns same.2 same.3)
 
-    Obeys-one : (old : Whole) (class : Class) (given : Served) → IsState old.state →
-        IsOne Reply Whole (Obeys rows old class given)
+    Obeys-one : (old : Session) (class : Class) (given : Served) → IsState old.state →
+        IsOne Reply Session (CommandStep rows old class given)
     Obeys-one old (OfState command) given can r s m n p q =
         let both = Does-one old.state command given can r s m.state n.state p.does q.does in
         whole_one old (OfState command) given r s m n p q
@@ -272,8 +272,8 @@ module _
         whole_one old (OfWatch name command) given r s m n p q
         (both.0, p.does ∙ sym q.does, p.paces ∙ sym q.paces, both.1)
 
-    Obeys-some : (old : Whole) (class : Class) (given : Served) → IsFit class →
-        IsSome Reply Whole (Obeys rows old class given)
+    Obeys-some : (old : Session) (class : Class) (given : Served) → IsFit class →
+        IsSome Reply Session (CommandStep rows old class given)
     Obeys-some old (OfState command) given h =
         let there = Does-some old.state command given h in
         let count = counted_some old there.1.held in
@@ -319,38 +319,38 @@ module _
           },
         )
 
-    Answers-one : (old : Whole) (command : Option Command) (given : Served) → IsState old.state →
-        IsOne Reply Whole (Answers rows old command given)
+    Answers-one : (old : Session) (command : Option Command) (given : Served) → IsState old.state →
+        IsOne Reply Session (ReadLineStep rows old command given)
     Answers-one old None given p = Stays-one old replies.Line
     Answers-one old (Some command) given p = Obeys-one old (class_of command) given p
 
-    Answers-some : (old : Whole) (line : List ℕ) (given : Served) →
-        IsSome Reply Whole (Answers rows old (command_of line) given)
+    Answers-some : (old : Session) (line : List ℕ) (given : Served) →
+        IsSome Reply Session (ReadLineStep rows old (command_of line) given)
     Answers-some old line given = by (command_of line) refl
       where
         by : (command : Option Command) → command_of line ≡ command →
-            IsSome Reply Whole (Answers rows old command given)
+            IsSome Reply Session (ReadLineStep rows old command given)
         by None e = Stays-some old replies.Line
         by (Some command) e = Obeys-some old (class_of command) given (fit_of command (wants line command e))
 
-    pub LineStep-one : (old : Whole) (line : List ℕ) (given : Served) → IsState old.state →
-        IsOne (Option Reply) Whole (LineStep rows old line given)
+    pub LineStep-one : (old : Session) (line : List ℕ) (given : Served) → IsState old.state →
+        IsOne (Option Reply) Session (LineStep rows old line given)
     LineStep-one old line given p =
         MatchBool-one (nat_lt longest (length line)) (HasReply (Stays old replies.Long))
         (λ r m. MatchBool (is_silent line) ((r ≡ None) × (m ≡ old))
-        (HasReply (Answers rows old (command_of line) given) r m))
+        (HasReply (ReadLineStep rows old (command_of line) given) r m))
         (HasReply-one (Stays old replies.Long) (Stays-one old replies.Long))
         (MatchBool-one (is_silent line) (λ r m. (r ≡ None) × (m ≡ old))
-        (HasReply (Answers rows old (command_of line) given)) (silent-one old)
-        (HasReply-one (Answers rows old (command_of line) given) (Answers-one old (command_of line) given p)))
+        (HasReply (ReadLineStep rows old (command_of line) given)) (silent-one old)
+        (HasReply-one (ReadLineStep rows old (command_of line) given) (Answers-one old (command_of line) given p)))
 
-    pub LineStep-some : (old : Whole) (line : List ℕ) (given : Served) →
-        IsSome (Option Reply) Whole (LineStep rows old line given)
+    pub LineStep-some : (old : Session) (line : List ℕ) (given : Served) →
+        IsSome (Option Reply) Session (LineStep rows old line given)
     LineStep-some old line given =
         MatchBool-some (nat_lt longest (length line)) (HasReply (Stays old replies.Long))
         (λ r m. MatchBool (is_silent line) ((r ≡ None) × (m ≡ old))
-        (HasReply (Answers rows old (command_of line) given) r m))
+        (HasReply (ReadLineStep rows old (command_of line) given) r m))
         (HasReply-some (Stays old replies.Long) (Stays-some old replies.Long))
         (MatchBool-some (is_silent line) (λ r m. (r ≡ None) × (m ≡ old))
-        (HasReply (Answers rows old (command_of line) given)) (None, old, (refl, refl))
-        (HasReply-some (Answers rows old (command_of line) given) (Answers-some old line given)))
+        (HasReply (ReadLineStep rows old (command_of line) given)) (None, old, (refl, refl))
+        (HasReply-some (ReadLineStep rows old (command_of line) given) (Answers-some old line given)))

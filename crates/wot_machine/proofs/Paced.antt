@@ -29,13 +29,13 @@ use Rattle.wot_policy.specs.declared.rows.PolicyRows.{PolicyRows}
 use Rattle.wot_machine.specs.declared.class.Class.{Class}
 use Rattle.wot_machine.specs.declared.class.Class.TheVariants.{State as OfState, Cursor as OfCursor, Watch as OfWatch}
 use Rattle.wot_machine.specs.declared.class.CursorCommand.TheVariants as paces
-use Rattle.wot_machine.specs.LineStep.{Does}
+use Rattle.wot_machine.specs.LineStep.{StateStep}
 use Rattle.wot_machine.specs.Listing.{AreBindings}
 use Rattle.wot_machine.specs.Pacing.{Begins, Ends, GivesPiece, Goes, GoesBy, GoesFrom, Leaves, Paces, behind, is_pacing}
-use Rattle.wot_machine.specs.Pacing.{last_place, piece, place_of, stamps_in}
+use Rattle.wot_machine.specs.Pacing.{last_place, piece, bind_place, stamps_in}
 use Rattle.wot_machine.specs.Entry.{unused, use_by}
 use Rattle.wot_machine.specs.Served.{Served}
-use Rattle.wot_machine.specs.Whole.{IsTurnedBy, Whole, watched}
+use Rattle.wot_machine.specs.Session.{IsTurnedBy, Session, watched}
 
 -- ---- other commands
 
@@ -52,29 +52,29 @@ paced_cases P over next close (OfState done) e = absurd (cc e)
 paced_cases P over next close (OfWatch name done) e = absurd (cc e)
 
 -- the other commands leave the cursors
-plain_is : (s : Whole) (class : Class) (reply : Reply) (cursors : Cursors) → is_pacing class ≡ false →
+plain_is : (s : Session) (class : Class) (reply : Reply) (cursors : Cursors) → is_pacing class ≡ false →
     Paces s class reply cursors ≡ (cursors ≡ s.cursors)
 plain_is s (OfState done) reply cursors e = refl
 plain_is s (OfWatch name done) reply cursors e = refl
 plain_is s (OfCursor name done) reply cursors e = absurd (cc e)
 
-pub paces_plain : (s : Whole) (class : Class) (reply : Reply) → is_pacing class ≡ false →
+pub paces_plain : (s : Session) (class : Class) (reply : Reply) → is_pacing class ≡ false →
     Paces s class reply s.cursors
 paces_plain s class reply e = subst (λ (P : Type 0). P) (sym (plain_is s class reply s.cursors e)) refl
 
-pub plain_paces : (s : Whole) (class : Class) (reply : Reply) (cursors : Cursors) → is_pacing class ≡ false →
+pub plain_paces : (s : Session) (class : Class) (reply : Reply) (cursors : Cursors) → is_pacing class ≡ false →
     Paces s class reply cursors → cursors ≡ s.cursors
 plain_paces s class reply cursors e p = subst (λ (P : Type 0). P) (plain_is s class reply cursors e) p
 
 -- ---- watches don't matter to cursors
 
-begins_watched : (s : Whole) (watches : Watches) (name view : List ℕ) (wanted : ℕ) (o : Option View) (reply : Reply)
+begins_watched : (s : Session) (watches : Watches) (name view : List ℕ) (wanted : ℕ) (o : Option View) (reply : Reply)
     (cursors : Cursors) → Begins s name view wanted o reply cursors
     → Begins (watched s watches) name view wanted o reply cursors
 begins_watched s watches name view wanted None reply cursors p = p
 begins_watched s watches name view wanted (Some there) reply cursors p = p
 
-by_watched : (s : Whole) (watches : Watches) (age : Age) (name : List ℕ) (count : ℕ) (cursor : Cursor) (view : View)
+by_watched : (s : Session) (watches : Watches) (age : Age) (name : List ℕ) (count : ℕ) (cursor : Cursor) (view : View)
     (reply : Reply) (cursors : Cursors)
     → GoesBy age s name count cursor view reply cursors → GoesBy age (watched s watches) name count cursor view reply
     cursors
@@ -82,21 +82,21 @@ by_watched s watches ages.Same name count cursor view reply cursors p = p
 by_watched s watches (ages.Keyring was now) name count cursor view reply cursors p = p
 by_watched s watches (ages.View was now) name count cursor view reply cursors p = p
 
-from_watched : (s : Whole) (watches : Watches) (o : Option View) (name : List ℕ) (count : ℕ) (cursor : Cursor)
+from_watched : (s : Session) (watches : Watches) (o : Option View) (name : List ℕ) (count : ℕ) (cursor : Cursor)
     (reply : Reply) (cursors : Cursors)
     → GoesFrom o s name count cursor reply cursors → GoesFrom o (watched s watches) name count cursor reply cursors
 from_watched s watches None name count cursor reply cursors p = p
 from_watched s watches (Some view) name count cursor reply cursors p =
     by_watched s watches (age_of cursor.stamps (stamps_in s cursor.view)) name count cursor view reply cursors p
 
-goes_watched : (s : Whole) (watches : Watches) (o : Option Cursor) (name : List ℕ) (count : ℕ) (reply : Reply)
+goes_watched : (s : Session) (watches : Watches) (o : Option Cursor) (name : List ℕ) (count : ℕ) (reply : Reply)
     (cursors : Cursors) → Goes o s name count reply cursors
     → Goes o (watched s watches) name count reply cursors
 goes_watched s watches None name count reply cursors p = p
 goes_watched s watches (Some cursor) name count reply cursors p =
     from_watched s watches (view_at s.state.views cursor.view) name count cursor reply cursors p
 
-pub paces_watched : (s : Whole) (watches : Watches) (class : Class) (reply : Reply) (cursors : Cursors) →
+pub paces_watched : (s : Session) (watches : Watches) (class : Class) (reply : Reply) (cursors : Cursors) →
     is_pacing class ≡ true → Paces s class reply cursors
     → Paces (watched s watches) class reply cursors
 paces_watched s watches class reply cursors e =
@@ -107,15 +107,15 @@ paces_watched s watches class reply cursors e =
 -- ---- commands of cursors don't change the state, the turns and the certificate directory
 
 pub state_paced : (rows : PolicyRows) (old : State) (class : Class) (given : Served) (reply : Reply) →
-    is_pacing class ≡ true → Does rows old class given reply old
+    is_pacing class ≡ true → StateStep rows old class given reply old
 state_paced rows old class given reply e =
-    paced_cases (λ (c : Class). Does rows old c given reply old) (λ name view wanted. refl) (λ name count. refl)
+    paced_cases (λ (c : Class). StateStep rows old c given reply old) (λ name view wanted. refl) (λ name count. refl)
     (λ name. refl) class e
 
 pub paced_state : (rows : PolicyRows) (old : State) (class : Class) (given : Served) (reply : Reply) (new : State) →
-    is_pacing class ≡ true → Does rows old class given reply new → new ≡ old
+    is_pacing class ≡ true → StateStep rows old class given reply new → new ≡ old
 paced_state rows old class given reply new e d =
-    paced_cases (λ (c : Class). Does rows old c given reply new → new ≡ old) (λ name view wanted p. p)
+    paced_cases (λ (c : Class). StateStep rows old c given reply new → new ≡ old) (λ name view wanted p. p)
     (λ name count p. p) (λ name p. p) class e d
 
 pub turns_paced : (class : Class) (old new : Views) (before after : Turns) → is_pacing class ≡ true →
@@ -140,21 +140,21 @@ if_worded : (b : Bool) (P Q : Type 0) (reply : Reply) → (P → HasWords reply)
 if_worded true P Q reply f g p = f p
 if_worded false P Q reply f g q = g q
 
-begins_worded : (s : Whole) (name view : List ℕ) (wanted : ℕ) (o : Option View) (reply : Reply) (cursors : Cursors) →
+begins_worded : (s : Session) (name view : List ℕ) (wanted : ℕ) (o : Option View) (reply : Reply) (cursors : Cursors) →
     Begins s name view wanted o reply cursors → HasWords reply
 begins_worded s name view wanted None reply cursors l = left_worded replies.View reply s.cursors cursors tt l
 begins_worded s name view wanted (Some there) reply cursors l =
     if_worded (is_full s.cursors name) _ _ reply (left_worded replies.FullCursors reply s.cursors cursors tt)
     (left_worded replies.Done reply (with_cursor s.cursors name (begun view wanted (stamps_in s view))) cursors tt) l
 
-gives_worded : (s : Whole) (name : List ℕ) (count : ℕ) (cursor : Cursor) (view : View) (reply : Reply)
+gives_worded : (s : Session) (name : List ℕ) (count : ℕ) (cursor : Cursor) (view : View) (reply : Reply)
     (cursors : Cursors)
     → GivesPiece s name count cursor view reply cursors → HasWords reply
 gives_worded s name count cursor view reply cursors g =
     if_worded (cursor.wanted == 0) _ _ reply (left_worded (piece []) reply s.cursors cursors tt)
     (λ p. left_worded (piece (piece_of cursor.place count p.0)) reply _ cursors tt p.2) g
 
-by_worded : (age : Age) (s : Whole) (name : List ℕ) (count : ℕ) (cursor : Cursor) (view : View) (reply : Reply)
+by_worded : (age : Age) (s : Session) (name : List ℕ) (count : ℕ) (cursor : Cursor) (view : View) (reply : Reply)
     (cursors : Cursors)
     → GoesBy age s name count cursor view reply cursors → HasWords reply
 by_worded ages.Same s name count cursor view reply cursors g = gives_worded s name count cursor view reply cursors g
@@ -163,27 +163,27 @@ by_worded (ages.Keyring was now) s name count cursor view reply cursors g =
 by_worded (ages.View was now) s name count cursor view reply cursors g =
     left_worded (replies.StaleView was now) reply s.cursors cursors tt g
 
-from_worded : (o : Option View) (s : Whole) (name : List ℕ) (count : ℕ) (cursor : Cursor) (reply : Reply)
+from_worded : (o : Option View) (s : Session) (name : List ℕ) (count : ℕ) (cursor : Cursor) (reply : Reply)
     (cursors : Cursors)
     → GoesFrom o s name count cursor reply cursors → HasWords reply
 from_worded None s name count cursor reply cursors g = left_worded replies.View reply s.cursors cursors tt g
 from_worded (Some view) s name count cursor reply cursors g = by_worded (age_of cursor.stamps (stamps_in s cursor.view))
     s name count cursor view reply cursors g
 
-goes_worded : (o : Option Cursor) (s : Whole) (name : List ℕ) (count : ℕ) (reply : Reply) (cursors : Cursors) →
+goes_worded : (o : Option Cursor) (s : Session) (name : List ℕ) (count : ℕ) (reply : Reply) (cursors : Cursors) →
     Goes o s name count reply cursors → HasWords reply
 goes_worded None s name count reply cursors g = left_worded replies.NoCursor reply s.cursors cursors tt g
 goes_worded (Some cursor) s name count reply cursors g = from_worded (view_at s.state.views cursor.view) s name count
     cursor reply cursors g
 
-ends_worded : (s : Whole) (name : List ℕ) (reply : Reply) (cursors : Cursors) → Ends s name reply cursors →
+ends_worded : (s : Session) (name : List ℕ) (reply : Reply) (cursors : Cursors) → Ends s name reply cursors →
     HasWords reply
 ends_worded s name reply cursors l =
     if_worded (is_some (cursor_at s.cursors name)) _ _ reply
     (left_worded replies.Done reply (without_cursor s.cursors name) cursors tt)
     (left_worded replies.NoCursor reply s.cursors cursors tt) l
 
-pub paces_worded : (s : Whole) (class : Class) (reply : Reply) (cursors : Cursors) → is_pacing class ≡ true →
+pub paces_worded : (s : Session) (class : Class) (reply : Reply) (cursors : Cursors) → is_pacing class ≡ true →
     Paces s class reply cursors → HasWords reply
 paces_worded s class reply cursors e p =
     paced_cases (λ (c : Class). Paces s c reply cursors → HasWords reply)
@@ -222,7 +222,7 @@ module _
     (list_one : (told : List ℕ → Record) (roots : List (Fpr × ℕ)) (wanted : ℕ) (pairs : List Pair) (a b : List Bind) →
     ((u : List ℕ) → IsRecord (told u))
     → IsListed told roots wanted pairs a → IsListed told roots wanted pairs b → a ≡ b)
-    (s : Whole)
+    (s : Session)
   where
     listed_one : (name : List ℕ) (count : ℕ) (cursor : Cursor) (view : View) → IsState s.state
         → IsOneOf (λ r m. (all : List Bind) × AreBindings s.state view cursor.wanted all
@@ -327,14 +327,14 @@ module _
 -- ---- places
 
 last_is : (bind : Bind) (binds : List Bind) (last : Bind) → slice_get (bind ∷ binds) (length binds) ≡ Some last →
-    last_place bind binds ≡ place_of last
-last_is bind [] last e = ap place_of (same_Some bind last e)
+    last_place bind binds ≡ bind_place last
+last_is bind [] last e = ap bind_place (same_Some bind last e)
 last_is bind (next ∷ binds) last e = last_is next binds last e
 
 -- the cursor moves to the place of the last binding
 pub behind_last : (cursors : Cursors) (name : List ℕ) (binds : List Bind) (last : Bind) →
     slice_get binds (length binds - 1) ≡ Some last
-    → with_place cursors name (place_of last) ≡ behind cursors name binds
+    → with_place cursors name (bind_place last) ≡ behind cursors name binds
 behind_last cursors name [] last e = absurd cc
 behind_last cursors name (bind ∷ binds) last e =
     let size : length (bind ∷ binds) - 1 ≡ length binds = omega arith in
@@ -344,6 +344,6 @@ pub moved_to : (cursors : Cursors) (name other : List ℕ) (place : Place) (bind
     other ≡ name → place.fpr ≡ last.fpr → place.uid ≡ last.uid
     → Some last ≡ slice_get binds (length binds - 1) → with_place cursors other place ≡ behind cursors name binds
 moved_to cursors name other place binds last n f u e =
-    let there : with_place cursors other place ≡ with_place cursors name (place_of last) =
+    let there : with_place cursors other place ≡ with_place cursors name (bind_place last) =
     λ i. with_place cursors (n i) (record { fpr = f i; uid = u i }) in
     there ∙ behind_last cursors name binds last (sym e)

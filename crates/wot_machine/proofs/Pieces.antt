@@ -29,18 +29,18 @@ use Rattle.wot_explain.specs.Piece.{IsThePiece, piece_of}
 use Rattle.wot_machine.specs.declared.told.Moved.{Moved}
 use Rattle.wot_machine.specs.declared.told.Told.{Told}
 use Rattle.wot_machine.specs.Listing.{bind_line}
-use Rattle.wot_machine.specs.Pacing.{Gives, GivesPiece, Goes, GoesBy, GoesFrom, Leaves, OnTold, TellsPiece, behind}
+use Rattle.wot_machine.specs.Pacing.{ReturnsPiece, GivesPiece, Goes, GoesBy, GoesFrom, Leaves, OnTold, TellsPiece, behind}
 use Rattle.wot_machine.specs.Pacing.{piece, settled, stamps_in}
-use Rattle.wot_machine.specs.Whole.{Whole, whole_of}
+use Rattle.wot_machine.specs.Session.{Session, session_of}
 use Rattle.wot_machine.proofs.Refusing.{if_ok}
 
 -- a reply that moves no cursor
-pub left : (s : Whole) (told : Told) (reply : Reply) → told.reply ≡ reply → told.moved ≡ None →
+pub left : (s : Session) (told : Told) (reply : Reply) → told.reply ≡ reply → told.moved ≡ None →
     Leaves reply s.cursors told.reply (settled told.moved s.cursors)
 left s told reply r m = (r, ap (λ (o : Option Moved). settled o s.cursors) m)
 
 -- the two current numbers
-pub stamps_now : (s : Whole) (view : List ℕ) (now : Stamps) → now.keyring ≡ s.changes →
+pub stamps_now : (s : Session) (view : List ℕ) (now : Stamps) → now.keyring ≡ s.changes →
     Some now.view ≡ turn_at s.turns view → now ≡ stamps_in s view
 stamps_now s view now k t =
     let turn : now.view ≡ unwrap_or (turn_at s.turns view) 0 = ap (λ (o : Option ℕ). unwrap_or o 0) t in
@@ -48,7 +48,7 @@ stamps_now s view now k t =
 
 -- ---- an existing cursor over an open view
 
-module _ (found : Option Cursor) (cursor : Cursor) (s : Whole) (name : List ℕ) (count : ℕ) (is : Some cursor ≡ found)
+module _ (found : Option Cursor) (cursor : Cursor) (s : Session) (name : List ℕ) (count : ℕ) (is : Some cursor ≡ found)
     (shown : is_some (view_at s.state.views cursor.view) ≡ true) where
   from_cursor : (told : Told) → GoesFrom (view_at s.state.views cursor.view) s name count cursor told.reply
       (settled told.moved s.cursors)
@@ -93,13 +93,13 @@ pub gives_piece : {E : Type 0} (r : Result Told E) (engine : Engine) (cursors : 
     → 1 ≤ cursor.wanted → IsSomeAnd (view_at engine.views cursor.view) (λ v. ArePartsOf engine.keyring v parts) →
     IsOfEachList HasList
     → IfOk r (λ told. TellsPiece parts name count cursor told)
-    → OnTold r cursors (Gives (whole_of engine cursors) name count cursor)
+    → OnTold r cursors (ReturnsPiece (session_of engine cursors) name count cursor)
 gives_piece (Err e) engine cursors name count cursor parts some are has gives = tt
 gives_piece (Ok told) engine cursors name count cursor parts some are has gives =
     by (view_at engine.views cursor.view) are
   where
     by : (o : Option View) → IsSomeAnd o (λ v. ArePartsOf engine.keyring v parts)
-        → IfSome o (λ view. GivesPiece (whole_of engine cursors) name count cursor view told.reply
+        → IfSome o (λ view. GivesPiece (session_of engine cursors) name count cursor view told.reply
         (settled told.moved cursors))
     by None are = absurd are
     by (Some view) are =

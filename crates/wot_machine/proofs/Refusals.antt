@@ -35,7 +35,7 @@ use Rattle.wot_machine.specs.Classes.{call_of, change_of, class_of, reading, vie
 use Rattle.wot_machine.specs.Law.{is_refused}
 use Rattle.wot_machine.specs.Lines.{is_silent, longest}
 use Rattle.wot_machine.specs.Outcome.{Outcome, only, done, imports, load, set_verdict, unless}
-use Rattle.wot_machine.specs.LineStep.{LineStep, Answers, Does, Gives, Obeys, Stays}
+use Rattle.wot_machine.specs.LineStep.{LineStep, ReadLineStep, StateStep, ComesTo, CommandStep, Stays}
 use Rattle.wot_cache.specs.declared.view.View.{View}
 use Rattle.wot_cursor.specs.Age.{age_of}
 use Rattle.wot_cursor.specs.Cursors.{Cursor, Cursors, begun, cursor_at, is_full, with_cursor, without_cursor}
@@ -45,11 +45,11 @@ use Rattle.wot_explain.specs.Piece.{piece_of}
 use Rattle.wot_machine.specs.Pacing as pacing
 use Rattle.wot_machine.specs.Pacing.{Begins, Ends, GivesPiece, Goes, GoesBy, GoesFrom, Paces, behind, is_pacing, piece}
 use Rattle.wot_machine.specs.Pacing.{stamps_in}
-use Rattle.wot_machine.specs.Whole.{IsCounted, Whole}
+use Rattle.wot_machine.specs.Session.{IsCounted, Session}
 use Rattle.wot_machine.proofs.Paced.{paced_cases, plain_paces}
 use Rattle.wot_machine.specs.Watching.{is_watching}
 use Rattle.wot_machine.proofs.Watched.{plain_watching, watching_left}
-use Rattle.wot_machine.proofs.Wholes.{turned_still, whole_same}
+use Rattle.wot_machine.proofs.Sessions.{turned_still, whole_same}
 use Rattle.wot_machine.specs.Served.{Served}
 
 -- an outcome that leaves this state if it is a refusal
@@ -86,7 +86,7 @@ set_verdict_leaves s number v =
     (λ _. refl) (done_leaves s (with_held s (verdict_set number v s.held)))
 
 -- such an outcome leaves the state if the line is refused
-given : (s : State) (outcome : Outcome) (r : Reply) (m : State) → Leaves s outcome → Gives outcome r m →
+given : (s : State) (outcome : Outcome) (r : Reply) (m : State) → Leaves s outcome → ComesTo outcome r m →
     is_refused r ≡ true → m ≡ s
 given s outcome r m leaves g e = g.1 ∙ leaves (ap is_refused (sym g.0) ∙ e)
 
@@ -115,7 +115,7 @@ call_leaves rows s (calls.Load name) answer = load_leaves rows s name answer.rea
 call_leaves rows s (calls.Store fpr) answer = λ _. refl
 
 does : (rows : PolicyRows) (s : State) (class : Class) (answer : Served) (r : Reply) (m : State) →
-    Does rows s class answer r m → is_refused r ≡ true → m ≡ s
+    StateStep rows s class answer r m → is_refused r ≡ true → m ≡ s
 does rows s (OfState (kinds.Change change)) answer r m =
     given s (change_of rows s change) r m (change_leaves rows s change)
 does rows s (OfState (kinds.View view change)) answer r m =
@@ -139,7 +139,7 @@ if_left : (b : Bool) (P Q : Type 0) (reply : Reply) (old cursors : Cursors) →
 if_left true P Q reply old cursors f g p = f p
 if_left false P Q reply old cursors f g q = g q
 
-begins_left : (s : Whole) (name view : List ℕ) (wanted : ℕ) (o : Option View) (reply : Reply) (cursors : Cursors) →
+begins_left : (s : Session) (name view : List ℕ) (wanted : ℕ) (o : Option View) (reply : Reply) (cursors : Cursors) →
     Begins s name view wanted o reply cursors → is_refused reply ≡ true → cursors ≡ s.cursors
 begins_left s name view wanted None reply cursors l = left replies.View reply s.cursors s.cursors cursors (λ e. refl) l
 begins_left s name view wanted (Some there) reply cursors l =
@@ -148,7 +148,7 @@ begins_left s name view wanted (Some there) reply cursors l =
     (left replies.Done reply s.cursors (with_cursor s.cursors name (begun view wanted (stamps_in s view))) cursors
     (λ e. absurd (cc e))) l
 
-gives_left : (s : Whole) (name : List ℕ) (count : ℕ) (cursor : Cursor) (view : View) (reply : Reply) (cursors : Cursors)
+gives_left : (s : Session) (name : List ℕ) (count : ℕ) (cursor : Cursor) (view : View) (reply : Reply) (cursors : Cursors)
     → GivesPiece s name count cursor view reply cursors → is_refused reply ≡ true → cursors ≡ s.cursors
 gives_left s name count cursor view reply cursors g =
     if_left (cursor.wanted == 0) _ _ reply s.cursors cursors (left (piece []) reply s.cursors s.cursors cursors
@@ -156,7 +156,7 @@ gives_left s name count cursor view reply cursors g =
     (λ p. left (piece (piece_of cursor.place count p.0)) reply s.cursors
     (behind s.cursors name (piece_of cursor.place count p.0)) cursors (λ e. absurd (cc e)) p.2) g
 
-by_left : (age : Age) (s : Whole) (name : List ℕ) (count : ℕ) (cursor : Cursor) (view : View) (reply : Reply)
+by_left : (age : Age) (s : Session) (name : List ℕ) (count : ℕ) (cursor : Cursor) (view : View) (reply : Reply)
     (cursors : Cursors)
     → GoesBy age s name count cursor view reply cursors → is_refused reply ≡ true → cursors ≡ s.cursors
 by_left ages.Same s name count cursor view reply cursors g = gives_left s name count cursor view reply cursors g
@@ -165,27 +165,27 @@ by_left (ages.Keyring was now) s name count cursor view reply cursors g =
 by_left (ages.View was now) s name count cursor view reply cursors g = left (replies.StaleView was now) reply s.cursors
     s.cursors cursors (λ e. refl) g
 
-from_left : (o : Option View) (s : Whole) (name : List ℕ) (count : ℕ) (cursor : Cursor) (reply : Reply)
+from_left : (o : Option View) (s : Session) (name : List ℕ) (count : ℕ) (cursor : Cursor) (reply : Reply)
     (cursors : Cursors)
     → GoesFrom o s name count cursor reply cursors → is_refused reply ≡ true → cursors ≡ s.cursors
 from_left None s name count cursor reply cursors g = left replies.View reply s.cursors s.cursors cursors (λ e. refl) g
 from_left (Some view) s name count cursor reply cursors g = by_left (age_of cursor.stamps (stamps_in s cursor.view)) s
     name count cursor view reply cursors g
 
-goes_left : (o : Option Cursor) (s : Whole) (name : List ℕ) (count : ℕ) (reply : Reply) (cursors : Cursors) →
+goes_left : (o : Option Cursor) (s : Session) (name : List ℕ) (count : ℕ) (reply : Reply) (cursors : Cursors) →
     Goes o s name count reply cursors → is_refused reply ≡ true → cursors ≡ s.cursors
 goes_left None s name count reply cursors g = left replies.NoCursor reply s.cursors s.cursors cursors (λ e. refl) g
 goes_left (Some cursor) s name count reply cursors g = from_left (view_at s.state.views cursor.view) s name count cursor
     reply cursors g
 
-ends_left : (s : Whole) (name : List ℕ) (reply : Reply) (cursors : Cursors) → Ends s name reply cursors →
+ends_left : (s : Session) (name : List ℕ) (reply : Reply) (cursors : Cursors) → Ends s name reply cursors →
     is_refused reply ≡ true → cursors ≡ s.cursors
 ends_left s name reply cursors l =
     if_left (is_some (cursor_at s.cursors name)) _ _ reply s.cursors cursors
     (left replies.Done reply s.cursors (without_cursor s.cursors name) cursors (λ e. absurd (cc e)))
     (left replies.NoCursor reply s.cursors s.cursors cursors (λ e. refl)) l
 
-paces_left : (s : Whole) (class : Class) (reply : Reply) (cursors : Cursors) → is_pacing class ≡ true →
+paces_left : (s : Session) (class : Class) (reply : Reply) (cursors : Cursors) → is_pacing class ≡ true →
     Paces s class reply cursors → is_refused reply ≡ true → cursors ≡ s.cursors
 paces_left s class reply cursors e =
     paced_cases (λ (c : Class). Paces s c reply cursors → is_refused reply ≡ true → cursors ≡ s.cursors)
@@ -195,12 +195,12 @@ paces_left s class reply cursors e =
 
 -- ---- everything that is kept
 
-uncounted : (s m : Whole) → m.state ≡ s.state → IsCounted s m → m.changes ≡ s.changes
+uncounted : (s m : Session) → m.state ≡ s.state → IsCounted s m → m.changes ≡ s.changes
 uncounted s m same (inl p) = p.1
 uncounted s m same (inr p) = absurd (p.0 (ap (λ (x : State). x.held) same))
 
-obeys : (rows : PolicyRows) (s : Whole) (class : Class) (answer : Served) (r : Reply) (m : Whole) →
-    Obeys rows s class answer r m → is_refused r ≡ true → m ≡ s
+obeys : (rows : PolicyRows) (s : Session) (class : Class) (answer : Served) (r : Reply) (m : Session) →
+    CommandStep rows s class answer r m → is_refused r ≡ true → m ≡ s
 obeys rows s class answer r m o e =
     let same = does rows s.state class answer r m.state o.does e in
     whole_same m s same (uncounted s m same o.counted)
@@ -216,21 +216,21 @@ obeys rows s class answer r m o e =
     by true k = paces_left s class r m.cursors k o.paces e
     by false k = plain_paces s class r m.cursors k o.paces
 
-answers : (rows : PolicyRows) (s : Whole) (command : Option Command) (answer : Served) (r : Reply) (m : Whole) →
-    Answers rows s command answer r m → is_refused r ≡ true → m ≡ s
+answers : (rows : PolicyRows) (s : Session) (command : Option Command) (answer : Served) (r : Reply) (m : Session) →
+    ReadLineStep rows s command answer r m → is_refused r ≡ true → m ≡ s
 answers rows s None answer r m g e = g.1
 answers rows s (Some command) answer r m o e = obeys rows s (class_of command) answer r m o e
 
-pub step_leaves : (rows : PolicyRows) (s : Whole) (line : List ℕ) (answer : Served) (r : Reply) (m : Whole) →
+pub step_leaves : (rows : PolicyRows) (s : Session) (line : List ℕ) (answer : Served) (r : Reply) (m : Session) →
     LineStep rows s line answer (Some r) m → is_refused r ≡ true → m ≡ s
 step_leaves rows s line answer r m = long (nat_lt longest (length line))
   where
-    silent : (b : Bool) → MatchBool b ((Some r ≡ None) × (m ≡ s)) (Answers rows s (command_of line) answer r m) →
+    silent : (b : Bool) → MatchBool b ((Some r ≡ None) × (m ≡ s)) (ReadLineStep rows s (command_of line) answer r m) →
         is_refused r ≡ true → m ≡ s
     silent true g e = g.1
     silent false g e = answers rows s (command_of line) answer r m g e
 
     long : (b : Bool) → MatchBool b (Stays s replies.Long r m) (MatchBool (is_silent line) ((Some r ≡ None) × (m ≡ s))
-        (Answers rows s (command_of line) answer r m)) → is_refused r ≡ true → m ≡ s
+        (ReadLineStep rows s (command_of line) answer r m)) → is_refused r ≡ true → m ≡ s
     long true g e = g.1
     long false g e = silent (is_silent line) g e

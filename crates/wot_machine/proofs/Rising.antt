@@ -28,7 +28,7 @@ use Rattle.wot_cert.specs.Certificate.{unite_part}
 use Rattle.wot_cert.specs.Judged.{judged, judged_sig}
 use Rattle.wot_cert.specs.Ranked.{IsBelow, IsRising, placed, put, united}
 use Rattle.wot_keyring.specs.Keyring.{Certificates, is_fpr}
-use Rattle.wot_keyring.specs.Import.{of_packets, spelled_in, united_with, with_cert, with_certs}
+use Rattle.wot_keyring.specs.Import.{of_packets, spelled_in, merged_into, with_cert, with_certs}
 use Rattle.wot_script.specs.declared.reply.Reply.{Reply}
 use Rattle.wot_certd.specs.World.{World}
 use Rattle.wot_explain.specs.declared.bind.Bind.{Bind}
@@ -120,12 +120,12 @@ ordered_without fpr certs o = record {
 
 found_order : (test : Fpr → Bool) (certs : Certificates) (c : Certificate)
     → AllByRecursion (λ (e : Fpr × Certificate). HasOrder e.1) certs → HasOrder c
-    → HasOrder (united_with (lookup test certs) c)
+    → HasOrder (merged_into (lookup test certs) c)
 found_order test [] c all h = h
 found_order test (e ∷ es) c all h = by (found_order test es c all.1 h) (test e.0)
   where
-    by : HasOrder (united_with (lookup test es) c) → (b : Bool)
-        → HasOrder (united_with (cond b (Some e.1) (lookup test es)) c)
+    by : HasOrder (merged_into (lookup test es) c) → (b : Bool)
+        → HasOrder (merged_into (cond b (Some e.1) (lookup test es)) c)
     by rest true = united_order e.1 c all.0
     by rest false = rest
 
@@ -134,7 +134,7 @@ module _ (rows : PolicyRows) where
       → AreOrdered (with_cert rows certs c)
   ordered_one certs c h o =
       let fpr : Fpr = fpr_of c.key in
-      let new : Certificate = united_with (lookup (is_fpr fpr) certs) (judged rows c) in
+      let new : Certificate = merged_into (lookup (is_fpr fpr) certs) (judged rows c) in
       record {
         fprs = rising_put fpr_cmp fpr_total fpr new certs o.fprs;
         user_ids = all_put HasOrder fpr_cmp fpr new certs (found_order (is_fpr fpr) certs (judged rows c) o.user_ids

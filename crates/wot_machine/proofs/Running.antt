@@ -33,14 +33,14 @@ use Rattle.wot_machine.specs.declared.told.Told.{Told}
 use Rattle.wot_cursor.specs.Cursors.{Cursors}
 use Rattle.wot_watch.specs.Watches.{Watches}
 use Rattle.wot_keyring.specs.Import.{IsOneChange}
-use Rattle.wot_machine.specs.Watching.{AreLines, Tells, Watching, is_watching, told_all}
-use Rattle.wot_machine.specs.Whole.{IsTurnedBy, Whole, watched, whole_of}
+use Rattle.wot_machine.specs.Watching.{AreLines, ReportsWatches, Watching, is_watching, told_all}
+use Rattle.wot_machine.specs.Session.{IsTurnedBy, Session, watched, session_of}
 use Rattle.wot_machine.specs.Entry.{IsServed, IsWorldAfter, Use, WasGiven, has_failed, is_fault, put_for, unused}
 use Rattle.wot_machine.specs.Entry.{use_by, use_of, world_after}
 use Rattle.wot_machine.specs.Lines.{heard, is_silent, longest}
-use Rattle.wot_machine.specs.LineStep.{Answers, Does, DoesTo, Gives, LineStep, Obeys}
+use Rattle.wot_machine.specs.LineStep.{ReadLineStep, StateStep, DoesTo, ComesTo, LineStep, CommandStep}
 use Rattle.wot_machine.specs.Outcome.{load}
-use Rattle.wot_machine.specs.Ran.{Did, Ran, RanClass, Seen}
+use Rattle.wot_machine.specs.CommandRun.{StateRun, CommandRun, ClassRun, Seen}
 use Rattle.wot_machine.specs.Served.{Served, unserved}
 use Rattle.wot_machine.specs.Stepped.{Replied, Stepped, TellsBehind}
 use Rattle.wot_machine.specs.Pacing.{Paces, is_pacing, settled}
@@ -53,7 +53,7 @@ use Rattle.wot_machine.proofs.Paced.{paces_plain, paces_watched, state_paced, tu
 use Rattle.wot_machine.proofs.Watched.{paced_unwatched, state_watched, turns_watched, uncalled_watched, watched_unpaced}
 use Rattle.wot_machine.proofs.Watched.{watching_plain}
 use Rattle.wot_machine.proofs.Stepping.{heard_long, heard_silent, one_reply, passed_over, too_long}
-use Rattle.wot_machine.proofs.Wholes.{counted_by, same_few, turned_few, turned_still}
+use Rattle.wot_machine.proofs.Sessions.{counted_by, same_few, turned_few, turned_still}
 
 -- ---- commands that don't use the certificate directory
 
@@ -69,9 +69,9 @@ never_failed : (old : State) (use_ : Use) → use_ ≡ unused →
 never_failed old use_ e = subst (λ (u : Use). has_failed (put_for old u Answer.absent) unserved ≡ true → ⊥) (sym e)
     (λ f. cc f)
 
-ran_uncalled : (rows : PolicyRows) (command : Option Command) (old : Whole) (seen : Seen) (reply : Reply)
-    (new : Whole) → use_of command ≡ unused
-    → Answers rows old command unserved reply new → Ran rows command old seen reply new seen
+ran_uncalled : (rows : PolicyRows) (command : Option Command) (old : Session) (seen : Seen) (reply : Reply)
+    (new : Session) → use_of command ≡ unused
+    → ReadLineStep rows old command unserved reply new → CommandRun rows command old seen reply new seen
 ran_uncalled rows command old seen reply new none answers = record {
   given = unserved;
   answers = answers;
@@ -82,7 +82,7 @@ ran_uncalled rows command old seen reply new none answers = record {
 pub uncalled : {E : Type 0} (r : Result Reply E) (rows : PolicyRows) (command : StateCommand) (old : State)
     (seen : Seen) (new : State) → use_by (OfState command) ≡ unused
     → IfOk r (λ reply. DoesTo rows old command unserved reply new) →
-    IfOk r (λ reply. Did rows command old seen reply new seen)
+    IfOk r (λ reply. StateRun rows command old seen reply new seen)
 uncalled r rows command old seen new none does = if_ok r _ _ (λ reply d. record {
   given = unserved;
   answers = d;
@@ -91,9 +91,9 @@ uncalled r rows command old seen new none does = if_ok r _ _ (λ reply d. record
 }) does
 
 -- a command that doesn't use the directory, in terms of everything that is kept
-pub ran_alone : (rows : PolicyRows) (class : Class) (old : Whole) (seen : Seen) (reply : Reply) (new : Whole) →
+pub ran_alone : (rows : PolicyRows) (class : Class) (old : Session) (seen : Seen) (reply : Reply) (new : Session) →
     use_by class ≡ unused
-    → Obeys rows old class unserved reply new → RanClass rows class old seen reply new seen
+    → CommandStep rows old class unserved reply new → ClassRun rows class old seen reply new seen
 ran_alone rows class old seen reply new none obeys = record {
   given = unserved;
   answers = obeys;
@@ -105,39 +105,39 @@ ran_alone rows class old seen reply new none obeys = record {
 pub paced_ran : {E : Type 0} (r : Result Told E) (rows : PolicyRows) (class : Class) (old new : Engine)
     (before after : Cursors) (watches : Watches) (seen : Seen)
     → is_pacing class ≡ true → StaysButMarks old new →
-    IfOk r (λ (told : Told). Paces (whole_of old before) class told.reply (settled told.moved after))
-    → IfOk r (λ (told : Told). RanClass rows class (watched (whole_of old before) watches) seen told.reply
-    (watched (whole_of new (settled told.moved after)) watches) seen)
+    IfOk r (λ (told : Told). Paces (session_of old before) class told.reply (settled told.moved after))
+    → IfOk r (λ (told : Told). ClassRun rows class (watched (session_of old before) watches) seen told.reply
+    (watched (session_of new (settled told.moved after)) watches) seen)
 paced_ran (Err e) rows class old new before after watches seen pacing stays paces = tt
 paced_ran (Ok told) rows class old new before after watches seen pacing stays paces =
     let same : state_of new ≡ state_of old = same_state old new stays in
-    ran_alone rows class (watched (whole_of old before) watches) seen told.reply
-    (watched (whole_of new (settled told.moved after)) watches)
+    ran_alone rows class (watched (session_of old before) watches) seen told.reply
+    (watched (session_of new (settled told.moved after)) watches)
     (uncalled_paced class pacing) (record {
-      does = subst (λ (s : State). Does rows (state_of old) class unserved told.reply s) (sym same)
+      does = subst (λ (s : State). StateStep rows (state_of old) class unserved told.reply s) (sym same)
           (state_paced rows (state_of old) class unserved told.reply pacing);
       counted = inl (ap (λ (s : State). s.held) same, ap (λ (k : Keyring). k.changes) stays.keyring);
       turned = turns_paced class old.views new.views old.turns new.turns pacing stays.turns;
-      paces = paces_watched (whole_of old before) watches class told.reply (settled told.moved after) pacing paces;
-      watching = watching_plain (watched (whole_of old before) watches) class told.reply
+      paces = paces_watched (session_of old before) watches class told.reply (settled told.moved after) pacing paces;
+      watching = watching_plain (watched (session_of old before) watches) class told.reply
           (paced_unwatched class pacing);
     })
 
 -- a command of a watch
 watched_ran : (rows : PolicyRows) (class : Class) (old new : Engine) (cursors : Cursors) (before after : Watches)
     (seen : Seen) (reply : Reply) → is_watching class ≡ true
-    → StaysButMarks old new → Watching (watched (whole_of old cursors) before) class reply after
-    → RanClass rows class (watched (whole_of old cursors) before) seen reply (watched (whole_of new cursors) after)
+    → StaysButMarks old new → Watching (watched (session_of old cursors) before) class reply after
+    → ClassRun rows class (watched (session_of old cursors) before) seen reply (watched (session_of new cursors) after)
     seen
 watched_ran rows class old new cursors before after seen reply watching stays puts =
     let same : state_of new ≡ state_of old = same_state old new stays in
-    ran_alone rows class (watched (whole_of old cursors) before) seen reply (watched (whole_of new cursors) after)
+    ran_alone rows class (watched (session_of old cursors) before) seen reply (watched (session_of new cursors) after)
     (uncalled_watched class watching) (record {
-      does = subst (λ (s : State). Does rows (state_of old) class unserved reply s) (sym same)
+      does = subst (λ (s : State). StateStep rows (state_of old) class unserved reply s) (sym same)
           (state_watched rows (state_of old) class unserved reply watching);
       counted = inl (ap (λ (s : State). s.held) same, ap (λ (k : Keyring). k.changes) stays.keyring);
       turned = turns_watched class old.views new.views old.turns new.turns watching stays.turns;
-      paces = paces_plain (watched (whole_of old cursors) before) class reply (watched_unpaced class watching);
+      paces = paces_plain (watched (session_of old cursors) before) class reply (watched_unpaced class watching);
       watching = puts;
     })
 
@@ -146,39 +146,39 @@ pub watched_told : {E : Type 0} (r : Result Reply E) (t : Result Told E) (rows :
     (old new : Engine) (cursors : Cursors) (before after : Watches)
     (seen : Seen) → IfOk r (λ reply. t ≡ Ok (record { reply = reply; moved = None })) → is_ok t ≡ is_ok r →
     is_watching class ≡ true → StaysButMarks old new
-    → IfOk r (λ reply. Watching (watched (whole_of old cursors) before) class reply after)
-    → IfOk t (λ (told : Told). RanClass rows class (watched (whole_of old cursors) before) seen told.reply
-    (watched (whole_of new (settled told.moved cursors)) after) seen)
+    → IfOk r (λ reply. Watching (watched (session_of old cursors) before) class reply after)
+    → IfOk t (λ (told : Told). ClassRun rows class (watched (session_of old cursors) before) seen told.reply
+    (watched (session_of new (settled told.moved cursors)) after) seen)
 watched_told (Err e) (Err d) rows class old new cursors before after seen is ok watching stays puts = tt
 watched_told (Err e) (Ok told) rows class old new cursors before after seen is ok watching stays puts =
     let never : true ≡ false = ok in absurd cc
 watched_told (Ok reply) t rows class old new cursors before after seen is ok watching stays puts =
-    subst (λ (t : Result Told _). IfOk t (λ (told : Told). RanClass rows class
-    (watched (whole_of old cursors) before) seen told.reply
-    (watched (whole_of new (settled told.moved cursors)) after) seen))
+    subst (λ (t : Result Told _). IfOk t (λ (told : Told). ClassRun rows class
+    (watched (session_of old cursors) before) seen told.reply
+    (watched (session_of new (settled told.moved cursors)) after) seen))
     (sym is) (watched_ran rows class old new cursors before after seen reply watching stays puts)
 
 -- a command of a watch whose reply moves no cursor
 pub watched_alone : (told : Told) (rows : PolicyRows) (class : Class) (engine : Engine) (cursors : Cursors)
     (before after : Watches) (seen : Seen) (reply : Reply)
     → told.reply ≡ reply → told.moved ≡ None → is_watching class ≡ true → StaysButMarks engine engine →
-    Watching (watched (whole_of engine cursors) before) class reply after
-    → RanClass rows class (watched (whole_of engine cursors) before) seen told.reply
-    (watched (whole_of engine (settled told.moved cursors)) after) seen
+    Watching (watched (session_of engine cursors) before) class reply after
+    → ClassRun rows class (watched (session_of engine cursors) before) seen told.reply
+    (watched (session_of engine (settled told.moved cursors)) after) seen
 watched_alone told rows class engine cursors before after seen reply is none watching stays puts =
-    subst (λ (o : Option Moved). RanClass rows class (watched (whole_of engine cursors) before) seen told.reply
-    (watched (whole_of engine (settled o cursors)) after) seen)
+    subst (λ (o : Option Moved). ClassRun rows class (watched (session_of engine cursors) before) seen told.reply
+    (watched (session_of engine (settled o cursors)) after) seen)
     (sym none) (watched_ran rows class engine engine cursors before after seen told.reply watching stays
-    (subst (λ (r : Reply). Watching (watched (whole_of engine cursors) before) class r after) (sym is) puts))
+    (subst (λ (r : Reply). Watching (watched (session_of engine cursors) before) class r after) (sym is) puts))
 
 -- a change of the state, in terms of everything that is kept
 pub ran_plain : {E : Type 0} (r : Result Reply E) (rows : PolicyRows) (command : StateCommand) (old new : Engine)
     (before after : Seen) (cursors : Cursors) (watches : Watches)
     → IsOneChange old.keyring new.keyring →
     OnOk r (IsTurnedBy (OfState command) old.views old.turns new.views new.turns)
-    → IfOk r (λ reply. Did rows command (state_of old) before reply (state_of new) after)
-    → IfOk r (λ reply. RanClass rows (OfState command) (watched (whole_of old cursors) watches) before reply
-    (watched (whole_of new cursors) watches) after)
+    → IfOk r (λ reply. StateRun rows command (state_of old) before reply (state_of new) after)
+    → IfOk r (λ reply. ClassRun rows (OfState command) (watched (session_of old cursors) watches) before reply
+    (watched (session_of new cursors) watches) after)
 ran_plain (Err e) rows command old new before after cursors watches counted turned did = tt
 ran_plain (Ok reply) rows command old new before after cursors watches counted turned did = record {
   given = did.given;
@@ -198,19 +198,19 @@ module _ {E : Type 0} where
       (before after : Seen) (cursors : Cursors) (watches : Watches)
       → IfOk r (λ reply. t ≡ Ok (record { reply = reply; moved = None })) → is_ok t ≡ is_ok r
       → IsOneChange old.keyring new.keyring → OnOk r (IsTurnedBy (OfState command) old.views old.turns new.views new.turns)
-      → IfOk r (λ reply. Did rows command (state_of old) before reply (state_of new) after)
-      → IfOk t (λ (told : Told). RanClass rows (OfState command) (watched (whole_of old cursors) watches) before told.reply
-      (watched (whole_of new (settled told.moved cursors)) watches) after)
+      → IfOk r (λ reply. StateRun rows command (state_of old) before reply (state_of new) after)
+      → IfOk t (λ (told : Told). ClassRun rows (OfState command) (watched (session_of old cursors) watches) before told.reply
+      (watched (session_of new (settled told.moved cursors)) watches) after)
   ran_told (Err e) (Err d) rows command old new before after cursors watches is ok counted turned did = tt
   ran_told (Err e) (Ok told) rows command old new before after cursors watches is ok counted turned did =
       let never : true ≡ false = ok in absurd cc
   ran_told (Ok reply) t rows command old new before after cursors watches is ok counted turned did =
-      let ran : RanClass rows (OfState command) (watched (whole_of old cursors) watches) before reply
-      (watched (whole_of new cursors) watches) after =
+      let ran : ClassRun rows (OfState command) (watched (session_of old cursors) watches) before reply
+      (watched (session_of new cursors) watches) after =
       ran_plain {E = E} (Ok reply) rows command old new before after cursors watches counted turned did in
-      subst (λ (t : Result Told E). IfOk t (λ (told : Told). RanClass rows (OfState command)
-      (watched (whole_of old cursors) watches) before told.reply
-      (watched (whole_of new (settled told.moved cursors)) watches) after)) (sym is) ran
+      subst (λ (t : Result Told E). IfOk t (λ (told : Told). ClassRun rows (OfState command)
+      (watched (session_of old cursors) watches) before told.reply
+      (watched (session_of new (settled told.moved cursors)) watches) after)) (sym is) ran
 
 -- what holds of a result and of its success holds of the reply with its cursor
 pub told_as : {E : Type 0} (r : Result Reply E) (t : Result Told E) (P : Reply → Type 0) →
@@ -242,22 +242,22 @@ kept_told (Err e) (Err d) old new cursors watches ok p = (p, refl, refl)
 kept_told (Ok a) (Err d) old new cursors watches ok p = let never : false ≡ true = ok in absurd cc
 kept_told (Err e) (Ok b) old new cursors watches ok p = tt
 
-pub ran_line : (rows : PolicyRows) (command : Option Command) (old : Whole) (seen : Seen) → command ≡ None →
-    Ran rows command old seen replies.Line old seen
+pub ran_line : (rows : PolicyRows) (command : Option Command) (old : Session) (seen : Seen) → command ≡ None →
+    CommandRun rows command old seen replies.Line old seen
 ran_line rows command old seen e =
-    subst (λ (c : Option Command). Ran rows c old seen replies.Line old seen) (sym e)
+    subst (λ (c : Option Command). CommandRun rows c old seen replies.Line old seen) (sym e)
     (ran_uncalled rows None old seen replies.Line old refl (refl, refl))
 
 pub ran_told_line : (told : Told) (rows : PolicyRows) (command : Option Command) (old : Engine) (cursors : Cursors)
     (watches : Watches) (seen : Seen)
     → told.reply ≡ replies.Line → told.moved ≡ None → command ≡ None
-    → Ran rows command (watched (whole_of old cursors) watches) seen told.reply
-    (watched (whole_of old (settled told.moved cursors)) watches) seen
+    → CommandRun rows command (watched (session_of old cursors) watches) seen told.reply
+    (watched (session_of old (settled told.moved cursors)) watches) seen
 ran_told_line told rows command old cursors watches seen r m e =
-    let whole : Whole = watched (whole_of old cursors) watches in
-    subst (λ (o : Option Moved). Ran rows command whole seen told.reply
-    (watched (whole_of old (settled o cursors)) watches) seen) (sym m)
-    (subst (λ (x : Reply). Ran rows command whole seen x whole seen) (sym r) (ran_line rows command whole seen e))
+    let whole : Session = watched (session_of old cursors) watches in
+    subst (λ (o : Option Moved). CommandRun rows command whole seen told.reply
+    (watched (session_of old (settled o cursors)) watches) seen) (sym m)
+    (subst (λ (x : Reply). CommandRun rows command whole seen x whole seen) (sym r) (ran_line rows command whole seen e))
 
 -- ---- turns
 
@@ -308,16 +308,16 @@ read_is (Some w) answer = refl
 -- an entry was read, and merged or not
 pub ran_load : (rows : PolicyRows) (name : Name) (old : State) (before after : Option World) (faults later : ℕ)
     (reply : Reply) (new : State) (answer : Answer)
-    → Gives (load rows old name answer) reply new → IfSome before (λ (w : World). answer ≡ read_answer w name) →
+    → ComesTo (load rows old name answer) reply new → IfSome before (λ (w : World). answer ≡ read_answer w name) →
     Becomes before called after
     → (is_fault answer ≡ true → Rose faults later)
-    → Did rows (kinds.Shelf (calls.Load name)) old (record { world = before; faults = faults }) reply new
+    → StateRun rows (kinds.Shelf (calls.Load name)) old (record { world = before; faults = faults }) reply new
     (record { world = after; faults = later })
 ran_load rows name old before after faults later reply new answer gives told becomes cause =
     let e : answer ≡ (read_alone before answer).read = sym (read_is before answer) in
     record {
       given = read_alone before answer;
-      answers = subst (λ (a : Answer). Gives (load rows old name a) reply new) e gives;
+      answers = subst (λ (a : Answer). ComesTo (load rows old name a) reply new) e gives;
       served = record { asked = asked_alone before name answer told; world = after_alone before after name becomes };
       cause = subst (λ (a : Answer). is_fault a ≡ true → Rose faults later) e cause;
     }
@@ -326,7 +326,7 @@ ran_load rows name old before after faults later reply new answer gives told bec
 
 -- the certificate doesn't exist
 pub ran_absent : (rows : PolicyRows) (fpr : Fpr) (old : State) (seen : Seen) → cert_in old.held fpr ≡ None →
-    Did rows (kinds.Shelf (calls.Store fpr)) old seen replies.Absent old seen
+    StateRun rows (kinds.Shelf (calls.Store fpr)) old seen replies.Absent old seen
 ran_absent rows fpr old seen none =
     let All : Option Certificate → Type 0 = λ o. WasGiven (if is_some o then Some (Cert fpr) else None) seen.world
     unserved
@@ -348,7 +348,7 @@ none_kept (Some c) fpr e = absurd (cc e)
 -- the certificate exists
 pub ran_stored : (rows : PolicyRows) (fpr : Fpr) (kept : Certificate) (old : State) (before : Seen) (reply : Reply)
     (after : Seen) → cert_in old.held fpr ≡ Some kept
-    → Stores fpr kept before reply after → Did rows (kinds.Shelf (calls.Store fpr)) old before reply old after
+    → Stores fpr kept before reply after → StateRun rows (kinds.Shelf (calls.Store fpr)) old before reply old after
 ran_stored rows fpr kept old before reply after is s =
     let All : Option Certificate → Type 0 = λ o. WasGiven (if is_some o then Some (Cert fpr) else None) before.world
     s.given
@@ -427,7 +427,7 @@ stores_told fpr kept answer before after low high reply is told becomes cause =
     }
 
 -- the answer that was returned
-pub given_is : (given : Given) (a : Answer) → given_as.Gives given a → answer_of given ≡ a
+pub given_is : (given : Given) (a : Answer) → given_as.IsReadAs given a → answer_of given ≡ a
 given_is (Bytes bytes) a g = sym g
 given_is Absent a g = sym g
 given_is Long a g = sym g
@@ -439,7 +439,7 @@ never_fault Long f = cc f
 
 -- ---- lines
 
-pub replied : (rows : PolicyRows) (line : List ℕ) (old : Whole) (before : Seen) (new : Whole) (after : Seen)
+pub replied : (rows : PolicyRows) (line : List ℕ) (old : Session) (before : Seen) (new : Session) (after : Seen)
     (reply : Option Reply) (given : Served) (use_ : Use)
     → use_of (heard line) ≡ use_ → LineStep rows old line given reply new →
     IsServed old.state use_ before.world given after.world
@@ -456,7 +456,7 @@ replied rows line old before new after reply given use_ e step served cause =
     }
 
 -- a line that doesn't use the directory
-pub replied_alone : (rows : PolicyRows) (line : List ℕ) (old : Whole) (seen : Seen) (new : Whole)
+pub replied_alone : (rows : PolicyRows) (line : List ℕ) (old : Session) (seen : Seen) (new : Session)
     (reply : Option Reply) → use_of (heard line) ≡ unused
     → LineStep rows old line unserved reply new → Replied rows line old seen reply new seen
 replied_alone rows line old seen new reply e step =
@@ -467,18 +467,18 @@ replied_alone rows line old seen new reply e step =
 pub replied_long : (rows : PolicyRows) (line : List ℕ) (engine : Engine) (cursors : Cursors) (watches : Watches)
     (seen : Seen) (told : Told) → longest < length line
     → told.reply ≡ replies.Long → told.moved ≡ None
-    → Replied rows line (watched (whole_of engine cursors) watches) seen (Some told.reply)
-    (watched (whole_of engine (settled told.moved cursors)) watches) seen
+    → Replied rows line (watched (session_of engine cursors) watches) seen (Some told.reply)
+    (watched (session_of engine (settled told.moved cursors)) watches) seen
 replied_long rows line engine cursors watches seen told long r m =
-    let whole : Whole = watched (whole_of engine cursors) watches in
+    let whole : Session = watched (session_of engine cursors) watches in
     subst (λ (o : Option Moved). Replied rows line whole seen (Some told.reply)
-    (watched (whole_of engine (settled o cursors)) watches) seen) (sym m)
+    (watched (session_of engine (settled o cursors)) watches) seen) (sym m)
     (subst (λ (x : Reply). Replied rows line whole seen (Some x) whole seen) (sym r)
     (replied_alone rows line whole seen whole (Some replies.Long) (ap use_of (heard_long line long))
     (too_long rows whole line unserved long)))
 
 -- a silent line
-pub replied_silent : (rows : PolicyRows) (line : List ℕ) (old : Whole) (seen : Seen) → length line ≤ longest →
+pub replied_silent : (rows : PolicyRows) (line : List ℕ) (old : Session) (seen : Seen) → length line ≤ longest →
     is_silent line ≡ true
     → Replied rows line old seen None old seen
 replied_silent rows line old seen short silent =
@@ -486,8 +486,8 @@ replied_silent rows line old seen short silent =
     (passed_over rows old line unserved short silent)
 
 -- the octets of the reply were appended, unless memory ran out
-pub stepped : {T E : Type 0} (r : Result T E) (rows : PolicyRows) (line : List ℕ) (old : Whole) (before : Seen)
-    (new : Whole) (after : Seen) (had mid has : List ℕ) (reply : Reply)
+pub stepped : {T E : Type 0} (r : Result T E) (rows : PolicyRows) (line : List ℕ) (old : Session) (before : Seen)
+    (new : Session) (after : Seen) (had mid has : List ℕ) (reply : Reply)
     → Replied rows line old before (Some reply) new after → mid ≡ had → OnOk r (has ≡ mid ++ reply_text reply) →
     OnOk r (Stepped rows line old before had new after has)
 stepped (Ok a) rows line old before new after had mid has reply p same f = record {
@@ -501,7 +501,7 @@ stepped (Ok a) rows line old before new after had mid has reply p same f = recor
 stepped (Err x) rows line old before new after had mid has reply p same f = tt
 
 -- a silent line appends nothing
-pub passed : (rows : PolicyRows) (line : List ℕ) (old : Whole) (before : Seen) (new : Whole) (after : Seen)
+pub passed : (rows : PolicyRows) (line : List ℕ) (old : Session) (before : Seen) (new : Session) (after : Seen)
     (had has : List ℕ) → Replied rows line old before None new after
     → has ≡ had → Stepped rows line old before had new after has
 passed rows line old before new after had has p same = record {
@@ -515,33 +515,33 @@ passed rows line old before new after had has p same = record {
 
 -- a reply was written, and then the cursor moved
 module _ {T E : Type 0} where
-  pub told_step : (r : Result T E) (rows : PolicyRows) (line : List ℕ) (old : Whole) (before : Seen) (mid : Engine)
+  pub told_step : (r : Result T E) (rows : PolicyRows) (line : List ℕ) (old : Session) (before : Seen) (mid : Engine)
       (at : Cursors) (watches : Watches) (new : Engine)
       (cursors : Cursors) (left : Watches) (after : Seen) (had kept has : List ℕ) (told : Told)
-      → Replied rows line old before (Some told.reply) (watched (whole_of mid (settled told.moved at)) watches) after →
+      → Replied rows line old before (Some told.reply) (watched (session_of mid (settled told.moved at)) watches) after →
       new ≡ mid → left ≡ watches
       → OnOk r (cursors ≡ settled told.moved at) → kept ≡ had → OnOk r (has ≡ kept ++ reply_text told.reply)
-      → OnOk r (Stepped rows line old before had (watched (whole_of new cursors) left) after has)
+      → OnOk r (Stepped rows line old before had (watched (session_of new cursors) left) after has)
   told_step (Err x) rows line old before mid at watches new cursors left after had kept has told p e w s same f = tt
   told_step (Ok a) rows line old before mid at watches new cursors left after had kept has told p e w s same f =
-      stepped {T = T} {E = E} (Ok a) rows line old before (watched (whole_of new cursors) left) after had kept has
+      stepped {T = T} {E = E} (Ok a) rows line old before (watched (session_of new cursors) left) after had kept has
       told.reply
-      (subst (λ (x : Whole). Replied rows line old before (Some told.reply) x after)
-      (λ i. watched (whole_of (sym e i) (sym s i)) (sym w i)) p) same f
+      (subst (λ (x : Session). Replied rows line old before (Some told.reply) x after)
+      (λ i. watched (session_of (sym e i) (sym s i)) (sym w i)) p) same f
 
 -- a reply that moves no cursor was written
-pub told_settled : (rows : PolicyRows) (line : List ℕ) (old : Whole) (before : Seen) (mid : Engine) (at : Cursors)
+pub told_settled : (rows : PolicyRows) (line : List ℕ) (old : Session) (before : Seen) (mid : Engine) (at : Cursors)
     (watches : Watches) (new : Engine) (cursors : Cursors)
     (left : Watches) (after : Seen) (told : Told) (reply : Reply) (moved : Option Moved) → told.reply ≡ reply →
     told.moved ≡ moved
-    → Replied rows line old before (Some told.reply) (watched (whole_of mid (settled told.moved at)) watches) after →
+    → Replied rows line old before (Some told.reply) (watched (session_of mid (settled told.moved at)) watches) after →
     new ≡ mid → cursors ≡ settled moved at → left ≡ watches
-    → Replied rows line old before (Some reply) (watched (whole_of new cursors) left) after
+    → Replied rows line old before (Some reply) (watched (session_of new cursors) left) after
 told_settled rows line old before mid at watches new cursors left after told reply moved r m p e s w =
     let there : cursors ≡ settled told.moved at = s ∙ ap (λ (o : Option Moved). settled o at) (sym m) in
-    subst (λ (x : Reply). Replied rows line old before (Some x) (watched (whole_of new cursors) left) after) r
-    (subst (λ (x : Whole). Replied rows line old before (Some told.reply) x after)
-    (λ i. watched (whole_of (sym e i) (sym there i)) (sym w i)) p)
+    subst (λ (x : Reply). Replied rows line old before (Some x) (watched (session_of new cursors) left) after) r
+    (subst (λ (x : Session). Replied rows line old before (Some told.reply) x after)
+    (λ i. watched (session_of (sym e i) (sym there i)) (sym w i)) p)
 
 -- ---- watch lines
 
@@ -550,7 +550,7 @@ pub tells_of : (engine new : Engine) (cursors after : Cursors) (watches left : W
     state_of new ≡ state_of engine
     → new.keyring.changes ≡ engine.keyring.changes → new.turns ≡ engine.turns → after ≡ cursors →
     AreLines (state_of engine) watches lines → left ≡ told_all watches lines
-    → Tells (watched (whole_of engine cursors) watches) lines (watched (whole_of new after) left)
+    → ReportsWatches (watched (session_of engine cursors) watches) lines (watched (session_of new after) left)
 tells_of engine new cursors after watches left lines state changes turns same are told = record {
   lines_are = are;
   left = λ i. record { state = state i; changes = changes i; turns = turns i; cursors = same i; watches = told i };
@@ -562,7 +562,7 @@ pub tells_behind : {T E : Type 0} (r : Result T E) (engine new : Engine) (cursor
     → state_of new ≡ state_of engine → new.keyring.changes ≡ engine.keyring.changes → new.turns ≡ engine.turns →
     after ≡ cursors
     → AreLines (state_of engine) watches lines → left ≡ told_all watches lines → OnOk r (has ≡ had ++ octets_of lines)
-    → OnOk r (TellsBehind (watched (whole_of engine cursors) watches) had (watched (whole_of new after) left) has)
+    → OnOk r (TellsBehind (watched (session_of engine cursors) watches) had (watched (session_of new after) left) has)
 tells_behind (Err e) engine new cursors after watches left lines had has state changes turns same are told f = tt
 tells_behind (Ok a) engine new cursors after watches left lines had has state changes turns same are told f = record {
   lines = lines;

@@ -10,13 +10,13 @@ use Rattle.wot_machine.specs.Lines.{heard}
 use Rattle.wot_machine.specs.Scene.{Scene, Step, opening, served_in, world_behind}
 use Rattle.wot_machine.specs.Served.{Served}
 use Rattle.wot_machine.specs.Transcript.{Run, RepliesTo, listed}
-use Rattle.wot_machine.specs.Watching.{Tells}
-use Rattle.wot_machine.specs.Whole.{Whole}
+use Rattle.wot_machine.specs.Watching.{ReportsWatches}
+use Rattle.wot_machine.specs.Session.{Session}
 
 module _ (rows : PolicyRows) (law : OneOutcome rows) where
   -- watch lines don't change the state
-  told_state : (old : Whole) (told : List Reply) (new : Whole) → Tells old told new → new.state ≡ old.state
-  told_state old told new t = ap (λ (w : Whole). w.state) t.left
+  told_state : (old : Session) (told : List Reply) (new : Session) → ReportsWatches old told new → new.state ≡ old.state
+  told_state old told new t = ap (λ (w : Session). w.state) t.left
 
   Step-can : (old : Scene) (line : List ℕ) → IsState old.whole.state →
       (reply : Option Reply) (told : List Reply) (new : Scene) → Step rows old line reply told new
@@ -32,7 +32,7 @@ module _ (rows : PolicyRows) (law : OneOutcome rows) where
   Step-one old line can reply other told others new third p q =
       let given : Served = served_in old (use_of (heard line)) in
       let both = law.one old.whole line given reply other p.mid q.mid can p.does q.does in
-      let q' : Tells p.mid others third.whole = subst (λ (m : Whole). Tells m others third.whole) (sym both.1)
+      let q' : ReportsWatches p.mid others third.whole = subst (λ (m : Session). ReportsWatches m others third.whole) (sym both.1)
       q.tells in
       let said = law.tells_one p.mid told others new.whole third.whole (law.stays old.whole line given reply p.mid can
       p.does) p.tells q' in

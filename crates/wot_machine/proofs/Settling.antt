@@ -29,17 +29,17 @@ use Rattle.wot_machine.specs.declared.class.ViewChange.TheVariants as turns
 use Rattle.wot_machine.specs.Classes.{class_of, view_change_of}
 use Rattle.wot_machine.specs.Served.{Served}
 use Rattle.wot_cursor.specs.Cursors.{Cursors}
-use Rattle.wot_machine.specs.LineStep.{Answers, Does, Gives, Obeys}
+use Rattle.wot_machine.specs.LineStep.{ReadLineStep, StateStep, ComesTo, CommandStep}
 use Rattle.wot_machine.specs.Outcome.{close, done, only}
 use Rattle.wot_machine.specs.Settled.{AllSettled, AreOpen, AreSettled, IsNoAmount, IsSettled}
 use Rattle.wot_machine.specs.Stepped.{TellsBehind}
 use Rattle.wot_machine.specs.Watching.{AreLines, HasAmount, LeavesWatches, Opens, TakesOff, Watching, is_watching}
 use Rattle.wot_machine.specs.Watching.{line_by, opened}
-use Rattle.wot_machine.specs.Whole.{IsCounted, IsTurnedBy, Whole, watched, whole_of}
+use Rattle.wot_machine.specs.Session.{IsCounted, IsTurnedBy, Session, watched, session_of}
 use Rattle.wot_machine.proofs.Entries.{all_weaker, all_without}
 use Rattle.wot_machine.proofs.Viewed.{changes_view, does_views}
 use Rattle.wot_machine.proofs.Watched.{amount_has, plain_watching, watched_cases}
-use Rattle.wot_machine.proofs.Wholes.{turned_still}
+use Rattle.wot_machine.proofs.Sessions.{turned_still}
 
 -- ---- what is settled stays settled
 
@@ -119,7 +119,7 @@ nothing_told engine basis (x ∷ xs) on calm all seen = (
 abbrev LeavesOrTakes : Watches → Watches → Type 0
 LeavesOrTakes old new = (new ≡ old) ⊎ ((name : List ℕ) × (new ≡ without_watch old name))
 
-opens_leaves : (s : Whole) (name view : List ℕ) (target : Fpr) (wanted : ℕ) (uid : List ℕ) (o : Option View)
+opens_leaves : (s : Session) (name view : List ℕ) (target : Fpr) (wanted : ℕ) (uid : List ℕ) (o : Option View)
     (reply : Reply) (watches : Watches)
     → IsNoAmount reply → Opens s name view target wanted uid o reply watches → LeavesOrTakes s.watches watches
 opens_leaves s name view target wanted uid None reply watches plain l = inl l.1
@@ -133,7 +133,7 @@ opens_leaves s name view target wanted uid (Some there) reply watches plain p = 
     by true l = inl l.1
     by false l = absurd (subst IsNoAmount l.0 plain)
 
-takes_leaves : (s : Whole) (name : List ℕ) (reply : Reply) (watches : Watches) → TakesOff s name reply watches
+takes_leaves : (s : Session) (name : List ℕ) (reply : Reply) (watches : Watches) → TakesOff s name reply watches
     → LeavesOrTakes s.watches watches
 takes_leaves s name reply watches l = by (is_some (watch_at s.watches name)) l
   where
@@ -144,7 +144,7 @@ takes_leaves s name reply watches l = by (is_some (watch_at s.watches name)) l
     by true l = inr (name, l.1)
     by false l = inl l.1
 
-watching_leaves : (s : Whole) (class : Class) (reply : Reply) (watches : Watches) → IsNoAmount reply
+watching_leaves : (s : Session) (class : Class) (reply : Reply) (watches : Watches) → IsNoAmount reply
     → Watching s class reply watches → LeavesOrTakes s.watches watches
 watching_leaves s class reply watches plain w = by (is_watching class) refl
   where
@@ -175,10 +175,10 @@ views_still old new before after same turns =
     record { counted = omega (arith, count); each = λ e name. inl (ap (λ (vs : Views). view_at vs name) same) }
 
 -- one of the counts shows a change
-abbrev pub IsCountedOn : Whole → Whole → Type 0
+abbrev pub IsCountedOn : Session → Session → Type 0
 IsCountedOn old new = (new.changes ≢ old.changes) ⊎ (new.turns.count ≢ old.turns.count)
 
-closed_on : (old new : Whole) (view : List ℕ) (reply : Reply) → Gives (close old.state view) reply new.state
+closed_on : (old new : Session) (view : List ℕ) (reply : Reply) → ComesTo (close old.state view) reply new.state
     → IsCounted old new → IsTurnedBy (OfState (kinds.View view turns.Close)) old.state.views old.turns new.state.views new.turns
     → (reply ≡ replies.Done → IsCountedOn old new) → AreViewsOn old.state.views old.turns new.state.views new.turns
 closed_on old new view reply g counted turned tells = by (is_some (view_at old.state.views view)) refl g
@@ -197,7 +197,7 @@ closed_on old new view reply g counted turned tells = by (is_some (view_at old.s
     never held (inr other) = other (same_count turned)
 
     by : (b : Bool) → is_some (view_at old.state.views view) ≡ b
-        → Gives (if b then done (closing view old.state) else only old.state replies.View) reply new.state
+        → ComesTo (if b then done (closing view old.state) else only old.state replies.View) reply new.state
         → AreViewsOn old.state.views old.turns new.state.views new.turns
     by true e h = absurd (never (ap (λ (s : State). s.held) h.1) (tells h.0))
     by false e h =
@@ -206,8 +206,8 @@ closed_on old new view reply g counted turned tells = by (is_some (view_at old.s
         (turned_still (OfState (kinds.View view turns.Close)) old.state.views new.state.views old.turns new.turns same turned)
 
 module _ (rows : PolicyRows) (on : TurnGoesOn) where
-  view_on : (old new : Whole) (view : List ℕ) (change : ViewChange) (reply : Reply)
-      → Gives (view_change_of old.state view change) reply new.state → IsCounted old new
+  view_on : (old new : Session) (view : List ℕ) (change : ViewChange) (reply : Reply)
+      → ComesTo (view_change_of old.state view change) reply new.state → IsCounted old new
       → IsTurnedBy (OfState (kinds.View view change)) old.state.views old.turns new.state.views new.turns
       → (reply ≡ replies.Done → IsCountedOn old new) → AreViewsOn old.state.views old.turns new.state.views new.turns
   view_on old new view turns.Close reply d counted turned tells = closed_on old new view reply d counted turned tells
@@ -218,8 +218,8 @@ module _ (rows : PolicyRows) (on : TurnGoesOn) where
       on view old.state.views new.state.views old.turns new.turns
       (changes_view old.state view (turns.Root fpr amount) reply new.state d).others turned
 
-  does_on : (old new : Whole) (class : Class) (given : Served) (reply : Reply)
-      → Does rows old.state class given reply new.state → IsCounted old new
+  does_on : (old new : Session) (class : Class) (given : Served) (reply : Reply)
+      → StateStep rows old.state class given reply new.state → IsCounted old new
       → IsTurnedBy class old.state.views old.turns new.state.views new.turns
       → (reply ≡ replies.Done → IsCountedOn old new) → AreViewsOn old.state.views old.turns new.state.views new.turns
   does_on old new (OfState (kinds.View view change)) given reply d counted turned tells =
@@ -229,22 +229,22 @@ module _ (rows : PolicyRows) (on : TurnGoesOn) where
       (does_views rows old.state class given reply new.state d) turned
 
   -- the state after a line develops from the one before, by its reply and the counts
-  pub obeys_on : (old new : Whole) (class : Class) (given : Served) (reply : Reply)
-      → Obeys rows old class given reply new → (reply ≡ replies.Done → IsCountedOn old new)
+  pub obeys_on : (old new : Session) (class : Class) (given : Served) (reply : Reply)
+      → CommandStep rows old class given reply new → (reply ≡ replies.Done → IsCountedOn old new)
       → AreViewsOn old.state.views old.turns new.state.views new.turns
   obeys_on old new class given reply o tells = does_on old new class given reply o.does o.counted o.turned tells
 
-  answers_on : (old new : Whole) (command : Option Command) (given : Served) (reply : Reply)
-      → Answers rows old command given reply new → (reply ≡ replies.Done → IsCountedOn old new)
+  answers_on : (old new : Session) (command : Option Command) (given : Served) (reply : Reply)
+      → ReadLineStep rows old command given reply new → (reply ≡ replies.Done → IsCountedOn old new)
       → AreViewsOn old.state.views old.turns new.state.views new.turns
   answers_on old new None given reply g tells =
-      views_still old.state.views new.state.views old.turns new.turns (ap (λ (w : Whole). w.state.views) g.1)
-      (ap (λ (w : Whole). w.turns) g.1)
+      views_still old.state.views new.state.views old.turns new.turns (ap (λ (w : Session). w.state.views) g.1)
+      (ap (λ (w : Session). w.turns) g.1)
   answers_on old new (Some command) given reply g tells = obeys_on old new (class_of command) given reply g tells
 
-  answers_leaves : (old new : Whole) (command : Option Command) (given : Served) (reply : Reply)
-      → Answers rows old command given reply new → IsNoAmount reply → LeavesOrTakes old.watches new.watches
-  answers_leaves old new None given reply g plain = inl (ap (λ (w : Whole). w.watches) g.1)
+  answers_leaves : (old new : Session) (command : Option Command) (given : Served) (reply : Reply)
+      → ReadLineStep rows old command given reply new → IsNoAmount reply → LeavesOrTakes old.watches new.watches
+  answers_leaves old new None given reply g plain = inl (ap (λ (w : Session). w.watches) g.1)
   answers_leaves old new (Some command) given reply g plain = watching_leaves old (class_of command) reply new.watches
       plain
       g.watching
@@ -252,16 +252,16 @@ module _ (rows : PolicyRows) (on : TurnGoesOn) where
   -- a line was answered, with what was settled before it
   pub settled_behind : RestsOnLater → ChangedOn → (old new : Engine) (cursors after : Cursors) (watches left : Watches)
       (command : Option Command) (given : Served) (reply : Reply) (basis : Option Basis)
-      → Answers rows (watched (whole_of old cursors) watches) command given reply (watched (whole_of new after) left)
+      → ReadLineStep rows (watched (session_of old cursors) watches) command given reply (watched (session_of new after) left)
       → IsOneChange old.keyring new.keyring → length old.keyring.certs ≤ length new.keyring.certs
-      → (reply ≡ replies.Done → IsCountedOn (watched (whole_of old cursors) watches)
-      (watched (whole_of new after) left))
+      → (reply ≡ replies.Done → IsCountedOn (watched (session_of old cursors) watches)
+      (watched (session_of new after) left))
       → IsNoAmount reply → AreSettled old watches basis → AreSettled new left basis
   settled_behind later changed old new cursors after watches left command given reply None a one more tells plain s = tt
   settled_behind later changed old new cursors after watches left command given reply (Some basis) a one more tells
       plain s =
-      let was = watched (whole_of old cursors) watches in
-      let now = watched (whole_of new after) left in
+      let was = watched (session_of old cursors) watches in
+      let now = watched (session_of new after) left in
       let goes : IsKeptOn old new = record {
         keyring = changed old.keyring new.keyring one more;
         views = answers_on was now command given reply a tells;
@@ -273,7 +273,7 @@ module _ (rows : PolicyRows) (on : TurnGoesOn) where
   pub settled_told : RestsOnLater → ChangedOn → (old new : Engine) (cursors after : Cursors) (watches left : Watches)
       (command : Option Command) (given : Served) (reply : Reply) (found taken : Option Basis)
       (certificates changes turns : ℕ)
-      → Answers rows (watched (whole_of old cursors) watches) command given reply (watched (whole_of new after) left)
+      → ReadLineStep rows (watched (session_of old cursors) watches) command given reply (watched (session_of new after) left)
       → IsOneChange old.keyring new.keyring
       → certificates ≡ length old.keyring.certs → changes ≡ old.keyring.changes → turns ≡ old.turns.count
       → IfSome taken (λ (b : Basis). found ≡ Some b)
@@ -365,7 +365,7 @@ settles_all engine basis all rest lines f end none =
 -- ---- telling
 
 -- if no watch has a line, nothing is reported
-pub tells_nothing : (whole : Whole) (had : List ℕ) → AreLines whole.state whole.watches [] →
+pub tells_nothing : (whole : Session) (had : List ℕ) → AreLines whole.state whole.watches [] →
     TellsBehind whole had whole had
 tells_nothing whole had none = record {
   lines = [];

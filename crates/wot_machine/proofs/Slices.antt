@@ -33,10 +33,10 @@ use Rattle.wot_cache.specs.Views.{view_at}
 use Rattle.wot_machine.specs.Classes.{class_of}
 use Rattle.wot_machine.specs.Answer.{Asks, path_lines, step_line, told, uid_at, uid_in}
 use Rattle.wot_machine.specs.Law.{OneOutcome}
-use Rattle.wot_machine.specs.LineStep.{Does, LineStep}
+use Rattle.wot_machine.specs.LineStep.{StateStep, LineStep}
 use Rattle.wot_machine.specs.Served.{Served}
 use Rattle.wot_machine.specs.Slices.{AreAlikeFor, HoldAlike, IsQuestion, SharesSlice}
-use Rattle.wot_machine.specs.Whole.{Whole}
+use Rattle.wot_machine.specs.Session.{Session}
 use Rattle.wot_machine.proofs.Alike.{step_as}
 
 -- ---- marks
@@ -176,17 +176,17 @@ module _ (laws : Laws) (rows : PolicyRows) (forgets : (c : Certificate) → judg
           (laws.lawful one.held.certs one.held.verdicts view.time uid own) wanted reply a
 
   pub does_same : AreOwn one.held.certs → (wanted : ℕ) (uid : List ℕ) (given told : Served) (reply : Reply)
-      (new : State) → Does rows one (class_of (Ask name target wanted uid)) given reply new
-      → Does rows other (class_of (Ask name target wanted uid)) told reply other
+      (new : State) → StateStep rows one (class_of (Ask name target wanted uid)) given reply new
+      → StateStep rows other (class_of (Ask name target wanted uid)) told reply other
   does_same own wanted uid given told reply new does = (asks_same own wanted uid reply does.0, refl)
 
 pub replied_same : Laws → (rows : PolicyRows) → OneOutcome rows →
     (forgets : (c : Certificate) → judged rows (unmarked c) ≡ judged rows c)
-    → (name : List ℕ) (target : Fpr) (one other : Whole) → AreOwn one.state.held.certs → AreOwn other.state.held.certs
+    → (name : List ℕ) (target : Fpr) (one other : Session) → AreOwn one.state.held.certs → AreOwn other.state.held.certs
     → judged_by rows one.state.held ≡ one.state.held → judged_by rows other.state.held ≡ other.state.held →
     AreAlikeFor name target one.state other.state
     → (line : List ℕ) → IsQuestion name target line → (given told : Served) (reply second : Option Reply)
-    (new third : Whole)
+    (new third : Session)
     → LineStep rows one line given reply new → LineStep rows other line told second third → reply ≡ second
 replied_same laws rows law forgets name target one other own can p q alike_for line ask given told reply second new
     third step last =

@@ -63,16 +63,16 @@ use Rattle.wot_machine.specs.Classes.{AnswersQuestion, call_of, change_of, readi
 use Rattle.wot_machine.specs.Absent.{Checks, Misses, TellsAbsence, verdict_on}
 use Rattle.wot_machine.specs.Answer.{Asks}
 use Rattle.wot_machine.specs.Joined.{DoNumbersDiffer}
-use Rattle.wot_machine.specs.LineStep.{DoesTo, Gives, LineStep, Obeys}
+use Rattle.wot_machine.specs.LineStep.{DoesTo, ComesTo, LineStep, CommandStep}
 use Rattle.wot_machine.specs.Listing.{Lists, explained, explained_from}
 use Rattle.wot_machine.specs.Outcome.{Outcome, cert_refusal, done, exported, imports, load, only, refusal, unless}
 use Rattle.wot_machine.specs.Outcome.{view_refusal}
 use Rattle.wot_machine.specs.Pacing.{Begins, Ends, GivesPiece, Goes, GoesBy, GoesFrom, Leaves, Paces, behind, is_pacing}
 use Rattle.wot_machine.specs.Pacing.{piece, stamps_in}
 use Rattle.wot_machine.specs.Served.{Served}
-use Rattle.wot_machine.specs.Storing.{stored, stored_from, text_unless, united_with, writing}
+use Rattle.wot_machine.specs.Storing.{stored, stored_from, text_unless, merged_entry, writing}
 use Rattle.wot_machine.specs.Watching.{LeavesWatches, Opens, TakesOff, Watching, is_watching, opened}
-use Rattle.wot_machine.specs.Whole.{Whole}
+use Rattle.wot_machine.specs.Session.{Session}
 use Rattle.wot_machine.specs.Worth.{amount_in}
 use Rattle.wot_machine.proofs.Hearing.{told_by}
 use Rattle.wot_machine.proofs.Joining.{Aged, aged}
@@ -143,7 +143,7 @@ writing_told : (fpr : Fpr) (kept : Certificate) (answer : Answer) → IfErr (wri
 writing_told fpr kept Answer.fault = tt
 writing_told fpr kept Answer.absent = tt
 writing_told fpr kept Answer.long = tt
-writing_told fpr kept (Answer.entry octets) = text_told (united_with kept (entry_in (names.Cert fpr) octets))
+writing_told fpr kept (Answer.entry octets) = text_told (merged_entry kept (entry_in (names.Cert fpr) octets))
 
 stored_told : (fails : Bool) (r : Result (List ℕ) Reply) → IfErr r D → D (stored fails r)
 stored_told fails (Err reply) d = d
@@ -167,7 +167,7 @@ export_told : (c : Option Certificate) → D (exported c)
 export_told None = tt
 export_told (Some c) = tt
 
-given : (outcome : Outcome) (reply : Reply) (new : State) → D outcome.reply → Gives outcome reply new → D reply
+given : (outcome : Outcome) (reply : Reply) (new : State) → D outcome.reply → ComesTo outcome reply new → D reply
 given outcome reply new d g = subst D (sym g.0) d
 
 -- ---- questions
@@ -262,21 +262,21 @@ if_told : (b : Bool) (P Q : Type 0) (reply : Reply) → (P → D reply) → (Q �
 if_told true P Q reply f g p = f p
 if_told false P Q reply f g q = g q
 
-begins_told : (s : Whole) (name view : List ℕ) (wanted : ℕ) (o : Option View) (reply : Reply) (cursors : Cursors)
+begins_told : (s : Session) (name view : List ℕ) (wanted : ℕ) (o : Option View) (reply : Reply) (cursors : Cursors)
     → Begins s name view wanted o reply cursors → D reply
 begins_told s name view wanted None reply cursors l = left replies.View reply s.cursors cursors tt l
 begins_told s name view wanted (Some there) reply cursors l =
     if_told (is_full s.cursors name) _ _ reply (left replies.FullCursors reply s.cursors cursors tt)
     (left replies.Done reply (with_cursor s.cursors name (begun view wanted (stamps_in s view))) cursors tt) l
 
-gives_told : (s : Whole) (name : List ℕ) (count : ℕ) (cursor : Cursor) (view : View) (reply : Reply) (cursors : Cursors)
+gives_told : (s : Session) (name : List ℕ) (count : ℕ) (cursor : Cursor) (view : View) (reply : Reply) (cursors : Cursors)
     → GivesPiece s name count cursor view reply cursors → D reply
 gives_told s name count cursor view reply cursors g =
     if_told (cursor.wanted == 0) _ _ reply (left (piece []) reply s.cursors cursors tt)
     (λ p. left (piece (piece_of cursor.place count p.0)) reply (behind s.cursors name (piece_of cursor.place count p.0))
     cursors tt p.2) g
 
-goes_by : (s : Whole) (name : List ℕ) (count : ℕ) (cursor : Cursor) (view : View) (reply : Reply) (cursors : Cursors)
+goes_by : (s : Session) (name : List ℕ) (count : ℕ) (cursor : Cursor) (view : View) (reply : Reply) (cursors : Cursors)
     (age : Age)
     → Aged cursor.stamps (stamps_in s cursor.view) age → GoesBy age s name count cursor view reply cursors → D reply
 goes_by s name count cursor view reply cursors ages.Same a g = gives_told s name count cursor view reply cursors g
@@ -285,7 +285,7 @@ goes_by s name count cursor view reply cursors (ages.Keyring was now) a g =
 goes_by s name count cursor view reply cursors (ages.View was now) a g =
     left (replies.StaleView was now) reply s.cursors cursors a.2 g
 
-goes_from : (s : Whole) (name : List ℕ) (count : ℕ) (cursor : Cursor) (o : Option View) (reply : Reply)
+goes_from : (s : Session) (name : List ℕ) (count : ℕ) (cursor : Cursor) (o : Option View) (reply : Reply)
     (cursors : Cursors)
     → GoesFrom o s name count cursor reply cursors → D reply
 goes_from s name count cursor None reply cursors g = left replies.View reply s.cursors cursors tt g
@@ -293,19 +293,19 @@ goes_from s name count cursor (Some view) reply cursors g =
     goes_by s name count cursor view reply cursors (age_of cursor.stamps (stamps_in s cursor.view))
     (aged cursor.stamps (stamps_in s cursor.view)) g
 
-goes_told : (s : Whole) (name : List ℕ) (count : ℕ) (o : Option Cursor) (reply : Reply) (cursors : Cursors)
+goes_told : (s : Session) (name : List ℕ) (count : ℕ) (o : Option Cursor) (reply : Reply) (cursors : Cursors)
     → Goes o s name count reply cursors → D reply
 goes_told s name count None reply cursors g = left replies.NoCursor reply s.cursors cursors tt g
 goes_told s name count (Some cursor) reply cursors g = goes_from s name count cursor (view_at s.state.views cursor.view)
     reply cursors g
 
-ends_told : (s : Whole) (name : List ℕ) (reply : Reply) (cursors : Cursors) → Ends s name reply cursors → D reply
+ends_told : (s : Session) (name : List ℕ) (reply : Reply) (cursors : Cursors) → Ends s name reply cursors → D reply
 ends_told s name reply cursors l =
     if_told (is_some (cursor_at s.cursors name)) _ _ reply (left replies.Done reply (without_cursor s.cursors name)
     cursors tt)
     (left replies.NoCursor reply s.cursors cursors tt) l
 
-paces_told : (s : Whole) (class : Class) (reply : Reply) (cursors : Cursors) → is_pacing class ≡ true
+paces_told : (s : Session) (class : Class) (reply : Reply) (cursors : Cursors) → is_pacing class ≡ true
     → Paces s class reply cursors → D reply
 paces_told s class reply cursors e p =
     paced_cases (λ (c : Class). Paces s c reply cursors → D reply)
@@ -325,7 +325,7 @@ if_differ false P Q reply f g q = g q
 watched_left : (told reply : Reply) (left watches : Watches) → E told → LeavesWatches told left reply watches → E reply
 watched_left told reply left watches d l = subst E (sym l.0) d
 
-opens_told : (s : Whole) (name view : List ℕ) (target : Fpr) (wanted : ℕ) (uid : List ℕ) (o : Option View)
+opens_told : (s : Session) (name view : List ℕ) (target : Fpr) (wanted : ℕ) (uid : List ℕ) (o : Option View)
     (reply : Reply) (watches : Watches)
     → Opens s name view target wanted uid o reply watches → E reply
 opens_told s name view target wanted uid None reply watches l = watched_left replies.View reply s.watches watches tt l
@@ -334,13 +334,13 @@ opens_told s name view target wanted uid (Some there) reply watches p =
     (watched_left (replies.WatchAmount name p.0) reply (with_watch s.watches name (opened view target wanted uid p.0))
     watches tt) p.2
 
-off_told : (s : Whole) (name : List ℕ) (reply : Reply) (watches : Watches) → TakesOff s name reply watches → E reply
+off_told : (s : Session) (name : List ℕ) (reply : Reply) (watches : Watches) → TakesOff s name reply watches → E reply
 off_told s name reply watches l =
     if_differ (is_some (watch_at s.watches name)) _ _ reply
     (watched_left replies.Done reply (without_watch s.watches name) watches tt)
     (watched_left replies.NoWatch reply s.watches watches tt) l
 
-watching_told : (s : Whole) (class : Class) (reply : Reply) (watches : Watches) → is_watching class ≡ true
+watching_told : (s : Session) (class : Class) (reply : Reply) (watches : Watches) → is_watching class ≡ true
     → Watching s class reply watches → E reply
 watching_told s class reply watches e p =
     watched_cases (λ (c : Class). Watching s c reply watches → E reply)
@@ -349,29 +349,29 @@ watching_told s class reply watches e p =
 
 -- ---- lines
 
-unwatched_told : (rows : PolicyRows) (old : Whole) (class : Class) (answer : Served) (reply : Reply) (new : Whole)
-    → is_watching class ≡ false → Obeys rows old class answer reply new → D reply
+unwatched_told : (rows : PolicyRows) (old : Session) (class : Class) (answer : Served) (reply : Reply) (new : Session)
+    → is_watching class ≡ false → CommandStep rows old class answer reply new → D reply
 unwatched_told rows old (OfState command) answer reply new f o =
     does_told rows old.state command answer reply new.state o.does
 unwatched_told rows old (OfCursor name command) answer reply new f o =
     paces_told old (OfCursor name command) reply new.cursors refl o.paces
 unwatched_told rows old (OfWatch name command) answer reply new f o = absurd (cc f)
 
-obeys_told : (rows : PolicyRows) (old : Whole) (class : Class) (answer : Served) (reply : Reply) (new : Whole)
-    → Obeys rows old class answer reply new → E reply
+obeys_told : (rows : PolicyRows) (old : Session) (class : Class) (answer : Served) (reply : Reply) (new : Session)
+    → CommandStep rows old class answer reply new → E reply
 obeys_told rows old class answer reply new o = by (is_watching class) refl
   where
     by : (b : Bool) → is_watching class ≡ b → E reply
     by true e = watching_told old class reply new.watches e o.watching
     by false e = differ reply (unwatched_told rows old class answer reply new e o)
 
-pub numbers_differ : (rows : PolicyRows) (old : Whole) (line : List ℕ) (answer : Served) (reply : Reply) (new : Whole)
+pub numbers_differ : (rows : PolicyRows) (old : Session) (line : List ℕ) (answer : Served) (reply : Reply) (new : Session)
     → LineStep rows old line answer (Some reply) new → DoNumbersDiffer reply
 numbers_differ rows old line answer reply new step =
     told_by rows E tt tt old line answer reply new (λ class o. obeys_told rows old class answer reply new o) step
 
-pub untold : (rows : PolicyRows) (old : Whole) (class : Class) (answer : Served) (reply : Reply) (new : Whole)
-    → is_watching class ≡ false → Obeys rows old class answer reply new → (name : List ℕ) →
+pub untold : (rows : PolicyRows) (old : Session) (class : Class) (answer : Served) (reply : Reply) (new : Session)
+    → is_watching class ≡ false → CommandStep rows old class answer reply new → (name : List ℕ) →
     amount_in name reply ≡ []
 untold rows old class answer reply new f o name =
     no_amount name reply (unwatched_told rows old class answer reply new f o)

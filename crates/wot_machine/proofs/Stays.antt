@@ -40,10 +40,10 @@ use Rattle.wot_machine.specs.Classes.{call_of, change_of, class_of, reading, vie
 use Rattle.wot_machine.specs.Lines.{heard, is_silent, longest}
 use Rattle.wot_machine.specs.Outcome.{Outcome, only, done, imports, load, unless}
 use Rattle.wot_machine.specs.Entry.{use_of}
-use Rattle.wot_machine.specs.LineStep.{LineStep, HasReply, Answers, Does, Gives, Stays}
+use Rattle.wot_machine.specs.LineStep.{LineStep, HasReply, ReadLineStep, StateStep, ComesTo, Stays}
 use Rattle.wot_machine.specs.Scene.{Scene, served_in}
 use Rattle.wot_machine.specs.Served.{Served}
-use Rattle.wot_machine.specs.Whole.{Whole}
+use Rattle.wot_machine.specs.Session.{Session}
 use Rattle.wot_machine.specs.Transcript.{Run}
 
 -- what holds of all entries holds of those that are left
@@ -64,7 +64,7 @@ module _
     abbrev Holds : State → Type 0
     Holds s = P s.held.certs
 
-    given : (outcome : Outcome) (r : Reply) (m : State) → Holds outcome.state → Gives outcome r m → Holds m
+    given : (outcome : Outcome) (r : Reply) (m : State) → Holds outcome.state → ComesTo outcome r m → Holds m
     given outcome r m p g = subst Holds (sym g.1) p
 
     either : (b : Bool) (a c : Outcome) → Holds a.state → Holds c.state → Holds (cond b a c).state
@@ -122,7 +122,7 @@ module _
     call_stays s (calls.Store fpr) answer p = p
 
     does_stays : (old : State) (class : Class) (answer : Served) (r : Reply) (m : State) → Holds old →
-        Does rows old class answer r m → Holds m
+        StateStep rows old class answer r m → Holds m
     does_stays old (OfState (kinds.Change change)) answer r m p =
         given (change_of rows old change) r m (change_stays old change p)
     does_stays old (OfState (kinds.View view change)) answer r m p =
@@ -134,33 +134,33 @@ module _
     does_stays old (OfCursor name command) answer r m p = λ g. subst Holds (sym g) p
     does_stays old (OfWatch name command) answer r m p = λ g. subst Holds (sym g) p
 
-    abbrev KeepsIt : Whole → Type 0
+    abbrev KeepsIt : Session → Type 0
     KeepsIt w = Holds w.state
 
-    answers_stays : (old : Whole) (command : Option Command) (answer : Served) (r : Reply) (m : Whole) → KeepsIt old →
-        Answers rows old command answer r m → KeepsIt m
+    answers_stays : (old : Session) (command : Option Command) (answer : Served) (r : Reply) (m : Session) → KeepsIt old →
+        ReadLineStep rows old command answer r m → KeepsIt m
     answers_stays old None answer r m p g = subst KeepsIt (sym g.1) p
     answers_stays old (Some command) answer r m p g = does_stays old.state (class_of command) answer r m.state p
         g.does
 
-    replied : (Q : Reply → Whole → Type 0) (reply : Option Reply) (m : Whole) → ((r : Reply) → Q r m → KeepsIt m) →
+    replied : (Q : Reply → Session → Type 0) (reply : Option Reply) (m : Session) → ((r : Reply) → Q r m → KeepsIt m) →
         HasReply Q reply m → KeepsIt m
     replied Q None m f g = absurd g
     replied Q (Some r) m f g = f r g
 
-    pub step_stays : (old : Whole) (line : List ℕ) (answer : Served) (reply : Option Reply) (new : Whole) →
+    pub step_stays : (old : Session) (line : List ℕ) (answer : Served) (reply : Option Reply) (new : Session) →
         P old.state.held.certs → LineStep rows old line answer reply new → P new.state.held.certs
     step_stays old line answer reply new p = long (nat_lt longest (length line))
       where
         silent : (b : Bool) → MatchBool b ((reply ≡ None) × (new ≡ old))
-            (HasReply (Answers rows old (command_of line) answer) reply new) → KeepsIt new
+            (HasReply (ReadLineStep rows old (command_of line) answer) reply new) → KeepsIt new
         silent true g = subst KeepsIt (sym g.1) p
-        silent false g = replied (Answers rows old (command_of line) answer) reply new
+        silent false g = replied (ReadLineStep rows old (command_of line) answer) reply new
             (λ r. answers_stays old (command_of line) answer r new p) g
 
         long : (b : Bool) → MatchBool b (HasReply (Stays old replies.Long) reply new)
             (MatchBool (is_silent line) ((reply ≡ None) × (new ≡ old))
-            (HasReply (Answers rows old (command_of line) answer) reply new)) → KeepsIt new
+            (HasReply (ReadLineStep rows old (command_of line) answer) reply new)) → KeepsIt new
         long true g = replied (Stays old replies.Long) reply new (λ r h. subst KeepsIt (sym h.1) p) g
         long false g = silent (is_silent line) g
 
@@ -169,5 +169,5 @@ module _
     run_stays [] old replies new p r = subst (λ (s : Scene). P s.whole.state.held.certs) (sym r.1) p
     run_stays (line ∷ lines) old replies new p r =
         run_stays lines r.2 r.3 new
-        (subst (λ (x : State). P x.held.certs) (sym (ap (λ (w : Whole). w.state) r.4.tells.left))
+        (subst (λ (x : State). P x.held.certs) (sym (ap (λ (w : Session). w.state) r.4.tells.left))
         (step_stays old.whole line (served_in old (use_of (heard line))) r.0 r.4.mid p r.4.does)) r.5

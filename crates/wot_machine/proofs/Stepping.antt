@@ -9,8 +9,8 @@ use Rattle.wot_script.specs.declared.reply.Reply.TheVariants as replies
 use Rattle.wot_script.specs.Grammar.{command_of}
 use Rattle.wot_script.specs.Replies.{reply_text}
 use Rattle.wot_machine.specs.Lines.{heard, is_silent, longest}
-use Rattle.wot_machine.specs.Whole.{Whole}
-use Rattle.wot_machine.specs.LineStep.{Answers, LineStep}
+use Rattle.wot_machine.specs.Session.{Session}
+use Rattle.wot_machine.specs.LineStep.{ReadLineStep, LineStep}
 use Rattle.wot_machine.specs.Served.{Served}
 use Rattle.wot_machine.specs.Transcript.{listed, octets_of}
 
@@ -20,19 +20,19 @@ first b P Q h p = subst (λ (b : Bool). MatchBool b P Q) (sym h) p
 second : (b : Bool) (P Q : Type 0) → b ≡ false → Q → MatchBool b P Q
 second b P Q h q = subst (λ (b : Bool). MatchBool b P Q) (sym h) q
 
-pub too_long : (rows : PolicyRows) (s : Whole) (line : List ℕ) (given : Served) → longest < length line →
+pub too_long : (rows : PolicyRows) (s : Session) (line : List ℕ) (given : Served) → longest < length line →
     LineStep rows s line given (Some replies.Long) s
 too_long rows s line given long = first (nat_lt longest (length line)) _ _ (lt-ltb longest (length line) long)
     (refl, refl)
 
-pub looked_at : (rows : PolicyRows) (old : Whole) (line : List ℕ) (given : Served) (reply : Reply) (new : Whole) →
+pub looked_at : (rows : PolicyRows) (old : Session) (line : List ℕ) (given : Served) (reply : Reply) (new : Session) →
     length line ≤ longest → is_silent line ≡ false
-    → Answers rows old (command_of line) given reply new → LineStep rows old line given (Some reply) new
+    → ReadLineStep rows old (command_of line) given reply new → LineStep rows old line given (Some reply) new
 looked_at rows old line given reply new short heard answers =
     second (nat_lt longest (length line)) _ _ (le-ltb longest (length line) short)
     (second (is_silent line) _ _ heard answers)
 
-pub passed_over : (rows : PolicyRows) (s : Whole) (line : List ℕ) (given : Served) → length line ≤ longest →
+pub passed_over : (rows : PolicyRows) (s : Session) (line : List ℕ) (given : Served) → length line ≤ longest →
     is_silent line ≡ true → LineStep rows s line given None s
 passed_over rows s line given short silent =
     second (nat_lt longest (length line)) _ _ (le-ltb longest (length line) short)

@@ -16,7 +16,7 @@ use Rattle.wot_machine.specs.declared.store.Unwritten.{Unwritten}
 use Rattle.wot_machine.specs.declared.store.Unwritten.TheVariants.{Memory}
 use Rattle.wot_machine.specs.Outcome.{refusal}
 use Rattle.wot_machine.specs.Stored.{TellsCert, TellsUnwritten}
-use Rattle.wot_machine.specs.Storing.{text_unless, united, united_with, unless_great}
+use Rattle.wot_machine.specs.Storing.{text_unless, united, merged_entry, unless_great}
 
 -- depending on whether it is too large
 abbrev unless_so : Bool → Certificate → Result Certificate Refusal
@@ -65,23 +65,23 @@ tells_clash kept entry apart = by (bytes_eq kept.key entry.key) refl
 
 pub tells_entry : (kept c : Certificate) (name : Name) (octets : List ℕ) (r : Result Certificate Refusal) →
     entry_in name octets ≡ Ok c → TellsCert r (united kept c)
-    → TellsCert r (united_with kept (entry_in name octets))
+    → TellsCert r (merged_entry kept (entry_in name octets))
 tells_entry kept c name octets r e t =
-    subst (λ (told : Result Certificate Refusal). TellsCert r (united_with kept told)) (sym e) t
+    subst (λ (told : Result Certificate Refusal). TellsCert r (merged_entry kept told)) (sym e) t
 
 pub tells_refused : (kept : Certificate) (name : Name) (octets : List ℕ) (why : Refusal) →
     TellsEntry (Err why) name octets
-    → TellsCert (Err why) (united_with kept (entry_in name octets))
+    → TellsCert (Err why) (merged_entry kept (entry_in name octets))
 tells_refused kept name octets (refusals.Packet fault) t =
-    ap (λ (told : Result Certificate Refusal). text_unless (united_with kept told)) t
+    ap (λ (told : Result Certificate Refusal). text_unless (merged_entry kept told)) t
 tells_refused kept name octets (refusals.Cert fault) t =
-    ap (λ (told : Result Certificate Refusal). text_unless (united_with kept told)) t
+    ap (λ (told : Result Certificate Refusal). text_unless (merged_entry kept told)) t
 tells_refused kept name octets refusals.Misfiled t =
-    ap (λ (told : Result Certificate Refusal). text_unless (united_with kept told)) t
+    ap (λ (told : Result Certificate Refusal). text_unless (merged_entry kept told)) t
 tells_refused kept name octets refusals.Clash t =
-    ap (λ (told : Result Certificate Refusal). text_unless (united_with kept told)) t
+    ap (λ (told : Result Certificate Refusal). text_unless (merged_entry kept told)) t
 tells_refused kept name octets (refusals.Full limit) t =
-    ap (λ (told : Result Certificate Refusal). text_unless (united_with kept told)) t
+    ap (λ (told : Result Certificate Refusal). text_unless (merged_entry kept told)) t
 tells_refused kept name octets refusals.Memory t = tt
 
 -- ---- replies

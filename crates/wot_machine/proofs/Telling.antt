@@ -1,7 +1,7 @@
 -- What the watch lines of a state say about one watch, and what is left of it after they were reported.
 use Rattle.std.proofs.Common.{◌≡◌, inl, inr, ℕ, Bool, true, false, cond, List, [], ◌∷◌, ◌++◌, Option, Some, None, refl}
 use Rattle.std.proofs.Common.{sym, ap, subst, ◌∙◌}
-use Rattle.std.specs.Prelude.{◌==◌, flat_map, if◌then◌else◌, is_some}
+use Rattle.std.specs.Prelude.{◌==◌, if◌then◌else◌, is_some}
 use Rattle.std.specs.List.{AllByRecursion}
 use Rattle.std.specs.Map.{set_value}
 use Rattle.std.specs.Option.{option_map, option_map_or}

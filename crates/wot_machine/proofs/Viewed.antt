@@ -41,10 +41,10 @@ use Rattle.wot_machine.specs.declared.class.ViewChange.TheVariants as alterings
 use Rattle.wot_machine.specs.declared.class.ShelfCall.{ShelfCall}
 use Rattle.wot_machine.specs.declared.class.ShelfCall.TheVariants as calls
 use Rattle.wot_machine.specs.Classes.{call_of, change_of, reading, view_change_of}
-use Rattle.wot_machine.specs.LineStep.{Does, Gives}
+use Rattle.wot_machine.specs.LineStep.{StateStep, ComesTo}
 use Rattle.wot_machine.specs.Served.{Served}
 use Rattle.wot_machine.specs.Outcome.{Outcome, close, done, imports, load, only, set_verdict, unless}
-use Rattle.wot_machine.specs.Whole.{AreTurned, Turning, turning_in, turning_of}
+use Rattle.wot_machine.specs.Session.{AreTurned, Turning, turning_in, turning_of}
 use Rattle.wot_machine.proofs.Entries.{AllValues, AreInOrder, all_found, all_put, all_set, all_weaker, all_without}
 use Rattle.wot_machine.proofs.Entries.{apart, found_put, found_set, gone_without, other_put, other_set, other_without}
 use Rattle.wot_machine.proofs.Entries.{rising_put, rising_set, rising_without}
@@ -147,7 +147,7 @@ set_verdict_keeps s number v =
     (done (with_held s (verdict_set number v s.held))) refl refl
 
 given : (how : Turning) (s : State) (outcome : Outcome) (r : Reply) (m : State)
-    → AreViewsBy how s.views outcome.state.views → Gives outcome r m
+    → AreViewsBy how s.views outcome.state.views → ComesTo outcome r m
     → AreViewsBy how s.views m.views
 given how s outcome r m v g = subst (λ (x : State). AreViewsBy how s.views x.views) (sym g.1) v
 
@@ -171,7 +171,7 @@ call_keeps rows s (calls.Store fpr) answer = refl
 
 -- a change of a view
 pub changes_view : (s : State) (view : List ℕ) (change : ViewChange) (r : Reply) (m : State)
-    → Gives (view_change_of s view change) r m → AreViewsBy (turning_in view change) s.views m.views
+    → ComesTo (view_change_of s view change) r m → AreViewsBy (turning_in view change) s.views m.views
 changes_view s view (alterings.Time t) r m =
     given (Turning.turning view) s (view_change_of s view (alterings.Time t)) r m
     (unless_view view s (timing view t s) (time_fault standard_limits s.views view) (time_view view t s.views))
@@ -183,7 +183,7 @@ changes_view s view alterings.Close r m =
     given (Turning.closing view) s (view_change_of s view alterings.Close) r m (close_view view s)
 
 pub does_views : (rows : PolicyRows) (s : State) (class : Class) (answer : Served) (r : Reply) (m : State)
-    → Does rows s class answer r m
+    → StateStep rows s class answer r m
     → AreViewsBy (turning_of class) s.views m.views
 does_views rows s (OfState (kinds.Change change)) answer r m =
     given Turning.leaving s (change_of rows s change) r m (change_keeps rows s change)

@@ -31,14 +31,14 @@ use Rattle.wot_machine.specs.declared.class.Class.TheVariants.{State as OfState,
 use Rattle.wot_machine.specs.declared.class.WatchCommand.TheVariants as commands
 use Rattle.wot_machine.specs.Entry.{unused, use_by}
 use Rattle.wot_machine.specs.Law.{is_refused}
-use Rattle.wot_machine.specs.LineStep.{Does}
+use Rattle.wot_machine.specs.LineStep.{StateStep}
 use Rattle.wot_machine.specs.Pacing.{is_pacing}
 use Rattle.wot_machine.specs.Served.{Served}
 use Rattle.wot_machine.specs.Transcript.{octets_of}
 use Rattle.wot_machine.specs.Watching.{AreLines, BeginsWatch, HasAmount, IsAmount, IsLine, IsWatchLine, LeavesWatches}
-use Rattle.wot_machine.specs.Watching.{Opens, TakesOff, Tells, Watching, is_watching, line_by, opened, told_all}
+use Rattle.wot_machine.specs.Watching.{Opens, TakesOff, ReportsWatches, Watching, is_watching, line_by, opened, told_all}
 use Rattle.wot_machine.specs.Watching.{told_by, with_line}
-use Rattle.wot_machine.specs.Whole.{IsTurnedBy, Whole}
+use Rattle.wot_machine.specs.Session.{IsTurnedBy, Session}
 
 -- ---- other commands
 
@@ -52,17 +52,17 @@ watched_cases P on off (OfState done) e = absurd (cc e)
 watched_cases P on off (OfCursor name done) e = absurd (cc e)
 
 -- the other commands leave the watches
-unwatched_is : (s : Whole) (class : Class) (reply : Reply) (watches : Watches) → is_watching class ≡ false →
+unwatched_is : (s : Session) (class : Class) (reply : Reply) (watches : Watches) → is_watching class ≡ false →
     Watching s class reply watches ≡ (watches ≡ s.watches)
 unwatched_is s (OfState done) reply watches e = refl
 unwatched_is s (OfCursor name done) reply watches e = refl
 unwatched_is s (OfWatch name done) reply watches e = absurd (cc e)
 
-pub watching_plain : (s : Whole) (class : Class) (reply : Reply) → is_watching class ≡ false →
+pub watching_plain : (s : Session) (class : Class) (reply : Reply) → is_watching class ≡ false →
     Watching s class reply s.watches
 watching_plain s class reply e = subst (λ (P : Type 0). P) (sym (unwatched_is s class reply s.watches e)) refl
 
-pub plain_watching : (s : Whole) (class : Class) (reply : Reply) (watches : Watches) → is_watching class ≡ false →
+pub plain_watching : (s : Session) (class : Class) (reply : Reply) (watches : Watches) → is_watching class ≡ false →
     Watching s class reply watches → watches ≡ s.watches
 plain_watching s class reply watches e p = subst (λ (P : Type 0). P) (unwatched_is s class reply watches e) p
 
@@ -81,16 +81,16 @@ paced_unwatched class e = by (is_watching class) refl
     by true w = let none = watched_unpaced class w in let never : true ≡ false = sym e ∙ none in absurd cc
 
 pub state_watched : (rows : PolicyRows) (old : State) (class : Class) (given : Served) (reply : Reply) →
-    is_watching class ≡ true → Does rows old class given reply old
+    is_watching class ≡ true → StateStep rows old class given reply old
 state_watched rows old class given reply e =
-    watched_cases (λ (c : Class). Does rows old c given reply old) (λ name view target wanted uid. refl)
+    watched_cases (λ (c : Class). StateStep rows old c given reply old) (λ name view target wanted uid. refl)
     (λ name. refl) class e
 
 pub watched_state : (rows : PolicyRows) (old : State) (class : Class) (given : Served) (reply : Reply)
     (new : State) → is_watching class ≡ true
-    → Does rows old class given reply new → new ≡ old
+    → StateStep rows old class given reply new → new ≡ old
 watched_state rows old class given reply new e d =
-    watched_cases (λ (c : Class). Does rows old c given reply new → new ≡ old) (λ name view target wanted uid p. p)
+    watched_cases (λ (c : Class). StateStep rows old c given reply new → new ≡ old) (λ name view target wanted uid p. p)
     (λ name p. p) class e d
 
 pub turns_watched : (class : Class) (old new : Views) (before after : Turns) → is_watching class ≡ true →
@@ -115,7 +115,7 @@ if_worded : (b : Bool) (P Q : Type 0) (reply : Reply) → (P → HasWords reply)
 if_worded true P Q reply f g p = f p
 if_worded false P Q reply f g q = g q
 
-opens_worded : (s : Whole) (name view : List ℕ) (target : Fpr) (wanted : ℕ) (uid : List ℕ) (o : Option View)
+opens_worded : (s : Session) (name view : List ℕ) (target : Fpr) (wanted : ℕ) (uid : List ℕ) (o : Option View)
     (reply : Reply) (watches : Watches)
     → Opens s name view target wanted uid o reply watches → HasWords reply
 opens_worded s name view target wanted uid None reply watches l = left_worded replies.View reply s.watches watches tt l
@@ -124,14 +124,14 @@ opens_worded s name view target wanted uid (Some there) reply watches p =
     (left_worded (replies.WatchAmount name p.0) reply (with_watch s.watches name (opened view target wanted uid p.0))
     watches tt) p.2
 
-off_worded : (s : Whole) (name : List ℕ) (reply : Reply) (watches : Watches) → TakesOff s name reply watches →
+off_worded : (s : Session) (name : List ℕ) (reply : Reply) (watches : Watches) → TakesOff s name reply watches →
     HasWords reply
 off_worded s name reply watches l =
     if_worded (is_some (watch_at s.watches name)) _ _ reply
     (left_worded replies.Done reply (without_watch s.watches name) watches tt)
     (left_worded replies.NoWatch reply s.watches watches tt) l
 
-pub watching_worded : (s : Whole) (class : Class) (reply : Reply) (watches : Watches) → is_watching class ≡ true →
+pub watching_worded : (s : Session) (class : Class) (reply : Reply) (watches : Watches) → is_watching class ≡ true →
     Watching s class reply watches → HasWords reply
 watching_worded s class reply watches e p =
     watched_cases (λ (c : Class). Watching s c reply watches → HasWords reply)
@@ -148,7 +148,7 @@ line_worded said (inr is) = subst HasWords (sym is.1) tt
 refused_not : (told reply : Reply) (P : Type 0) → reply ≡ told → is_refused told ≡ false → is_refused reply ≡ true → P
 refused_not told reply P e not is = let never : false ≡ true = sym not ∙ sym (ap is_refused e) ∙ is in absurd cc
 
-opens_left : (s : Whole) (name view : List ℕ) (target : Fpr) (wanted : ℕ) (uid : List ℕ) (o : Option View)
+opens_left : (s : Session) (name view : List ℕ) (target : Fpr) (wanted : ℕ) (uid : List ℕ) (o : Option View)
     (reply : Reply) (watches : Watches)
     → Opens s name view target wanted uid o reply watches → is_refused reply ≡ true → watches ≡ s.watches
 opens_left s name view target wanted uid None reply watches l e = l.1
@@ -161,7 +161,7 @@ opens_left s name view target wanted uid (Some there) reply watches p e = by (is
     by true l = l.1
     by false l = refused_not (replies.WatchAmount name p.0) reply (watches ≡ s.watches) l.0 refl e
 
-off_left : (s : Whole) (name : List ℕ) (reply : Reply) (watches : Watches) → TakesOff s name reply watches →
+off_left : (s : Session) (name : List ℕ) (reply : Reply) (watches : Watches) → TakesOff s name reply watches →
     is_refused reply ≡ true → watches ≡ s.watches
 off_left s name reply watches l e = by (is_some (watch_at s.watches name)) l
   where
@@ -171,7 +171,7 @@ off_left s name reply watches l e = by (is_some (watch_at s.watches name)) l
     by true l = refused_not replies.Done reply (watches ≡ s.watches) l.0 refl e
     by false l = l.1
 
-pub watching_left : (s : Whole) (class : Class) (reply : Reply) (watches : Watches) → is_watching class ≡ true →
+pub watching_left : (s : Session) (class : Class) (reply : Reply) (watches : Watches) → is_watching class ≡ true →
     Watching s class reply watches
     → is_refused reply ≡ true → watches ≡ s.watches
 watching_left s class reply watches e =
@@ -265,20 +265,20 @@ lines_some some s (entry ∷ watches) =
     let others = lines_some some s watches in
     (with_line first.0 others.0, (first.0, others.0, first.1, others.1, refl))
 
-pub Tells-one : AnswerOne → Lawful → (old : Whole) (told others : List Reply) (new third : Whole) → IsState old.state →
-    Tells old told new → Tells old others third
+pub Tells-one : AnswerOne → Lawful → (old : Session) (told others : List Reply) (new third : Session) → IsState old.state →
+    ReportsWatches old told new → ReportsWatches old others third
     → (told ≡ others) × (new ≡ third)
 Tells-one one lawful old told others new third can p q =
     let same = lines_one one lawful old.state old.watches told others can p.lines_are q.lines_are in
     (same, p.left ∙ ap (λ (ls : List Reply). record old { watches = told_all old.watches ls }) same ∙ sym q.left)
 
-pub Tells-some : AnswerSome → (old : Whole) → (told : List Reply) × (new : Whole) × Tells old told new
+pub Tells-some : AnswerSome → (old : Session) → (told : List Reply) × (new : Session) × ReportsWatches old told new
 Tells-some some old =
     let lines = lines_some some old.state old.watches in
     (lines.0, record old { watches = told_all old.watches lines.0 }, record { lines_are = lines.1; left = refl })
 
 -- nothing is reported if there are no watches
-pub tells_nothing : (old : Whole) → old.watches ≡ [] → Tells old [] old
+pub tells_nothing : (old : Session) → old.watches ≡ [] → ReportsWatches old [] old
 tells_nothing old none = record {
   lines_are = subst (λ (ws : Watches). AreLines old.state ws []) (sym none) refl;
   left = refl;
@@ -342,7 +342,7 @@ begins_some old name view target wanted uid amount =
     if_some (is_full old name) (LeavesWatches replies.FullWatches old) _ (leaves_some replies.FullWatches old)
     (leaves_some (replies.WatchAmount name amount) (with_watch old name (opened view target wanted uid amount)))
 
-opens_one : AnswerOne → Lawful → (s : Whole) (name view : List ℕ) (target : Fpr) (wanted : ℕ) (uid : List ℕ)
+opens_one : AnswerOne → Lawful → (s : Session) (name view : List ℕ) (target : Fpr) (wanted : ℕ) (uid : List ℕ)
     (o : Option View) → IsState s.state
     → IsOneOf (Opens s name view target wanted uid o)
 opens_one one lawful s name view target wanted uid None can r t m n p q = leaves_one replies.View s.watches r t m n p q
@@ -352,7 +352,7 @@ opens_one one lawful s name view target wanted uid (Some there) can r t m n p q 
     subst (λ (a : ℕ). BeginsWatch s.watches name view target wanted uid a t n) (sym same) q.2 in
     begins_one s.watches name view target wanted uid p.0 r t m n p.2 q'
 
-opens_some : AnswerSome → (s : Whole) (name view : List ℕ) (target : Fpr) (wanted : ℕ) (uid : List ℕ)
+opens_some : AnswerSome → (s : Session) (name view : List ℕ) (target : Fpr) (wanted : ℕ) (uid : List ℕ)
     (o : Option View) → IsSomeOf (Opens s name view target wanted uid o)
 opens_some some s name view target wanted uid None = leaves_some replies.View s.watches
 opens_some some s name view target wanted uid (Some there) =
@@ -360,24 +360,24 @@ opens_some some s name view target wanted uid (Some there) =
     let begun = begins_some s.watches name view target wanted uid amount.0 in
     (begun.0, begun.1, (amount.0, amount.1, begun.2))
 
-off_one : (s : Whole) (name : List ℕ) → IsOneOf (TakesOff s name)
+off_one : (s : Session) (name : List ℕ) → IsOneOf (TakesOff s name)
 off_one s name =
     if_one (is_some (watch_at s.watches name)) (LeavesWatches replies.Done (without_watch s.watches name)) _
     (leaves_one replies.Done (without_watch s.watches name)) (leaves_one replies.NoWatch s.watches)
 
-off_some : (s : Whole) (name : List ℕ) → IsSomeOf (TakesOff s name)
+off_some : (s : Session) (name : List ℕ) → IsSomeOf (TakesOff s name)
 off_some s name =
     if_some (is_some (watch_at s.watches name)) (LeavesWatches replies.Done (without_watch s.watches name)) _
     (leaves_some replies.Done (without_watch s.watches name)) (leaves_some replies.NoWatch s.watches)
 
-pub watching_one : AnswerOne → Lawful → (s : Whole) (class : Class) → is_watching class ≡ true → IsState s.state →
+pub watching_one : AnswerOne → Lawful → (s : Session) (class : Class) → is_watching class ≡ true → IsState s.state →
     IsOneOf (Watching s class)
 watching_one one lawful s class e can =
     watched_cases (λ (c : Class). IsOneOf (Watching s c))
     (λ name view target wanted uid. opens_one one lawful s name view target wanted uid (view_at s.state.views view) can)
     (λ name. off_one s name) class e
 
-pub watching_some : AnswerSome → (s : Whole) (class : Class) → is_watching class ≡ true →
+pub watching_some : AnswerSome → (s : Session) (class : Class) → is_watching class ≡ true →
     IsSomeOf (Watching s class)
 watching_some some s class e =
     watched_cases (λ (c : Class). IsSomeOf (Watching s c))
@@ -492,7 +492,7 @@ begins_full old name view target wanted uid amount watches full w =
     replies.FullWatches watches)) (sym full) (refl, w)
 
 -- if the question was answered
-pub opens_answered : (s : Whole) (name view : List ℕ) (target : Fpr) (wanted : ℕ) (uid : List ℕ) (o : Option View)
+pub opens_answered : (s : Session) (name view : List ℕ) (target : Fpr) (wanted : ℕ) (uid : List ℕ) (o : Option View)
     (paths : List Path) (sum : ℕ) (reply : Reply) (watches : Watches)
     → 1 ≤ wanted → is_some o ≡ true → IfSome o (λ there. IsAnswer (question_in s.state there target uid) wanted paths) →
     sum ≡ amount_of paths
@@ -509,7 +509,7 @@ opens_answered s name view target wanted uid (Some there) paths sum reply watche
     by false e = (paths, answer, is)
 
 -- if the view isn't open
-pub opens_unopened : (s : Whole) (name view : List ℕ) (target : Fpr) (wanted : ℕ) (uid : List ℕ) (o : Option View) →
+pub opens_unopened : (s : Session) (name view : List ℕ) (target : Fpr) (wanted : ℕ) (uid : List ℕ) (o : Option View) →
     o ≡ None
     → Opens s name view target wanted uid o replies.View s.watches
 opens_unopened s name view target wanted uid o none =

@@ -27,7 +27,7 @@ use Rattle.wot_keyring.specs.Held.{cert_in, removing, verdict_set, verdict_clear
 use Rattle.wot_keyring.specs.Import.{answer_to, answer_under, is_entry}
 use Rattle.wot_keyring.specs.Keyring.{Certificates, is_fpr}
 use Rattle.wot_keyring.specs.Verdict.{is_over}
-use Rattle.wot_network.specs.Told.{place_of}
+use Rattle.wot_network.specs.Told.{user_id_place}
 use Rattle.wot_standing.specs.declared.status.Standing.{Standing}
 use Rattle.wot_standing.specs.Kinds.{is_certification}
 use Rattle.wot_standing.specs.Own.{is_own_revoked}
@@ -66,14 +66,14 @@ use Rattle.wot_machine.specs.Classes.{AnswersQuestion, call_of, change_of, readi
 use Rattle.wot_machine.specs.Absent.{Checks, Misses}
 use Rattle.wot_machine.specs.Answer.{Asks}
 use Rattle.wot_machine.specs.Listing.{Lists, explained, explained_from, reason_by, reason_line}
-use Rattle.wot_machine.specs.Whole.{Whole}
+use Rattle.wot_machine.specs.Session.{Session}
 use Rattle.wot_machine.proofs.Paced.{paces_worded}
 use Rattle.wot_machine.proofs.Watched.{watching_worded}
-use Rattle.wot_machine.specs.LineStep.{DoesTo, Gives, Obeys}
+use Rattle.wot_machine.specs.LineStep.{DoesTo, ComesTo, CommandStep}
 use Rattle.wot_machine.specs.Outcome.{Outcome, cert_refusal, done, exported, imports, load, only, refusal, unless}
 use Rattle.wot_machine.specs.Outcome.{view_refusal}
 use Rattle.wot_machine.specs.Served.{Served}
-use Rattle.wot_machine.specs.Storing.{stored, stored_from, text_unless, united_with, writing}
+use Rattle.wot_machine.specs.Storing.{stored, stored_from, text_unless, merged_entry, writing}
 use Rattle.wot_machine.proofs.Absences.{tells_worded, verdicts_worded}
 
 -- ---- explanations
@@ -161,9 +161,9 @@ placed_worded entries certs t c (Some place) = there_worded entries certs t c pl
 
 kept_worded : (entries : Entries) (certs : Certificates) (t : ℕ) (u : List ℕ) (c : Option Certificate)
     → HasWords (explained (option_and_then (λ (c : Certificate). option_and_then (explained_at entries certs t c)
-    (place_of u c.user_ids)) c))
+    (user_id_place u c.user_ids)) c))
 kept_worded entries certs t u None = tt
-kept_worded entries certs t u (Some c) = placed_worded entries certs t c (place_of u c.user_ids)
+kept_worded entries certs t u (Some c) = placed_worded entries certs t c (user_id_place u c.user_ids)
 
 explain_worded : (s : State) (view : Option View) (fpr : Fpr) (u : List ℕ) → HasWords (explained_from s view fpr u)
 explain_worded s None fpr u = tt
@@ -213,7 +213,7 @@ writing_worded : (fpr : Fpr) (kept : Certificate) (answer : Answer) → IfErr (w
 writing_worded fpr kept Answer.fault = tt
 writing_worded fpr kept Answer.absent = tt
 writing_worded fpr kept Answer.long = tt
-writing_worded fpr kept (Answer.entry octets) = text_worded (united_with kept (entry_in (names.Cert fpr) octets))
+writing_worded fpr kept (Answer.entry octets) = text_worded (merged_entry kept (entry_in (names.Cert fpr) octets))
 
 store_worded : (kept : Option Certificate) (fpr : Fpr) (given : Served) → HasWords (stored_from kept fpr given)
 store_worded None fpr given = tt
@@ -238,7 +238,7 @@ export_worded : (c : Option Certificate) → HasWords (exported c)
 export_worded None = tt
 export_worded (Some c) = tt
 
-given : (outcome : Outcome) (reply : Reply) (new : State) → HasWords outcome.reply → Gives outcome reply new →
+given : (outcome : Outcome) (reply : Reply) (new : State) → HasWords outcome.reply → ComesTo outcome reply new →
     HasWords reply
 given outcome reply new h g = subst HasWords (sym g.0) h
 
@@ -316,8 +316,8 @@ does_worded rows old (kinds.Read what) answer reply new g =
 does_worded rows old (kinds.Shelf call) answer reply new g =
     given (call_of rows old call answer) reply new (call_worded rows old call answer) g
 
-pub obeys_worded : (rows : PolicyRows) (old : Whole) (class : Class) (answer : Served) (reply : Reply)
-    (new : Whole) → Obeys rows old class answer reply new → HasWords reply
+pub obeys_worded : (rows : PolicyRows) (old : Session) (class : Class) (answer : Served) (reply : Reply)
+    (new : Session) → CommandStep rows old class answer reply new → HasWords reply
 obeys_worded rows old (OfState command) answer reply new o =
     does_worded rows old.state command answer reply new.state o.does
 obeys_worded rows old (OfCursor name command) answer reply new o =

@@ -31,14 +31,14 @@ use Rattle.wot_machine.specs.Classes.{IsFit, class_of}
 use Rattle.wot_machine.proofs.Fit.{fit_of}
 use Rattle.wot_machine.specs.Entry.{use_of}
 use Rattle.wot_machine.specs.Lines.{heard, is_silent, longest}
-use Rattle.wot_machine.specs.LineStep.{Answers, HasReply, LineStep, Obeys, Stays}
+use Rattle.wot_machine.specs.LineStep.{ReadLineStep, HasReply, LineStep, CommandStep, Stays}
 use Rattle.wot_machine.specs.Scene.{Scene, Step, opening, served_in}
 use Rattle.wot_machine.specs.Served.{Served}
 use Rattle.wot_machine.specs.Transcript.{Run, listed}
-use Rattle.wot_machine.specs.Watching.{AreLines, HasAmount, IsWatchLine, LeavesWatches, Opens, TakesOff, Tells}
+use Rattle.wot_machine.specs.Watching.{AreLines, HasAmount, IsWatchLine, LeavesWatches, Opens, TakesOff, ReportsWatches}
 use Rattle.wot_machine.specs.Watching.{Watching}
 use Rattle.wot_machine.specs.Watching.{is_watching, line_by, opened, with_line}
-use Rattle.wot_machine.specs.Whole.{Whole}
+use Rattle.wot_machine.specs.Session.{Session}
 use Rattle.wot_machine.specs.Worth.{IsAmountOf, IsLast, IsNews, QuietLinesTellNothing}
 use Rattle.wot_machine.specs.Worth.{WatchLinesAreNews, WatchesAreTrue}
 use Rattle.wot_machine.specs.Worth.{amount_in, amounts_in, line_cmp, name_in}
@@ -151,7 +151,7 @@ module _ (told : List Reply) where
       subst (λ (r : Reply). AreTold (told ++ r ∷ []) watches) (sym l.0)
       (subst (AreTold (told ++ said ∷ [])) (sym l.1) t)
 
-  opens_told : (s : Whole) (name view : List ℕ) (target : Fpr) (wanted : ℕ) (uid : List ℕ) (o : Option View)
+  opens_told : (s : Session) (name view : List ℕ) (target : Fpr) (wanted : ℕ) (uid : List ℕ) (o : Option View)
       (reply : Reply)
       (watches : Watches) → 1 ≤ wanted → Opens s name view target wanted uid o reply watches → AreTold told s.watches
       → AreTold (told ++ reply ∷ []) watches
@@ -174,7 +174,7 @@ module _ (told : List Reply) where
           left_told (replies.WatchAmount name p.0) reply (with_watch s.watches name new) watches l
           (begun_told s.watches name new some t)
 
-  takes_told : (s : Whole) (name : List ℕ) (reply : Reply) (watches : Watches) → TakesOff s name reply watches
+  takes_told : (s : Session) (name : List ℕ) (reply : Reply) (watches : Watches) → TakesOff s name reply watches
       → AreTold told s.watches → AreTold (told ++ reply ∷ []) watches
   takes_told s name reply watches l t = by (is_some (watch_at s.watches name)) l
     where
@@ -188,7 +188,7 @@ module _ (told : List Reply) where
       by false l =
           left_told replies.NoWatch reply s.watches watches l (still_told s.watches replies.NoWatch (λ n. refl) t)
 
-  watching_told : (s : Whole) (class : Class) (reply : Reply) (watches : Watches) → is_watching class ≡ true
+  watching_told : (s : Session) (class : Class) (reply : Reply) (watches : Watches) → is_watching class ≡ true
       → IsFit class → Watching s class reply watches → AreTold told s.watches
       → AreTold (told ++ reply ∷ []) watches
   watching_told s class reply watches e =
@@ -199,8 +199,8 @@ module _ (told : List Reply) where
       (view_at s.state.views view) reply watches)
       (λ name some. takes_told s name reply watches) class e
 
-  module _ (rows : PolicyRows) (old : Whole) (given : Served) (new : Whole) (t : AreTold told old.watches) where
-    obeys_told : (class : Class) (reply : Reply) → IsFit class → Obeys rows old class given reply new
+  module _ (rows : PolicyRows) (old : Session) (given : Served) (new : Session) (t : AreTold told old.watches) where
+    obeys_told : (class : Class) (reply : Reply) → IsFit class → CommandStep rows old class given reply new
         → AreTold (told ++ reply ∷ []) new.watches
     obeys_told class reply spelled o = by (is_watching class) refl
       where
@@ -213,7 +213,7 @@ module _ (told : List Reply) where
     stays_told : (said reply : Reply) → ((name : List ℕ) → amount_in name said ≡ []) → Stays old said reply new
         → AreTold (told ++ reply ∷ []) new.watches
     stays_told said reply none g =
-        left_told said reply old.watches new.watches (g.0, ap (λ (w : Whole). w.watches) g.1)
+        left_told said reply old.watches new.watches (g.0, ap (λ (w : Session). w.watches) g.1)
         (still_told old.watches said none t)
 
     step_told : ((line : List ℕ) (command : Command) → command_of line ≡ Some command → HasSpelling command)
@@ -222,19 +222,19 @@ module _ (told : List Reply) where
     step_told spelled line reply = long (nat_lt longest (length line))
       where
         known : (o : Option Command) → command_of line ≡ o → (r : Option Reply)
-            → HasReply (Answers rows old o given) r new → AreTold (told ++ listed r) new.watches
+            → HasReply (ReadLineStep rows old o given) r new → AreTold (told ++ listed r) new.watches
         known o e None g = absurd g
         known None e (Some r) g = stays_told replies.Line r (λ n. refl) g
         known (Some command) e (Some r) g = obeys_told (class_of command) r
             (fit_of command (spelled line command e)) g
 
         silent : (b : Bool)
-            → MatchBool b ((reply ≡ None) × (new ≡ old)) (HasReply (Answers rows old (command_of line) given) reply new)
+            → MatchBool b ((reply ≡ None) × (new ≡ old)) (HasReply (ReadLineStep rows old (command_of line) given) reply new)
             → AreTold (told ++ listed reply) new.watches
         silent true g =
             subst (λ (r : Option Reply). AreTold (told ++ listed r) new.watches) (sym g.0)
             (subst (λ (rs : List Reply). AreTold rs new.watches) (sym (append-nil told))
-            (subst (λ (w : Whole). AreTold told w.watches) (sym g.1) t))
+            (subst (λ (w : Session). AreTold told w.watches) (sym g.1) t))
         silent false g = known (command_of line) refl reply g
 
         stays : (r : Option Reply) → HasReply (Stays old replies.Long) r new → AreTold (told ++ listed r) new.watches
@@ -244,7 +244,7 @@ module _ (told : List Reply) where
         long : (b : Bool)
             → MatchBool b (HasReply (Stays old replies.Long) reply new)
             (MatchBool (is_silent line) ((reply ≡ None) × (new ≡ old))
-            (HasReply (Answers rows old (command_of line) given) reply new))
+            (HasReply (ReadLineStep rows old (command_of line) given) reply new))
             → AreTold (told ++ listed reply) new.watches
         long true g = stays reply g
         long false g = silent (is_silent line) g
@@ -266,12 +266,12 @@ amount_is s (Some view) was amount some h = by (was.wanted == 0) refl h.1
     by false e is = (is.0, is.1, same_Some amount h.0 h.2 ∙ is.2)
 
 -- what holds of a reached state, by everything reported so far
-record IsTold (told : List Reply) (w : Whole) : Type 0 where
+record IsTold (told : List Reply) (w : Session) : Type 0 where
   are : AreTold told w.watches
   now : (name : List ℕ) (watch : Watch) → watch_at w.watches name ≡ Some watch
       → IsAmountOf w.state (view_at w.state.views watch.view) watch watch.told
 
-tells_told : (told lines : List Reply) (old new : Whole) → Tells old lines new → AreTold told old.watches
+tells_told : (told lines : List Reply) (old new : Session) → ReportsWatches old lines new → AreTold told old.watches
     → IsTold (told ++ lines) new
 tells_told told lines old new tells t = subst (IsTold (told ++ lines)) (sym tells.left) (record {
   are = record {
@@ -466,7 +466,7 @@ module _ (rows : PolicyRows)
       lines_quiet world lines told old line reply behind new r step same =
           let t : IsTold told step.mid = subst (IsTold told) (sym same) (reached_told world lines told old r) in
           let can : IsState step.mid.state =
-          subst (λ (w : Whole). IsState w.state) (sym same) (reached_can_be rows world lines told old r) in
+          subst (λ (w : Session). IsState w.state) (sym same) (reached_can_be rows world lines told old r) in
           let calm : AreLines step.mid.state step.mid.watches [] =
           calm_lines step.mid.state step.mid.watches
           (each_found (λ (name : List ℕ) (watch : Watch). IsCalm step.mid.state watch) step.mid.watches t.are.order

@@ -18,10 +18,10 @@ use Rattle.wot_machine.specs.LineStep.{LineStep}
 use Rattle.wot_machine.specs.Scene.{opening}
 use Rattle.wot_machine.specs.Served.{Served}
 use Rattle.wot_machine.specs.Transcript.{Run}
-use Rattle.wot_machine.specs.Whole.{Whole}
+use Rattle.wot_machine.specs.Session.{Session}
 
 -- Some history leads to the state: lines from an empty machine, with a certificate directory in some world.
-pub record IsReached (rows : PolicyRows) (s : Whole) : Type 0 where
+pub record IsReached (rows : PolicyRows) (s : Session) : Type 0 where
   pub world : World
   pub after : World
   pub lines : List (List ℕ)
@@ -52,15 +52,15 @@ pub record IsAsk (name line : List ℕ) : Type 0 where
   pub read : command_of line ≡ Some command
 
 -- the replies to this line are equal, whatever the certificate directory returns
-abbrev pub AreRepliesAlike : PolicyRows → Whole → Whole → List ℕ → Type 0
+abbrev pub AreRepliesAlike : PolicyRows → Session → Session → List ℕ → Type 0
 AreRepliesAlike rows one other line =
-    (given told : Served) (reply second : Option Reply) (new third : Whole)
+    (given told : Served) (reply second : Option Reply) (new third : Session)
     → LineStep rows one line given reply new → LineStep rows other line told second third → reply ≡ second
 
 -- An answer depends only on the current certificates and verdicts and on the roots and the time of the asking view:
 -- whatever histories lead to two states that are alike for a view, each question from it gets the same reply in both.
 abbrev pub DependsOnWhatIsPresent : PolicyRows → Type 0
 DependsOnWhatIsPresent rows =
-    (name : List ℕ) (one other : Whole) → IsReached rows one → IsReached rows other
+    (name : List ℕ) (one other : Session) → IsReached rows one → IsReached rows other
     → AreAlike name one.state other.state
     → (line : List ℕ) → IsAsk name line → AreRepliesAlike rows one other line

@@ -16,7 +16,7 @@ use Rattle.wot_cache.specs.State.{Engine, State, state_of}
 use Rattle.wot_cache.specs.Dump.{CarriesOver, IsRestored, commands_of}
 use Rattle.wot_machine.specs.Scene.{opening}
 use Rattle.wot_machine.specs.Transcript.{Run}
-use Rattle.wot_machine.specs.Whole.{Whole}
+use Rattle.wot_machine.specs.Session.{Session}
 
 -- the line of the command `dump`
 abbrev pub IsDump : List ℕ → Type 0
@@ -36,7 +36,7 @@ dumped s = inputs.lines_of (lines_of (commands_of s))
 -- certificate directory.
 pub record IsMadeAnew (rows : PolicyRows) (s : State) : Type 0 where
   pub replies : List Reply
-  pub new : Whole
+  pub new : Session
   pub same : CarriesOver rows s new.state
   pub cursors : new.cursors ≡ []
   pub watches : new.watches ≡ []

@@ -23,7 +23,7 @@ use Rattle.wot_machine.specs.Pacing.{stamps_in}
 use Rattle.wot_machine.specs.Scene.{Scene, Step, opening}
 use Rattle.wot_machine.specs.Served.{Served}
 use Rattle.wot_machine.specs.Transcript.{Run, listed}
-use Rattle.wot_machine.specs.Whole.{Whole}
+use Rattle.wot_machine.specs.Session.{Session}
 
 -- ---- runs, line by line
 
@@ -153,7 +153,7 @@ pub record Differs (was now told_was told_now : ℕ) : Type 0 where
 
 -- The reply to `next K`: a piece of at most K bindings, if both numbers are still those of the beginning; stale, with
 -- the number of the beginning and the current one; or the view isn't open.
-abbrev pub IsNext : Whole → Whole → List ℕ → ℕ → Reply → Type 0
+abbrev pub IsNext : Session → Session → List ℕ → ℕ → Reply → Type 0
 IsNext begun now view count (replies.Piece size binds) =
     (stamps_in now view ≡ stamps_in begun view) × (size ≡ length binds) × (length binds ≤ count)
 IsNext begun now view count (replies.StaleKeyring was is) = Differs begun.changes now.changes was is
@@ -179,5 +179,5 @@ DoNumbersDiffer reply = Unit {0}
 -- this holds of every reply in every state
 abbrev pub StaleNumbersDiffer : PolicyRows → Type 0
 StaleNumbersDiffer rows =
-    (old : Whole) (line : List ℕ) (given : Served) (reply : Reply) (new : Whole)
+    (old : Session) (line : List ℕ) (given : Served) (reply : Reply) (new : Session)
     → LineStep rows old line given (Some reply) new → DoNumbersDiffer reply

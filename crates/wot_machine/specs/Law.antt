@@ -7,35 +7,35 @@ use Rattle.wot_script.specs.Replies.{is_refusal}
 use Rattle.wot_cache.specs.State.{IsState}
 use Rattle.wot_machine.specs.LineStep.{LineStep}
 use Rattle.wot_machine.specs.Served.{Served}
-use Rattle.wot_machine.specs.Watching.{Tells}
-use Rattle.wot_machine.specs.Whole.{Whole}
+use Rattle.wot_machine.specs.Watching.{ReportsWatches}
+use Rattle.wot_machine.specs.Session.{Session}
 
 -- whatever the certificate directory returns, each line has an outcome: a reply or none, and a new state
 abbrev pub HaveOutcomes : PolicyRows → Type 0
-HaveOutcomes rows = (old : Whole) (line : List ℕ) (given : Served)
-    → (reply : Option Reply) × (new : Whole) × LineStep rows old line given reply new
+HaveOutcomes rows = (old : Session) (line : List ℕ) (given : Served)
+    → (reply : Option Reply) × (new : Session) × LineStep rows old line given reply new
 
 -- from a well-formed state it has only one
 abbrev pub HaveOneOutcome : PolicyRows → Type 0
 HaveOneOutcome rows =
-    (old : Whole) (line : List ℕ) (given : Served) (reply other : Option Reply) (new third : Whole) → IsState old.state
-    → LineStep rows old line given reply new → LineStep rows old line given other third
+    (old : Session) (line : List ℕ) (given : Served) (reply other : Option Reply) (new third : Session)
+    → IsState old.state → LineStep rows old line given reply new → LineStep rows old line given other third
     → (reply ≡ other) × (new ≡ third)
 
 -- the new state is well-formed too
 abbrev pub LeadToStates : PolicyRows → Type 0
 LeadToStates rows =
-    (old : Whole) (line : List ℕ) (given : Served) (reply : Option Reply) (new : Whole) → IsState old.state
+    (old : Session) (line : List ℕ) (given : Served) (reply : Option Reply) (new : Session) → IsState old.state
     → LineStep rows old line given reply new → IsState new.state
 
 -- a state has watch lines, and a well-formed state has only one list of them
 abbrev pub HaveWatchLines : Type 0
-HaveWatchLines = (old : Whole) → (told : List Reply) × (new : Whole) × Tells old told new
+HaveWatchLines = (old : Session) → (told : List Reply) × (new : Session) × ReportsWatches old told new
 
 abbrev pub HaveOnlyWatchLines : Type 0
 HaveOnlyWatchLines =
-    (old : Whole) (told others : List Reply) (new third : Whole) → IsState old.state
-    → Tells old told new → Tells old others third → (told ≡ others) × (new ≡ third)
+    (old : Session) (told others : List Reply) (new third : Session) → IsState old.state
+    → ReportsWatches old told new → ReportsWatches old others third → (told ≡ others) × (new ≡ third)
 
 -- all of these laws
 pub record OneOutcome (rows : PolicyRows) : Type 0 where
@@ -53,6 +53,6 @@ is_refused reply = is_refusal reply
 -- A refused line changes nothing: certificates, verdicts, views, counts, cursors and watches stay.
 abbrev pub RefusalsLeaveAll : PolicyRows → Type 0
 RefusalsLeaveAll rows =
-    (old : Whole) (line : List ℕ) (given : Served) (reply : Reply) (new : Whole)
+    (old : Session) (line : List ℕ) (given : Served) (reply : Reply) (new : Session)
     → LineStep rows old line given (Some reply) new
     → is_refused reply ≡ true → new ≡ old

@@ -16,7 +16,7 @@ use Rattle.wot_cache.specs.State.{State}
 use Rattle.wot_cache.specs.Views.{view_at}
 use Rattle.wot_machine.specs.Depends.{AreRepliesAlike, IsReached}
 use Rattle.wot_machine.specs.Slices.{HoldAlike}
-use Rattle.wot_machine.specs.Whole.{Whole}
+use Rattle.wot_machine.specs.Session.{Session}
 
 -- Both hold the same at the target and at each member of the set.
 abbrev pub HoldAlikeOn : Fpr → List Fpr → Held → Held → Type 0
@@ -43,7 +43,7 @@ pub record IsAbsenceLine (name : List ℕ) (target : Fpr) (line : List ℕ) : Ty
 -- alike, each such line gets the same reply in both.
 abbrev pub DoAbsencesRestOnLeading : PolicyRows → Type 0
 DoAbsencesRestOnLeading rows =
-    (name : List ℕ) (target : Fpr) (one other : Whole) → IsReached rows one → IsReached rows other
+    (name : List ℕ) (target : Fpr) (one other : Session) → IsReached rows one → IsReached rows other
     → AreAlikeBefore name target one.state other.state
     → (line : List ℕ) → IsAbsenceLine name target line → AreRepliesAlike rows one other line
 
@@ -80,6 +80,6 @@ pub record IsCheckLine (name : List ℕ) (target : Fpr) (claimed : Claimed) (lin
 -- each such line gets the same reply in both.
 abbrev pub DoChecksRestOnLookedAt : PolicyRows → Type 0
 DoChecksRestOnLookedAt rows =
-    (name : List ℕ) (target : Fpr) (claimed : Claimed) (one other : Whole) → IsReached rows one → IsReached rows other
+    (name : List ℕ) (target : Fpr) (claimed : Claimed) (one other : Session) → IsReached rows one → IsReached rows other
     → AreAlikeForClaim name target claimed one.state other.state
     → (line : List ℕ) → IsCheckLine name target claimed line → AreRepliesAlike rows one other line

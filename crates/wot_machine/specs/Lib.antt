@@ -7,7 +7,7 @@ pub mod Answer
 pub mod Listing
 pub mod EdgeLines
 pub mod Absent
-pub mod Whole
+pub mod Session
 pub mod Pacing
 pub mod Watching
 pub mod Served
@@ -17,7 +17,7 @@ pub mod Entry
 pub mod Scene
 pub mod Law
 pub mod Transcript
-pub mod Ran
+pub mod CommandRun
 pub mod Stored
 pub mod Stepped
 pub mod Fresh

@@ -20,59 +20,59 @@ use Rattle.wot_machine.specs.Outcome.{Outcome, load, only}
 use Rattle.wot_machine.specs.Served.{Served}
 use Rattle.wot_machine.specs.Pacing.{Paces}
 use Rattle.wot_machine.specs.Watching.{Watching}
-use Rattle.wot_machine.specs.Whole.{IsCounted, IsTurnedBy, Whole}
+use Rattle.wot_machine.specs.Session.{IsCounted, IsTurnedBy, Session}
 
 -- the reply and the new state of this outcome
-abbrev pub Gives : Outcome → Reply → State → Type 0
-Gives outcome reply new = (reply ≡ outcome.reply) × (new ≡ outcome.state)
+abbrev pub ComesTo : Outcome → Reply → State → Type 0
+ComesTo outcome reply new = (reply ≡ outcome.reply) × (new ≡ outcome.state)
 
 -- loading an entry with these octets has this reply, and changes the state so
 abbrev pub Loads : PolicyRows → Ends State → Name → List ℕ → Reply → Type 0
-Loads rows state name octets reply = Gives (load rows state.old name (Answer.entry octets)) reply state.new
+Loads rows state name octets reply = ComesTo (load rows state.old name (Answer.entry octets)) reply state.new
 
 -- What a command does to the state, and its reply, by its class. What the certificate directory returns matters only
 -- for `load` and `store`. Commands of cursors and watches don't change the state; `Paces` and `Watching` say what they
 -- reply.
 abbrev pub DoesTo : PolicyRows → State → StateCommand → Served → Reply → State → Type 0
-DoesTo rows old (kinds.Change change) given reply new = Gives (change_of rows old change) reply new
-DoesTo rows old (kinds.View view change) given reply new = Gives (view_change_of old view change) reply new
+DoesTo rows old (kinds.Change change) given reply new = ComesTo (change_of rows old change) reply new
+DoesTo rows old (kinds.View view change) given reply new = ComesTo (view_change_of old view change) reply new
 DoesTo rows old (kinds.Question view question) given reply new =
     AnswersQuestion old (view_at old.views view) question reply × (new ≡ old)
-DoesTo rows old (kinds.Read what) given reply new = Gives (only old (reading old what)) reply new
-DoesTo rows old (kinds.Shelf call) given reply new = Gives (call_of rows old call given) reply new
+DoesTo rows old (kinds.Read what) given reply new = ComesTo (only old (reading old what)) reply new
+DoesTo rows old (kinds.Shelf call) given reply new = ComesTo (call_of rows old call given) reply new
 
-abbrev pub Does : PolicyRows → State → Class → Served → Reply → State → Type 0
-Does rows old (OfState command) given reply new = DoesTo rows old command given reply new
-Does rows old (Cursor name command) given reply new = new ≡ old
-Does rows old (Watch name command) given reply new = new ≡ old
+abbrev pub StateStep : PolicyRows → State → Class → Served → Reply → State → Type 0
+StateStep rows old (OfState command) given reply new = DoesTo rows old command given reply new
+StateStep rows old (Cursor name command) given reply new = new ≡ old
+StateStep rows old (Watch name command) given reply new = new ≡ old
 
 -- The same with all that is kept: what is counted, the cursors, and the watches.
-pub record Obeys (rows : PolicyRows) (old : Whole) (class : Class) (given : Served) (reply : Reply) (new : Whole)
-    : Type 0 where
-  pub does : Does rows old.state class given reply new.state
+pub record CommandStep (rows : PolicyRows) (old : Session) (class : Class) (given : Served) (reply : Reply)
+    (new : Session) : Type 0 where
+  pub does : StateStep rows old.state class given reply new.state
   pub counted : IsCounted old new
   pub turned : IsTurnedBy class old.state.views old.turns new.state.views new.turns
   pub paces : Paces old class reply new.cursors
   pub watching : Watching old class reply new.watches
 
 -- this reply, and nothing changes
-abbrev pub Stays : Whole → Reply → Reply → Whole → Type 0
+abbrev pub Stays : Session → Reply → Reply → Session → Type 0
 Stays old told reply new = (reply ≡ told) × (new ≡ old)
 
 -- what a line does that is neither too long nor silent
-abbrev pub Answers : PolicyRows → Whole → Option Command → Served → Reply → Whole → Type 0
-Answers rows old None given reply new = Stays old replies.Line reply new
-Answers rows old (Some command) given reply new = Obeys rows old (class_of command) given reply new
+abbrev pub ReadLineStep : PolicyRows → Session → Option Command → Served → Reply → Session → Type 0
+ReadLineStep rows old None given reply new = Stays old replies.Line reply new
+ReadLineStep rows old (Some command) given reply new = CommandStep rows old (class_of command) given reply new
 
 -- there is a reply, and P holds of it
-abbrev pub HasReply : (Reply → Whole → Type 0) → Option Reply → Whole → Type 0
+abbrev pub HasReply : (Reply → Session → Type 0) → Option Reply → Session → Type 0
 HasReply P None new = ⊥
 HasReply P (Some reply) new = P reply new
 
 -- What a line does, from old to new, with its reply; a silent line has none. `given` is what the certificate directory
 -- returns, and `rows` are those of the policy.
-abbrev pub LineStep : PolicyRows → Whole → List ℕ → Served → Option Reply → Whole → Type 0
+abbrev pub LineStep : PolicyRows → Session → List ℕ → Served → Option Reply → Session → Type 0
 LineStep rows old line given reply new =
     MatchBool (nat_lt longest (length line)) (HasReply (Stays old replies.Long) reply new)
     (MatchBool (is_silent line) ((reply ≡ None) × (new ≡ old))
-    (HasReply (Answers rows old (command_of line) given) reply new))
+    (HasReply (ReadLineStep rows old (command_of line) given) reply new))

@@ -6,7 +6,7 @@ use Rattle.wot_cache.specs.State.{Engine, StaysButMarks}
 use Rattle.wot_cursor.specs.Cursors.{Cursors}
 use Rattle.wot_watch.specs.Watches.{Watches}
 use Rattle.wot_machine.specs.Both.{Ends}
-use Rattle.wot_machine.specs.Whole.{Whole, watched, whole_of}
+use Rattle.wot_machine.specs.Session.{Session, watched, session_of}
 
 -- its engine, cursors and watches, and the number of edges made for all its questions
 pub record Machine : Type 0 where
@@ -16,8 +16,8 @@ pub record Machine : Type 0 where
   pub made : ℕ
 
 -- everything that it keeps
-abbrev pub kept : Machine → Whole
-kept m = watched (whole_of m.engine m.cursors) m.watches
+abbrev pub kept : Machine → Session
+kept m = watched (session_of m.engine m.cursors) m.watches
 
 -- only the engine's marks may change
 abbrev pub StaysKept : Machine → Machine → Type 0

@@ -28,10 +28,10 @@ use Rattle.wot_explain.specs.Piece.{IsThePiece, piece_of}
 use Rattle.wot_machine.specs.declared.told.Moved.{Moved}
 use Rattle.wot_machine.specs.declared.told.Told.{Told}
 use Rattle.wot_machine.specs.Listing.{AreBindings, bind_line}
-use Rattle.wot_machine.specs.Whole.{Whole}
+use Rattle.wot_machine.specs.Session.{Session}
 
 -- what a list from a view depends on: the count of changes, and the view's turn
-abbrev pub stamps_in : Whole → List ℕ → Stamps
+abbrev pub stamps_in : Session → List ℕ → Stamps
 stamps_in s view = record { keyring = s.changes; view = unwrap_or (turn_at s.turns view) 0 }
 
 -- the reply and the cursors are these
@@ -41,7 +41,7 @@ Leaves told left reply cursors = (reply ≡ told) × (cursors ≡ left)
 -- ---- `cursor C over V N`
 
 -- A cursor begins from an open view, or restarts, unless the number of cursors is at its limit.
-abbrev pub Begins : Whole → List ℕ → List ℕ → ℕ → Option View → Reply → Cursors → Type 0
+abbrev pub Begins : Session → List ℕ → List ℕ → ℕ → Option View → Reply → Cursors → Type 0
 Begins s name view wanted None reply cursors = Leaves replies.View s.cursors reply cursors
 Begins s name view wanted (Some there) reply cursors =
     MatchBool (is_full s.cursors name) (Leaves replies.FullCursors s.cursors reply cursors)
@@ -49,12 +49,12 @@ Begins s name view wanted (Some there) reply cursors =
 
 -- ---- `cursor C next K`
 
-abbrev pub place_of : Bind → Place
-place_of bind = record { fpr = bind.fpr; uid = bind.uid }
+abbrev pub bind_place : Bind → Place
+bind_place bind = record { fpr = bind.fpr; uid = bind.uid }
 
 -- the place of the last of these bindings
 abbrev pub last_place : Bind → List Bind → Place
-last_place bind [] = place_of bind
+last_place bind [] = bind_place bind
 last_place bind (next ∷ binds) = last_place next binds
 
 -- The cursor moves to the last of these bindings, or stays if there is none.
@@ -68,7 +68,7 @@ piece binds = replies.Piece (length binds) (map bind_line binds)
 
 -- The first `count` bindings of the list after the cursor's place, or all that are left. Nothing if the cursor wants
 -- nothing, which no command asks for.
-abbrev pub GivesPiece : Whole → List ℕ → ℕ → Cursor → View → Reply → Cursors → Type 0
+abbrev pub GivesPiece : Session → List ℕ → ℕ → Cursor → View → Reply → Cursors → Type 0
 GivesPiece s name count cursor view reply cursors =
     MatchBool (cursor.wanted == 0) (Leaves (piece []) s.cursors reply cursors)
     ((all : List Bind) × AreBindings s.state view cursor.wanted all
@@ -76,20 +76,20 @@ GivesPiece s name count cursor view reply cursors =
     reply cursors)
 
 -- the piece, if nothing changed since the beginning; otherwise the first number that differs
-abbrev pub GoesBy : Age → Whole → List ℕ → ℕ → Cursor → View → Reply → Cursors → Type 0
+abbrev pub GoesBy : Age → Session → List ℕ → ℕ → Cursor → View → Reply → Cursors → Type 0
 GoesBy ages.Same s name count cursor view reply cursors = GivesPiece s name count cursor view reply cursors
 GoesBy (ages.Keyring was now) s name count cursor view reply cursors =
     Leaves (replies.StaleKeyring was now) s.cursors reply cursors
 GoesBy (ages.View was now) s name count cursor view reply cursors =
     Leaves (replies.StaleView was now) s.cursors reply cursors
 
-abbrev pub GoesFrom : Option View → Whole → List ℕ → ℕ → Cursor → Reply → Cursors → Type 0
+abbrev pub GoesFrom : Option View → Session → List ℕ → ℕ → Cursor → Reply → Cursors → Type 0
 GoesFrom None s name count cursor reply cursors = Leaves replies.View s.cursors reply cursors
 GoesFrom (Some view) s name count cursor reply cursors =
     GoesBy (age_of cursor.stamps (stamps_in s cursor.view)) s name count cursor view reply cursors
 
 -- refused if there is no such cursor, then if its view isn't open
-abbrev pub Goes : Option Cursor → Whole → List ℕ → ℕ → Reply → Cursors → Type 0
+abbrev pub Goes : Option Cursor → Session → List ℕ → ℕ → Reply → Cursors → Type 0
 Goes None s name count reply cursors = Leaves replies.NoCursor s.cursors reply cursors
 Goes (Some cursor) s name count reply cursors =
     GoesFrom (view_at s.state.views cursor.view) s name count cursor reply cursors
@@ -104,8 +104,8 @@ abbrev pub OnTold : {E : Type 0} → Result Told E → Cursors → (Reply → Cu
 OnTold result cursors P = IfOk result (λ told. P told.reply (settled told.moved cursors))
 
 -- the piece, from the cursor's view if it is open
-abbrev pub Gives : Whole → List ℕ → ℕ → Cursor → Reply → Cursors → Type 0
-Gives s name count cursor reply cursors =
+abbrev pub ReturnsPiece : Session → List ℕ → ℕ → Cursor → Reply → Cursors → Type 0
+ReturnsPiece s name count cursor reply cursors =
     IfSome (view_at s.state.views cursor.view) (λ view. GivesPiece s name count cursor view reply cursors)
 
 -- The reply is the piece of the list over these parts, and the cursor moves behind it.
@@ -132,7 +132,7 @@ is_pacing _ = false
 
 -- ---- `cursor C close`
 
-abbrev pub Ends : Whole → List ℕ → Reply → Cursors → Type 0
+abbrev pub Ends : Session → List ℕ → Reply → Cursors → Type 0
 Ends s name reply cursors =
     MatchBool (is_some (cursor_at s.cursors name)) (Leaves replies.Done (without_cursor s.cursors name) reply cursors)
     (Leaves replies.NoCursor s.cursors reply cursors)
@@ -140,13 +140,13 @@ Ends s name reply cursors =
 -- ---- all commands
 
 -- what a command of a cursor does to the cursors, and its reply
-abbrev pub PacesCursor : Whole → List ℕ → CursorCommand → Reply → Cursors → Type 0
+abbrev pub PacesCursor : Session → List ℕ → CursorCommand → Reply → Cursors → Type 0
 PacesCursor s name (paces.Over view wanted) reply cursors =
     Begins s name view wanted (view_at s.state.views view) reply cursors
 PacesCursor s name (paces.Next count) reply cursors = Goes (cursor_at s.cursors name) s name count reply cursors
 PacesCursor s name paces.Close reply cursors = Ends s name reply cursors
 
 -- What a command does to the cursors, and the reply if it is a command of a cursor. No other command changes them.
-abbrev pub Paces : Whole → Class → Reply → Cursors → Type 0
+abbrev pub Paces : Session → Class → Reply → Cursors → Type 0
 Paces s (OfCursor name command) reply cursors = PacesCursor s name command reply cursors
 Paces s _ reply cursors = cursors ≡ s.cursors

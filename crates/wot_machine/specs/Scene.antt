@@ -8,11 +8,11 @@ use Rattle.wot_machine.specs.Entry.{Use, entry_for, given_by, put_for, use_of, w
 use Rattle.wot_machine.specs.Lines.{heard}
 use Rattle.wot_machine.specs.Served.{Served}
 use Rattle.wot_machine.specs.LineStep.{LineStep}
-use Rattle.wot_machine.specs.Watching.{Tells}
-use Rattle.wot_machine.specs.Whole.{Whole, beginning}
+use Rattle.wot_machine.specs.Watching.{ReportsWatches}
+use Rattle.wot_machine.specs.Session.{Session, beginning}
 
 pub record Scene : Type 0 where
-  pub whole : Whole
+  pub whole : Session
   pub world : World
 
 -- before the first line, with a certificate directory in this world
@@ -32,7 +32,7 @@ world_behind old use_ =
 -- resulting state follow the line's reply.
 pub record Step (rows : PolicyRows) (old : Scene) (line : List ℕ) (reply : Option Reply) (told : List Reply)
     (new : Scene) : Type 0 where
-  pub mid : Whole
+  pub mid : Session
   pub does : LineStep rows old.whole line (served_in old (use_of (heard line))) reply mid
-  pub tells : Tells mid told new.whole
+  pub tells : ReportsWatches mid told new.whole
   pub world : new.world ≡ world_behind old (use_of (heard line))

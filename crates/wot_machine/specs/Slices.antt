@@ -23,7 +23,7 @@ use Rattle.wot_cache.specs.Question.{question_in}
 use Rattle.wot_cache.specs.State.{State}
 use Rattle.wot_cache.specs.Views.{view_at}
 use Rattle.wot_machine.specs.Depends.{AreRepliesAlike, IsReached}
-use Rattle.wot_machine.specs.Whole.{Whole}
+use Rattle.wot_machine.specs.Session.{Session}
 
 -- Both hold the same certificate under a fingerprint apart from policy marks, or none, and have the same verdicts on
 -- its signatures.
@@ -55,14 +55,14 @@ pub record IsQuestion (name : List ℕ) (target : Fpr) (line : List ℕ) : Type 
 -- a target, each such question gets the same reply in both.
 abbrev pub DoRepliesRestOnSlices : PolicyRows → Type 0
 DoRepliesRestOnSlices rows =
-    (name : List ℕ) (target : Fpr) (one other : Whole) → IsReached rows one → IsReached rows other
+    (name : List ℕ) (target : Fpr) (one other : Session) → IsReached rows one → IsReached rows other
     → AreAlikeFor name target one.state other.state
     → (line : List ℕ) → IsQuestion name target line → AreRepliesAlike rows one other line
 
 -- The answer itself depends on a slice only, and so does the amount that `list` and `watch` report for a binding.
 abbrev pub DoAnswersRestOnSlices : PolicyRows → Type 0
 DoAnswersRestOnSlices rows =
-    (name : List ℕ) (target : Fpr) (one other : Whole) → IsReached rows one → IsReached rows other
+    (name : List ℕ) (target : Fpr) (one other : Session) → IsReached rows one → IsReached rows other
     → AreAlikeFor name target one.state other.state
     → (view : View) → view_at one.state.views name ≡ Some view
     → (uid : List ℕ) (wanted : ℕ) (paths : List Path)
@@ -93,6 +93,6 @@ pub record IsExplaining (name : List ℕ) (target : Fpr) (line : List ℕ) : Typ
 -- The reply to `explain` depends only on the certificate and on the issuers of its signatures.
 abbrev pub DoExplanationsRestOnIssuers : PolicyRows → Type 0
 DoExplanationsRestOnIssuers rows =
-    (name : List ℕ) (target : Fpr) (one other : Whole) → IsReached rows one → IsReached rows other
+    (name : List ℕ) (target : Fpr) (one other : Session) → IsReached rows one → IsReached rows other
     → AreAlikeAround name target one.state other.state
     → (line : List ℕ) → IsExplaining name target line → AreRepliesAlike rows one other line

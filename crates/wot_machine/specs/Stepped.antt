@@ -12,16 +12,16 @@ use Rattle.wot_machine.specs.Lines.{heard}
 use Rattle.wot_machine.specs.LineStep.{LineStep}
 use Rattle.wot_machine.specs.Machine.{Machine, Parts, kept}
 use Rattle.wot_machine.specs.Pacing.{left_by, reply_in, settled}
-use Rattle.wot_machine.specs.Whole.{Whole, watched, whole_of}
-use Rattle.wot_machine.specs.Ran.{Ran, RanClass, Seen}
+use Rattle.wot_machine.specs.Session.{Session, watched, session_of}
+use Rattle.wot_machine.specs.CommandRun.{CommandRun, ClassRun, Seen}
 use Rattle.wot_machine.specs.Served.{Served}
 use Rattle.wot_machine.specs.Transcript.{listed, octets_of}
-use Rattle.wot_machine.specs.Watching.{Tells}
+use Rattle.wot_machine.specs.Watching.{ReportsWatches}
 
 -- The line had this reply or none, by what the certificate directory returned. A call failed only if the count of
 -- faults rose.
-pub record Replied (rows : PolicyRows) (line : List ℕ) (old : Whole) (before : Seen) (reply : Option Reply)
-    (new : Whole) (after : Seen) : Type 0 where
+pub record Replied (rows : PolicyRows) (line : List ℕ) (old : Session) (before : Seen) (reply : Option Reply)
+    (new : Session) (after : Seen) : Type 0 where
   pub given : Served
   pub step : LineStep rows old line given reply new
   pub served : IsServed old.state (use_of (heard line)) before.world given after.world
@@ -32,23 +32,24 @@ pub record Replied (rows : PolicyRows) (line : List ℕ) (old : Whole) (before :
 abbrev pub Replies : PolicyRows → List ℕ → Ends Machine → Ends Seen → Option Told → Type 0
 Replies rows line machine shelf told =
     Replied rows line (kept machine.old) shelf.old (reply_in told)
-    (watched (whole_of machine.new.engine (left_by told machine.new.cursors)) machine.new.watches) shelf.new
+    (watched (session_of machine.new.engine (left_by told machine.new.cursors)) machine.new.watches) shelf.new
 
 -- what a machine's parts do with a command, or with a line that isn't one
-abbrev pub Heeds : PolicyRows → Option Command → Ends Parts → Ends Seen → Told → Type 0
-Heeds rows command parts shelf told =
-    Ran rows command (watched (whole_of parts.old.engine parts.old.cursors) parts.old.watches) shelf.old told.reply
-    (watched (whole_of parts.new.engine (settled told.moved parts.new.cursors)) parts.new.watches) shelf.new
+abbrev pub RunsIn : PolicyRows → Option Command → Ends Parts → Ends Seen → Told → Type 0
+RunsIn rows command parts shelf told =
+    CommandRun rows command (watched (session_of parts.old.engine parts.old.cursors) parts.old.watches) shelf.old
+    told.reply
+    (watched (session_of parts.new.engine (settled told.moved parts.new.cursors)) parts.new.watches) shelf.new
 
 -- what a command does, by its class, in terms of a machine's parts
-abbrev pub HeedsClass : PolicyRows → Class → Ends Parts → Ends Seen → Told → Type 0
-HeedsClass rows class parts shelf told =
-    RanClass rows class (watched (whole_of parts.old.engine parts.old.cursors) parts.old.watches) shelf.old told.reply
-    (watched (whole_of parts.new.engine (settled told.moved parts.new.cursors)) parts.new.watches) shelf.new
+abbrev pub ClassRunsIn : PolicyRows → Class → Ends Parts → Ends Seen → Told → Type 0
+ClassRunsIn rows class parts shelf told =
+    ClassRun rows class (watched (session_of parts.old.engine parts.old.cursors) parts.old.watches) shelf.old told.reply
+    (watched (session_of parts.new.engine (settled told.moved parts.new.cursors)) parts.new.watches) shelf.new
 
 -- The line had its step by what the directory returned, and the octets of its reply are appended. A call failed only if
 -- the count of faults rose.
-pub record Stepped (rows : PolicyRows) (line : List ℕ) (old : Whole) (before : Seen) (had : List ℕ) (new : Whole)
+pub record Stepped (rows : PolicyRows) (line : List ℕ) (old : Session) (before : Seen) (had : List ℕ) (new : Session)
     (after : Seen) (has : List ℕ) : Type 0 where
   pub given : Served
   pub reply : Option Reply
@@ -59,11 +60,11 @@ pub record Stepped (rows : PolicyRows) (line : List ℕ) (old : Whole) (before :
   pub octets : has ≡ had ++ octets_of (listed reply)
 
 -- the step of a line, by what is kept, the directory and the octets before and after the call
-abbrev pub Runs : PolicyRows → List ℕ → Ends Whole → Ends Seen → Ends (List ℕ) → Type 0
-Runs rows line whole shelf out = Stepped rows line whole.old shelf.old out.old whole.new shelf.new out.new
+abbrev pub LineRun : PolicyRows → List ℕ → Ends Session → Ends Seen → Ends (List ℕ) → Type 0
+LineRun rows line whole shelf out = Stepped rows line whole.old shelf.old out.old whole.new shelf.new out.new
 
 -- the watch lines are reported, and their octets are appended
-pub record TellsBehind (old : Whole) (had : List ℕ) (new : Whole) (has : List ℕ) : Type 0 where
+pub record TellsBehind (old : Session) (had : List ℕ) (new : Session) (has : List ℕ) : Type 0 where
   pub lines : List Reply
-  pub tells : Tells old lines new
+  pub tells : ReportsWatches old lines new
   pub octets : has ≡ had ++ octets_of lines

@@ -19,7 +19,7 @@ use Rattle.wot_machine.specs.declared.store.Unwritten.{Unwritten}
 use Rattle.wot_machine.specs.declared.store.Unwritten.TheVariants.{Told, Memory}
 use Rattle.wot_machine.specs.Entry.{IsWorldAfter, WasGiven, has_failed}
 use Rattle.wot_machine.specs.Outcome.{refusal}
-use Rattle.wot_machine.specs.Ran.{Seen}
+use Rattle.wot_machine.specs.CommandRun.{Seen}
 use Rattle.wot_machine.specs.Served.{Served}
 use Rattle.wot_machine.specs.Storing.{stored, text_unless, writing}
 

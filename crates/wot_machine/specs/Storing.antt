@@ -28,9 +28,9 @@ unless_great c = if nat_lt standard_limits.certificate (size_of c) then Err (ref
 abbrev pub united : Certificate → Certificate → Result Certificate Refusal
 united kept c = if bytes_eq kept.key c.key then unless_great (unite kept c) else Err refusals.Clash
 
-abbrev pub united_with : Certificate → Result Certificate Refusal → Result Certificate Refusal
-united_with kept (Err told) = Err told
-united_with kept (Ok c) = united kept c
+abbrev pub merged_entry : Certificate → Result Certificate Refusal → Result Certificate Refusal
+merged_entry kept (Err told) = Err told
+merged_entry kept (Ok c) = united kept c
 
 -- the text of a certificate, or the reply to a refusal
 abbrev pub text_unless : Result Certificate Refusal → Result (List ℕ) Reply
@@ -43,7 +43,7 @@ abbrev pub writing : Fpr → Certificate → Answer → Result (List ℕ) Reply
 writing fpr kept Answer.fault = Err replies.Shelf
 writing fpr kept Answer.long = Err replies.Long
 writing fpr kept Answer.absent = Ok (text_of kept)
-writing fpr kept (Answer.entry octets) = text_unless (united_with kept (entry_in (Cert fpr) octets))
+writing fpr kept (Answer.entry octets) = text_unless (merged_entry kept (entry_in (Cert fpr) octets))
 
 -- the reply, by what is to be written and whether the replace fails
 abbrev pub stored : Bool → Result (List ℕ) Reply → Reply

@@ -16,7 +16,7 @@ use Rattle.wot_cache.specs.State.{Engine, State}
 use Rattle.wot_cache.specs.Views.{view_at}
 use Rattle.wot_cursor.specs.Cursors.{Cursors}
 use Rattle.wot_watch.specs.Watches.{Watch, Watches, is_full, watch_at, with_told, with_watch, without_watch}
-use Rattle.wot_machine.specs.Whole.{Whole, watched, whole_of}
+use Rattle.wot_machine.specs.Session.{Session, watched, session_of}
 
 -- ---- amounts
 
@@ -72,7 +72,7 @@ told_all watches [] = watches
 told_all watches (line ∷ lines) = told_all (told_by watches line) lines
 
 -- These are the watch lines of what is kept, and they are reported. Nothing else changes.
-pub record Tells (old : Whole) (lines : List Reply) (new : Whole) : Type 0 where
+pub record ReportsWatches (old : Session) (lines : List Reply) (new : Session) : Type 0 where
   pub lines_are : AreLines old.state old.watches lines
   pub left : new ≡ record old { watches = told_all old.watches lines }
 
@@ -94,7 +94,7 @@ BeginsWatch old name view target wanted uid amount reply watches =
     reply watches)
 
 -- the reply and the watches when a watch begins from an open view
-abbrev pub Opens : Whole → List ℕ → List ℕ → Fpr → ℕ → List ℕ → Option View → Reply → Watches → Type 0
+abbrev pub Opens : Session → List ℕ → List ℕ → Fpr → ℕ → List ℕ → Option View → Reply → Watches → Type 0
 Opens s name view target wanted uid None reply watches = LeavesWatches replies.View s.watches reply watches
 Opens s name view target wanted uid (Some there) reply watches =
     (amount : ℕ) × IsAmount s.state there target wanted uid amount
@@ -103,7 +103,7 @@ Opens s name view target wanted uid (Some there) reply watches =
 -- ---- `watch W off`
 
 -- a watch is removed
-abbrev pub TakesOff : Whole → List ℕ → Reply → Watches → Type 0
+abbrev pub TakesOff : Session → List ℕ → Reply → Watches → Type 0
 TakesOff s name reply watches =
     MatchBool (is_some (watch_at s.watches name))
     (LeavesWatches replies.Done (without_watch s.watches name) reply watches)
@@ -117,20 +117,20 @@ is_watching (OfWatch name command) = true
 is_watching _ = false
 
 -- what a command of a watch does to the watches, and its reply
-abbrev pub SetsWatch : Whole → List ℕ → WatchCommand → Reply → Watches → Type 0
+abbrev pub SetsWatch : Session → List ℕ → WatchCommand → Reply → Watches → Type 0
 SetsWatch s name (commands.On view target wanted uid) reply watches =
     Opens s name view target wanted uid (view_at s.state.views view) reply watches
 SetsWatch s name commands.Off reply watches = TakesOff s name reply watches
 
 -- What a command does to the watches, and the reply if it is a command of a watch. No other command changes them.
-abbrev pub Watching : Whole → Class → Reply → Watches → Type 0
+abbrev pub Watching : Session → Class → Reply → Watches → Type 0
 Watching s (OfWatch name command) reply watches = SetsWatch s name command reply watches
 Watching s _ reply watches = watches ≡ s.watches
 
 -- what a command of a watch does over an engine, whatever the cursors are
 abbrev pub SetsOver : Engine → Watches → List ℕ → WatchCommand → Reply → Watches → Type 0
 SetsOver engine old name command reply watches =
-    (cursors : Cursors) → SetsWatch (watched (whole_of engine cursors) old) name command reply watches
+    (cursors : Cursors) → SetsWatch (watched (session_of engine cursors) old) name command reply watches
 
 -- what the beginning of a watch does over an engine
 abbrev pub OpensOver : Engine → Watches → List ℕ → List ℕ → Fpr → ℕ → List ℕ → Reply → Watches → Type 0

@@ -7,9 +7,10 @@ ghost use Rattle.wot_cache.specs.State.{state_of};
 ghost use Rattle.wot_cache.specs.Views.{view_at};
 ghost use Rattle.wot_machine.specs.Absent.{Misses, MissesBy, asked_from, claim_line, claim_step, label_line, missed};
 
+use crate::refusal::{Refused, reply_to};
 use std::alloc::Global;
 use wot_auth::authenticate;
-use wot_cache::{AskFault, Engine, Parts};
+use wot_cache::{Engine, Parts};
 use wot_check::Table;
 use wot_check::laws::answers_are_few;
 use wot_edge::{Path, Step};
@@ -39,8 +40,7 @@ pub fn absence(
 {
     match engine.parts(view, steps) {
         Ok(parts) => absence_from(alloc, &parts, target, wanted, uid),
-        Err(AskFault::View) => Ok(Reply::View),
-        Err(AskFault::Memory) => Err(Memory),
+        Err(fault) => reply_to(Refused::from(fault)),
     }
 }
 

@@ -10,9 +10,10 @@ ghost use Rattle.wot_cache.specs.Views.{view_at};
 ghost use Rattle.wot_machine.specs.Answer.{Asks, uid_at, step_line, path_lines, told as told_of};
 
 use crate::listing::cert_of;
+use crate::refusal::{Refused, reply_to};
 use std::alloc::Global;
 use wot_auth::Answer;
-use wot_cache::{AskFault, Engine};
+use wot_cache::Engine;
 use wot_edge::{Path, Step};
 use wot_script::{AnswerLine, AnswerLines, Reply};
 use wot_types::{Fpr, Memory, Steps, UserId, ViewName};
@@ -37,8 +38,7 @@ pub fn ask(
 {
     match engine.ask(view, target, wanted, uid, steps) {
         Ok(answer) => told(alloc, engine, &answer),
-        Err(AskFault::View) => Ok(Reply::View),
-        Err(AskFault::Memory) => Err(Memory),
+        Err(fault) => reply_to(Refused::from(fault)),
     }
 }
 

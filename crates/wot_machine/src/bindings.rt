@@ -8,8 +8,9 @@ ghost use Rattle.wot_cache.specs.State.{state_of};
 ghost use Rattle.wot_cache.specs.Views.{view_at};
 ghost use Rattle.wot_machine.specs.Listing.{Lists, ListsBy, bind_line};
 
+use crate::refusal::{Refused, reply_to};
 use std::alloc::Global;
-use wot_cache::{AskFault, Engine, Parts};
+use wot_cache::{Engine, Parts};
 use wot_explain::Bind;
 use wot_script::{BindLine, BindLines, Reply};
 use wot_types::{Memory, Steps, ViewName};
@@ -31,8 +32,7 @@ pub fn list(
 {
     match engine.parts(view, steps) {
         Ok(parts) => list_from(alloc, &parts, wanted),
-        Err(AskFault::View) => Ok(Reply::View),
-        Err(AskFault::Memory) => Err(Memory),
+        Err(fault) => reply_to(Refused::from(fault)),
     }
 }
 

@@ -8,8 +8,9 @@ ghost use Rattle.wot_cache.specs.State.{state_of};
 ghost use Rattle.wot_cache.specs.Views.{view_at};
 ghost use Rattle.wot_machine.specs.Absent.{Checks, ChecksBy, asked_from, claim_in, sum_in, table_in, verdict_on};
 
+use crate::refusal::{Refused, reply_to};
 use std::alloc::Global;
-use wot_cache::{AskFault, Engine, Parts};
+use wot_cache::{Engine, Parts};
 use wot_check::{Checked, Claimed, Table};
 use wot_script::{ClaimLine, ClaimLines, LabelLine, LabelLines, Reply};
 use wot_types::{Fpr, Memory, Steps, ViewName};
@@ -36,8 +37,7 @@ pub fn check(
 {
     match engine.parts(view, steps) {
         Ok(parts) => check_from(alloc, &parts, target, claims, labels, uid),
-        Err(AskFault::View) => Ok(Reply::View),
-        Err(AskFault::Memory) => Err(Memory),
+        Err(fault) => reply_to(Refused::from(fault)),
     }
 }
 

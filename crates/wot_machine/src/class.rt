@@ -2,7 +2,7 @@
 //! of a class can change. `specs/Classes.antt` defines the classes, and `state`, `pacing` and `watching` run them.
 //! A new command is a variant here, an arm of `sort` and a case of `class_of`.
 ghost use Rattle.std.specs.Prelude.{◌≡◌};
-ghost use Rattle.wot_script.specs.Spelling.{HasSpelling, IsWithin};
+ghost use Rattle.wot_script.specs.Spelling.{HasSpelling, FitsLine};
 ghost use Rattle.wot_machine.specs.Classes.{IsFit, IsSmall, class_of};
 
 use wot_script::{ClaimLines, Command, LabelLines, Octets};
@@ -119,7 +119,7 @@ pub enum WatchCommand {
 /// The class of a command.
 pub fn sort(command: Command) -> Class
     requires spelled { HasSpelling command }
-    requires within { IsWithin 16777216 command }
+    requires within { FitsLine 16777216 command }
     ensures class { result ≡ class_of command }
     ensures fit { IsFit result }
     ensures small { IsSmall result }

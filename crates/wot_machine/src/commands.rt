@@ -10,10 +10,10 @@ ghost use Rattle.wot_cache.specs.State.{marks_at, state_of, OtherMarksStay};
 ghost use Rattle.wot_cache.specs.Turns.{IsOneClosing, IsOneTurn};
 ghost use Rattle.wot_cache.specs.Views.{view_at};
 ghost use Rattle.wot_machine.specs.Asked.{AsksForNew};
-ghost use Rattle.wot_machine.specs.Outcome.{import as import_of, remove as remove_of, set_verdict as set_verdict_of};
+ghost use Rattle.wot_machine.specs.Outcome.{import as import_, remove as remove_of, set_verdict as set_verdict_of};
 ghost use Rattle.wot_machine.specs.Outcome.{clear_verdict as clear_verdict_of, time as time_of, root as root_of};
 ghost use Rattle.wot_machine.specs.Outcome.{close as close_of};
-ghost use Rattle.wot_machine.specs.LineStep.{Gives};
+ghost use Rattle.wot_machine.specs.LineStep.{ComesTo};
 
 use crate::refusal::{Refused, reply_to};
 use wot_cache::{Engine, NoView};
@@ -36,7 +36,7 @@ pub fn import<F: Fn(Ask) -> bool>(
     requires judged { IsJudgedBy (rows_of policy.old) engine.old.keyring }
     requires faithful { IsFaithful F.Fn policy.old }
     ensures gives { IfOk result (λ reply.
-        Gives (import_of (rows_of policy.old) (state_of engine.old) octets.now) reply (state_of engine.new)) }
+        ComesTo (import_ (rows_of policy.old) (state_of engine.old) octets.now) reply (state_of engine.new)) }
     ensures short { IfOk result (λ reply. is_short reply ≡ true) }
     ensures kept { OnErr result (engine.new ≡ engine.old) }
     ensures marks { engine.new.marks ≡ engine.old.marks }
@@ -64,7 +64,7 @@ pub fn import<F: Fn(Ask) -> bool>(
 pub fn remove(engine: &mut Engine, fpr: &Fpr) -> Reply
     requires standard { engine.old.keyring.limits ≡ standard_limits }
     requires countable { engine.old.keyring.changes < 2 ^ 64 - 1 }
-    ensures gives { Gives (remove_of (state_of engine.old) fpr.now) result (state_of engine.new) }
+    ensures gives { ComesTo (remove_of (state_of engine.old) fpr.now) result (state_of engine.new) }
     ensures short { is_short result ≡ true }
     ensures marks { engine.new.marks ≡ engine.old.marks }
     ensures turns { engine.new.turns ≡ engine.old.turns }
@@ -88,7 +88,7 @@ pub fn set_verdict(
     requires standard { engine.old.keyring.limits ≡ standard_limits }
     requires countable { engine.old.keyring.changes < 2 ^ 64 - 1 }
     ensures gives { IfOk result (λ reply.
-        Gives (set_verdict_of (state_of engine.old) number verdict) reply (state_of engine.new)) }
+        ComesTo (set_verdict_of (state_of engine.old) number verdict) reply (state_of engine.new)) }
     ensures short { IfOk result (λ reply. is_short reply ≡ true) }
     ensures kept { OnErr result (engine.new ≡ engine.old) }
     ensures marks { engine.new.marks ≡ engine.old.marks }
@@ -107,7 +107,7 @@ pub fn set_verdict(
 pub fn clear_verdict(engine: &mut Engine, number: &SigNumber) -> Reply
     requires standard { engine.old.keyring.limits ≡ standard_limits }
     requires countable { engine.old.keyring.changes < 2 ^ 64 - 1 }
-    ensures gives { Gives (clear_verdict_of (state_of engine.old) number.now) result (state_of engine.new) }
+    ensures gives { ComesTo (clear_verdict_of (state_of engine.old) number.now) result (state_of engine.new) }
     ensures short { is_short result ≡ true }
     ensures marks { engine.new.marks ≡ engine.old.marks }
     ensures turns { engine.new.turns ≡ engine.old.turns }
@@ -127,7 +127,7 @@ pub fn time(engine: &mut Engine, view: &ViewName, t: u32) -> Result<Reply, Memor
     requires standard { engine.old.keyring.limits ≡ standard_limits }
     requires turnable { engine.old.turns.count < 2 ^ 64 - 1 }
     ensures gives { IfOk result (λ reply.
-        Gives (time_of (state_of engine.old) view.now t) reply (state_of engine.new)) }
+        ComesTo (time_of (state_of engine.old) view.now t) reply (state_of engine.new)) }
     ensures turned { IsOneTurn view.now engine.old.views engine.old.turns engine.new.views engine.new.turns }
     ensures short { IfOk result (λ reply. is_short reply ≡ true) }
     ensures kept { OnErr result (engine.new ≡ engine.old) }
@@ -147,7 +147,7 @@ pub fn root(engine: &mut Engine, view: &ViewName, fpr: &Fpr, amount: u8) -> Resu
     requires standard { engine.old.keyring.limits ≡ standard_limits }
     requires turnable { engine.old.turns.count < 2 ^ 64 - 1 }
     ensures gives { IfOk result (λ reply.
-        Gives (root_of (state_of engine.old) view.now fpr.now amount) reply (state_of engine.new)) }
+        ComesTo (root_of (state_of engine.old) view.now fpr.now amount) reply (state_of engine.new)) }
     ensures turned { IsOneTurn view.now engine.old.views engine.old.turns engine.new.views engine.new.turns }
     ensures short { IfOk result (λ reply. is_short reply ≡ true) }
     ensures kept { OnErr result (engine.new ≡ engine.old) }
@@ -162,7 +162,7 @@ pub fn root(engine: &mut Engine, view: &ViewName, fpr: &Fpr, amount: u8) -> Resu
 
 /// `view V close`: closes a view, or replies that it isn't open. Takes no memory.
 pub fn close(engine: &mut Engine, view: &ViewName) -> Reply
-    ensures gives { Gives (close_of (state_of engine.old) view.now) result (state_of engine.new) }
+    ensures gives { ComesTo (close_of (state_of engine.old) view.now) result (state_of engine.new) }
     ensures turned { IsOneClosing view.now engine.old.views engine.old.turns engine.new.views engine.new.turns }
     ensures short { is_short result ≡ true }
     ensures others { OtherMarksStay view.now engine.old engine.new }

@@ -11,11 +11,11 @@ ghost use Rattle.wot_machine.specs.Asked.{AsksForNew};
 ghost use Rattle.wot_machine.specs.Both.{ends};
 ghost use Rattle.wot_machine.specs.Entry.{MayPutTo, loads};
 ghost use Rattle.wot_machine.specs.LineStep.{Loads};
-ghost use Rattle.wot_machine.specs.Ran.{LoadsBy, seen};
+ghost use Rattle.wot_machine.specs.CommandRun.{LoadsBy, seen};
 
 use crate::refusal::{Refused, reply_to};
 use wot_cache::Engine;
-use wot_certd::{Given, Shelf, ShelfFault};
+use wot_certd::{Given, Shelf};
 use wot_keyring::Imported;
 use wot_policy::{Ask, Policy};
 use wot_script::Reply;
@@ -54,8 +54,7 @@ pub fn load<D: Shelf, F: Fn(Ask) -> bool>(
         Ok(Given::Bytes(octets)) => enter(engine, name, &octets, policy),
         Ok(Given::Absent) => Ok(Reply::Absent),
         Ok(Given::Long) => Ok(Reply::Long),
-        Err(ShelfFault::Failed) => Ok(Reply::Shelf),
-        Err(ShelfFault::Memory) => Err(Memory),
+        Err(fault) => reply_to(Refused::from(fault)),
     }
 }
 

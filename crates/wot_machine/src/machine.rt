@@ -20,8 +20,8 @@ ghost use Rattle.wot_machine.specs.EdgeLines.{CommandMarks, LineMarks};
 ghost use Rattle.wot_machine.specs.Lines.{heard, is_silent};
 ghost use Rattle.wot_machine.specs.Entry.{MayPut, entry_for, use_by, use_of};
 ghost use Rattle.wot_machine.specs.Both.{ends, itself};
-ghost use Rattle.wot_machine.specs.Ran.{over};
-ghost use Rattle.wot_machine.specs.Stepped.{Heeds, HeedsClass, Replies, Runs, TellsBehind};
+ghost use Rattle.wot_machine.specs.CommandRun.{over};
+ghost use Rattle.wot_machine.specs.Stepped.{RunsIn, ClassRunsIn, Replies, LineRun, TellsBehind};
 ghost use Rattle.wot_machine.specs.Transcript.{octets_of};
 ghost use Rattle.wot_machine.specs.Machine.{kept, parts, PartsStay, StaysKept};
 ghost use Rattle.wot_machine.specs.Pacing.{settled};
@@ -120,7 +120,7 @@ impl Machine {
         requires turnable { self.old.engine.turns.count < 2 ^ 64 - 1 }
         requires judged { IsJudgedBy (rows_of policy.old) self.old.engine.keyring }
         requires faithful { IsFaithful F.Fn policy.old }
-        ensures step { OnOk result (Runs (rows_of policy.old) line.now
+        ensures step { OnOk result (LineRun (rows_of policy.old) line.now
             (ends kept self) (over D.world D.faults shelf) (ends vec_items out)) }
         ensures untouched { entry_for (state_of self.old.engine) (use_of (heard line.now)) ≡ None →
             shelf.new ≡ shelf.old }
@@ -419,7 +419,7 @@ fn answer<D: Shelf, F: Fn(Ask) -> bool>(
     requires turnable { engine.old.turns.count < 2 ^ 64 - 1 }
     requires judged { IsJudgedBy (rows_of policy.old) engine.old.keyring }
     requires faithful { IsFaithful F.Fn policy.old }
-    ensures ran { IfOk result (Heeds (rows_of policy.old) (command_of line.now)
+    ensures ran { IfOk result (RunsIn (rows_of policy.old) (command_of line.now)
         (parts engine cursors watches) (over D.world D.faults shelf)) }
     ensures untouched { entry_for (state_of engine.old) (use_of (command_of line.now)) ≡ None → shelf.new ≡ shelf.old }
     ensures entries { OnErr result (MayPut (state_of engine.old) (use_of (command_of line.now))
@@ -477,7 +477,7 @@ fn act<D: Shelf, F: Fn(Ask) -> bool>(
     requires turnable { engine.old.turns.count < 2 ^ 64 - 1 }
     requires judged { IsJudgedBy (rows_of policy.old) engine.old.keyring }
     requires faithful { IsFaithful F.Fn policy.old }
-    ensures ran { IfOk result (HeedsClass (rows_of policy.old) class
+    ensures ran { IfOk result (ClassRunsIn (rows_of policy.old) class
         (parts engine cursors watches) (over D.world D.faults shelf)) }
     ensures untouched { entry_for (state_of engine.old) (use_by class) ≡ None → shelf.new ≡ shelf.old }
     ensures entries { OnErr result (MayPut (state_of engine.old) (use_by class)

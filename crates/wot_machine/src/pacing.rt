@@ -7,16 +7,17 @@ ghost use Rattle.wot_cache.specs.State.{StaysButMarks};
 ghost use Rattle.wot_cache.specs.Views.{view_at};
 ghost use Rattle.wot_cursor.specs.Cursors.{Cursors as TheCursors, cursor_at};
 ghost use Rattle.wot_machine.specs.declared.class.CursorCommand.TheVariants as paces;
-ghost use Rattle.wot_machine.specs.Pacing.{Gives, OnTold, PacesCursor, TellsPiece, behind, settled};
+ghost use Rattle.wot_machine.specs.Pacing.{ReturnsPiece, OnTold, PacesCursor, TellsPiece, behind, settled};
 ghost use Rattle.wot_machine.specs.Made.{CursorMakes, PieceMakes};
-ghost use Rattle.wot_machine.specs.Whole.{whole_of};
+ghost use Rattle.wot_machine.specs.Session.{session_of};
 
 use crate::bindings::bind_lines;
 use crate::class::CursorCommand;
+use crate::refusal::{Refused, reply_to};
 use crate::told::{Moved, Told, alone};
 use std::alloc::Global;
-use wot_cache::{AskFault, Engine, Parts};
-use wot_cursor::{Age, BeginFault, Cursor, Cursors, Stamps, age};
+use wot_cache::{Engine, Parts};
+use wot_cursor::{Age, Cursor, Cursors, Stamps, age};
 use wot_explain::laws::list_is_one;
 use wot_explain::{Bind, list_after};
 use wot_script::{BindLines, Reply};
@@ -32,7 +33,7 @@ pub fn pace(
     command: &CursorCommand,
 ) -> Result<Told, Memory>
     ensures paces { OnTold result cursors.new
-        (PacesCursor (whole_of engine.old cursors.old) name.now command.now) }
+        (PacesCursor (session_of engine.old cursors.old) name.now command.now) }
     ensures stays { StaysButMarks engine.old engine.new }
     ensures makes { CursorMakes result (cursor_at cursors.old name.now) command.now engine.old engine.new
         steps.old.made steps.new.made }
@@ -57,7 +58,7 @@ pub fn over(
     wanted: u32,
 ) -> Result<Told, Memory>
     ensures begins { OnTold result cursors.new
-        (PacesCursor (whole_of engine.now cursors.old) name.now (paces.Over view.now wanted)) }
+        (PacesCursor (session_of engine.now cursors.old) name.now (paces.Over view.now wanted)) }
     ensures short { IfOk result (λ told. is_short told.reply ≡ true) }
     ensures kept { OnErr result (cursors.new ≡ cursors.old) }
 {
@@ -72,14 +73,13 @@ pub fn over(
     let view = view.duplicate(alloc)?;
     match cursors.begin(name, view, wanted, stamps) {
         Ok(()) => Ok(alone(Reply::Done)),
-        Err(BeginFault::Full) => Ok(alone(Reply::FullCursors)),
-        Err(BeginFault::Memory) => Err(Memory),
+        Err(fault) => Ok(alone(reply_to(Refused::from(fault))?)),
     }
 }
 
 /// `cursor C close`: removes a cursor, or replies that there is none of this name. Takes no memory.
 pub fn close(engine: &Engine, cursors: &mut Cursors, name: &ViewName) -> Told
-    ensures ends { PacesCursor (whole_of engine.now cursors.old) name.now paces.Close
+    ensures ends { PacesCursor (session_of engine.now cursors.old) name.now paces.Close
         result.reply (settled result.moved cursors.new) }
     ensures short { is_short result.reply ≡ true }
 {
@@ -103,7 +103,7 @@ pub fn next(
     count: u32,
 ) -> Result<Told, Memory>
     ensures goes { OnTold result cursors.now
-        (PacesCursor (whole_of engine.old cursors.now) name.now (paces.Next count)) }
+        (PacesCursor (session_of engine.old cursors.now) name.now (paces.Next count)) }
     ensures stays { StaysButMarks engine.old engine.new }
     ensures makes { PieceMakes result (cursor_at cursors.now name.now) engine.old engine.new
         steps.old.made steps.new.made }
@@ -136,7 +136,7 @@ fn give(
 ) -> Result<Told, Memory>
     requires open { is_some (view_at engine.old.views cursor.now.view) ≡ true }
     ensures gives { (cursors : TheCursors) → OnTold result cursors
-        (Gives (whole_of engine.old cursors) name.now count cursor.now) }
+        (ReturnsPiece (session_of engine.old cursors) name.now count cursor.now) }
     ensures stays { StaysButMarks engine.old engine.new }
     ensures makes { PieceMakes result (Some cursor.now) engine.old engine.new steps.old.made steps.new.made }
 {
@@ -147,8 +147,7 @@ fn give(
     list_is_one();
     match engine.parts(cursor.view(), steps) {
         Ok(parts) => piece(alloc, &parts, cursor, name, count),
-        Err(AskFault::View) => Ok(alone(Reply::View)),
-        Err(AskFault::Memory) => Err(Memory),
+        Err(fault) => Ok(alone(reply_to(Refused::from(fault))?)),
     }
 }
 

@@ -11,9 +11,10 @@ ghost use Rattle.wot_explain.specs.Usable.{AreRoadsOf};
 ghost use Rattle.wot_machine.specs.EdgeLines.{EdgesAreTold, MarksFrom};
 ghost use Rattle.wot_machine.specs.Listing.{Explains, explained_from, reason_line as reason_line_of};
 
+use crate::refusal::{Refused, reply_to};
 use std::alloc::Global;
-use wot_cache::{AskFault, Engine, Parts};
-use wot_explain::{ExplainFault, Reason};
+use wot_cache::{Engine, Parts};
+use wot_explain::Reason;
 use wot_script::{ReasonLine, ReasonLines, Reply};
 use wot_types::{Fpr, Memory, Steps, ViewName};
 
@@ -37,8 +38,7 @@ pub fn explain(
 {
     match engine.parts(view, steps) {
         Ok(parts) => explain_from(alloc, &parts, fpr, uid),
-        Err(AskFault::View) => Ok(Reply::View),
-        Err(AskFault::Memory) => Err(Memory),
+        Err(fault) => reply_to(Refused::from(fault)),
     }
 }
 
@@ -53,8 +53,7 @@ fn explain_from(alloc: Global, parts: &Parts<'_>, fpr: &Fpr, uid: &[u8]) -> Resu
             let lines = reason_lines(alloc, explained.certs.as_slice())?;
             Ok(Reply::Explained(explained.target, lines.items().len() as u64, lines))
         }
-        Err(ExplainFault::Absent) => Ok(Reply::Absent),
-        Err(ExplainFault::Memory) => Err(Memory),
+        Err(fault) => reply_to(Refused::from(fault)),
     }
 }
 

@@ -19,10 +19,10 @@ ghost use Rattle.wot_machine.specs.Classes.{change_of, reading, view_change_of};
 ghost use Rattle.wot_machine.specs.EdgeLines.{CommandMarks, QuestionMarks};
 ghost use Rattle.wot_machine.specs.Entry.{MayPutTo, entry_for, use_by, use_in};
 ghost use Rattle.wot_machine.specs.Fresh.{IsMadeAnew, OnDump};
-ghost use Rattle.wot_machine.specs.LineStep.{Gives};
+ghost use Rattle.wot_machine.specs.LineStep.{ComesTo};
 ghost use Rattle.wot_machine.specs.Made.{ChangesMarks, MakesFor};
-ghost use Rattle.wot_machine.specs.Ran.{Acts, over};
-ghost use Rattle.wot_machine.specs.Whole.{AreTurned, IsTurnedBy, turning_in};
+ghost use Rattle.wot_machine.specs.CommandRun.{StateRunOver, over};
+ghost use Rattle.wot_machine.specs.Session.{AreTurned, IsTurnedBy, turning_in};
 
 use crate::absence::absence;
 use crate::answer::ask;
@@ -59,7 +59,7 @@ pub fn obey<D: Shelf, F: Fn(Ask) -> bool>(
     requires turnable { engine.old.turns.count < 2 ^ 64 - 1 }
     requires judged { IsJudgedBy (rows_of policy.old) engine.old.keyring }
     requires faithful { IsFaithful F.Fn policy.old }
-    ensures did { IfOk result (Acts (rows_of policy.old) command.now
+    ensures did { IfOk result (StateRunOver (rows_of policy.old) command.now
         (ends state_of engine) (over D.world D.faults shelf)) }
     ensures untouched { entry_for (state_of engine.old) (use_by (OfState command.now)) ≡ None → shelf.new ≡ shelf.old }
     ensures entries { OnErr result (MayPutTo (state_of engine.old) (use_by (OfState command.now))
@@ -102,7 +102,7 @@ fn change<F: Fn(Ask) -> bool>(
     requires judged { IsJudgedBy (rows_of policy.old) engine.old.keyring }
     requires faithful { IsFaithful F.Fn policy.old }
     ensures gives { IfOk result (λ reply.
-        Gives (change_of (rows_of policy.old) (state_of engine.old) what.now) reply (state_of engine.new)) }
+        ComesTo (change_of (rows_of policy.old) (state_of engine.old) what.now) reply (state_of engine.new)) }
     ensures short { IfOk result (λ reply. is_short reply ≡ true) }
     ensures kept { OnErr result (engine.new ≡ engine.old) }
     ensures marks { engine.new.marks ≡ engine.old.marks }
@@ -127,7 +127,7 @@ fn change_view(engine: &mut Engine, view: &ViewName, what: &ViewChange) -> Resul
     requires standard { engine.old.keyring.limits ≡ standard_limits }
     requires turnable { engine.old.turns.count < 2 ^ 64 - 1 }
     ensures gives { IfOk result (λ reply.
-        Gives (view_change_of (state_of engine.old) view.now what.now) reply (state_of engine.new)) }
+        ComesTo (view_change_of (state_of engine.old) view.now what.now) reply (state_of engine.new)) }
     ensures turned { AreTurned (turning_in view.now what.now)
         engine.old.views engine.old.turns engine.new.views engine.new.turns }
     ensures short { IfOk result (λ reply. is_short reply ≡ true) }
@@ -210,7 +210,7 @@ fn call<D: Shelf, F: Fn(Ask) -> bool>(
     requires countable { engine.old.keyring.changes < 2 ^ 64 - 1 }
     requires judged { IsJudgedBy (rows_of policy.old) engine.old.keyring }
     requires faithful { IsFaithful F.Fn policy.old }
-    ensures did { IfOk result (Acts (rows_of policy.old) (kinds.Shelf what.now)
+    ensures did { IfOk result (StateRunOver (rows_of policy.old) (kinds.Shelf what.now)
         (ends state_of engine) (over D.world D.faults shelf)) }
     ensures untouched { entry_for (state_of engine.old) (use_in what.now) ≡ None → shelf.new ≡ shelf.old }
     ensures entries { OnErr result (MayPutTo (state_of engine.old) (use_in what.now) (ends D.world shelf)) }

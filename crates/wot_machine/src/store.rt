@@ -7,13 +7,13 @@ ghost use Rattle.wot_cert.specs.Text.{text_of};
 ghost use Rattle.wot_keyring.specs.Entry.{entry_in};
 ghost use Rattle.wot_keyring.specs.Held.{cert_in};
 ghost use Rattle.wot_script.specs.Replies.{is_short};
-ghost use Rattle.wot_certd.specs.Shelf.{IsWithin};
+ghost use Rattle.wot_certd.specs.Shelf.{FitsEntry};
 ghost use Rattle.wot_cache.specs.State.{State, state_of};
 ghost use Rattle.wot_machine.specs.Both.{ends};
 ghost use Rattle.wot_machine.specs.Entry.{MayPutTo, MayReplace, stores};
-ghost use Rattle.wot_machine.specs.Ran.{StoresBy, across, seen};
+ghost use Rattle.wot_machine.specs.CommandRun.{StoresBy, across, seen};
 ghost use Rattle.wot_machine.specs.Stored.{IsShort, answer_of, Puts, Stores, TellsCert, TellsUnwritten};
-ghost use Rattle.wot_machine.specs.Storing.{text_unless, united as united_of, united_with, unless_great, writing};
+ghost use Rattle.wot_machine.specs.Storing.{text_unless, united as united_of, merged_entry, unless_great, writing};
 
 use crate::listing::cert_of;
 use crate::refusal::{Refused, reply_to};
@@ -21,7 +21,7 @@ use std::alloc::Global;
 use wot_cache::Engine;
 use wot_cert::laws::marks_weigh_nothing;
 use wot_cert::{Cert, MergeFault};
-use wot_certd::{Given, Shelf, ShelfFault};
+use wot_certd::{Given, Shelf};
 use wot_keyring::{Refusal, read_entry};
 use wot_script::Reply;
 use wot_types::{Fpr, Limit, Limits, Memory, Name};
@@ -77,8 +77,7 @@ fn store_kept<D: Shelf>(
             Err(Unwritten::Told(reply)) => Ok(reply),
             Err(Unwritten::Memory) => Err(Memory),
         },
-        Err(ShelfFault::Failed) => Ok(Reply::Shelf),
-        Err(ShelfFault::Memory) => Err(Memory),
+        Err(fault) => reply_to(Refused::from(fault)),
     }
 }
 
@@ -91,14 +90,13 @@ fn put<D: Shelf>(name: &Name, octets: &[u8], shelf: &mut D) -> Result<Reply, Mem
 {
     match shelf.replace(name, octets) {
         Ok(()) => Ok(Reply::Stored(octets.len() as u64)),
-        Err(ShelfFault::Failed) => Ok(Reply::Shelf),
-        Err(ShelfFault::Memory) => Err(Memory),
+        Err(fault) => reply_to(Refused::from(fault)),
     }
 }
 
 /// What is to be written, by what was read of the entry.
 fn text_for(alloc: Global, fpr: &Fpr, kept: &Cert, given: Given) -> Result<Vec<u8>, Unwritten>
-    requires within { IsWithin given }
+    requires within { FitsEntry given }
     ensures text { IfOk result (λ text. writing fpr.now kept.now (answer_of given) ≡ Ok text.items) }
     ensures told { IfErr result (TellsUnwritten (writing fpr.now kept.now (answer_of given))) }
     ensures short { IfErr result IsShort }
@@ -126,9 +124,9 @@ fn cert_text(alloc: Global, cert: &Cert) -> Result<Vec<u8>, Unwritten>
 fn union_text(alloc: Global, fpr: &Fpr, kept: &Cert, octets: &[u8]) -> Result<Vec<u8>, Unwritten>
     requires short { length octets.now < 2 ^ 29 }
     ensures text { IfOk result (λ text.
-        text_unless (united_with kept.now (entry_in (CertName fpr.now) octets.now)) ≡ Ok text.items) }
+        text_unless (merged_entry kept.now (entry_in (CertName fpr.now) octets.now)) ≡ Ok text.items) }
     ensures told { IfErr result
-        (TellsUnwritten (text_unless (united_with kept.now (entry_in (CertName fpr.now) octets.now)))) }
+        (TellsUnwritten (text_unless (merged_entry kept.now (entry_in (CertName fpr.now) octets.now)))) }
     ensures short { IfErr result IsShort }
 {
     match united_entry(alloc, fpr, kept, octets) {
@@ -143,7 +141,7 @@ fn union_text(alloc: Global, fpr: &Fpr, kept: &Cert, octets: &[u8]) -> Result<Ve
 /// The certificate merged with that of an entry with these octets.
 fn united_entry(alloc: Global, fpr: &Fpr, kept: &Cert, octets: &[u8]) -> Result<Cert, Refusal>
     requires short { length octets.now < 2 ^ 29 }
-    ensures union { TellsCert result (united_with kept.now (entry_in (CertName fpr.now) octets.now)) }
+    ensures union { TellsCert result (merged_entry kept.now (entry_in (CertName fpr.now) octets.now)) }
 {
     let name = Name::Cert(*fpr);
     match read_entry(alloc, &name, octets) {

@@ -13,15 +13,16 @@ ghost use Rattle.wot_machine.specs.Made.{WatchMakes, WatchMakesMarks, WatchesMak
 ghost use Rattle.wot_machine.specs.Settled.{AllSettled, AreOpen, AreSettled, IsSettled};
 ghost use Rattle.wot_machine.specs.Watching.{AreLines, BeginsWatch, HasAmount, IsLine, IsWatchLine};
 ghost use Rattle.wot_machine.specs.Watching.{OpensOver, SetsOver, SetsWatch, told_all, told_by};
-ghost use Rattle.wot_machine.specs.Whole.{Whole, watched};
+ghost use Rattle.wot_machine.specs.Session.{Session, watched};
 
 use crate::class::WatchCommand;
+use crate::refusal::{Refused, reply_to};
 use std::alloc::Global;
 use wot_cache::laws::{kept_on_is_order, rests_on};
 use wot_cache::{AskFault, Basis, Engine};
 use wot_script::Reply;
 use wot_types::{Fpr, Memory, Steps, UserId, ViewName};
-use wot_watch::{PutFault, Watch, Watches};
+use wot_watch::{Watch, Watches};
 
 /// Runs a command about the watch of this name. After `Memory` the watches are unchanged.
 pub fn watch(
@@ -71,8 +72,7 @@ pub fn on(
 {
     match engine.ask(view, target, wanted, uid.octets(), steps) {
         Ok(answer) => begin(alloc, watches, name, view, target, wanted, uid, answer.sum),
-        Err(AskFault::View) => Ok(Reply::View),
-        Err(AskFault::Memory) => Err(Memory),
+        Err(fault) => reply_to(Refused::from(fault)),
     }
 }
 
@@ -98,14 +98,13 @@ fn begin(
     let uid = UserId::new(alloc, uid.octets())?;
     match watches.put(key, Watch::new(view, *target, wanted, uid, amount)) {
         Ok(()) => Ok(Reply::WatchAmount(told, amount)),
-        Err(PutFault::Full) => Ok(Reply::FullWatches),
-        Err(PutFault::Memory) => Err(Memory),
+        Err(fault) => reply_to(Refused::from(fault)),
     }
 }
 
 /// `watch W off`: removes a watch, or replies that there is none of this name. Takes no memory.
 pub fn off(watches: &mut Watches, name: &ViewName) -> Reply
-    ensures watching { (s : Whole) → SetsWatch (watched s watches.old) name.now commands.Off result watches.new }
+    ensures watching { (s : Session) → SetsWatch (watched s watches.old) name.now commands.Off result watches.new }
     ensures short { is_short result ≡ true }
 {
     if watches.get(name).is_none() {

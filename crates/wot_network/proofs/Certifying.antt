@@ -21,7 +21,7 @@ use Rattle.wot_edge.specs.declared.edge.EdgeFacts.{EdgeFacts}
 use Rattle.wot_edge.specs.Order.{edge_cmp}
 use Rattle.wot_edge.specs.Record.{Has, Row, Entry, rows_into}
 use Rattle.wot_keyring.specs.Keyring.{Certificates, is_fpr}
-use Rattle.wot_live.specs.Edge.{edge_by, edge_facts, edge_on, place_of}
+use Rattle.wot_live.specs.Edge.{edge_by, edge_facts, edge_on, signature_place}
 use Rattle.wot_live.specs.Rows.{edge_with, edges_from, edges_of, edges_on, one_of_both}
 use Rattle.wot_standing.specs.Kinds.{is_certification}
 use Rattle.wot_standing.specs.Standing.{newest_certification, own}
@@ -161,12 +161,12 @@ module _ (verdicts : Entries) (c : Certificate) (t : ℕ) where
   on_made issuer uid p edge on e = newest (newest_certification verdicts issuer t p) refl e
     where
       says : (s : Signature) → newest_certification verdicts issuer t p ≡ Some s → (o : Option SigFacts) → said_by s ≡ o
-          → option_map (edge_facts issuer (own c) uid (place_of s p.sigs)) o ≡ Some edge →
+          → option_map (edge_facts issuer (own c) uid (signature_place s p.sigs)) o ≡ Some edge →
           IsMadeBy verdicts c edge
       says s n None f g = absurd cc
       says s n (Some facts) f g =
           let (among, kind, good) = newest_is verdicts issuer t p s n in
-          let same : edge_facts issuer (own c) uid (place_of s p.sigs) facts ≡ edge = cc in
+          let same : edge_facts issuer (own c) uid (signature_place s p.sigs) facts ≡ edge = cc in
           record {
             certified = record {
               user_id = p;
@@ -178,7 +178,7 @@ module _ (verdicts : Entries) (c : Certificate) (t : ℕ) where
             };
             facts = facts;
             says = f;
-            deep = said_deep issuer (own c) uid (place_of s p.sigs) facts edge same;
+            deep = said_deep issuer (own c) uid (signature_place s p.sigs) facts edge same;
           }
 
       newest : (o : Option Signature) → newest_certification verdicts issuer t p ≡ o →

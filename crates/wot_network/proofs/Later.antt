@@ -9,11 +9,11 @@ use Rattle.wot_cert.specs.Counts.{all_sigs}
 use Rattle.wot_keyring.specs.declared.kept.Kept.{Kept}
 use Rattle.wot_keyring.specs.Keyring.{Keyring, kept_at}
 use Rattle.wot_keyring.specs.Later.{SaysSame, IsUnaltered, IsLaterAt, IsLater}
-use Rattle.wot_network.specs.Net.{Line, Net, Fits, LineFits, Tells}
+use Rattle.wot_network.specs.Net.{Line, Net, Fits, LineFits, DescribesAt}
 use Rattle.wot_network.proofs.Verdicts.{edges_same, standing_same, revoked_same}
 
 tells_same : (old new : Entries) (c : Certificate) (t : ℕ) (line : Line) →
-    AllByRecursion (SaysSame old new) (all_sigs c) → Tells old c t line → Tells new c t line
+    AllByRecursion (SaysSame old new) (all_sigs c) → DescribesAt old c t line → DescribesAt new c t line
 tells_same old new c t line said tells = record {
   edges = sym (edges_same old new c t said) ∙ tells.edges;
   standing = sym (standing_same old new c t said) ∙ tells.standing;

@@ -22,7 +22,7 @@ use Rattle.wot_standing.specs.Usable.{is_usable}
 use Rattle.wot_scope.specs.Deciding.{scope_holds}
 use Rattle.wot_signature.specs.Signature.{scopes_of}
 use Rattle.wot_network.specs.Told.{row_of, entry_of, record_of, is_usable_by, is_in_scope, body_at}
-use Rattle.wot_network.specs.Net.{Line, Tells, line_at, Net, IsRight, Present, told_of}
+use Rattle.wot_network.specs.Net.{Line, DescribesAt, line_at, Net, IsRight, Present, told_of}
 
 -- ---- the keyring
 
@@ -96,14 +96,14 @@ module _ (n : Net) (k : Keyring) (right : IsRight n k n.time) where
   here = record { keyring = k; time = n.time }
 
   found_line : (fpr : Fpr) (line : Line) → line_at n.lines fpr ≡ Some line →
-      (c : Certificate) × (lookup (is_fpr fpr) (certificates_in k) ≡ Some c) × Tells k.verdicts c n.time line
+      (c : Certificate) × (lookup (is_fpr fpr) (certificates_in k) ≡ Some c) × DescribesAt k.verdicts c n.time line
   found_line fpr line e = by (keyrings.kept_at k fpr) refl
     where
       some_none : {o : Option Line} → o ≡ Some line → o ≡ None → ⊥
       some_none h j = cc
 
       by : (o : Option Kept) → keyrings.kept_at k fpr ≡ o →
-          (c : Certificate) × (lookup (is_fpr fpr) (certificates_in k) ≡ Some c) × Tells k.verdicts c n.time line
+          (c : Certificate) × (lookup (is_fpr fpr) (certificates_in k) ≡ Some c) × DescribesAt k.verdicts c n.time line
       by None f = absurd (some_none e (right.absent fpr f))
       by (Some x) f = (
         x.cert,
@@ -203,11 +203,11 @@ module _ (n : Net) (k : Keyring) (right : IsRight n k n.time) where
   present u fpr c e = sym (entry_some (certificates_in k) k.verdicts n.time u fpr c (kept_at k fpr ∙ e))
 
   told_here : (fpr : Fpr) (line : Line) (c : Certificate) → line_at n.lines fpr ≡ Some line → cert_at k fpr ≡ Some c →
-      Tells k.verdicts c n.time line
+      DescribesAt k.verdicts c n.time line
   told_here fpr line c l e =
       let (d, g, s) = found_line fpr line l in
       let same : d ≡ c = (let q : Some d ≡ Some c = sym g ∙ kept_at k fpr ∙ e in cc) in
-      subst (λ (x : Certificate). Tells k.verdicts x n.time line) same s
+      subst (λ (x : Certificate). DescribesAt k.verdicts x n.time line) same s
 
   pub standing_here : (fpr : Fpr) (line : Line) (c : Certificate) → line_at n.lines fpr ≡ Some line →
       cert_at k fpr ≡ Some c → line.standing ≡ standing_of k.verdicts c n.time

@@ -17,7 +17,7 @@ use Rattle.wot_keyring.specs.Kept.{AreSortedByFpr}
 use Rattle.wot_keyring.specs.Log.{Logged, is_listed, is_named_in}
 use Rattle.wot_live.specs.Rows.{edges_of}
 use Rattle.wot_network.specs.Net.{Line, Lines, line_at, marks_of, has_current, HasStamp, LineFits, StayCurrent}
-use Rattle.wot_network.specs.Net.{TellsThroughout, stale_signatures, weigh_stale}
+use Rattle.wot_network.specs.Net.{DescribesThroughout, stale_signatures, weigh_stale}
 use Rattle.wot_network.specs.Refreshing.{Advances, AreDoneBut, AreKept, IsDone, IsInside, IsMade, IsProgress}
 use Rattle.wot_network.proofs.Current.{current_same, line_current, stale_less, stale_elsewhere}
 use Rattle.wot_network.proofs.Fprs.{same_fpr, itself, turned}
@@ -195,7 +195,7 @@ module _ (k : Keyring) (t : ℕ) (old new : Lines) (fpr : Fpr) (x : Kept) (line 
       fit = found_by (LineFits k) (λ q h. record {
         given = subst (λ n. 0 < n) (sym made.stamp) given;
         past = subst (λ n. n ≤ k.changes) (sym made.stamp) past;
-        right = λ y f s. subst (λ (z : Kept). TellsThroughout k.verdicts z.cert line) (the_one q y h f) made.tells;
+        right = λ y f s. subst (λ (z : Kept). DescribesThroughout k.verdicts z.cert line) (the_one q y h f) made.tells;
       }) before.fit;
       lawful = found_by (λ q l. AreRows q l.edges) (λ q h. subst (λ (f : Fpr). AreRows f line.edges)
           (named ∙ same_fpr fpr q h) made.rows) before.lawful;

@@ -39,14 +39,14 @@ abbrev pub line_at : Lines → Fpr → Option Line
 line_at lines fpr = lookup (is_fpr fpr) lines
 
 -- The line says what holds for the certificate at t.
-pub record Tells (verdicts : Entries) (c : Certificate) (t : ℕ) (line : Line) : Type 0 where
+pub record DescribesAt (verdicts : Entries) (c : Certificate) (t : ℕ) (line : Line) : Type 0 where
   pub edges : edges_of verdicts c t ≡ line.edges
   pub standing : standing_of verdicts c t ≡ line.standing
   pub revoked : revoked_of verdicts c t ≡ line.revoked
 
 -- It does so at every time of the line's span.
-abbrev pub TellsThroughout : Entries → Certificate → Line → Type 0
-TellsThroughout verdicts c line = (t : ℕ) → InSpan line.span t → Tells verdicts c t line
+abbrev pub DescribesThroughout : Entries → Certificate → Line → Type 0
+DescribesThroughout verdicts c line = (t : ℕ) → InSpan line.span t → DescribesAt verdicts c t line
 
 -- Each line's edges lead to its fingerprint, and are sorted.
 abbrev pub AreLawful : Lines → Type 0
@@ -122,7 +122,7 @@ pub record Net : Type 0 where
 pub record LineFits (k : Keyring) (fpr : Fpr) (line : Line) : Type 0 where
   pub given : 0 < line.stamp
   pub past : line.stamp ≤ k.changes
-  pub right : (x : Kept) → kept_at k fpr ≡ Some x → x.stamp ≡ line.stamp → TellsThroughout k.verdicts x.cert line
+  pub right : (x : Kept) → kept_at k fpr ≡ Some x → x.stamp ≡ line.stamp → DescribesThroughout k.verdicts x.cert line
 
 abbrev pub AreFit : Keyring → Lines → Type 0
 AreFit k lines = (fpr : Fpr) (line : Line) → line_at lines fpr ≡ Some line → LineFits k fpr line
@@ -146,7 +146,7 @@ pub record Fits (n : Net) (k : Keyring) : Type 0 where
 pub record IsLineNow (verdicts : Entries) (t : ℕ) (x : Kept) (line : Line) : Type 0 where
   pub stamp : line.stamp ≡ x.stamp
   pub span : InSpan line.span t
-  pub tells : Tells verdicts x.cert t line
+  pub tells : DescribesAt verdicts x.cert t line
 
 -- The network is up to date with this keyring at t: it has a line for each certificate, and no other.
 pub record IsRight (n : Net) (k : Keyring) (t : ℕ) : Type 0 where

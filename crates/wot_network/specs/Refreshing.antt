@@ -10,7 +10,7 @@ use Rattle.wot_edge.specs.Lawful.{AreRows}
 use Rattle.wot_keyring.specs.declared.kept.Kept.{Kept}
 use Rattle.wot_keyring.specs.Keyring.{Keyring, kept_at}
 use Rattle.wot_standing.specs.Standing.{own}
-use Rattle.wot_network.specs.Net.{Line, Lines, line_at, AreFit, AreLawful, HasStamp, StayCurrent, TellsThroughout}
+use Rattle.wot_network.specs.Net.{Line, Lines, line_at, AreFit, AreLawful, HasStamp, StayCurrent, DescribesThroughout}
 use Rattle.wot_network.specs.Net.{has_current, marks_of, stale_edges, stale_signatures}
 
 -- The first span is within the second.
@@ -31,7 +31,7 @@ pub record AreKept (k : Keyring) (window : Span) (lines : Lines) : Type 0 where
 pub record IsMade (verdicts : Entries) (c : Certificate) (given t : ℕ) (line : Line) : Type 0 where
   pub stamp : line.stamp ≡ given
   pub span : InSpan line.span t
-  pub tells : TellsThroughout verdicts c line
+  pub tells : DescribesThroughout verdicts c line
   pub rows : AreRows (own c) line.edges
 
 -- What was current stays current, and at most what is stale is made.

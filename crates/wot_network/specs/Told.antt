@@ -48,9 +48,9 @@ abbrev pub is_user_id : List ℕ → Component → Bool
 is_user_id u uid = is_eq (slice_cmp nat_cmp u uid.body)
 
 -- the place of U among user IDs
-abbrev pub place_of : List ℕ → List Component → Option ℕ
-place_of u [] = None
-place_of u (uid ∷ uids) = if is_user_id u uid then Some 0 else option_map suc (place_of u uids)
+abbrev pub user_id_place : List ℕ → List Component → Option ℕ
+user_id_place u [] = None
+user_id_place u (uid ∷ uids) = if is_user_id u uid then Some 0 else option_map suc (user_id_place u uids)
 
 -- ---- the record
 -- By wot_live's law `edges_are_rows` the list of edges has the newest certification that counts of each issuer and user
@@ -68,7 +68,7 @@ row_of verdicts certs t u c edge = record {
 abbrev pub entry_of : Entries → Certificates → ℕ → List ℕ → Certificate → Entry
 entry_of verdicts certs t u c = record {
   rows = map (row_of verdicts certs t u c) (edges_of verdicts c t);
-  place = place_of u c.user_ids;
+  place = user_id_place u c.user_ids;
   in_order = is_in_order verdicts c t (is_user_id u);
 }
 

@@ -17,10 +17,11 @@ IfPacket (Packet fault) P = P fault
 IfPacket Memory P = Unit {0}
 
 -- The result is what the plain reader returns, unless memory ran out.
-abbrev pub Gives : {T : Type 0} → (T → List Spelled) → Result T ReadFault → Result (List Spelled) PacketFault → Type 0
-Gives seen (Ok found) read = read ≡ Ok (seen found)
-Gives seen (Err (Packet fault)) read = read ≡ Err fault
-Gives seen (Err Memory) read = Unit {0}
+abbrev pub ReturnsAsPlain :
+    {T : Type 0} → (T → List Spelled) → Result T ReadFault → Result (List Spelled) PacketFault → Type 0
+ReturnsAsPlain seen (Ok found) read = read ≡ Ok (seen found)
+ReturnsAsPlain seen (Err (Packet fault)) read = read ≡ Err fault
+ReturnsAsPlain seen (Err Memory) read = Unit {0}
 
 -- The result, whose list is seen so, is that list, unless memory ran out.
 abbrev pub AnswersList : {T : Type 0} → (T → List Spelled) → Result T ReadFault → List Spelled → Type 0

@@ -4,7 +4,7 @@
 //! read certificates through it.
 ghost use Rattle.std.specs.Prelude.{◌≡◌, ◌<◌, ◌≤◌, ◌*◌, ◌^◌, List, length, IfOk, IfErr};
 ghost use Rattle.std.specs.List.{All};
-ghost use Rattle.wot_packet.specs.Answers.{Finds, IfPacket, Gives, AnswersList, AnswersFault};
+ghost use Rattle.wot_packet.specs.Answers.{Finds, IfPacket, ReturnsAsPlain, AnswersList, AnswersFault};
 ghost use Rattle.wot_packet.specs.Reading.{first_of, packets_of};
 ghost use Rattle.wot_packet.specs.Seen.{first_seen};
 ghost use Rattle.wot_packet.specs.Spelling.{AreShort, Spelled, Spells, IsFirstFault, spelled_all};
@@ -42,7 +42,7 @@ pub fn read_packets<'a>(alloc: Global, bytes: &'a [u8]) -> Result<Vec<Packet<'a>
     ensures spelled { IfOk result (λ packets. Spells bytes.now (spelled_all packets.items)) }
     ensures fault { IfErr result (λ answer. IfPacket answer (λ fault. IsFirstFault bytes.now fault)) }
     // The plain reader returns it too.
-    ensures reader { Gives (λ found. spelled_all found.items) result (packets_of bytes.now) }
+    ensures reader { ReturnsAsPlain (λ found. spelled_all found.items) result (packets_of bytes.now) }
     // A packet that was read can be written.
     ensures bounds { IfOk result (λ packets. All (λ packet.
         (packet.kind ≤ 63) × (length packet.body.now < 2 ^ 32)) packets.items) }

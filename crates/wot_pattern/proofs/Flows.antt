@@ -9,7 +9,7 @@ use Rattle.wot_pattern.specs.Reading.{Atom, exactly, any, start, end, range, Rea
 use Rattle.wot_pattern.specs.Reading.{star, plus, optional}
 use Rattle.wot_pattern.specs.Meaning.{Turns, InItems, Takes, OneTaken, AtomHolds, Holds}
 use Rattle.wot_pattern.specs.Passes.{flow, in_items, takes, holds_empty}
-use Rattle.wot_pattern.proofs.Tells.{Tells, tells_or, tells_and, tells_as, tells_always, tells_never}
+use Rattle.wot_pattern.proofs.Tests.{IsTestOf, tells_or, tells_and, tells_as, tells_always, tells_never}
 
 Turns-le :
     (R : ℕ → ℕ → Type 0) → ((i j : ℕ) → R i j → i ≤ j) → (n i j : ℕ) → Turns R n i j → i ≤ j
@@ -21,21 +21,21 @@ Turns-snoc : (R : ℕ → ℕ → Type 0) (n i k j : ℕ) → Turns R n i k → 
 Turns-snoc R zero i k j e r = (j, subst (λ x. R x j) (sym e) r, refl)
 Turns-snoc R (suc n) i k j (m, a, more) r = (m, a, Turns-snoc R n m k j more r)
 
-le_tells : (a b : ℕ) → Tells (nat_le a b) (a ≤ b)
+le_tells : (a b : ℕ) → IsTestOf (nat_le a b) (a ≤ b)
 le_tells a b = record { says = λ e. leb-true a b e; said = λ l. le-leb a b l }
 
-in_items_tells : (c : ℕ) (xs : List Item) → Tells (in_items c xs) (InItems c xs)
+in_items_tells : (c : ℕ) (xs : List Item) → IsTestOf (in_items c xs) (InItems c xs)
 in_items_tells c [] = tells_never false ⊥ refl (λ h. h)
 in_items_tells c (x ∷ xs) =
     tells_or (nat_le x.from c && nat_le c x.to) (in_items c xs) ((x.from ≤ c) × (c ≤ x.to)) (InItems c xs)
     (tells_and (nat_le x.from c) (nat_le c x.to) (x.from ≤ c) (c ≤ x.to) (le_tells x.from c) (le_tells c x.to))
     (in_items_tells c xs)
 
-tells_not : (b : Bool) (P : Type 0) → Tells b P → Tells (not b) (P → ⊥)
+tells_not : (b : Bool) (P : Type 0) → IsTestOf b P → IsTestOf (not b) (P → ⊥)
 tells_not true P h = tells_never false (P → ⊥) refl (λ f. f (h.says refl))
 tells_not false P h = tells_always (P → ⊥) (λ p. false≢true (h.said p))
 
-takes_tells : (a : Atom) (c : ℕ) → Tells (takes a c) (Takes a c)
+takes_tells : (a : Atom) (c : ℕ) → IsTestOf (takes a c) (Takes a c)
 takes_tells (exactly d) c = record { says = λ e. eqb-true c d e; said = λ e. eq-eqb c d e }
 takes_tells any c = tells_always (Unit {0}) tt
 takes_tells start c = tells_never false ⊥ refl (λ h. h)
@@ -102,17 +102,17 @@ module _ (text : List ℕ) where
     turns_end : (i j n : ℕ) → j < i → B j → Turns (Holds text p) n j i → Ended p (After B (star p)) i
     turns_end i j n l b t = last_turn p (After B (star p)) star_closed n j i (j, b, (0, refl)) t l
 
-    pub star_ended : (i : ℕ) (b : Bool) → Tells b (Ended p (After B (star p)) i) → Tells b (Ended (star p) B i)
+    pub star_ended : (i : ℕ) (b : Bool) → IsTestOf b (Ended p (After B (star p)) i) → IsTestOf b (Ended (star p) B i)
     star_ended i b h = tells_as b (Ended p (After B (star p)) i) (Ended (star p) B i) h
         (λ e. let (j, l, c, (n, t)) = loops i e in (j, l, c, (suc n, t)))
         (λ (j, l, c, (n, t)). turns_end i j n l c t)
 
-    pub plus_ended : (i : ℕ) (b : Bool) → Tells b (Ended p (After B (star p)) i) → Tells b (Ended (plus p) B i)
+    pub plus_ended : (i : ℕ) (b : Bool) → IsTestOf b (Ended p (After B (star p)) i) → IsTestOf b (Ended (plus p) B i)
     plus_ended i b h = tells_as b (Ended p (After B (star p)) i) (Ended (plus p) B i) h
         (loops i)
         (λ (j, l, c, (n, t)). turns_end i j (suc n) l c t)
 
-    pub plus_empty : (i : ℕ) (b : Bool) → Tells b (Holds text p i i) → Tells b (Holds text (plus p) i i)
+    pub plus_empty : (i : ℕ) (b : Bool) → IsTestOf b (Holds text p i i) → IsTestOf b (Holds text (plus p) i i)
     plus_empty i b h = tells_as b (Holds text p i i) (Holds text (plus p) i i) h
         (λ x. (0, (i, x, refl)))
         (λ (n, (k, x, t)).
@@ -122,8 +122,8 @@ module _ (text : List ℕ) where
 
     -- where a turn may begin
     pub loop_begins :
-        (i : ℕ) (x b : Bool) → Tells x (B i) → Tells b (Ended p (After B (star p)) i)
-        → Tells (x || b) (After B (star p) i)
+        (i : ℕ) (x b : Bool) → IsTestOf x (B i) → IsTestOf b (Ended p (After B (star p)) i)
+        → IsTestOf (x || b) (After B (star p) i)
     loop_begins i x b h k = tells_as (x || b) (B i ⊎ Ended p (After B (star p)) i) (After B (star p) i)
         (tells_or x b (B i) (Ended p (After B (star p)) i) h k)
         (elim [ inl c ↦ (i, c, (0, refl)) | inr e ↦ let (j, l, c, (n, t)) = loops i e in (j, c, (suc n, t)) ])
@@ -136,8 +136,8 @@ module _ (text : List ℕ) where
 
   -- what a tree lets through at this position, where it may begin at these
   pub record Right (r : Reading) (B : ℕ → Type 0) (i : ℕ) (f : Flow) : Type 0 where
-    pub empty : Tells f.empty (Holds text r i i)
-    pub ended : Tells f.ended (Ended r B i)
+    pub empty : IsTestOf f.empty (Holds text r i i)
+    pub ended : IsTestOf f.ended (Ended r B i)
 
   pub right_nothing : (B : ℕ → Type 0) (i : ℕ) → Right nothing B i (flow true false)
   right_nothing B i = record {
@@ -173,8 +173,8 @@ module _ (text : List ℕ) where
 
   -- where the second part of a sequence may begin
   pub second_begins :
-      (B : ℕ → Type 0) (p : Reading) (i : ℕ) (x : Bool) (f : Flow) → Tells x (B i) → Right p B i f
-      → Tells (f.ended || (x && f.empty)) (After B p i)
+      (B : ℕ → Type 0) (p : Reading) (i : ℕ) (x : Bool) (f : Flow) → IsTestOf x (B i) → Right p B i f
+      → IsTestOf (f.ended || (x && f.empty)) (After B p i)
   second_begins B p i x f h k =
       tells_as (f.ended || (x && f.empty)) (Ended p B i ⊎ (B i × Holds text p i i)) (After B p i)
       (tells_or f.ended (x && f.empty) (Ended p B i) (B i × Holds text p i i) k.ended
@@ -219,8 +219,8 @@ module _ (text : List ℕ) where
   }
 
   empty_atom :
-      (first last : Bool) (i : ℕ) → Tells first (i ≡ 0) → Tells last (i ≡ length text)
-      → (a : Atom) → Tells (holds_empty first last a) (AtomHolds text a i i)
+      (first last : Bool) (i : ℕ) → IsTestOf first (i ≡ 0) → IsTestOf last (i ≡ length text)
+      → (a : Atom) → IsTestOf (holds_empty first last a) (AtomHolds text a i i)
   empty_atom first last i h k start = tells_as first (i ≡ 0) (AtomHolds text start i i) h (λ e. (e, e)) (λ e. e.0)
   empty_atom first last i h k end = tells_as last (i ≡ length text) (AtomHolds text end i i) k (λ e. (e, e)) (λ e. e.0)
   empty_atom first last i h k (exactly d) =
@@ -231,8 +231,8 @@ module _ (text : List ℕ) where
       tells_never false (OneTaken (range n xs) text i i) refl (λ e. let e' : i ≡ i + 1 = e.0 in omega arith)
 
   pub right_single :
-      (first last : Bool) (i : ℕ) → Tells first (i ≡ 0) → Tells last (i ≡ length text)
-      → (B : ℕ → Type 0) (a : Atom) (f : Flow) → Tells f.ended (Ended (single a) B i)
+      (first last : Bool) (i : ℕ) → IsTestOf first (i ≡ 0) → IsTestOf last (i ≡ length text)
+      → (B : ℕ → Type 0) (a : Atom) (f : Flow) → IsTestOf f.ended (Ended (single a) B i)
       → Right (single a) B i (flow (holds_empty first last a) f.ended)
   right_single first last i h k B a f e = record { empty = empty_atom first last i h k a; ended = e }
 
@@ -255,8 +255,8 @@ module _ (text : List ℕ) where
   same_char i c d e f = ap (λ (o : Option ℕ). elim o [ None ↦ c | Some x ↦ x ]) (sym e ∙ f)
 
   pub taken_ended :
-      (B : ℕ → Type 0) (a : Atom) (i c : ℕ) (x : Bool) → slice_get text i ≡ Some c → Tells x (B i)
-      → Tells (x && takes a c) (Ended (single a) B (i + 1))
+      (B : ℕ → Type 0) (a : Atom) (i c : ℕ) (x : Bool) → slice_get text i ≡ Some c → IsTestOf x (B i)
+      → IsTestOf (x && takes a c) (Ended (single a) B (i + 1))
   taken_ended B a i c x e h = tells_as (x && takes a c) (B i × Takes a c) (Ended (single a) B (i + 1))
       (tells_and x (takes a c) (B i) (Takes a c) h (takes_tells a c))
       (λ (b, t). (i, omega arith, b, atom_holds a i (i + 1) (refl, (c, e, t))))

@@ -8,5 +8,5 @@ pub mod Lists
 pub mod Marking
 pub mod Sound
 pub mod Telling
-pub mod Tells
+pub mod Tests
 pub mod Walk

@@ -8,7 +8,7 @@ use Rattle.wot_pattern.specs.Tokens.{Token, tokens}
 use Rattle.wot_pattern.specs.Passes.{flow, takes, holds_empty, settled_one, settled, advanced_one, advanced, behind}
 use Rattle.wot_pattern.proofs.Flows.{Ended, After, Right, right_nothing, right_single, right_sequence, right_either}
 use Rattle.wot_pattern.proofs.Flows.{right_star, right_plus, right_optional, second_begins, loop_begins, taken_ended}
-use Rattle.wot_pattern.proofs.Tells.{Tells}
+use Rattle.wot_pattern.proofs.Tests.{IsTestOf}
 
 last_of_two : {A : Type 0} (xs ys zs : List A) (a : A) → (xs ++ (ys ++ a ∷ [])) ++ zs ≡ xs ++ (ys ++ a ∷ zs)
 last_of_two xs ys zs a = append_assoc xs (ys ++ a ∷ []) zs ∙ ap (λ l. xs ++ l) (append_assoc ys (a ∷ []) zs)
@@ -91,7 +91,7 @@ module _ (text : List ℕ) where
   -- at B
   abbrev pub Marked : Reading → (ℕ → Type 0) → ℕ → List Flow → Type 0
   Marked nothing B i fs = (f : Flow) × (fs ≡ f ∷ [])
-  Marked (single a) B i fs = (f : Flow) × (fs ≡ f ∷ []) × Tells f.ended (Ended text (single a) B i)
+  Marked (single a) B i fs = (f : Flow) × (fs ≡ f ∷ []) × IsTestOf f.ended (Ended text (single a) B i)
   Marked (sequence p q) B i fs =
       (gs : List Flow) × (hs : List Flow) × (f : Flow) × (fs ≡ gs ++ (hs ++ f ∷ [])) × Marked p B i gs
       × Marked q (After text B p) i hs
@@ -126,7 +126,7 @@ module _ (text : List ℕ) where
     pub right : Right text r B i through
     pub goes : Settles first last (tokens r) fs slots through
 
-  module _ (first last : Bool) (i : ℕ) (is_first : Tells first (i ≡ 0)) (is_last : Tells last (i ≡ length text)) where
+  module _ (first last : Bool) (i : ℕ) (is_first : IsTestOf first (i ≡ 0)) (is_last : IsTestOf last (i ≡ length text)) where
     pub settling : (r : Reading) (B : ℕ → Type 0) (fs : List Flow) → Marked r B i fs → Settling first last r B i fs
     settling nothing B fs (f, e) = record {
       slots = f ∷ [];
@@ -213,7 +213,7 @@ module _ (text : List ℕ) where
     pub goes : Advances c (tokens r) fs slots x
 
   module _ (c i : ℕ) (is_char : slice_get text i ≡ Some c) where
-    pub advancing : (r : Reading) (B : ℕ → Type 0) (fs : List Flow) (x : Bool) → Ready r B i fs → Tells x (B i)
+    pub advancing : (r : Reading) (B : ℕ → Type 0) (fs : List Flow) (x : Bool) → Ready r B i fs → IsTestOf x (B i)
         → Advancing c r B i fs x
     advancing nothing B fs x (f, e) h = record {
       slots = f ∷ [];

@@ -8,7 +8,7 @@ use Rattle.wot_pattern.specs.Meaning.{Matches}
 use Rattle.wot_pattern.specs.Tokens.{tokens}
 use Rattle.wot_pattern.specs.Passes.{top, settled, advanced}
 use Rattle.wot_pattern.specs.Deciding.{is_through, matches_from, matches_in}
-use Rattle.wot_pattern.proofs.Tells.{Tells, tells_never, tells_always}
+use Rattle.wot_pattern.proofs.Tests.{IsTestOf, tells_never, tells_always}
 use Rattle.wot_pattern.proofs.Walk.{Walking, Looked, walk_begins, look, found, not_found, walk_on}
 
 or_not : (a b : Bool) → (a || b) ≡ false → (a ≡ false) × (b ≡ false)
@@ -21,10 +21,10 @@ module _ (text : List ℕ) (r : Reading) where
   through rest first slots flow l e = found text r rest first slots flow l (or_cases flow.empty flow.ended e)
 
   at_end : (first : Bool) (slots : List Flow) (flow : Flow) → Looked text r [] first slots flow
-      → Tells (is_through flow) (Matches text r)
+      → IsTestOf (is_through flow) (Matches text r)
   at_end first slots flow l = by (is_through flow) refl
     where
-      by : (b : Bool) → is_through flow ≡ b → Tells b (Matches text r)
+      by : (b : Bool) → is_through flow ≡ b → IsTestOf b (Matches text r)
       by true e = record { says = λ _. through [] first slots flow l e; said = λ _. refl }
       by false e = let (p, q) =
           or_not flow.empty flow.ended e in
@@ -32,18 +32,18 @@ module _ (text : List ℕ) (r : Reading) where
 
   goes_on : (c : ℕ) (rest : List ℕ) (first : Bool) (slots : List Flow) (flow : Flow)
       → Looked text r (c ∷ rest) first slots flow
-      → (b : Bool) → (Walking text r rest false (advanced c (tokens r) slots (true ∷ [])).0 → Tells b (Matches text r))
-      → Tells (is_through flow || b) (Matches text r)
+      → (b : Bool) → (Walking text r rest false (advanced c (tokens r) slots (true ∷ [])).0 → IsTestOf b (Matches text r))
+      → IsTestOf (is_through flow || b) (Matches text r)
   goes_on c rest first slots flow l b ih = by (is_through flow) refl
     where
-      by : (a : Bool) → is_through flow ≡ a → Tells (a || b) (Matches text r)
+      by : (a : Bool) → is_through flow ≡ a → IsTestOf (a || b) (Matches text r)
       by true e = record { says = λ _. through (c ∷ rest) first slots flow l e; said = λ _. refl }
       by false e = let (p, q) =
           or_not flow.empty flow.ended e in
           ih (walk_on text r c rest first false slots (advanced c (tokens r) slots (true ∷ [])).0 flow l p q refl refl)
 
   matching : (rest : List ℕ) (first : Bool) (slots : List Flow) → Walking text r rest first slots
-      → Tells (matches_from (tokens r) first rest slots) (Matches text r)
+      → IsTestOf (matches_from (tokens r) first rest slots) (Matches text r)
   matching [] first slots w =
       at_end first (settled first true (tokens r) slots []).0 (top (settled first true (tokens r) slots []).1)
       (look text r [] first true slots (settled first true (tokens r) slots []).0
@@ -57,6 +57,6 @@ module _ (text : List ℕ) (r : Reading) where
       (advanced c (tokens r) (settled first false (tokens r) slots []).0 (true ∷ [])).0)
       (λ v. matching rest false (advanced c (tokens r) (settled first false (tokens r) slots []).0 (true ∷ [])).0 v)
 
-pub matching_tells : (text : List ℕ) (r : Reading) → Tells (matches_in r text) (Matches text r)
+pub matching_tells : (text : List ℕ) (r : Reading) → IsTestOf (matches_in r text) (Matches text r)
 unfolding matches_in
 matching_tells text r = matching text r text true _ (walk_begins text r true refl)

@@ -10,7 +10,7 @@ use Rattle.wot_pattern.specs.Tokens as t
 use Rattle.wot_pattern.specs.Tokens.{Token, tokens}
 use Rattle.wot_pattern.specs.Meaning.{Holds, Matches}
 use Rattle.wot_pattern.specs.Passes.{no_flow, top, settled, advanced}
-use Rattle.wot_pattern.proofs.Tells.{Tells, tells_never, tells_always}
+use Rattle.wot_pattern.proofs.Tests.{IsTestOf, tells_never, tells_always}
 use Rattle.wot_pattern.proofs.Flows.{Holds-le, Ended, After, Right}
 use Rattle.wot_pattern.proofs.Marking.{Marked, Ready, Settling, settling, Advancing, advancing}
 
@@ -66,7 +66,7 @@ module _ (text : List ℕ) where
     pub record Walking (rest : List ℕ) (first : Bool) (slots : List Flow) : Type 0 where
       pub before : List ℕ
       pub splits : text ≡ before ++ rest
-      pub is_first : Tells first (length before ≡ 0)
+      pub is_first : IsTestOf first (length before ≡ 0)
       pub marked : Marked text r Everywhere (length before) slots
       pub none : (j i : ℕ) → i < length before → Holds text r j i → ⊥
 
@@ -95,15 +95,15 @@ module _ (text : List ℕ) where
       pub right : Right text r Everywhere (length before) through
       pub none : (j i : ℕ) → i < length before → Holds text r j i → ⊥
 
-    at_end : (before rest : List ℕ) (last : Bool) → text ≡ before ++ rest → Tells last (length rest ≡ 0)
-        → Tells last (length before ≡ length text)
+    at_end : (before rest : List ℕ) (last : Bool) → text ≡ before ++ rest → IsTestOf last (length rest ≡ 0)
+        → IsTestOf last (length before ≡ length text)
     at_end before rest last e h =
         let k : length text ≡ length before + length rest = ap length e ∙ length-append before rest in
         record { says = λ x. let y : length rest ≡ 0 = h.says x in omega arith; said = λ x. h.said (omega arith) }
 
     pub look :
         (rest : List ℕ) (first last : Bool) (slots slots' : List Flow) (through : Flow) → Walking rest first slots
-        → Tells last (length rest ≡ 0)
+        → IsTestOf last (length rest ≡ 0)
         → slots' ≡ (settled first last (tokens r) slots []).0 → through ≡ top (settled first last (tokens r) slots []).1
         → Looked rest first slots' through
     look rest first last slots slots' through w h e f =
@@ -188,7 +188,7 @@ module _ (text : List ℕ) where
         }
 
 none_tells : (cs : List ℕ) (next : Option ℕ) (last : Bool) → next ≡ slice_get cs 0 → is_some next ≡ not last
-    → Tells last (length cs ≡ 0)
+    → IsTestOf last (length cs ≡ 0)
 none_tells [] next true e f = tells_always (zero ≡ zero) refl
 none_tells [] next false e f = absurd (false≢true (ap (λ (o : Option ℕ). is_some o) (sym e) ∙ f))
 none_tells (x ∷ cs) next true e f = absurd (false≢true (sym f ∙ ap (λ (o : Option ℕ). is_some o) e))

@@ -29,7 +29,7 @@ use Rattle.wot_script.specs.Grammar.{about_of, asked_of, checked_of, command_of,
 use Rattle.wot_script.specs.Grammar.{export_of, import_of, judgement_of, listed_of, load_of, missed_of, question_of}
 use Rattle.wot_script.specs.Grammar.{read_behind, root_of, setting_of, single_of, store_of, verdict_of, view_of}
 use Rattle.wot_script.specs.Grammar.{over_of, paced_of, watch_of, watched_of}
-use Rattle.wot_script.specs.Spelling.{HasSpelling, IsWithin}
+use Rattle.wot_script.specs.Spelling.{HasSpelling, FitsLine}
 use Rattle.wot_script.specs.Uid.{unescaped}
 use Rattle.wot_script.specs.declared.command.Command.{Command}
 use Rattle.wot_script.specs.declared.read.About.{About}
@@ -106,10 +106,10 @@ so P o a e h = rw e at h
 
 module _ (size : ℕ) where
   abbrev pub Spelled : Option Command → Type 0
-  Spelled o = IfSome o (λ command. HasSpelling command × IsWithin size command)
+  Spelled o = IfSome o (λ command. HasSpelling command × FitsLine size command)
 
   mapped : {A : Type 0} (f : A → Command) (o : Option A)
-      → ((a : A) → o ≡ Some a → HasSpelling (f a) × IsWithin size (f a))
+      → ((a : A) → o ≡ Some a → HasSpelling (f a) × FitsLine size (f a))
       → Spelled (option_map f o)
   mapped f None h = tt
   mapped f (Some a) h = h a refl
@@ -124,7 +124,7 @@ module _ (size : ℕ) where
   behind_either None read other h k = k
   behind_either (Some text) read other h k = h text
 
-  chosen : (b : Bool) (command : Command) (other : Option Command) → HasSpelling command × IsWithin size command
+  chosen : (b : Bool) (command : Command) (other : Option Command) → HasSpelling command × FitsLine size command
       → Spelled other
       → Spelled (if b then Some command else other)
   chosen true command other h k = h
@@ -452,7 +452,7 @@ module _ (size : ℕ) where
 
 -- a command that was read can be printed
 pub spelled_at : (line : List ℕ) (command : Command) → command_of line ≡ Some command
-    → HasSpelling command × IsWithin (length line) command
+    → HasSpelling command × FitsLine (length line) command
 spelled_at line command e =
     let all : Spelled (length line) (command_of line) = spelled_of (length line) line (omega arith) in
     rw e at all

@@ -33,10 +33,10 @@ HasSpelling (WatchOn watch view fpr wanted uid) = 1 ≤ wanted
 HasSpelling _ = Unit {0}
 
 -- An import has at most half as many octets as its line, and a claim has fewer paths than its line has octets.
-abbrev pub IsWithin : ℕ → Command → Type 0
-IsWithin size (Import octets) = 2 * length octets ≤ size
-IsWithin size (Check view fpr claims labels uid) = length claims < size
-IsWithin size _ = Unit {0}
+abbrev pub FitsLine : ℕ → Command → Type 0
+FitsLine size (Import octets) = 2 * length octets ≤ size
+FitsLine size (Check view fpr claims labels uid) = length claims < size
+FitsLine size _ = Unit {0}
 
 -- the name of an entry of the certificate directory
 abbrev pub entry_text : Name → List ℕ

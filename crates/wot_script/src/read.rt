@@ -11,7 +11,7 @@ ghost use Rattle.wot_script.specs.Grammar.{about_of, asked_of, checked_of, comma
 ghost use Rattle.wot_script.specs.Grammar.{explained_of, export_of, import_of, judgement_of, listed_of, load_of};
 ghost use Rattle.wot_script.specs.Grammar.{missed_of, over_of, paced_of, question_of, root_of, setting_of};
 ghost use Rattle.wot_script.specs.Grammar.{single_of, store_of, verdict_of, view_of, watch_of, watched_of};
-ghost use Rattle.wot_script.specs.Spelling.{HasSpelling, IsWithin};
+ghost use Rattle.wot_script.specs.Spelling.{HasSpelling, FitsLine};
 
 use crate::claims::{read_claims, read_labels};
 use crate::decimal::{read_decimal, read_positive};
@@ -457,7 +457,7 @@ pub fn read_line(alloc: Global, line: &[u8]) -> Result<Command, LineFault>
     // A question, a list and a cursor that were read want at least 1, and `next` asks for at least 1.
     ensures spelled { IfOk result HasSpelling }
     // An import's octets have two digits each, and each path of a claim has octets of its own.
-    ensures within { IfOk result (IsWithin (length line.now)) }
+    ensures within { IfOk result (FitsLine (length line.now)) }
 {
     match read_command(alloc, line) {
         Ok(Some(command)) => Ok(command),

@@ -16,8 +16,8 @@ abbrev pub question_of : (List ℕ → Record) → Asked → Question
 question_of told asked = asks (told asked.uid.now) asked.roots.now asked.target.now
 
 -- the reach is one of this network and of the roots
-abbrev pub IsWithin : (List ℕ → Record) → Asked → Type 0
-IsWithin told asked = IsReach told asked.roots.now asked.reach.now
+abbrev pub HasItsReach : (List ℕ → Record) → Asked → Type 0
+HasItsReach told asked = IsReach told asked.roots.now asked.reach.now
 
 -- what leads to the target by rows
 abbrev pub LeadsToAsked : (List ℕ → Record) → Asked → Fpr → Type 0

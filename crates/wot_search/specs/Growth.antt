@@ -7,7 +7,7 @@ use Rattle.wot_edge.specs.declared.edge.EdgeFacts.{EdgeFacts}
 use Rattle.wot_edge.specs.declared.path.Path.{Path}
 use Rattle.wot_edge.specs.declared.path.Step.{Step}
 use Rattle.wot_edge.specs.Leads.{Leads}
-use Rattle.wot_edge.specs.Record.{Record, Row, Has, IsRecord, rows_into}
+use Rattle.wot_edge.specs.Record.{Record, Row, Has, IsRecord, EachRow, rows_into}
 use Rattle.wot_edge.specs.Path.{Reaches, start, step_of, step_left, root_left, path_amount}
 use Rattle.wot_search.specs.declared.node.Node.{Node}
 use Rattle.wot_search.specs.declared.node.Demand.{Demand}
@@ -87,10 +87,6 @@ AreNoted found set = (fpr : Fpr) (node : Node) → found fpr ≡ Some node → s
 -- they still are
 abbrev pub KeepsNoted : Reached → Reached → (Fpr → Type 0) → (Fpr → Type 0) → Type 0
 KeepsNoted old new before after = AreNoted (look old.nodes) before → AreNoted (look new.nodes) after
-
--- what holds for each row of an edge
-abbrev pub EachRow : Record → EdgeFacts → (Row → Type 0) → Type 0
-EachRow told edge holds = (row : Row) → Has (rows_into told edge.target) row → row.edge ≡ edge → holds row
 
 -- it is kept if it may come there by each row of the edge
 abbrev pub PutsIfStands : Record → ℕ → EdgeFacts → Reached → Reached → Node → Type 0

@@ -6,14 +6,14 @@ use Rattle.wot_search.specs.Reach.{number_of}
 use Rattle.wot_search.specs.declared.slots.Slot.{Slot}
 
 -- the table has this number for the fingerprint
-abbrev pub Tells : List (Fpr × ℕ) → Fpr → ℕ → Type 0
-Tells numbers fpr number = number ≡ number_of numbers fpr
+abbrev pub HasNumber : List (Fpr × ℕ) → Fpr → ℕ → Type 0
+HasNumber numbers fpr number = number ≡ number_of numbers fpr
 
 -- each slot has the table's number
 abbrev pub AreSlots : List (Fpr × ℕ) → List Slot → Type 0
-AreSlots numbers slots = All (λ (slot : Slot). Tells numbers slot.fpr slot.number) slots
+AreSlots numbers slots = All (λ (slot : Slot). HasNumber numbers slot.fpr slot.number) slots
 
 -- what was found is the table's number
-abbrev pub TellsIfSome : List (Fpr × ℕ) → Fpr → Option ℕ → Type 0
-TellsIfSome numbers fpr None = Unit {0}
-TellsIfSome numbers fpr (Some number) = Tells numbers fpr number
+abbrev pub HasNumberIfSome : List (Fpr × ℕ) → Fpr → Option ℕ → Type 0
+HasNumberIfSome numbers fpr None = Unit {0}
+HasNumberIfSome numbers fpr (Some number) = HasNumber numbers fpr number

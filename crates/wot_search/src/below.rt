@@ -3,7 +3,7 @@
 //! It stands on `first`, `offered` and `offers`. `wot_auth` uses it when only the sum of an answer is wanted.
 ghost use Rattle.std.specs.Prelude.{IfOk, OnOk};
 ghost use Rattle.wot_edge.specs.Sums.{use_in};
-ghost use Rattle.wot_search.specs.Asked.{IsWithin, question_of};
+ghost use Rattle.wot_search.specs.Asked.{HasItsReach, question_of};
 ghost use Rattle.wot_search.specs.Below.{IsNextBelow};
 ghost use Rattle.wot_search.specs.Offers.{AreOffersFor};
 
@@ -39,7 +39,7 @@ fn search_below<R: Roads>(
     enough: u32,
     offers: &mut Vec<Path>,
 ) -> Result<Next, Memory>
-    requires reach { IsWithin (R.told roads.now) asked.now }
+    requires reach { HasItsReach (R.told roads.now) asked.now }
     requires offers { AreOffersFor (question_of (R.told roads.now) asked.now) (use_in used.now) offers.old.items }
     ensures next { IfOk result (IsNextBelow (question_of (R.told roads.now) asked.now) (use_in used.now) enough) }
     ensures offers { OnOk result (AreOffersFor (question_of (R.told roads.now) asked.now) (use_in used.now)
@@ -95,7 +95,7 @@ pub fn next_below<R: Roads>(
     enough: u32,
     offers: &mut Vec<Path>,
 ) -> Result<Next, Memory>
-    requires reach { IsWithin (R.told roads.now) asked.now }
+    requires reach { HasItsReach (R.told roads.now) asked.now }
     requires offers { AreOffersFor (question_of (R.told roads.now) asked.now) (use_in used.now) offers.old.items }
     ensures next { IfOk result (IsNextBelow (question_of (R.told roads.now) asked.now) (use_in used.now) enough) }
     ensures offers { OnOk result (AreOffersFor (question_of (R.told roads.now) asked.now) (use_in used.now)

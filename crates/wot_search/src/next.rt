@@ -11,7 +11,7 @@ ghost use Rattle.wot_edge.specs.Record.{IsRecord};
 ghost use Rattle.wot_edge.specs.Roots.{root_amount};
 ghost use Rattle.wot_edge.specs.Sums.{use_in};
 ghost use Rattle.wot_search.specs.Looked.{Gains, Widens};
-ghost use Rattle.wot_search.specs.Asked.{IsNextLocally, IsWithin, LeadsToAsked, question_of};
+ghost use Rattle.wot_search.specs.Asked.{IsNextLocally, HasItsReach, LeadsToAsked, question_of};
 ghost use Rattle.wot_search.specs.Nexting.{IsNextOfAgreeing};
 
 use crate::asked::Asked;
@@ -76,7 +76,7 @@ pub fn next_path_within<R: Roads, N: Notes>(
     used: &Used,
     notes: &mut N,
 ) -> Result<Option<Path>, Memory>
-    requires reach { IsWithin (R.told roads.now) asked.now }
+    requires reach { HasItsReach (R.told roads.now) asked.now }
     ensures next { IfOk result (IsNextOrSpent (question_of (R.told roads.now) asked.now) (use_in used.now)) }
     ensures grows { Widens (N.noted notes.old) (N.noted notes.new) }
     ensures leads { Gains (LeadsToAsked (R.told roads.now) asked.now) (N.noted notes.old) (N.noted notes.new) }

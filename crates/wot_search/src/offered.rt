@@ -6,7 +6,7 @@ ghost use Rattle.std.specs.Prelude.{◌≡◌, nat_le, IfOk, OnOk};
 ghost use Rattle.wot_edge.specs.Answer.{IsNextOrSpent};
 ghost use Rattle.wot_edge.specs.Path.{step_left};
 ghost use Rattle.wot_edge.specs.Sums.{use_in};
-ghost use Rattle.wot_search.specs.Asked.{IsWithin, LeadsToAsked, TakesLocally, question_of};
+ghost use Rattle.wot_search.specs.Asked.{HasItsReach, LeadsToAsked, TakesLocally, question_of};
 ghost use Rattle.wot_search.specs.Looked.{Gains, Widens};
 ghost use Rattle.wot_search.specs.Offers.{AreOffersFor, IsOpenOffer, KeepsOffers};
 ghost use Rattle.wot_search.specs.Offers.{first_path, is_first_spent, is_left, left_at};
@@ -101,7 +101,7 @@ pub fn next_offered<R: Roads, N: Notes>(
     offers: &mut Vec<Path>,
     notes: &mut N,
 ) -> Result<Option<Path>, Memory>
-    requires reach { IsWithin (R.told roads.now) asked.now }
+    requires reach { HasItsReach (R.told roads.now) asked.now }
     requires offers { AreOffersFor (question_of (R.told roads.now) asked.now) (use_in used.now) offers.old.items }
     ensures next { IfOk result (IsNextOrSpent (question_of (R.told roads.now) asked.now) (use_in used.now)) }
     ensures offers { OnOk result (AreOffersFor (question_of (R.told roads.now) asked.now) (use_in used.now)

@@ -8,7 +8,7 @@ ghost use Rattle.std.specs.Map.{values_of};
 ghost use Rattle.wot_edge.specs.Record.{IsRecord};
 ghost use Rattle.wot_edge.specs.Roots.{NoneOver};
 ghost use Rattle.wot_edge.specs.Sums.{use_in};
-ghost use Rattle.wot_search.specs.Asked.{AreNextLocally, IsWithin, LeadsToAsked, question_of};
+ghost use Rattle.wot_search.specs.Asked.{AreNextLocally, HasItsReach, LeadsToAsked, question_of};
 ghost use Rattle.wot_search.specs.Growth.{IsAfter};
 ghost use Rattle.wot_search.specs.Looked.{Gains, Widens};
 ghost use Rattle.wot_search.specs.Offers.{AddsOffer, AreFoundOffers, AreNextFor, AreOfferedBy, AreWide, IsOfferIf};
@@ -139,7 +139,7 @@ fn next_paths_by_two<R: Roads, N: Notes>(
     used: &Used,
     notes: &mut N,
 ) -> Result<Vec<Path>, Memory>
-    requires reach { IsWithin (R.told roads.now) asked.now }
+    requires reach { HasItsReach (R.told roads.now) asked.now }
     ensures next { IfOk result (λ paths. AreNextFor (question_of (R.told roads.now) asked.now) (use_in used.now)
         paths.items) }
     ensures grows { Widens (N.noted notes.old) (N.noted notes.new) }
@@ -227,7 +227,7 @@ pub fn next_paths_within<R: Roads, N: Notes>(
     used: &Used,
     notes: &mut N,
 ) -> Result<Vec<Path>, Memory>
-    requires reach { IsWithin (R.told roads.now) asked.now }
+    requires reach { HasItsReach (R.told roads.now) asked.now }
     ensures next { IfOk result (λ paths. AreNextFor (question_of (R.told roads.now) asked.now) (use_in used.now)
         paths.items) }
     ensures grows { Widens (N.noted notes.old) (N.noted notes.new) }

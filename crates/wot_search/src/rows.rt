@@ -4,7 +4,7 @@
 //! It stands on `slots`, and `reach` reads it through checks that compare fingerprints.
 ghost use Rattle.std.specs.Prelude.{ℕ, List};
 ghost use Rattle.wot_types.specs.declared.fpr.Fpr.{Fpr as Print};
-ghost use Rattle.wot_search.specs.Slots.{AreSlots, TellsIfSome};
+ghost use Rattle.wot_search.specs.Slots.{AreSlots, HasNumberIfSome};
 
 use crate::slots::{Slot, Slots, number_by, number_from};
 use std::alloc::Global;
@@ -53,7 +53,7 @@ impl Rows {
     /// The number in the slot at a place, if it is this fingerprint's.
     pub(crate) fn number(&self, place: usize, fpr: &Fpr) -> Option<u8>
         ensures tells { (numbers : List (Print × ℕ)) → AreSlots numbers self.now.slots.items
-            → TellsIfSome numbers fpr.now result }
+            → HasNumberIfSome numbers fpr.now result }
     {
         number_from(&self.slots, place, fpr)
     }

@@ -5,7 +5,7 @@
 ghost use Rattle.std.specs.Prelude.{◌≡◌, ℕ, List};
 ghost use Rattle.wot_types.specs.declared.fpr.Fpr.{Fpr as Print};
 ghost use Rattle.wot_search.specs.Reach.{number_of};
-ghost use Rattle.wot_search.specs.Slots.{AreSlots, Tells, TellsIfSome};
+ghost use Rattle.wot_search.specs.Slots.{AreSlots, HasNumber, HasNumberIfSome};
 
 use std::alloc::Global;
 use std::collections::BTreeMap;
@@ -58,7 +58,7 @@ impl Slots {
     /// The number of a fingerprint; `None` if it isn't found.
     pub(crate) fn find(&self, fpr: &Fpr) -> Option<u8>
         ensures tells { (numbers : List (Print × ℕ)) → AreSlots numbers self.now.slots.items
-            → TellsIfSome numbers fpr.now result }
+            → HasNumberIfSome numbers fpr.now result }
     {
         match self.place(fpr) {
             None => None,
@@ -139,8 +139,8 @@ fn put_slot(slots: &mut Vec<Slot>, numbers: &BTreeMap<Fpr, u8>, fpr: &Fpr) -> Re
 /// The number of a slot, if it is this fingerprint's.
 #[tactic(auto, using(crate::proofs::Slotting::tells_equal))]
 fn number_if(slot: &Slot, fpr: &Fpr) -> Option<u8>
-    ensures tells { (numbers : List (Print × ℕ)) → Tells numbers slot.now.fpr slot.now.number
-        → TellsIfSome numbers fpr.now result }
+    ensures tells { (numbers : List (Print × ℕ)) → HasNumber numbers slot.now.fpr slot.now.number
+        → HasNumberIfSome numbers fpr.now result }
 {
     if slot.fpr == *fpr {
         Some(slot.number)
@@ -151,7 +151,7 @@ fn number_if(slot: &Slot, fpr: &Fpr) -> Option<u8>
 
 /// The number of the slot at a place, if it is this fingerprint's.
 pub(crate) fn number_from(slots: &[Slot], place: usize, fpr: &Fpr) -> Option<u8>
-    ensures tells { (numbers : List (Print × ℕ)) → AreSlots numbers slots.now → TellsIfSome numbers fpr.now result }
+    ensures tells { (numbers : List (Print × ℕ)) → AreSlots numbers slots.now → HasNumberIfSome numbers fpr.now result }
 {
     if place >= slots.len() {
         return None;

@@ -3,18 +3,23 @@
 from __future__ import annotations
 
 from abc import ABC, abstractmethod
-from collections.abc import Iterable, Iterator
-from typing import TypeVar, overload
 
 from .. import commands
+from ..bare import TYPE_CHECKING, TypeVar
 from ..claims import Claim, Label
 from ..lines import Command, ListingCommand
 from ..refusals import ProtocolError
 from ..replies import (Accepted, Answer, Binding, Explanation, Gone, Key, Missed, PendingSignature, Reached, Rejected,
                        Reply, Stale, Taken, Watched)
 from ..spelling import UserId
-from .conversation import Progress, no_progress
+from .conversation import no_progress
 from .listing import Listing
+
+if TYPE_CHECKING:
+    from collections.abc import Iterable, Iterator
+    from typing import overload
+
+    from .conversation import Progress
 
 R = TypeVar("R", bound=Reply)
 T = TypeVar("T")
@@ -33,11 +38,12 @@ class Calls(ABC):
         """The watch lines since the last call, in order. Those of a service also report what other clients' changes
         have made of the amounts."""
 
-    @overload
-    def do(self, command: Command[R]) -> R: ...
+    if TYPE_CHECKING:
+        @overload
+        def do(self, command: Command[R]) -> R: ...
 
-    @overload
-    def do(self, command: ListingCommand[T]) -> Listing[T]: ...
+        @overload
+        def do(self, command: ListingCommand[T]) -> Listing[T]: ...
 
     def do(self, command: Command[R] | ListingCommand[T]) -> R | Listing[T]:
         """Sends a command and returns its reply."""

@@ -2,20 +2,25 @@
 
 from __future__ import annotations
 
-import io
-import threading
 from abc import abstractmethod
-from collections.abc import Iterable, Iterator
-from typing import BinaryIO, Self
 
-from ..reading import ListingHead, Reader, drive
+from ..bare import TYPE_CHECKING, RLock
+from ..reading import ListingHead, drive
 from ..refusals import ProtocolError, Refused, TukyamidError
 from ..replies import Gone, Reply, Watched
 from ..spelling import has_reply
 from .calls import Calls
-from .conversation import PROBE, Conversation, Progress, no_progress
+from .conversation import PROBE, Conversation, no_progress
 from .listing import Listing
 from .wire import Wire
+
+if TYPE_CHECKING:
+    import io
+    from collections.abc import Iterable, Iterator
+    from typing import BinaryIO, Self
+
+    from ..reading import Reader
+    from .conversation import Progress
 
 
 class Connection(Calls):
@@ -23,9 +28,11 @@ class Connection(Calls):
 
     def __init__(self, reader: io.BufferedReader, writer: io.BufferedWriter) -> None:
         self._wire = Wire(reader, writer, self._meet_end)
-        self._lock = threading.RLock()
+        self._lock = RLock()
         self._conversation = Conversation()
         self._open_listing: Listing[object] | None = None
+        self._ahead: list[bytes] = []
+        self._kept: dict[bytes, Reply | Listing[object] | Refused] = {}
         self._in_exchange = False
         self._has_ended = False
 
@@ -51,11 +58,45 @@ class Connection(Calls):
         if b"\n" in line:
             raise ValueError("a line holds no line feed")
         with self._lock:
+            if line in self._ahead or line in self._kept:
+                return self._reply_ahead(line)
             self._begin()
             self._wire.send(self._conversation.octets_for(line))
             reply = self._receive(line, progress) if has_reply(line) else None
             self._in_exchange = False
             return reply
+
+    def _send_ahead(self, lines: Iterable[bytes]) -> None:
+        """Sends a few lines before the calls that they are of, so that not each of these waits for a reply. A call
+        whose line is one of them returns the reply as it was then; each must have one. There must be no watch."""
+        with self._lock:
+            self._refuse_watches()
+            self._begin()
+            self._ahead += lines
+            self._wire.send(b"".join(line + b"\n" for line in self._ahead))
+            self._in_exchange = False
+
+    def _reply_ahead(self, line: bytes) -> Reply | Listing[object]:
+        """The reply to a line that was sent ahead."""
+        while line not in self._kept:
+            self._take_ahead()
+        reply = self._kept.pop(line)
+        if isinstance(reply, Refused):
+            raise reply
+        return reply
+
+    def _take_ahead(self) -> None:
+        """Reads the reply to the first of the lines that were sent ahead, and keeps it for its call."""
+        self._begin_exchange()
+        line = self._ahead.pop(0)
+        try:
+            reply: Reply | Listing[object] | Refused = self._receive(line)
+        except Refused as refused:
+            reply = refused
+        if isinstance(reply, Listing):
+            reply.settle()
+        self._kept[line] = reply
+        self._in_exchange = False
 
     def told(self) -> list[Watched | Gone]:
         with self._lock:
@@ -115,6 +156,11 @@ class Connection(Calls):
             return refused
 
     def _begin(self) -> None:
+        while self._ahead:
+            self._take_ahead()
+        self._begin_exchange()
+
+    def _begin_exchange(self) -> None:
         if self._has_ended or self._wire.is_closed:
             raise self._end_error()
         if self._in_exchange:

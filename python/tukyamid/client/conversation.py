@@ -1,12 +1,18 @@
 """What the plain and the asynchronous connection have in common: how a line and its reply belong together, and what
 watch lines come in between."""
 
-from collections.abc import Callable
+from __future__ import annotations
 
-from ..reading import Reader, read_progress, read_reply_after, read_watch
+from ..bare import TYPE_CHECKING
+from ..reading import read_progress, read_reply_after, read_watch
 from ..replies import Done, Gone, Reply, Watched
 
-Progress = Callable[[str], None]
+if TYPE_CHECKING:
+    from collections.abc import Callable
+
+    from ..reading import Reader
+
+    Progress = Callable[[str], None]
 
 PROBE, PROBED = b"?", "refused line"  # A line that is no command: no watch line follows its reply.
 

@@ -2,13 +2,12 @@
 
 from __future__ import annotations
 
-from collections import deque
-from collections.abc import Callable
-from threading import RLock
-from typing import Generic, TypeVar, cast
-
+from ..bare import TYPE_CHECKING, Generic, RLock, TypeVar, cast
 from ..reading import ListingHead
 from ..refusals import ProtocolError
+
+if TYPE_CHECKING:
+    from collections.abc import Callable
 
 T = TypeVar("T")
 U = TypeVar("U")
@@ -22,17 +21,17 @@ class Listing(Generic[T]):
     def __init__(self, head: ListingHead, next_line: Callable[[], str], lock: RLock) -> None:
         self.count = head.count
         self._item = head.item
-        self._read = cast(Callable[[str], T], head.read)
+        self._read = cast("Callable[[str], T]", head.read)
         self._next_line = next_line
         self._lock = lock
         self._left = head.count
-        self._kept: deque[T] = deque()
+        self._kept: list[T] = []  # The last one first.
 
     def of(self, item: type[U]) -> Listing[U]:
         """This listing, if its items are of this type; else a ProtocolError."""
         if self._item is not item:
             raise ProtocolError(f"a listing of {item.__name__} was asked for, and one of {self._item.__name__} came")
-        return cast(Listing[U], self)
+        return cast("Listing[U]", self)
 
     def __iter__(self) -> Listing[T]:
         return self
@@ -43,15 +42,15 @@ class Listing(Generic[T]):
     def __next__(self) -> T:
         with self._lock:
             if self._kept:
-                return self._kept.popleft()
+                return self._kept.pop()
             if not self._left:
                 raise StopIteration
             return self._take()
 
     def settle(self) -> None:
         """Reads what is left into memory."""
-        while self._left:
-            self._kept.append(self._take())
+        if self._left:
+            self._kept = [self._take() for _ in range(self._left)][::-1]
 
     def pass_over(self) -> None:
         """Reads what is left, and drops it."""

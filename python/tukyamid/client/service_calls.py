@@ -6,11 +6,15 @@ import os
 from abc import ABC
 
 from .. import service_lines
+from ..bare import TYPE_CHECKING
 from ..service_lines import Change, Found, Issued, KeyringAdded, KeyringLine
 from ..spelling import UserId
 from .calls import Calls
-from .conversation import Progress, no_progress
+from .conversation import no_progress
 from .listing import Listing
+
+if TYPE_CHECKING:
+    from .conversation import Progress
 
 
 class ServiceCalls(Calls, ABC):

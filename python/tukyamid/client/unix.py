@@ -2,18 +2,21 @@
 
 from __future__ import annotations
 
-import contextlib
 import io
 import os
-import socket
 import sys
 
+from ..bare import AF_UNIX, SHUT_RDWR, SO_PEERCRED, SOCK_STREAM, SOL_SOCKET, TYPE_CHECKING, BareSocket
 from ..refusals import RefusedLine, ServiceEnded, ServiceMissing, TukyamidError
 from .connection import Connection
 from .conversation import PROBE
 from .service_calls import ServiceCalls
 from .wire import PIECE
 
+if TYPE_CHECKING:
+    from collections.abc import Iterable
+
+    from _typeshed import ReadableBuffer, WriteableBuffer
 
 class ServiceSilent(ServiceEnded):
     """The service doesn't answer. `listener` is the number of the process that opened its socket."""
@@ -23,13 +26,31 @@ class ServiceSilent(ServiceEnded):
         self.listener = listener
 
 
+class _Octets(io.RawIOBase):
+    """What comes and goes over a socket, without a buffer."""
+
+    def __init__(self, connected: BareSocket) -> None:
+        self._socket = connected
+
+    def readable(self) -> bool:
+        return True
+
+    def writable(self) -> bool:
+        return True
+
+    def readinto(self, buffer: WriteableBuffer, /) -> int:
+        return self._socket.recv_into(buffer)
+
+    def write(self, octets: ReadableBuffer, /) -> int:
+        return self._socket.send(octets)
+
+
 class Client(Connection, ServiceCalls):
     """A connection to a service. Views, cursors and watches are its own; certificates and verdicts are everybody's."""
 
-    def __init__(self, connected: socket.socket) -> None:
+    def __init__(self, connected: BareSocket) -> None:
         self._socket = connected
-        super().__init__(io.BufferedReader(connected.makefile("rb", buffering=0), PIECE),
-                         io.BufferedWriter(connected.makefile("wb", buffering=0), PIECE))
+        super().__init__(io.BufferedReader(_Octets(connected), PIECE), io.BufferedWriter(_Octets(connected), PIECE))
 
     def close(self) -> None:
         """Ends the connection. What was sent before counts."""
@@ -48,14 +69,16 @@ class Client(Connection, ServiceCalls):
         self._abandon()
 
     def _abandon(self) -> None:
-        with contextlib.suppress(OSError):
-            self._socket.shutdown(socket.SHUT_RDWR)
+        try:
+            self._socket.shutdown(SHUT_RDWR)
+        except OSError:
+            pass
 
 
 def connect(path: str | os.PathLike[str], timeout: float | None = None) -> Client:
     """Connects to the service that listens at a path. Raises ServiceMissing if none does. If the service doesn't read
     or write for `timeout` seconds while a call waits for it, that call raises ServiceEnded."""
-    connected = socket.socket(socket.AF_UNIX, socket.SOCK_STREAM)
+    connected = BareSocket(AF_UNIX, SOCK_STREAM)
     try:
         connected.settimeout(timeout)
         connected.connect(os.fspath(path))
@@ -65,20 +88,22 @@ def connect(path: str | os.PathLike[str], timeout: float | None = None) -> Clien
     return Client(connected)
 
 
-def connect_in_time(path: str | os.PathLike[str], patience: float) -> Client:
+def connect_in_time(path: str | os.PathLike[str], patience: float, ahead: Iterable[bytes] = ()) -> Client:
     """Connects as `connect` does, and raises ServiceSilent if the service doesn't answer at all within `patience`
-    seconds. Later calls wait for as long as they take."""
+    seconds. Later calls wait for as long as they take. The lines `ahead` are sent at once, for calls that follow."""
     client = connect(path)
     connected = client._socket
     connected.settimeout(patience)
     try:
-        with contextlib.suppress(RefusedLine):
-            client.send_line(PROBE)
+        client._send_ahead([PROBE, *ahead])
+        client.send_line(PROBE)
+    except RefusedLine:
+        pass
     except ServiceEnded:
         if client._has_ended:  # It was about to end when this connected.
             client.close()
             raise ServiceMissing(f"no service at {os.fspath(path)!r}: it has ended") from None
-        process = connected.getsockopt(socket.SOL_SOCKET, socket.SO_PEERCRED, 12)[:4]
+        process = connected.getsockopt(SOL_SOCKET, SO_PEERCRED, 12)[:4]
         client.close()
         raise ServiceSilent(int.from_bytes(process, sys.byteorder)) from None
     connected.settimeout(None)

@@ -1,9 +1,14 @@
 """Octets to the other side and back, over a pipe or a socket."""
 
-import io
-from collections.abc import Callable
+from __future__ import annotations
 
+import io
+
+from ..bare import TYPE_CHECKING
 from ..refusals import ServiceEnded, TukyamidError
+
+if TYPE_CHECKING:
+    from collections.abc import Callable
 
 PIECE = 1 << 20
 

@@ -1,9 +1,14 @@
 """The command `tukyamid`."""
 
-import sys
-from collections.abc import Sequence
+from __future__ import annotations
 
+import sys
+
+from ..bare import TYPE_CHECKING
 from .failures import run_guarded
+
+if TYPE_CHECKING:
+    from collections.abc import Sequence
 
 
 def main(words: Sequence[str] | None = None) -> int:

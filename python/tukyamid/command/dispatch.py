@@ -1,13 +1,20 @@
 """Which part of the command runs: a question, or one of the commands that come first and have words of their own."""
 
-from collections.abc import Callable
+from __future__ import annotations
 
-from . import parser
+import gc
+
+from ..bare import TYPE_CHECKING
+from . import quick
 from .failures import NOT_REACHED, REACHED, WrongWords
 from .output import is_coloured, tell, write
-from .parser import Given
 
-Run = Callable[[list[str]], int]
+if TYPE_CHECKING:
+    from collections.abc import Callable
+
+    from .given import Given
+
+    Run = Callable[[list[str]], int]
 
 
 def run(words: list[str]) -> int:
@@ -15,8 +22,10 @@ def run(words: list[str]) -> int:
     command = _command(words[0]) if words else None
     if command is not None:
         return command(words[1:])
-    given = parser.read(words)
+    gc.disable()  # A question ends before there is anything to collect, and looking for it takes time.
+    given = quick.read(words) or _parsed(words)
     if given.help:
+        from . import parser
         write(parser.help_text())
         return REACHED
     if given.version:
@@ -28,6 +37,12 @@ def run(words: list[str]) -> int:
     if _command(given.question) is not None:
         raise WrongWords(f"{given.question} comes first: tukyamid {given.question} ..")
     return _answer(given)
+
+
+def _parsed(words: list[str]) -> Given:
+    """The words as the parser reads them, or says what is wrong with them."""
+    from . import parser
+    return parser.read(words)
 
 
 def _command(word: str) -> Run | None:

@@ -1,13 +1,17 @@
 """How the command ends: its exit statuses, and one line for whatever isn't an answer."""
 
-import os
-import signal
-import sys
-from collections.abc import Callable
-from types import FrameType
+from __future__ import annotations
 
+import os
+import sys
+
+from ..bare import SIGINT, TYPE_CHECKING, signal
 from ..refusals import TukyamidError
 from .output import open_standard_files, tell
+
+if TYPE_CHECKING:
+    from collections.abc import Callable
+    from types import FrameType
 
 REACHED, NOT_REACHED, WRONG_WORDS, NO_ANSWER, INTERRUPTED = 0, 1, 2, 3, 130
 USAGE = "usage: tukyamid [option..] QUESTION ARGUMENT.. (see tukyamid --help)"
@@ -24,7 +28,7 @@ class NoAnswer(TukyamidError):
 def run_guarded(run: Callable[[], int]) -> int:
     """The status of `run`, or that of its failure, which is then said in one line."""
     try:
-        signal.signal(signal.SIGINT, _interrupt)
+        signal(SIGINT, _interrupt)
         open_standard_files()
         return run()
     except KeyboardInterrupt:

@@ -6,11 +6,10 @@ so that the files needn't be read for the next question. The service ends when n
 
 from __future__ import annotations
 
-import hashlib
 import os
-from contextlib import suppress
-from typing import NamedTuple
 
+from ..bare import sha256
+from ..values import Value
 from .runtime import runtime_file
 from .sources import Stamp, stamp_of
 
@@ -24,14 +23,15 @@ def held_file(*parts: str) -> str:
     """A file of this module's, by what names it. Its folder is the user's alone."""
     folder = runtime_file("tukyamid-held")
     os.makedirs(folder, mode=0o700, exist_ok=True)
-    return os.path.join(folder, hashlib.sha256(os.fsencode("\0".join(parts))).hexdigest()[:32])
+    return os.path.join(folder, sha256(os.fsencode("\0".join(parts))).hexdigest()[:32])
 
 
-class Record(NamedTuple):
+class Record(Value):
     """What inputs of a stamp were: their digest, and the program that verified them, with its stamp."""
-    digest: str
-    verifier: str
-    verifier_stamp: str
+    __slots__ = ("digest", "verifier", "verifier_stamp")
+
+    def __init__(self, digest: str, verifier: str, verifier_stamp: str) -> None:
+        self.digest, self.verifier, self.verifier_stamp = digest, verifier, verifier_stamp
 
     def is_current(self) -> bool:
         """Whether the verifier is still the same."""
@@ -68,8 +68,10 @@ def _drop_oldest(folder: str) -> None:
     with os.scandir(folder) as entries:
         records = sorted((entry.stat().st_mtime_ns, entry.path) for entry in entries if entry.name.endswith(_RECORD))
     for _, path in records[:-_MOST_RECORDS]:
-        with suppress(FileNotFoundError):  # Another process has dropped it.
+        try:
             os.unlink(path)
+        except FileNotFoundError:
+            pass  # Another process has dropped it.
 
 
 def _record_file(stamp: Stamp) -> str:

@@ -3,41 +3,50 @@ words name."""
 
 from __future__ import annotations
 
-from collections.abc import Callable
-from contextlib import ExitStack
-from typing import TYPE_CHECKING
-
+from ..bare import TYPE_CHECKING
 from ..keyring import Keyring
 from .failures import WrongWords
-from .parser import Given
-from .sources import Source, sources_of
+from .sources import sources_of
 
 if TYPE_CHECKING:
-    from ..store import Store
+    from collections.abc import Callable, Sequence
+    from contextlib import ExitStack
 
-Tell = Callable[[str], None]
+    from ..store import Store
+    from .given import Given
+    from .sources import Source
+
+    Tell = Callable[[str], None]
 
 
 class Inputs:
-    """What the words name as inputs, and the keyring of all of it, as long as it is open."""
+    """What the words name as inputs, and the keyring of all of it, as long as it is open. A service is sent the lines
+    `ahead` at once, for the calls that follow."""
 
-    def __init__(self, given: Given, tell: Tell) -> None:
-        self._given, self._tell = given, tell
-        self._open = ExitStack()
+    def __init__(self, given: Given, tell: Tell, ahead: Sequence[bytes] = ()) -> None:
+        self._given, self._tell, self._ahead = given, tell, ahead
+        self._files: ExitStack | None = None
         self._paths: list[str] | None = None
         self.keyring: Keyring
         self.verifier_words = [given.verifier] if given.verifier else None
 
     def __enter__(self) -> Inputs:
         try:
-            self.keyring = self._open.enter_context(self._opened())
+            self.keyring = self._opened()
         except BaseException:
-            self._open.close()
+            self._close_files()
             raise
         return self
 
     def __exit__(self, *_: object) -> None:
-        self._open.close()
+        try:
+            self.keyring.close()
+        finally:
+            self._close_files()
+
+    def _close_files(self) -> None:
+        if self._files is not None:
+            self._files.close()
 
     def _opened(self) -> Keyring:
         sources = sources_of(self._given)
@@ -46,12 +55,12 @@ class Inputs:
         if not sources:
             self._refuse_words_of_inputs()
             from .served import of_service
-            return of_service()
+            return of_service(self._ahead)
         is_alone = self._given.no_service or self._given.no_cache or self._given.anew or self._given.engine
         if is_alone:
             return self._by_an_engine(sources)
         from .reopening import Reopening
-        reopening = Reopening(self._given, sources, lambda: self.as_paths(sources))
+        reopening = Reopening(self._given, sources, lambda: self.as_paths(sources), self._ahead)
         return reopening.served() or reopening.begin_after(self._by_an_engine(sources))
 
     def _refuse_words_of_inputs(self) -> None:
@@ -65,7 +74,9 @@ class Inputs:
     def as_paths(self, sources: list[Source]) -> list[str]:
         """Files and directories that have the inputs, as long as this is open. Each input is read once."""
         if self._paths is None:
-            self._paths = [source.path(self._open) for source in sources]
+            from contextlib import ExitStack
+            self._files = files = ExitStack()
+            self._paths = [source.path(files) for source in sources]
         return self._paths
 
     def _by_an_engine(self, sources: list[Source]) -> Keyring:

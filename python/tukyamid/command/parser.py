@@ -1,12 +1,14 @@
-"""The words of the command: its options, and what they are read as."""
+"""The parser of the command's words: their help, and what is wrong with them."""
+
+from __future__ import annotations
 
 import argparse
-from collections.abc import Callable, Sequence
+from collections.abc import Callable, Iterable, Sequence
 from typing import Any, NoReturn
 
-from ..shown import FORMS
-from . import values
+from . import options
 from .failures import WrongWords
+from .given import Given
 
 HELP = """usage: tukyamid [option..] QUESTION ARGUMENT..
 
@@ -34,31 +36,6 @@ environment: TUKYAMID_ENGINE and TUKYAMID_VERIFIER name the two programs; NO_COL
 """
 
 
-class Given(argparse.Namespace):
-    """The words of a question, read."""
-    question: str | None
-    words: list[str]
-    keyring: list[str]
-    directory: list[str]
-    gpg: bool
-    gpg_keyring: bool
-    root: list[tuple[str, int]]
-    time: int | None
-    amount: int
-    email: bool
-    strict: bool
-    paths: bool
-    format: str
-    no_service: bool
-    cache: str | None
-    no_cache: bool
-    anew: bool
-    engine: str | None
-    verifier: str | None
-    help: bool
-    version: bool
-
-
 class Parser(argparse.ArgumentParser):
     """A parser whose errors are WrongWords."""
 
@@ -68,9 +45,7 @@ class Parser(argparse.ArgumentParser):
 
 def read(words: Sequence[str]) -> Given:
     """The words as they are given; WrongWords if they can't be read."""
-    given = Given()
-    parser().parse_intermixed_args(words, given)
-    return given
+    return Given(**vars(parser().parse_intermixed_args(words)))
 
 
 def help_text() -> str:
@@ -83,7 +58,9 @@ def parser() -> Parser:
     made.add_argument("question", nargs="?", help=argparse.SUPPRESS)
     made.add_argument("words", nargs="*", help=argparse.SUPPRESS)
     add_inputs(made)
-    _add_answers(made)
+    group = made.add_argument_group("the question and its answer")
+    add_time_and_amount(group)
+    add_options(group, options.ANSWERS)
     add_programs(made)
     return made
 
@@ -100,48 +77,33 @@ class Help(argparse.RawDescriptionHelpFormatter):
 
 def add_inputs(made: Parser) -> None:
     group = made.add_argument_group("where certificates come from (by default the service's keyring)")
-    group.add_argument("--keyring", action="append", default=[], metavar="FILE",
-                       help="a keyring, binary or armored; - is standard input; may be given several times")
-    group.add_argument("--directory", action="append", default=[], metavar="FOLDER", help="a certificate directory")
-    group.add_argument("--gpg", action="store_true", help="gpg's own keyring, and its owner trust as roots")
-    group.add_argument("--gpg-keyring", action="store_true", help="gpg's own keyring, without its owner trust")
-    group.add_argument("--root", action="append", default=[], metavar="KEY[:AMOUNT]", type=typed(values.read_root),
-                       help="a trust root, with amount 120 by default; without --root, gpg's with --gpg, the "
-                            "directory's trust-root with --directory, otherwise sq's")
-
-
-def _add_answers(made: Parser) -> None:
-    group = made.add_argument_group("the question and its answer")
-    add_time_and_amount(group)
-    group.add_argument("--email", action="store_true", help="USERID is an e-mail address, in upper or lower case")
-    group.add_argument("--strict", action="store_true",
-                       help="a key that gpg or Sequoia treats as expired counts as not reached")
-    group.add_argument("--paths", action="store_true", help="list: show the paths too")
-    group.add_argument("--format", choices=FORMS, default="tree", help=f"how the answer is shown: {', '.join(FORMS)}",
-                       metavar="FORM")
+    add_options(group, options.INPUTS)
 
 
 def add_time_and_amount(group: argparse._ArgumentGroup) -> None:
     """As of when, and how far."""
-    group.add_argument("--time", metavar="TIME", type=typed(values.read_time),
-                       help="as of this time (UTC): 2024-01-31, 2024-01-31T12:00:00Z, or @SECONDS since 1970")
-    group.add_argument("--amount", metavar="N|partial|full|double", type=typed(values.read_wanted), default=120,
-                       help="the wanted amount: partial is 40, full 120 (the default), double 240")
-    for word, amount in values.AMOUNTS.items():
-        group.add_argument(f"--{word}", dest="amount", action="store_const", const=amount, help=f"--amount {word}")
+    add_options(group, options.TIME_AND_AMOUNT)
 
 
 def add_programs(made: Parser) -> None:
-    group = made.add_argument_group("programs and caches")
-    group.add_argument("--no-service", action="store_true", help="start an engine just for this question")
-    group.add_argument("--cache", metavar="FOLDER", help="where verified keyrings are kept")
-    group.add_argument("--no-cache", action="store_true", help="don't use a cache")
-    group.add_argument("--anew", action="store_true", help="ignore the cache, and verify again")
-    group.add_argument("--engine", metavar="PROGRAM", help="the engine's program")
-    group.add_argument("--verifier", metavar="PROGRAM", help="the program wot-verdicts")
-    group.add_argument("--known-notation", type=_known_notation, help=argparse.SUPPRESS)
-    group.add_argument("--version", action="store_true", help="print the versions and exit")
-    group.add_argument("--help", "-h", action="store_true", help="print this help and exit")
+    add_options(made.add_argument_group("programs and caches"), options.PROGRAMS)
+
+
+def add_options(group: argparse._ArgumentGroup, added: Iterable[options.Option]) -> None:
+    for option in added:
+        group.add_argument(*filter(None, (option.name, option.short)), **_words_of(option))
+
+
+def _words_of(option: options.Option) -> dict[str, Any]:
+    """An option in argparse's words."""
+    words = {"dest": option.dest, "help": option.help or argparse.SUPPRESS, "default": option.default}
+    if option.means is not None:
+        return words | {"action": "store_const", "const": option.means}
+    if option.is_many:
+        words |= {"action": "append", "default": []}
+    if option.read is not None:
+        words["type"] = typed(option.read)
+    return words | {"metavar": option.metavar or None, "choices": option.choices or None}
 
 
 def typed(read_word: Callable[[str], Any]) -> Callable[[str], Any]:
@@ -152,9 +114,3 @@ def typed(read_word: Callable[[str], Any]) -> Callable[[str], Any]:
         except ValueError as error:
             raise argparse.ArgumentTypeError(str(error)) from None
     return read
-
-
-def _known_notation(name: str) -> NoReturn:
-    """An option of sq-wot's, which has no counterpart here."""
-    raise argparse.ArgumentTypeError("no notation can be made known: in the engine a signature with a critical "
-                                     "notation never counts; `explain` names the notation")

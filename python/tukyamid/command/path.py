@@ -1,18 +1,23 @@
 """The question `path`: is there a path along these certificates, and if not, which step breaks it and why?"""
 
-from typing import NamedTuple
+from __future__ import annotations
 
 from ..assessment import assess
+from ..bare import TYPE_CHECKING
 from ..certificates import Signature
-from ..keyring import Keyring, View
 from ..reasons import ReasonWord
 from ..replies import Reason
 from ..signatures import CERTIFICATIONS
 from ..spelling import for_people
+from ..values import Value
 from .failures import WrongWords
 from .keys import resolve
-from .parser import Given
-from .questions import Ask, Found, UserIds, key_of
+from .questions import Found, UserIds, key_of
+
+if TYPE_CHECKING:
+    from ..keyring import Keyring, View
+    from .given import Given
+    from .questions import Ask
 
 
 def read_path(given: Given) -> Ask:
@@ -29,17 +34,18 @@ def read_path(given: Given) -> Ask:
         with view.keyring.along(fprs, [given.engine] if given.engine else None) as along:
             route = along.view(view.time, root)
             wanted = user_ids.of_key(view, fprs[-1])
-            found = tuple(assess(route, fprs[-1], uid, given.amount)._replace(others=()) for uid in wanted)
+            found = tuple(assess(route, fprs[-1], uid, given.amount).but(others=()) for uid in wanted)
             notes = tuple(note for uid in wanted for note in _Chain(view, along, fprs, uid).notes())
         return Found(found, notes if found else user_ids.missing(fprs[-1]), root)
     return ask
 
 
-class _Link(NamedTuple):
+class _Link(Value):
     """A certification by a step's issuer on a user ID of its target, and what it comes to."""
-    user_id: bytes
-    signature: Signature
-    reason: Reason
+    __slots__ = ("user_id", "signature", "reason")
+
+    def __init__(self, user_id: bytes, signature: Signature, reason: Reason) -> None:
+        self.user_id, self.signature, self.reason = user_id, signature, reason
 
     def said(self) -> str:
         return f"{for_people(self.user_id)}: {self._counts()}"

@@ -1,26 +1,32 @@
 """The questions: each reads its words, and then asks a view."""
 
-from collections.abc import Callable, Iterable, Mapping
-from typing import NamedTuple
+from __future__ import annotations
 
-from ..addresses import address_of, canonical
-from ..assessment import Assessment, assess, brief
-from ..keyring import View
+from ..assessment import assess, brief
+from ..bare import TYPE_CHECKING
 from ..spelling import for_people
+from ..values import Value
 from . import values
 from .failures import WrongWords
 from .keys import resolve
-from .parser import Given
+
+if TYPE_CHECKING:
+    from collections.abc import Callable, Iterable, Mapping
+
+    from ..assessment import Assessment
+    from ..keyring import View
+    from .given import Given
+
+    Ask = Callable[[View], "Found"]
 
 
-class Found(NamedTuple):
+class Found(Value):
     """What a question came to. `roots` are its own, if it needs no others."""
-    assessments: tuple[Assessment, ...]
-    notes: tuple[str, ...] = ()
-    roots: Mapping[str, int] = {}
+    __slots__ = ("assessments", "notes", "roots")
 
-
-Ask = Callable[[View], Found]
+    def __init__(self, assessments: tuple[Assessment, ...], notes: tuple[str, ...] = (),
+                 roots: Mapping[str, int] | None = None) -> None:
+        self.assessments, self.notes, self.roots = assessments, notes, roots or {}
 
 
 def read(given: Given) -> Ask:
@@ -49,13 +55,14 @@ class UserIds:
     """The user IDs that a word names: one by its octets, or by `--email` all that have an address."""
 
     def __init__(self, given: Given, word: str) -> None:
-        self._address = canonical(_address(word)) if given.email else None
+        self._address = _address(word) if given.email else None
         self._user_id = values.read_user_id(word)
 
     def of_key(self, view: View, fpr: str) -> list[bytes]:
         """Those of a key. A user ID that is given whole is asked about, whether or not the key has it."""
         if self._address is None:
             return [self._user_id]
+        from ..addresses import address_of
         certificate = view.keyring.certificate(fpr)
         return [uid for uid in certificate.user_ids if address_of(uid) == self._address] if certificate else []
 
@@ -71,9 +78,10 @@ class UserIds:
 
 
 def _address(word: str) -> str:
+    from ..addresses import canonical
     if "@" not in word.strip("@"):
         raise WrongWords(f"{word!r} isn't an e-mail address")
-    return word
+    return canonical(word)
 
 
 def authenticate(given: Given) -> Ask:
@@ -131,8 +139,11 @@ def list_bindings(given: Given) -> Ask:
     with_paths = given.paths or given.format == "dot"
 
     def is_sought(user_id: bytes) -> bool:
-        text = (address_of(user_id) or "") if given.email else user_id.decode("utf-8", "surrogateescape")
-        return pattern in text.casefold() and not (given.email and not text)
+        if not given.email:
+            return pattern in user_id.decode("utf-8", "surrogateescape").casefold()
+        from ..addresses import address_of
+        address = address_of(user_id)
+        return address is not None and pattern in address.casefold()
 
     def ask(view: View) -> Found:
         listed = [one for one in view.list(given.amount) if is_sought(one.user_id)]

@@ -4,27 +4,30 @@ from __future__ import annotations
 
 import os
 import time
-from collections.abc import Callable
-from typing import TYPE_CHECKING
 
+from ..bare import TYPE_CHECKING
 from ..client import Client
 from ..keyring import Keyring
 from ..refusals import ServiceMissing, TukyamidError
 from ..served import served_keyring
 from .held import find_record, held_file, keep_record
-from .parser import Given
 from .served import answering
-from .sources import Source, Stamp
+from .sources import Stamp
 
 if TYPE_CHECKING:
+    from collections.abc import Callable, Sequence
+
+    from .given import Given
+    from .sources import Source
     from ..store import Entry
 
 
 class Reopening:
-    """Inputs that may have a service. `as_paths` gives them as files."""
+    """Inputs that may have a service, which is sent the lines `ahead` at once. `as_paths` gives them as files."""
 
-    def __init__(self, given: Given, sources: list[Source], as_paths: Callable[[], list[str]]) -> None:
-        self._given, self._sources, self._as_paths = given, sources, as_paths
+    def __init__(self, given: Given, sources: list[Source], as_paths: Callable[[], list[str]],
+                 ahead: Sequence[bytes] = ()) -> None:
+        self._given, self._sources, self._as_paths, self._ahead = given, sources, as_paths, ahead
         self._digest = ""
 
     def served(self) -> Keyring | None:
@@ -100,7 +103,7 @@ class Reopening:
 
     def _connect(self) -> Client | None:
         try:
-            return answering(self._socket())
+            return answering(self._socket(), self._ahead)
         except ServiceMissing:
             return None
 
@@ -110,7 +113,9 @@ class Reopening:
         if entry is None:
             return None
         from .holding import is_ready, start
-        return answering(start(str(entry.folder), self._socket())) if is_ready(str(entry.folder)) else None
+        if not is_ready(str(entry.folder)):
+            return None
+        return answering(start(str(entry.folder), self._socket()), self._ahead)
 
     def _entry(self) -> Entry | None:
         """What was kept of the inputs. TukyamidError if the folder isn't safe."""

@@ -3,25 +3,31 @@
 from __future__ import annotations
 
 import os
-from collections.abc import Iterator
-from typing import NamedTuple
 
+from ..bare import TYPE_CHECKING
 from ..certificates import key_fingerprint
 from ..packets import KEY, packets
+from ..values import Value
 from .failures import NoAnswer, WrongWords
-from .inputs import Inputs
 from .keys import resolve
 from .output import printable
-from .parser import Given
+
+if TYPE_CHECKING:
+    from collections.abc import Iterator
+
+    from .given import Given
+    from .inputs import Inputs
 
 FULL = 120
 _SECRET_KEYS = {5, 7}
 
 
-class Chosen(NamedTuple):
+class Chosen(Value):
     """The amount of each root, and notes for people."""
-    amounts: dict[str, int]
-    notes: tuple[str, ...] = ()
+    __slots__ = ("amounts", "notes")
+
+    def __init__(self, amounts: dict[str, int], notes: tuple[str, ...] = ()) -> None:
+        self.amounts, self.notes = amounts, notes
 
 
 class Roots:

@@ -1,36 +1,43 @@
 """The keyring that the user's service keeps, and connections to services."""
 
+from __future__ import annotations
+
 import os
 
-from ..client import Client
+from ..bare import TYPE_CHECKING
 from ..client.unix import ServiceSilent, connect_in_time
-from ..keyring import Keyring
 from ..refusals import ServiceMissing
 from ..served import served_keyring
 from .failures import NoAnswer
 from .runtime import runtime_file
 
+if TYPE_CHECKING:
+    from collections.abc import Iterable
+
+    from ..client import Client
+    from ..keyring import Keyring
+
 _PATIENCE = 30.0
 
 
-def of_service() -> Keyring:
-    """The keyring of the user's service, which is started unless it runs."""
-    return served_keyring(service())
+def of_service(ahead: Iterable[bytes]) -> Keyring:
+    """The keyring of the user's service, which is started unless it runs. The lines `ahead` are sent to it at once."""
+    return served_keyring(service(ahead))
 
 
-def service() -> Client:
+def service(ahead: Iterable[bytes] = ()) -> Client:
     """A connection to the user's service, which is started unless it runs. NoAnswer if it runs and doesn't answer."""
     try:
-        return answering(runtime_file("tukyamid.socket"))
+        return answering(runtime_file("tukyamid.socket"), ahead)
     except ServiceMissing:
         from ..service.starting import ensure
-        return answering(ensure())
+        return answering(ensure(), ahead)
 
 
-def answering(path: str | os.PathLike[str]) -> Client:
+def answering(path: str | os.PathLike[str], ahead: Iterable[bytes] = ()) -> Client:
     """A connection to a service that answers. ServiceMissing if none listens; NoAnswer if it doesn't answer."""
     try:
-        return connect_in_time(path, _PATIENCE)
+        return connect_in_time(path, _PATIENCE, ahead)
     except ServiceSilent as silent:
         raise NoAnswer(_silent(os.fspath(path), silent.listener)) from None
 

@@ -8,17 +8,23 @@ from __future__ import annotations
 
 import os
 import sys
-from collections.abc import Iterable, Iterator
-from contextlib import ExitStack
-from typing import NamedTuple, Protocol
 
-from .parser import Given
+from ..bare import TYPE_CHECKING, Protocol
+from ..values import Value
+
+if TYPE_CHECKING:
+    from collections.abc import Iterable, Iterator
+    from contextlib import ExitStack
+
+    from .given import Given
 
 
-class Stamp(NamedTuple):
+class Stamp(Value):
     """A text that changes with the input, and the newest time in it, in nanoseconds."""
-    text: str
-    newest: int
+    __slots__ = ("text", "newest")
+
+    def __init__(self, text: str, newest: int) -> None:
+        self.text, self.newest = text, newest
 
 
 class Source(Protocol):

@@ -1,12 +1,9 @@
 """What the words of the command say: times, amounts, keys and roots. A ValueError says what is wrong with one."""
 
-import re
-
 from .. import spelling
 
 AMOUNTS = {"partial": 40, "full": 120, "double": 240}
 MOST_TIME, MOST_WANTED, MOST_AMOUNT = 2**32 - 1, 2**32 - 1, 255
-_KEY = re.compile(r"[0-9a-f]{40}|[0-9a-f]{64}|[0-9a-f]{16}")
 
 
 def read_time(text: str) -> int:
@@ -42,10 +39,10 @@ def read_key(text: str) -> str:
     >>> read_key("0xFAC804259D6B2997AFE074FCD2112D7C6C04741C"), read_key("D211 2D7C 6C04 741C")
     ('fac804259d6b2997afe074fcd2112d7c6c04741c', 'd2112d7c6c04741c')
     """
-    digits = re.sub(r"\s", "", text).lower().removeprefix("0x")
-    if re.fullmatch("[0-9a-f]{8}", digits):
+    digits = "".join(text.split()).lower().removeprefix("0x")
+    if len(digits) == 8 and spelling.is_hexadecimal(digits):
         raise ValueError(f"{text!r} is a short key ID, which anybody can forge: give the fingerprint")
-    if not _KEY.fullmatch(digits):
+    if len(digits) not in (16, 40, 64) or not spelling.is_hexadecimal(digits):
         raise ValueError(f"{text!r} is neither a fingerprint nor a key ID of 16 digits")
     return digits
 

@@ -12,9 +12,11 @@ from typing import Protocol, TypeVar
 
 from .access import Access
 from .cursors import Cursors
-from .database import Actor, Database, DatabaseFault, Finder, News, Shared, Snapshot
+from .database import Actor, DatabaseFault, Finder, News, Shared, Snapshot
+from .holding import Holding
 from .hub import Hub
 from .journal import Done
+from .kinds import OF_THE_WHOLE
 from .outbox import Outbox, Pieces
 from .parts import MOST, HasParts, SharedInParts
 from .room import Room
@@ -28,6 +30,7 @@ from .views import Views
 from .watches import Watches
 
 _R = TypeVar("_R")
+LOADED_AT_ONCE = 2 << 20  # Octets of certificates: an engine loads them in less than a tenth of a second.
 _PAUSE = 1.0
 _PATIENCE = 30.0
 
@@ -42,67 +45,52 @@ class Sitting(Protocol):
         """Lines that have come meanwhile may begin."""
 
 
-class Desk:
+class Desk(Holding):
     """`budget` is how many certificates an engine may hold."""
 
     def __init__(self, program: Sequence[str], most_engines: int, access: Access, budget: int) -> None:
+        super().__init__(access, Room(access.database, replace(MOST, certificates=min(budget, MOST.certificates))))
         self.sitting: set[Sitting] = set()
         self.is_turning = False
         self._program = program
-        self._access = access
-        self._room = Room(access.database, replace(MOST, certificates=min(budget, MOST.certificates)))
         self._most_engines = most_engines
-        self._held: Hub | Sliced | None = None
+        self.early: Sliced | None = None
         self._later: list[Callable[[], None]] = []
         self._task: asyncio.Task[None] | None = None
 
-    @property
-    def held(self) -> Hub | Sliced:
-        assert self._held is not None
-        return self._held
-
-    @property
-    def database(self) -> Database:
-        return self._access.database
-
-    @property
-    def fault(self) -> str:
-        """Why nothing can be committed at present; empty where all is well."""
-        return self.held.fault
-
-    @property
-    def count(self) -> int | None:
-        """The number of the last change that all engines have; None of a sliced keyring that nobody else changes."""
-        return self.held.count if isinstance(self.held, Hub | SharedSliced) else None
-
-    @property
-    def age(self) -> float:
-        """For how many seconds changes of other services may have been missed."""
-        return self.held.age if isinstance(self.held, SharedHub | SharedSliced) else 0.0
-
-    @property
-    def pids(self) -> list[int]:
-        """The engines' process numbers."""
-        return self.held.pids
-
-    @property
-    def loaded(self) -> int | None:
-        """How many certificates are loaded of a sliced keyring; None if each engine holds all."""
-        return self.held.loaded if isinstance(self.held, Sliced) else None
-
-    @property
-    def budget(self) -> int:
-        return self._room.certificates
-
     async def start(self) -> None:
-        """Starts the first engine; OSError, ValueError or DatabaseFault where it can't take the database."""
-        self._held = self._whole() if await self._room.has_all() else self._sliced()
-        await self._held.start()
+        """Starts the first engine; OSError, ValueError or DatabaseFault where it can't take the database. If there is
+        much to load, questions are answered from slices until `load` is over."""
+        held: Hub | Sliced = self._whole() if await self._room.has_all() else self._sliced()
+        self._held = held
+        if not isinstance(held, Hub) or self._room.octets <= LOADED_AT_ONCE or isinstance(self.database, Shared):
+            await held.start()
+            return
+        await held.begin()
+        early = self._sliced()
+        await early.start()
+        self.early = early
+
+    async def load(self) -> None:
+        """Waits until the first engine has taken all of the database; the errors are those of `start`."""
+        if self.early is None or not isinstance(self.held, Hub):
+            return
+        await self.held.load()
+        self.is_turning = True  # Until all that was asked early is answered, no change may be made.
+        await self.early.close()
+        self.early = None
+        self._resume([])
+
+    def takes(self, line: bytes) -> bool:
+        """Whether this line may begin now."""
+        return not self.is_turning and (self.early is None or line.partition(b" ")[0] not in OF_THE_WHOLE)
 
     async def close(self) -> None:
         if self._task is not None:
             with contextlib.suppress(asyncio.TimeoutError):
                 await asyncio.wait_for(self._task, _PATIENCE)
+        if self.early is not None:
+            await self.early.close()
         if self._held is not None:
             await self._held.close()
         self._access.close()
@@ -140,7 +128,7 @@ class Desk:
     def change(self, line: bytes, actor: Actor, done: Done, begun: Begun = lambda: None) -> None:
         """Has a change made; `done` gets its reply once it is committed, and `begun` is called when it has its place in
         the order of lines."""
-        if self.is_turning:
+        if self.is_turning or self.early is not None:
             self._later.append(partial(self.change, line, actor, done, begun))
         elif isinstance(self.held, Sliced):
             self.held.change(line, actor, done, begun)
@@ -214,14 +202,10 @@ class Desk:
 
     def ask(self, line: bytes, done: Done) -> None:
         """Asks what is no view's, and changes nothing."""
-        if self.is_turning:
+        if not self.takes(line):
             self._later.append(partial(self.ask, line, done))
         else:
-            self.held.ask(line, done)
-
-    async def pending(self) -> int | None:
-        """How many signatures of a sliced keyring have no verdict, well-formed or not; None if engines hold all."""
-        return await self.held.read(lambda parts: parts.pending()) if isinstance(self.held, Sliced) else None
+            (self.early or self.held).ask(line, done)
 
     def keys(self, done: Callable[[bytes | Pieces | None, int], None]) -> None:
         if isinstance(self.held, Sliced):
@@ -231,7 +215,7 @@ class Desk:
 
     def snapshot(self, done: Callable[[Snapshot | None], None], begun: Begun = lambda: None) -> None:
         """Asks for a snapshot of the keyring behind the changes so far; `begun` as with a change."""
-        if self.is_turning:
+        if self.is_turning or self.early is not None:
             self._later.append(partial(self.snapshot, done, begun))
         elif isinstance(self.held, Sliced):
             begun()

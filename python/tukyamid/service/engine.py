@@ -6,26 +6,17 @@ import asyncio
 import contextlib
 from collections import deque
 from collections.abc import Sequence
-from typing import Protocol
 
 from .feeding import NO_COMMAND, Feed
 from .journal import Change, Done, Journal, Point
 from .program import Program
-from .sending import Held, Sent, ignore
+from .sending import Held, Home, Sent, ignore
 from .standing import Hear, Standing, Watch
 
 _TRIES = 3
 _LONGEST_PAUSE = 5.0
 _SHORT_PAUSE = 0.01
 _LONGEST_WAIT = 10.0
-
-
-class Home(Protocol):
-    """What an engine reports to the hub."""
-
-    def tell(self, text: str) -> None: ...
-
-    def withdraw_where_all_are_stuck(self, change: Change) -> None: ...
 
 
 class Engine:
@@ -40,6 +31,7 @@ class Engine:
         loop = asyncio.get_running_loop()
         self._now = loop.time
         self.ready: asyncio.Future[None] = loop.create_future()
+        self.has_begun: asyncio.Future[None] = loop.create_future()
         self._program = program
         self._journal = journal
         self._home = home
@@ -211,6 +203,8 @@ class Engine:
             held.watch.hear(held.reply)
 
     def _take_fed(self, feed: Feed, reply: bytes) -> None:
+        if not self.has_begun.done():
+            self.has_begun.set_result(None)
         fault, told = feed.take(reply)
         if fault:
             self._fail(ValueError(fault))
@@ -232,9 +226,10 @@ class Engine:
 
     def _fail(self, error: Exception) -> None:
         """The first program never came to stand; whoever waits for that gets this error."""
-        if not self.ready.done():
-            self.ready.set_exception(error)
-            self.ready.exception()  # If nobody waits, it counts as read.
+        for waited in (self.has_begun, self.ready):
+            if not waited.done():
+                waited.set_exception(error)
+                waited.exception()  # If nobody waits, it counts as read.
 
     def _suspect_first(self) -> None:
         """Gives up the line at which program after program ended. A change that another engine answered is no such

@@ -53,12 +53,21 @@ class Hub:
         return [engine.pid for engine in self.engines if engine.pid is not None]
 
     async def start(self) -> None:
-        """Starts the first engine, and waits until it has taken the database; OSError, ValueError or DatabaseFault
-        where it can't."""
+        """Starts the first engine, and waits until it has taken the whole database; the errors are those of `begin`."""
+        await self.begin()
+        await self.load()
+
+    async def begin(self) -> None:
+        """Starts the first engine, and waits until it takes the database; OSError, ValueError or DatabaseFault where it
+        can't."""
         snapshot = await self.access.write(self.access.database.snapshot)
         self._committer.count = snapshot.change
         self._journal = Journal(snapshot)
-        await self._start_engine().ready
+        await self._start_engine().has_begun
+
+    async def load(self) -> None:
+        """Waits until the first engine has taken all of the database; the errors are those of `begin`."""
+        await asyncio.shield(self.engines[0].ready)
 
     async def close(self) -> None:
         """Ends the engines. What was handed in is answered first, and so is committed."""

@@ -8,4 +8,7 @@ OF_THE_KEYRING = frozenset((b"keys", b"pending", b"export"))
 OF_THE_DIRECTORY = frozenset((b"load", b"store"))
 # Lines that are under way alone: their replies are long, or what they do takes more than one step.
 ALONE = OF_THE_KEYRING | OF_THE_DIRECTORY | {b"list", b"explain", b"absence", b"dump", b"cursor", b"service"}
+# While the first engine loads the keyring, lines of these kinds wait for it; all others are answered from slices.
+OF_THE_WHOLE = CHANGES | OF_THE_DIRECTORY | {b"list", b"absence", b"check", b"keys", b"pending", b"dump", b"watch",
+                                             b"cursor"}
 MAY_CHANGE = CHANGES | OF_THE_DIRECTORY

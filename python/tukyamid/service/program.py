@@ -4,13 +4,45 @@ from __future__ import annotations
 
 import asyncio
 import contextlib
+import os
 from collections.abc import Callable, Iterable, Iterator, Sequence
 
 from .framing import ReplyCutter
 
-_PIECE = 1 << 18
-_WRITTEN_PIECE = 1 << 16
+_WRITTEN_PIECE = 1 << 14
 _LONGEST_WAIT = 10.0
+
+
+class _Output(asyncio.Protocol):
+    """What a program writes, handed on as it comes. A stream would have each piece wait for two turns of the loop."""
+
+    def __init__(self, take: Callable[[bytes], None], tell: Callable[[str], None]) -> None:
+        self.over: asyncio.Future[None] = asyncio.get_running_loop().create_future()
+        self._take = take
+        self._tell = tell
+        self._transport: asyncio.BaseTransport | None = None
+
+    def connection_made(self, transport: asyncio.BaseTransport) -> None:
+        self._transport = transport
+
+    def data_received(self, data: bytes) -> None:
+        if self.over.done():
+            return
+        try:
+            self._take(data)
+        except Exception as error:
+            self._tell(f"an engine wrote something that isn't a reply: {error!r}")
+            self.end()
+
+    def connection_lost(self, exc: Exception | None) -> None:
+        self.end()
+
+    def end(self) -> None:
+        """Takes nothing more."""
+        if self._transport is not None:
+            self._transport.close()
+        if not self.over.done():
+            self.over.set_result(None)
 
 
 class Program:
@@ -21,6 +53,7 @@ class Program:
         self._tell = tell
         self._process: asyncio.subprocess.Process | None = None
         self._stdin: asyncio.StreamWriter | None = None
+        self._cutter = ReplyCutter()
         self._lines: list[bytes] = []
         self._is_killed = False
 
@@ -46,14 +79,14 @@ class Program:
     async def run(self, words: Sequence[str], lines: Iterator[bytes], behind: Callable[[], Iterable[bytes]]) -> object:
         """Starts the program, and gives its status when it has ended. It is sent these lines as it reads them, and
         then at once those that `behind` gives, from which on it is live."""
-        process = self._process = await asyncio.create_subprocess_exec(
-            *words, stdin=asyncio.subprocess.PIPE, stdout=asyncio.subprocess.PIPE, limit=_PIECE)
-        assert process.stdin is not None and process.stdout is not None
+        output = _Output(self._cut, self._tell)
+        process = await self._start(words, output)
+        assert process.stdin is not None
         if self._is_killed:
             self.kill()
         bringing = asyncio.get_running_loop().create_task(self._bring(process.stdin, lines, behind))
         try:
-            await self._read(process.stdout)
+            await output.over
             self._stdin = None
             process.stdin.close()
             status = await asyncio.wait_for(process.wait(), _LONGEST_WAIT)
@@ -65,6 +98,7 @@ class Program:
         finally:
             self._stdin = None
             bringing.cancel()
+            output.end()
             self.kill()
 
     async def _bring(self, stdin: asyncio.StreamWriter, lines: Iterator[bytes],
@@ -73,6 +107,7 @@ class Program:
             for piece in pieces(lines):
                 stdin.write(piece)
                 await stdin.drain()
+                await asyncio.sleep(0)  # Questions to other engines come between.
         except Exception as error:  # Who reads the program's output meets its end.
             if not isinstance(error, ConnectionError):
                 self._tell(f"an engine can't be brought up to date: {error!r}")
@@ -84,17 +119,27 @@ class Program:
         if not self._is_killed:
             self._stdin = stdin
 
-    async def _read(self, stdout: asyncio.StreamReader) -> None:
-        cutter = ReplyCutter()
-        while octets := await stdout.read(_PIECE):
-            try:
-                for reply in cutter.cut(octets):
-                    if self._is_killed:
-                        return
-                    self._take(reply)
-            except Exception as error:
-                self._tell(f"an engine wrote something that isn't a reply: {error!r}")
+    async def _start(self, words: Sequence[str], output: _Output) -> asyncio.subprocess.Process:
+        """Starts the program, whose output goes to `output`."""
+        reading, writing = os.pipe()
+        pipe = os.fdopen(reading, "rb", 0)
+        try:
+            process = await asyncio.create_subprocess_exec(*words, stdin=asyncio.subprocess.PIPE, stdout=writing)
+        except BaseException:
+            pipe.close()
+            raise
+        finally:
+            os.close(writing)
+        self._process = process
+        await asyncio.get_running_loop().connect_read_pipe(lambda: output, pipe)
+        return process
+
+    def _cut(self, octets: bytes) -> None:
+        """Takes the replies that end within these octets."""
+        for reply in self._cutter.cut(octets):
+            if self._is_killed:
                 return
+            self._take(reply)
 
     def end_input(self) -> None:
         """Has it end when it has answered what was sent."""

@@ -1,6 +1,8 @@
-"""A line on its way to an engine, and a reply on its way back."""
+"""A line on its way to an engine, a reply on its way back, and what an engine reports."""
 
 from __future__ import annotations
+
+from typing import Protocol
 
 from .journal import Change, Done, Point
 from .standing import Watch
@@ -31,6 +33,14 @@ class Held:
         self.sent = sent
         self.reply = reply
         self.watch = watch
+
+
+class Home(Protocol):
+    """What an engine reports to the hub."""
+
+    def tell(self, text: str) -> None: ...
+
+    def withdraw_where_all_are_stuck(self, change: Change) -> None: ...
 
 
 def ignore(reply: bytes | None, count: int) -> None:

@@ -65,11 +65,14 @@ class Service:
                                                      sock=door.listening.socket, backlog=BACKLOG) for door in doors]
             notify("READY=1")
             self._last_used = loop.time()
+            loading = loop.create_task(self._hub.load())
+            loading.add_done_callback(self._loaded)
             beside = [loop.create_task(work) for work in (
                 self._look_around(), self._keyrings.watch(), self._answering.learn(self._hub))]
             await self._end.wait()
             notify("STOPPING=1")
             await self._take_no_more(servers)
+            await loading
             for task in beside:
                 task.cancel()
             await asyncio.gather(*beside, return_exceptions=True)
@@ -77,6 +80,11 @@ class Service:
         finally:
             await self._directory.close()
             await self._hub.close()
+
+    def _loaded(self, loading: asyncio.Task[None]) -> None:
+        """A keyring that no engine can load is the end, also for those who asked before that was known."""
+        if not loading.cancelled() and loading.exception() is not None:
+            self._end.set()
 
     def _tell_exception(self, loop: asyncio.AbstractEventLoop, context: dict[str, Any]) -> None:
         """What nobody has caught is one line for people, and no end of the service."""

@@ -126,7 +126,7 @@ class Session(asyncio.Protocol):
             return
         self._is_beginning = True
         try:
-            while self._lines and self._may_begin() and self._has_room(self._lines[0] or b""):
+            while self._lines and self.outbox.can_write and self._has_room(self._lines[0] or b""):
                 self._begin(self._lines.popleft())
         except Exception as error:  # Whatever one client meets, the others go on.
             self._give_up(error)
@@ -139,12 +139,11 @@ class Session(asyncio.Protocol):
             self._is_paused = bool(self._lines)
             (self._transport.pause_reading if self._is_paused else self._transport.resume_reading)()
 
-    def _may_begin(self) -> bool:
-        return self.outbox.can_write and not self.hub.is_turning
-
     def _has_room(self, line: bytes) -> bool:
         """Whether one more line may be under way."""
         slots = self.outbox.slots
+        if not self.hub.takes(line):
+            return False
         if self.outbox.is_done:
             return True
         word = line.partition(b" ")[0]
@@ -213,6 +212,8 @@ class Session(asyncio.Protocol):
             self.outbox.answer(slot, REFUSED_LINE)
         elif view is None:
             self.hub.ask(b"%s %s%s%s" % (word, NEVER_OPEN, space, rest), partial(self._answered, slot))
+        elif self.hub.early is not None:
+            self.hub.early.question(word, view.value, space + rest, partial(self._answered, slot))
         else:
             self.watches.ask(name, word, view.value, space + rest, partial(self._answered, slot))
 

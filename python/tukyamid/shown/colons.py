@@ -16,9 +16,13 @@ The lines of a binding follow its `bnd`. An unknown field is empty. In a field, 
 and the colon, are spelled as `\\xhh`.
 """
 
-from collections.abc import Iterator
+from __future__ import annotations
 
 from ..assessment import Assessment, Certification, Report
+from ..bare import TYPE_CHECKING
+
+if TYPE_CHECKING:
+    from collections.abc import Iterator
 
 Field = str | bytes | int | None
 Line = tuple[Field, ...]

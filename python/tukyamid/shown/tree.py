@@ -1,7 +1,5 @@
 """A tree for people."""
 
-from collections import Counter
-
 from ..assessment import Assessment, Other, Report, ShownPath
 from ..spelling import for_people
 from .words import count, dates, moment, name, no_path, result, said_elsewhere, scopes
@@ -73,8 +71,10 @@ def _others(report: Report, one: Assessment) -> list[str]:
     lines = [f"{where}: {count(len(one.others), 'certification')}"]
     if report.question == "explain" or len(one.others) <= MOST_OTHERS:
         return lines + _hang([_other(report, other) for other in one.others])
-    alike = Counter((other.word, other.meaning) for other in one.others)
-    said = [[f"{times} {word}: {meaning}"] for (word, meaning), times in alike.most_common()]
+    alike: dict[str, int] = {}
+    for other in one.others:
+        alike[f"{other.word}: {other.meaning}"] = alike.get(f"{other.word}: {other.meaning}", 0) + 1
+    said = [[f"{times} {what}"] for what, times in sorted(alike.items(), key=lambda item: -item[1])]
     return lines + _hang([*said, ["use `explain` to see each of them"]])
 
 

@@ -4,9 +4,10 @@ import time
 from collections.abc import Sequence
 
 from ..command.failures import REACHED, WrongWords
+from ..command.given import Given
 from ..command.inputs import Inputs
 from ..command.output import tell, write
-from ..command.parser import Given, Help, Parser, add_inputs, add_programs, add_time_and_amount, typed
+from ..command.parser import Help, Parser, add_inputs, add_programs, add_time_and_amount, typed
 from ..command.roots import Roots
 from ..command.values import read_threshold
 from ..verifier import Verifier
@@ -41,8 +42,8 @@ class GivenToVerify(Given):
 
 def run(words: Sequence[str]) -> int:
     """Answers, and returns the exit status."""
-    made, given = _parser(), GivenToVerify(question="verify")
-    made.parse_intermixed_args(words, given)
+    made = _parser()
+    given = GivenToVerify(question="verify", **vars(made.parse_intermixed_args(words)))
     if given.help:
         write(made.format_help())
         return REACHED

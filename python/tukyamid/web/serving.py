@@ -1,12 +1,17 @@
 """The service that the page asks: the user's own, or one for the inputs that the words name."""
 
-from collections.abc import Callable
-from typing import NamedTuple
+from __future__ import annotations
 
-from ..command.inputs import Inputs, Tell
-from ..command.parser import Given
+from collections.abc import Callable
+from typing import TYPE_CHECKING, NamedTuple
+
+from ..command.given import Given
+from ..command.inputs import Inputs
 from ..command.runtime import runtime_file
 from ..command.sources import sources_of
+
+if TYPE_CHECKING:
+    from ..command.inputs import Tell
 
 
 class Service(NamedTuple):

@@ -6,11 +6,13 @@ from collections.abc import Sequence
 from contextlib import ExitStack
 
 from ..command.failures import REACHED, NoAnswer, WrongWords
+from ..command.given import Given
 from ..command.inputs import Inputs
 from ..command.output import tell, write
-from ..command.parser import Given, Help, Parser, add_inputs, typed
+from ..command.parser import Help, Parser, add_inputs, typed
 from ..command.roots import Chosen, Roots
 from ..command.values import read_time
+from ..libraries import find_libraries
 from ..served import served_keyring
 from .desk import Desk
 from .files import read_files
@@ -40,6 +42,7 @@ def run(words: Sequence[str]) -> int:
 
 def _serve(given: Wanted) -> None:
     """Serves the page until the command is interrupted."""
+    find_libraries()
     try:
         from .calls import Calls
         from .server import Server

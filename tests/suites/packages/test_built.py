@@ -72,6 +72,12 @@ class Built(unittest.TestCase):
             self.assertEqual(set(files) - building.paths(name), set(), name)
             self.assertEqual([path for path in building.paths(name) if "__pycache__" in path], [])
 
+    def test_the_command_starts_with_little(self):
+        """It is the checkout's own script, whose first line leaves out what others add to Python."""
+        command = building.unpacked("python3-tukyamid") / "usr/bin/tukyamid"
+        self.assertEqual(command.read_text(), (plain.ROOT / "python/bin/tukyamid").read_text())
+        self.assertTrue(command.read_text().startswith("#!/usr/bin/python3 -IS\n"))
+
     def test_the_packaged_engine_answers_and_is_the_one_that_is_named(self):
         place = building.unpacked("tukyamid")
         engine = place / "usr/bin/tukyamid-engine"

@@ -2,7 +2,7 @@
 ghost use Rattle.std.specs.Prelude.{◌≡◌, ◌<◌, ◌-◌, ◌^◌, length, OnOk, OnErr};
 ghost use Rattle.wot_policy.specs.Kept.{IsFaithful, rows_of, asked_more};
 ghost use Rattle.wot_keyring.specs.Kept.{IsJudgedBy};
-ghost use Rattle.wot_keyring.specs.Import.{AnswersUnder, AsksFor, IsOneChange, imported, importing, is_entry};
+ghost use Rattle.wot_keyring.specs.Import.{ReturnsUnder, AsksFor, IsOneChange, imported, importing, is_entry};
 ghost use Rattle.wot_cache.specs.State.{IsStateAfter};
 
 use crate::Engine;
@@ -24,7 +24,7 @@ impl Engine {
         requires short { length bytes.now < 2 ^ 29 }
         requires judged { IsJudgedBy (rows_of policy.old) self.old.keyring }
         requires faithful { IsFaithful F.Fn policy.old }
-        ensures answer { AnswersUnder (is_entry name.now) result (rows_of policy.old) self.old.keyring bytes.now }
+        ensures answer { ReturnsUnder (is_entry name.now) result (rows_of policy.old) self.old.keyring bytes.now }
         ensures imported { OnOk result (self.new.keyring ≡ imported (rows_of policy.old) self.old.keyring bytes.now) }
         ensures state { OnOk result (IsStateAfter (importing (rows_of policy.old) bytes.now) self.old self.new) }
         ensures kept { OnErr result (self.new ≡ self.old) }

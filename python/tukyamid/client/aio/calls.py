@@ -4,7 +4,7 @@ from __future__ import annotations
 
 from abc import ABC, abstractmethod
 from collections.abc import AsyncIterator, Iterable
-from typing import TypeVar, overload
+from typing import TYPE_CHECKING, TypeVar, overload
 
 from ... import commands
 from ...claims import Claim, Label
@@ -13,8 +13,11 @@ from ...refusals import ProtocolError
 from ...replies import (Accepted, Answer, Binding, Explanation, Gone, Key, Missed, PendingSignature, Reached, Rejected,
                         Reply, Stale, Taken, Watched)
 from ...spelling import UserId
-from ..conversation import Progress, no_progress
+from ..conversation import no_progress
 from .listing import Listing
+
+if TYPE_CHECKING:
+    from ..conversation import Progress
 
 R = TypeVar("R", bound=Reply)
 T = TypeVar("T")

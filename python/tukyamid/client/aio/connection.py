@@ -8,15 +8,19 @@ import weakref
 from abc import abstractmethod
 from collections import deque
 from collections.abc import Callable
-from typing import Generic, Self, TypeVar, cast
+from typing import TYPE_CHECKING, Generic, Self, TypeVar, cast
 
-from ...reading import ListingHead, Reader
+from ...reading import ListingHead
 from ...refusals import ProtocolError, Refused, TukyamidError
 from ...replies import Gone, Reply, Watched
 from ...spelling import has_reply
-from ..conversation import PROBE, Conversation, Progress, no_progress
+from ..conversation import PROBE, Conversation, no_progress
 from .calls import Calls
 from .listing import Listing
+
+if TYPE_CHECKING:
+    from ...reading import Reader
+    from ..conversation import Progress
 
 T = TypeVar("T")
 PIECE = 1 << 18

@@ -4,13 +4,17 @@ from __future__ import annotations
 
 import os
 from abc import ABC
+from typing import TYPE_CHECKING
 
 from ... import service_lines
 from ...service_lines import Change, Found, Issued, KeyringAdded, KeyringLine
 from ...spelling import UserId
 from .calls import Calls
-from ..conversation import Progress, no_progress
+from ..conversation import no_progress
 from .listing import Listing
+
+if TYPE_CHECKING:
+    from ..conversation import Progress
 
 
 class ServiceCalls(Calls, ABC):

@@ -6,7 +6,7 @@ use Rattle.wot_certd.specs.World.{World}
 use Rattle.wot_machine.specs.Machine.{kept}
 use Rattle.wot_machine.specs.Stepped.{TellsBehind}
 use Rattle.wot_machine.specs.Transcript.{listed, octets_of}
-use Rattle.wot_machine.specs.Whole.{Whole}
+use Rattle.wot_machine.specs.Session.{Session}
 use Rattle.wot_cache.specs.State.{state_of}
 use Rattle.wot_machine.proofs.Putting.{any_err, served_puts}
 use Rattle.wot_engine.specs.Asking.{command_by, done}
@@ -16,7 +16,7 @@ use Rattle.wot_engine.proofs.Progress.{joined}
 use Rattle.wot_engine.proofs.run.reply_to.Goals as goal
 
 -- the reply and the watch lines after it
-both : (rows : PolicyRows) (line : Line) (text : List ℕ) (old mid new : Whole) (before after : Option World)
+both : (rows : PolicyRows) (line : Line) (text : List ℕ) (old mid new : Session) (before after : Option World)
     (had said has : List ℕ)
     → SaidBehind rows line text old before had mid after said → TellsBehind mid said new has
     → RepliesBehind rows line text old before had new after has

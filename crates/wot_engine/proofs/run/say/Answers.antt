@@ -8,8 +8,8 @@ use Rattle.wot_script.specs.declared.reply.Reply.TheVariants as replies
 use Rattle.wot_script.specs.Replies.{reply_text}
 use Rattle.wot_certd.specs.World.{World}
 use Rattle.wot_machine.specs.Machine.{kept}
-use Rattle.wot_machine.specs.Whole.{Whole}
-use Rattle.wot_machine.specs.Ran.{Seen}
+use Rattle.wot_machine.specs.Session.{Session}
+use Rattle.wot_machine.specs.CommandRun.{Seen}
 use Rattle.wot_machine.specs.Served.{unserved}
 use Rattle.wot_machine.specs.Stepped.{Stepped}
 use Rattle.wot_cache.specs.State.{state_of}
@@ -20,7 +20,7 @@ use Rattle.wot_engine.proofs.Asking.{looked_at, passed_over}
 use Rattle.wot_engine.proofs.run.say.Goals as goal
 
 -- the refusal of a line that is too long, unless memory runs out
-refused : {T E : Type 0} (r : Result T E) (rows : PolicyRows) (line : Line) (text : List ℕ) (old : Whole)
+refused : {T E : Type 0} (r : Result T E) (rows : PolicyRows) (line : Line) (text : List ℕ) (old : Session)
     (world : Option World) (before after : List ℕ)
     → line ≡ Long → OnOk r (after ≡ before ++ reply_text replies.Long)
     → OnOk r (SaidBehind rows line text old world before old world after)
@@ -35,7 +35,7 @@ refused (Ok a) rows line text old world before after is e =
 refused (Err x) rows line text old world before after is e = tt
 
 -- the reply to any other line, unless memory runs out
-answered : {T E : Type 0} (r : Result T E) (rows : PolicyRows) (line : Line) (text : List ℕ) (old new : Whole)
+answered : {T E : Type 0} (r : Result T E) (rows : PolicyRows) (line : Line) (text : List ℕ) (old new : Session)
     (before after : Seen) (had has : List ℕ)
     → line ≡ Text → OnOk r (Stepped rows text old before had new after has)
     → OnOk r (SaidBehind rows line text old before.world had new after.world has)

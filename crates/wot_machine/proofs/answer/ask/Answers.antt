@@ -1,10 +1,13 @@
-use Rattle.std.proofs.Common.{ap}
+use Rattle.std.proofs.Common.{Option, ap, refl}
 use Rattle.std.specs.Prelude.{is_ok}
 use Rattle.wot_cache.specs.declared.view.View.{View}
 use Rattle.wot_cache.specs.Question.{question_in}
 use Rattle.wot_cache.specs.State.{state_of}
 use Rattle.wot_cache.specs.Views.{view_at}
-use Rattle.wot_machine.proofs.Making.{refreshed_as, refreshed_fault, refreshed_unopened}
+use Rattle.wot_script.specs.declared.reply.Reply.{Reply}
+use Rattle.wot_machine.specs.Answer.{Asks}
+use Rattle.wot_machine.proofs.Faults.{refreshed_refused, unopened}
+use Rattle.wot_machine.proofs.Making.{refreshed_as}
 use Rattle.wot_machine.proofs.Short.{answer_short}
 use Rattle.wot_machine.proofs.answer.ask.Goals as goal
 
@@ -26,25 +29,20 @@ returns-in-Ok-clause-refreshed c =
     c.args.steps.now.made
     c.ask.new.steps.made c.ask.ensures.refreshed
 
-pub returns-in-Err-View-clause-keyring : goal.returns-in-Err-View-clause-keyring
-returns-in-Err-View-clause-keyring c = c.ask.ensures.refreshed.stays.keyring
+pub returns-in-Err-clause-asks : goal.returns-in-Err-clause-asks
+returns-in-Err-clause-asks c =
+    unopened c.ask.result c.reply_to.result c.from.result c.in-Err.fault (view_at c.args.engine.now.views c.args.view.now)
+    (λ (v : Option View) (reply : Reply). Asks (state_of c.args.engine.now) v c.args.target.now c.args.wanted
+    c.args.uid.now reply) c.from.ensures c.reply_to.ensures.reply c.in-Err.ensures.open refl
 
-pub returns-in-Err-View-clause-views : goal.returns-in-Err-View-clause-views
-returns-in-Err-View-clause-views c = c.ask.ensures.refreshed.stays.views
+pub returns-in-Err-clause-keyring : goal.returns-in-Err-clause-keyring
+returns-in-Err-clause-keyring c = c.ask.ensures.refreshed.stays.keyring
 
-pub returns-in-Err-View-clause-refreshed : goal.returns-in-Err-View-clause-refreshed
-returns-in-Err-View-clause-refreshed c =
-    refreshed_unopened c.ask.result _ c.args.view.now c.args.engine.now c.ask.new.self c.args.steps.now.made
-    c.ask.new.steps.made
-    (rw c.in-Err-View.field-0-is at c.in-Err-View.ensures.open) c.ask.ensures.refreshed
+pub returns-in-Err-clause-views : goal.returns-in-Err-clause-views
+returns-in-Err-clause-views c = c.ask.ensures.refreshed.stays.views
 
-pub returns-in-Err-Memory-clause-keyring : goal.returns-in-Err-Memory-clause-keyring
-returns-in-Err-Memory-clause-keyring c = c.ask.ensures.refreshed.stays.keyring
-
-pub returns-in-Err-Memory-clause-views : goal.returns-in-Err-Memory-clause-views
-returns-in-Err-Memory-clause-views c = c.ask.ensures.refreshed.stays.views
-
-pub returns-in-Err-Memory-clause-refreshed : goal.returns-in-Err-Memory-clause-refreshed
-returns-in-Err-Memory-clause-refreshed c =
-    refreshed_fault c.ask.result _ c.args.view.now c.args.engine.now c.ask.new.self c.args.steps.now.made
-    c.ask.new.steps.made c.ask.ensures.refreshed
+pub returns-in-Err-clause-refreshed : goal.returns-in-Err-clause-refreshed
+returns-in-Err-clause-refreshed c =
+    refreshed_refused c.ask.result c.reply_to.result c.from.result c.in-Err.fault c.args.view.now c.args.engine.now
+    c.ask.new.self c.args.steps.now.made c.ask.new.steps.made c.from.ensures c.reply_to.ensures.reply
+    c.in-Err.ensures.open c.ask.ensures.refreshed

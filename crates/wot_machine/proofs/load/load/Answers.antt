@@ -4,6 +4,7 @@ use Rattle.wot_policy.specs.Kept.{rows_of}
 use Rattle.wot_cache.specs.State.{state_of}
 use Rattle.wot_script.specs.declared.reply.Reply.TheVariants as replies
 use Rattle.wot_machine.specs.Entry.{loads}
+use Rattle.wot_machine.proofs.Faults.{failed}
 use Rattle.wot_machine.proofs.Judging.{asked_still}
 use Rattle.wot_machine.proofs.Putting.{any_err, puts_none}
 use Rattle.wot_machine.proofs.Refusing.{if_ok}
@@ -42,15 +43,16 @@ returns-in-Ok-Long-clause-did g c =
     (rw c.in-Ok-Long.field-0-is at c.in-Ok-Long.ensures.answers))
     c.read.ensures.after (λ e. absurd (cc e))
 
-pub returns-in-Err-Failed-clause-did : goal.returns-in-Err-Failed-clause-did
-returns-in-Err-Failed-clause-did g c =
+pub returns-in-Err-clause-did : goal.returns-in-Err-clause-did
+returns-in-Err-clause-did g c =
+    failed c.reply_to.result c.from.result c.in-Err.fault _ c.from.ensures c.reply_to.ensures.reply (λ e.
     ran_load (rows_of c.args.policy.now) c.args.name.now (state_of c.args.engine.now) (g.D.Shelf.world c.args.shelf.now)
     (g.D.Shelf.world c.read.new.self)
     (g.D.Shelf.faults c.args.shelf.now) (g.D.Shelf.faults c.read.new.self) replies.Shelf (state_of c.args.engine.now)
     Answer.fault (refl, refl)
     (told_so (g.D.Shelf.world c.args.shelf.now) c.args.name.now Answer.fault _ (λ a p. sym p)
-    (rw c.in-Err-Failed.field-0-is at c.in-Err-Failed.ensures.answers))
-    c.read.ensures.after (λ e. (rw c.in-Err-Failed.field-0-is at c.in-Err-Failed.ensures.cause) refl)
+    (rw e at c.in-Err.ensures.answers))
+    c.read.ensures.after (λ f. (rw e at c.in-Err.ensures.cause) refl))
 
 -- ---- out of memory
 
@@ -60,10 +62,13 @@ returns-in-Ok-Bytes-clause-entries g c =
     (g.D.Shelf.world c.args.shelf.now) (g.D.Shelf.world c.read.new.self)
     c.read.ensures.after)
 
-pub returns-in-Err-Memory-clause-entries : goal.returns-in-Err-Memory-clause-entries
-returns-in-Err-Memory-clause-entries g c =
-    puts_none (state_of c.args.engine.now) (loads c.args.name.now) (g.D.Shelf.world c.args.shelf.now)
-    (g.D.Shelf.world c.read.new.self) c.read.ensures.after
+pub returns-in-Err-clause-entries : goal.returns-in-Err-clause-entries
+returns-in-Err-clause-entries g c =
+    any_err c.reply_to.result _ (puts_none (state_of c.args.engine.now) (loads c.args.name.now)
+    (g.D.Shelf.world c.args.shelf.now) (g.D.Shelf.world c.read.new.self) c.read.ensures.after)
+
+pub returns-in-Err-clause-kept : goal.returns-in-Err-clause-kept
+returns-in-Err-clause-kept g c = any_err c.reply_to.result _ refl
 
 -- ---- the policy
 
@@ -73,8 +78,5 @@ returns-in-Ok-Absent-clause-asked g c = asked_still _ (state_of c.args.engine.no
 pub returns-in-Ok-Long-clause-asked : goal.returns-in-Ok-Long-clause-asked
 returns-in-Ok-Long-clause-asked g c = asked_still _ (state_of c.args.engine.now) c.args.policy.now
 
-pub returns-in-Err-Failed-clause-asked : goal.returns-in-Err-Failed-clause-asked
-returns-in-Err-Failed-clause-asked g c = asked_still _ (state_of c.args.engine.now) c.args.policy.now
-
-pub returns-in-Err-Memory-clause-asked : goal.returns-in-Err-Memory-clause-asked
-returns-in-Err-Memory-clause-asked g c = asked_still _ (state_of c.args.engine.now) c.args.policy.now
+pub returns-in-Err-clause-asked : goal.returns-in-Err-clause-asked
+returns-in-Err-clause-asked g c = asked_still _ (state_of c.args.engine.now) c.args.policy.now

@@ -6,7 +6,7 @@ use Rattle.wot_policy.specs.declared.rows.PolicyRows.{PolicyRows}
 use Rattle.wot_cache.specs.State.{state_of}
 use Rattle.wot_machine.specs.Fresh.{IsMadeAnew}
 use Rattle.wot_machine.specs.Pacing.{settled}
-use Rattle.wot_machine.specs.Whole.{watched, whole_of}
+use Rattle.wot_machine.specs.Session.{watched, session_of}
 use Rattle.wot_machine.proofs.Judging.{asks_not}
 use Rattle.wot_machine.proofs.Dumping.{on_dump, dump_is_read}
 use Rattle.wot_machine.proofs.EdgeLines.{none_marks}
@@ -19,8 +19,8 @@ use Rattle.wot_machine.proofs.machine.answer.Goals as goal
 
 pub returns-in-Ok-clause-words : goal.returns-in-Ok-clause-words
 returns-in-Ok-clause-words g c =
-    if_ok c.act.result _ _ (λ told ran. obeys_worded (rows_of c.args.policy.now) (watched (whole_of c.args.engine.now c.args.cursors.now) c.args.watches.now) c.sort.result ran.given told.reply
-    (watched (whole_of c.act.new.engine (settled told.moved c.act.new.cursors)) c.act.new.watches) ran.answers) c.act.ensures.ran
+    if_ok c.act.result _ _ (λ told ran. obeys_worded (rows_of c.args.policy.now) (watched (session_of c.args.engine.now c.args.cursors.now) c.args.watches.now) c.sort.result ran.given told.reply
+    (watched (session_of c.act.new.engine (settled told.moved c.act.new.cursors)) c.act.new.watches) ran.answers) c.act.ensures.ran
 
 pub returns-in-Ok-clause-anew : goal.returns-in-Ok-clause-anew
 returns-in-Ok-clause-anew g c =

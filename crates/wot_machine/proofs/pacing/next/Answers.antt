@@ -1,4 +1,4 @@
-use Rattle.std.proofs.Common.{◌≡◌, Some, true, sym, ap, ◌∙◌}
+use Rattle.std.proofs.Common.{◌≡◌, true, sym, ap, ◌∙◌}
 use Rattle.std.specs.Prelude.{is_some}
 use Rattle.wot_keyring.specs.Keyring.{Keyring}
 use Rattle.wot_cache.specs.Views.{view_at}
@@ -6,13 +6,13 @@ use Rattle.wot_cursor.specs.Age.{age_of}
 use Rattle.wot_cursor.specs.Cursors.{cursor_at}
 use Rattle.wot_cursor.specs.declared.stamps.Stamps.{Stamps}
 use Rattle.wot_machine.specs.Pacing.{stamps_in}
-use Rattle.wot_machine.specs.Whole.{Whole, whole_of}
+use Rattle.wot_machine.specs.Session.{Session, session_of}
 use Rattle.wot_machine.proofs.Pieces.{given_by, stamps_now}
 use Rattle.wot_machine.proofs.pacing.next.Goals as goal
 
 pub returns-in-Same-clause-goes : goal.returns-in-Same-clause-goes
 returns-in-Same-clause-goes c =
-    let s : Whole = whole_of c.args.engine.now c.args.cursors.now in
+    let s : Session = session_of c.args.engine.now c.args.cursors.now in
     let view = c.in-Some.cursor.now.view in
     let shown : is_some (view_at c.args.engine.now.views view) ≡ true =
     sym (rw c.view.ensures.view at c.in-Some-turn.ensures.open) in

@@ -1,6 +1,6 @@
 use Rattle.std.proofs.Common.{sym}
 use Rattle.wot_cache.specs.State.{state_of}
-use Rattle.wot_machine.specs.Ran.{Seen}
+use Rattle.wot_machine.specs.CommandRun.{Seen}
 use Rattle.wot_machine.proofs.Refusing.{if_ok}
 use Rattle.wot_machine.proofs.Running.{ran_absent, ran_stored}
 use Rattle.wot_machine.proofs.store.store.Goals as goal

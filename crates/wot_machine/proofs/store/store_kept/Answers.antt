@@ -4,9 +4,10 @@ use Rattle.wot_types.specs.declared.name.Name.TheVariants.{Cert}
 use Rattle.wot_certd.specs.World.{Answer, World, read_answer}
 use Rattle.wot_script.specs.declared.reply.Reply.TheVariants as replies
 use Rattle.wot_machine.specs.Entry.{stores}
-use Rattle.wot_machine.specs.Ran.{Seen}
+use Rattle.wot_machine.specs.CommandRun.{Seen}
 use Rattle.wot_machine.specs.Stored.{answer_of}
-use Rattle.wot_machine.proofs.Putting.{on_err_as, puts_none, stored_may}
+use Rattle.wot_machine.proofs.Faults.{failed}
+use Rattle.wot_machine.proofs.Putting.{any_err, on_err_as, puts_none, stored_may}
 use Rattle.wot_machine.proofs.Refusing.{if_ok}
 use Rattle.wot_machine.proofs.Running.{given_is, never_fault, stores_put, stores_told, told_so}
 use Rattle.wot_machine.proofs.store.store_kept.Goals as goal
@@ -36,15 +37,15 @@ returns-in-Err-Told-clause-stores g c =
     c.read.ensures.after
     (λ f. absurd (never_fault c.in-Ok.given f)))
 
-pub returns-in-Err-Failed-clause-stores : goal.returns-in-Err-Failed-clause-stores
-returns-in-Err-Failed-clause-stores g c =
+pub returns-in-Err-clause-stores : goal.returns-in-Err-clause-stores
+returns-in-Err-clause-stores g c =
     let world = g.D.Shelf.world c.args.shelf.now in
+    failed c.reply_to.result c.from.result c.in-Err.fault _ c.from.ensures c.reply_to.ensures.reply (λ e.
     stores_told c.args.fpr.now c.args.kept.now Answer.fault world (g.D.Shelf.world c.read.new.self)
     (g.D.Shelf.faults c.args.shelf.now)
     (g.D.Shelf.faults c.read.new.self) replies.Shelf refl
-    (told_so world (Cert c.args.fpr.now) Answer.fault _ (λ a p. sym p)
-    (rw c.in-Err-Failed.field-0-is at c.in-Err-Failed.ensures.answers))
-    c.read.ensures.after (λ f. (rw c.in-Err-Failed.field-0-is at c.in-Err-Failed.ensures.cause) refl)
+    (told_so world (Cert c.args.fpr.now) Answer.fault _ (λ a p. sym p) (rw e at c.in-Err.ensures.answers))
+    c.read.ensures.after (λ f. (rw e at c.in-Err.ensures.cause) refl))
 
 -- ---- out of memory
 
@@ -59,12 +60,12 @@ returns-in-Ok-text_for-clause-entries g c s kept =
     c.in-Ok.ensures.answers) c.read.ensures.after may)
     (rw c.deref.ensures.value at c.put.ensures.entries)
 
+pub returns-in-Err-clause-entries : goal.returns-in-Err-clause-entries
+returns-in-Err-clause-entries g c s kept =
+    any_err c.reply_to.result _ (puts_none s (stores c.args.fpr.now) (g.D.Shelf.world c.args.shelf.now)
+    (g.D.Shelf.world c.read.new.self) c.read.ensures.after)
+
 pub returns-in-Err-Memory-clause-entries : goal.returns-in-Err-Memory-clause-entries
 returns-in-Err-Memory-clause-entries g c s kept =
-    puts_none s (stores c.args.fpr.now) (g.D.Shelf.world c.args.shelf.now) (g.D.Shelf.world c.read.new.self)
-    c.read.ensures.after
-
-pub returns-in-Err-Memory-text_for-clause-entries : goal.returns-in-Err-Memory-text_for-clause-entries
-returns-in-Err-Memory-text_for-clause-entries g c s kept =
     puts_none s (stores c.args.fpr.now) (g.D.Shelf.world c.args.shelf.now) (g.D.Shelf.world c.read.new.self)
     c.read.ensures.after

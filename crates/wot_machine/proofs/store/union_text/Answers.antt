@@ -2,7 +2,7 @@ use Rattle.std.proofs.Common.{ℕ, List, Result, Ok, ap, sym, ◌∙◌}
 use Rattle.wot_types.specs.declared.name.Name.TheVariants.{Cert}
 use Rattle.wot_keyring.specs.Entry.{entry_in}
 use Rattle.wot_script.specs.declared.reply.Reply.{Reply}
-use Rattle.wot_machine.specs.Storing.{united_with}
+use Rattle.wot_machine.specs.Storing.{merged_entry}
 use Rattle.wot_machine.proofs.Refusing.{if_ok}
 use Rattle.wot_machine.proofs.Storing.{if_err, nothing_told, told_refused}
 use Rattle.wot_machine.proofs.store.union_text.Goals as goal
@@ -17,6 +17,6 @@ returns-in-Ok-clause-told c = if_err c.cert_text.result _ _ (λ why e. nothing_t
 
 pub returns-in-Ok-reply_to-clause-told : goal.returns-in-Ok-reply_to-clause-told
 returns-in-Ok-reply_to-clause-told c =
-    told_refused (united_with c.args.kept.now (entry_in (Cert c.args.fpr.now) c.args.octets.now)) c.in-Err.refusal
+    told_refused (merged_entry c.args.kept.now (entry_in (Cert c.args.fpr.now) c.args.octets.now)) c.in-Err.refusal
     c.in-Ok-reply_to.reply
     c.in-Err.ensures.union c.in-Ok-reply_to.ensures.reply

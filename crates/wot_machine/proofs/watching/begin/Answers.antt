@@ -3,6 +3,8 @@ use Rattle.wot_script.specs.declared.reply.Reply.TheVariants as replies
 use Rattle.wot_watch.specs.Watches.{Watches, with_watch}
 use Rattle.wot_machine.specs.Watching.{opened}
 use Rattle.wot_machine.proofs.Watched.{begins_full, begins_new}
+use Rattle.wot_machine.proofs.Faults.{full_watches}
+use Rattle.wot_machine.proofs.Putting.{any_err}
 use Rattle.wot_machine.proofs.watching.begin.Goals as goal
 
 pub returns-in-Ok-clause-begins : goal.returns-in-Ok-clause-begins
@@ -19,9 +21,12 @@ returns-in-Ok-clause-begins c =
     (opened (c.in_ok-view.ensures.equal i) a.target.now a.wanted
     ((c.in_ok-uid.ensures.copied ∙ c.octets.ensures.whole) i) a.amount)))
 
-pub returns-in-Err-Full-clause-begins : goal.returns-in-Err-Full-clause-begins
-returns-in-Err-Full-clause-begins c =
+pub returns-in-Err-clause-begins : goal.returns-in-Err-clause-begins
+returns-in-Err-clause-begins c =
     let a = c.args in
-    begins_full a.watches.now a.name.now a.view.now a.target.now a.wanted a.uid.now a.amount c.put.new.self
-    (rw c.in_ok-key.ensures.equal at
-    (rw c.in-Err-Full.field-0-is at c.in-Err-Full.ensures.full)) c.in-Err-Full.ensures.kept
+    full_watches c.reply_to.result c.from.result c.in-Err.fault _ c.from.ensures c.reply_to.ensures.reply
+    (λ e. begins_full a.watches.now a.name.now a.view.now a.target.now a.wanted a.uid.now a.amount c.put.new.self
+    (rw c.in_ok-key.ensures.equal at (rw e at c.in-Err.ensures.full)) c.in-Err.ensures.kept)
+
+pub returns-in-Err-clause-kept : goal.returns-in-Err-clause-kept
+returns-in-Err-clause-kept c = any_err c.reply_to.result _ c.in-Err.ensures.kept

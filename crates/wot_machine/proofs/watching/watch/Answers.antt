@@ -1,6 +1,6 @@
-use Rattle.wot_machine.specs.Whole.{whole_of}
+use Rattle.wot_machine.specs.Session.{session_of}
 use Rattle.wot_machine.proofs.watching.watch.Goals as goal
 
 pub returns-in-Off-clause-sets : goal.returns-in-Off-clause-sets
 returns-in-Off-clause-sets c =
-    rw c.in-Off.is (λ cursors. c.off.ensures.watching (whole_of c.args.engine.now cursors))
+    rw c.in-Off.is (λ cursors. c.off.ensures.watching (session_of c.args.engine.now cursors))

@@ -7,7 +7,7 @@ use Rattle.wot_machine.specs.declared.told.Told.{Told}
 use Rattle.wot_machine.specs.Entry.{use_of}
 use Rattle.wot_machine.specs.Lines.{heard}
 use Rattle.wot_machine.specs.Made.{LineMakes}
-use Rattle.wot_machine.specs.Ran.{Seen}
+use Rattle.wot_machine.specs.CommandRun.{Seen}
 use Rattle.wot_machine.specs.Asked.{LineAsks}
 use Rattle.wot_machine.proofs.Judging.{asks_as, asks_not}
 use Rattle.wot_machine.proofs.Making.{line_makes_as}

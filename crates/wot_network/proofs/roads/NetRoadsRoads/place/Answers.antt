@@ -1,7 +1,7 @@
 use Rattle.std.proofs.Common.{◌∙◌, sym, ap, subst, List, length, ◌<◌, ◌^◌}
 use Rattle.wot_cert.specs.Certificate.{Component}
 use Rattle.wot_edge.specs.Record.{Entry}
-use Rattle.wot_network.specs.Told.{place_of}
+use Rattle.wot_network.specs.Told.{user_id_place}
 use Rattle.wot_network.proofs.Few.{user_ids_few}
 use Rattle.wot_network.proofs.Looking.{present, absent_cert}
 use Rattle.wot_network.proofs.roads.NetRoadsRoads.place.Goals as goal
@@ -15,7 +15,7 @@ place_of-requires c = record {
 pub returns-in-Some : goal.returns-in-Some
 returns-in-Some c = record {
   place = c.place_of.ensures.place
-      ∙ ap (λ (uids : List Component). place_of c.args.uid.now uids) c.user_ids.ensures.user_ids
+      ∙ ap (λ (uids : List Component). user_id_place c.args.uid.now uids) c.user_ids.ensures.user_ids
       ∙ ap (λ (e : Entry). e.place) (present c.args.self.now.network.now c.args.self.now.keyring.now
       c.args.self.now.right c.args.uid.now c.args.target.now c.in-Some.cert.now (sym c.in-Some.ensures.found));
 }

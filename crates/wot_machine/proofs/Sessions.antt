@@ -9,12 +9,12 @@ use Rattle.wot_cache.specs.Turns.{AreTurnsBy, Turns, turned, without_turn}
 use Rattle.wot_cache.specs.Views.{Views, view_at}
 use Rattle.wot_cursor.specs.Cursors.{Cursors}
 use Rattle.wot_machine.specs.declared.class.Class.{Class}
-use Rattle.wot_machine.specs.Whole.{AreTurned, IsCounted, IsTurnedBy, Turning, Whole, turning_of, whole_of}
+use Rattle.wot_machine.specs.Session.{AreTurned, IsCounted, IsTurnedBy, Turning, Session, turning_of, session_of}
 use Rattle.wot_machine.proofs.Known.{Known, held, views}
 
 -- ---- changes
 
-pub counted_one : (old m n : Whole) → m.state.held ≡ n.state.held → IsCounted old m → IsCounted old n →
+pub counted_one : (old m n : Session) → m.state.held ≡ n.state.held → IsCounted old m → IsCounted old n →
     m.changes ≡ n.changes
 counted_one old m n same (inl a) (inl b) = a.1 ∙ sym b.1
 counted_one old m n same (inr a) (inr b) = a.1 ∙ sym b.1
@@ -22,7 +22,7 @@ counted_one old m n same (inl a) (inr b) = absurd (b.0 (sym same ∙ a.0))
 counted_one old m n same (inr a) (inl b) = absurd (a.0 (same ∙ b.0))
 
 -- there is a count after a step to this
-pub counted_some : (old : Whole) (new : Held)
+pub counted_some : (old : Session) (new : Held)
     → (n : ℕ) × (((new ≡ old.state.held) × (n ≡ old.changes)) ⊎ ((new ≢ old.state.held) × (n ≡ old.changes + 1)))
 counted_some old new = by (held new old.state.held)
   where
@@ -33,7 +33,7 @@ counted_some old new = by (held new old.state.held)
 
 -- by the keyring's own count
 pub counted_by : (old new : Engine) (cursors after : Cursors) → IsOneChange old.keyring new.keyring →
-    IsCounted (whole_of old cursors) (whole_of new after)
+    IsCounted (session_of old cursors) (session_of new after)
 counted_by old new cursors after (inl same) = inl (
   (λ i. (state_of (record old { keyring = same i })).held),
   ap (λ (k : Keyring). k.changes) same,
@@ -124,6 +124,6 @@ turned_few class old new before after p = turns_few (turning_of class) old new b
 
 -- ---- everything that is kept
 
-pub whole_same : (m n : Whole) → m.state ≡ n.state → m.changes ≡ n.changes → m.turns ≡ n.turns → m.cursors ≡ n.cursors →
+pub whole_same : (m n : Session) → m.state ≡ n.state → m.changes ≡ n.changes → m.turns ≡ n.turns → m.cursors ≡ n.cursors →
     m.watches ≡ n.watches → m ≡ n
 whole_same m n s c t k w = λ i. record { state = s i; changes = c i; turns = t i; cursors = k i; watches = w i }

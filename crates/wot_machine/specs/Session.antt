@@ -12,7 +12,7 @@ use Rattle.wot_machine.specs.declared.class.ViewChange.{ViewChange}
 use Rattle.wot_machine.specs.declared.class.ViewChange.TheVariants as alterings
 
 -- the state, the count of changes, the turns of views, and cursors and watches by name
-pub record Whole : Type 0 where
+pub record Session : Type 0 where
   pub state : State
   pub changes : ℕ
   pub turns : Turns
@@ -20,12 +20,12 @@ pub record Whole : Type 0 where
   pub watches : Watches
 
 -- before the first line
-abbrev pub beginning : Whole
+abbrev pub beginning : Session
 beginning = record { state = start; changes = 0; turns = no_turns; cursors = []; watches = [] }
 
 -- with this engine, these cursors, and no watches
-abbrev pub whole_of : Engine → Cursors → Whole
-whole_of engine cursors = record {
+abbrev pub session_of : Engine → Cursors → Session
+session_of engine cursors = record {
   state = state_of engine;
   changes = engine.keyring.changes;
   turns = engine.turns;
@@ -34,11 +34,11 @@ whole_of engine cursors = record {
 }
 
 -- with the watches replaced
-abbrev pub watched : Whole → Watches → Whole
+abbrev pub watched : Session → Watches → Session
 watched s watches = record s { watches = watches }
 
 -- What is held and the count of changes are unchanged; or what is held changed, and the count rose by one.
-abbrev pub IsCounted : Whole → Whole → Type 0
+abbrev pub IsCounted : Session → Session → Type 0
 IsCounted old new =
     ((new.state.held ≡ old.state.held) × (new.changes ≡ old.changes))
     ⊎ ((new.state.held ≢ old.state.held) × (new.changes ≡ old.changes + 1))

@@ -17,8 +17,8 @@ use Rattle.wot_certd.specs.World.{World}
 use Rattle.wot_cache.specs.State.{State}
 use Rattle.wot_machine.specs.Both.{Ends, ends}
 use Rattle.wot_machine.specs.Entry.{IsServed, Use, has_failed, put_for, use_by, use_of}
-use Rattle.wot_machine.specs.LineStep.{Answers, DoesTo, Obeys}
-use Rattle.wot_machine.specs.Whole.{Whole}
+use Rattle.wot_machine.specs.LineStep.{ReadLineStep, DoesTo, CommandStep}
+use Rattle.wot_machine.specs.Session.{Session}
 use Rattle.wot_machine.specs.Served.{Served}
 
 -- What a line sees of a certificate directory: its world, if that is known, and its count of faults.
@@ -42,31 +42,31 @@ pub record IsBy (P : Served → Type 0) (old : State) (use_ : Use) (before after
   pub cause : has_failed (put_for old use_ given.read) given ≡ true → Rose before.faults after.faults
 
 -- what a line does and replies, by what the directory returns
-abbrev pub Ran : PolicyRows → Option Command → Whole → Seen → Reply → Whole → Seen → Type 0
-Ran rows command old before reply new after =
-    IsBy (λ given. Answers rows old command given reply new) old.state (use_of command) before after
+abbrev pub CommandRun : PolicyRows → Option Command → Session → Seen → Reply → Session → Seen → Type 0
+CommandRun rows command old before reply new after =
+    IsBy (λ given. ReadLineStep rows old command given reply new) old.state (use_of command) before after
 
 -- what a command does, by its class
-abbrev pub RanClass : PolicyRows → Class → Whole → Seen → Reply → Whole → Seen → Type 0
-RanClass rows class old before reply new after =
-    IsBy (λ given. Obeys rows old class given reply new) old.state (use_by class) before after
+abbrev pub ClassRun : PolicyRows → Class → Session → Seen → Reply → Session → Seen → Type 0
+ClassRun rows class old before reply new after =
+    IsBy (λ given. CommandStep rows old class given reply new) old.state (use_by class) before after
 
 -- what a command does to the state alone
-abbrev pub Did : PolicyRows → StateCommand → State → Seen → Reply → State → Seen → Type 0
-Did rows command old before reply new after =
+abbrev pub StateRun : PolicyRows → StateCommand → State → Seen → Reply → State → Seen → Type 0
+StateRun rows command old before reply new after =
     IsBy (λ given. DoesTo rows old command given reply new) old (use_by (OfState command)) before after
 
 -- what a command does, by the state and the directory before and after it
-abbrev pub Acts : PolicyRows → StateCommand → Ends State → Ends Seen → Reply → Type 0
-Acts rows command state shelf reply = Did rows command state.old shelf.old reply state.new shelf.new
+abbrev pub StateRunOver : PolicyRows → StateCommand → Ends State → Ends Seen → Reply → Type 0
+StateRunOver rows command state shelf reply = StateRun rows command state.old shelf.old reply state.new shelf.new
 
 -- the certificate of this entry is loaded or not
 abbrev pub LoadsBy : PolicyRows → Name → Ends State → Ends Seen → Reply → Type 0
-LoadsBy rows name state shelf reply = Acts rows (kinds.Shelf (calls.Load name)) state shelf reply
+LoadsBy rows name state shelf reply = StateRunOver rows (kinds.Shelf (calls.Load name)) state shelf reply
 
 -- The certificate of this fingerprint was stored or not. The state stays.
 abbrev pub StoresBy : PolicyRows → Fpr → State → Ends Seen → Reply → Type 0
-StoresBy rows fpr s shelf reply = Did rows (kinds.Shelf (calls.Store fpr)) s shelf.old reply s shelf.new
+StoresBy rows fpr s shelf reply = StateRun rows (kinds.Shelf (calls.Store fpr)) s shelf.old reply s shelf.new
 
 -- R holds of what was seen before the reply, the reply, and what is seen after it.
 abbrev pub across : (Seen → Reply → Seen → Type 0) → Ends Seen → Reply → Type 0
