@@ -41,6 +41,11 @@ class Talk:
         self._reading, self._writing = reading, writing
         self._cutter = ReplyCutter()
 
+    def process(self) -> int:
+        """The process at the other end of a socket."""
+        with socket.socket(fileno=os.dup(self._reading)) as other:
+            return int.from_bytes(other.getsockopt(socket.SOL_SOCKET, socket.SO_PEERCRED, 4), sys.byteorder)
+
     def receive(self) -> int:
         """How many replies have come, at least one."""
         count = 0
@@ -110,7 +115,7 @@ def _feed(writing: int, octets: bytes) -> None:
 
 
 class Served:
-    """A service that runs, and how long it took up to its first answer."""
+    """A service that runs and has loaded the keyring, and how long it took up to its first answer."""
 
     def __init__(self, folder: Path, *options: str, has_uvloop: bool = True) -> None:
         self.path = folder / "tukyamid.socket"
@@ -121,6 +126,8 @@ class Served:
         while not self._answers():
             time.sleep(0.002)
         self.seconds = time.perf_counter() - begun
+        with connected(self.path) as client:
+            client.ask([b"view v time 1\n", b"cursor c over v 1\n"])  # It waits for the whole keyring.
 
     def _answers(self) -> bool:
         with contextlib.suppress(OSError), connected(self.path) as client:
