@@ -3,6 +3,7 @@
 Every bench takes `--json FILE` beside its own words. The file has the bench, the commit, the program's digest, the
 machine with its load, and the rows. A row has a name, a value with its unit, and, if there are any, the size that it
 grows with, what it stands beside (a peer in the same run, or a limit) and the ratio to that: 1 is equal, more is worse.
+It may also say what is wanted on an idle machine.
 """
 
 import hashlib
@@ -83,14 +84,18 @@ class Record:
         size: int | None = None,
         peer: tuple[str, float] | None = None,
         limit: float | None = None,
+        wanted: float | None = None,
         more_is_better: bool = False,
     ) -> None:
-        """Notes a row. `peer` is a name and its value in the same unit; `limit` the greatest value that is right."""
+        """Notes a row. `peer` is a name and its value in the same unit; `limit` the greatest value that is right, and
+        `wanted` the greatest one that is wanted on an idle machine."""
         row: Row = {"name": name, "value": value, "unit": unit, "more_is_better": more_is_better}
         if size is not None:
             row["size"] = size
         if limit is not None:
             row["limit"] = limit
+        if wanted is not None:
+            row["wanted"] = wanted
         if peer is not None:
             row["peer"] = {"name": peer[0], "value": peer[1]}
         beside = peer[1] if peer is not None else limit

@@ -104,8 +104,8 @@ class Bench:
 
     def note(self, name: str, value: float, unit: str, wanted: float | None = None) -> None:
         """Notes a figure. What is wanted is for an idle machine, so it is no limit that a night would fail at."""
-        print(f"{name:72} {value:12,.2f} {unit:5} {'' if wanted is None else f'(wanted: {wanted:g})'}", flush=True)
-        self.notes.add(name, value, unit)
+        print(f"{name:92} {value:12,.2f} {unit:5} {'' if wanted is None else f'(wanted: {wanted:g})'}", flush=True)
+        self.notes.add(name, value, unit, wanted=wanted)
 
     def taken(self) -> tuple[float, float]:
         """Milliseconds of processors that the service has taken, and its engines."""
@@ -119,7 +119,7 @@ class Bench:
         self.note(f"{name}, median", statistics.median(ordered), MILLISECONDS, wanted)
         self.note(f"{name}, p99", ordered[len(ordered) * 99 // 100], MILLISECONDS, wanted_p99)
         self.note(f"{name}, processor time of the service", service / len(times), MILLISECONDS)
-        self.note(f"{name}, processor time of the engines", engines / len(times), MILLISECONDS)
+        self.note(f"{name}, processor time of its engine", engines / len(times), MILLISECONDS)
 
     def question(self, index: int) -> bytes:
         return f"ask v {self.made.fingerprint(index).hex()} 120 ".encode() + self.made.user_id(index)
@@ -190,4 +190,5 @@ class Bench:
         self.note("memory of service and engines", int((await talk.status())[b"memory"]) / 1e6, "MB", 300)
         self.note("list from the root that certified most", await talk.timed(b"list v 120") / 1000, SECONDS)
         status = await talk.status()
-        print(f"certificates loaded: {status[b'loaded'].decode()} of {status[b'certificates'].decode()}")
+        self.note("kept", int(status[b"certificates"]), "certificates")
+        self.note("of these, loaded", int(status[b"loaded"]), "certificates")

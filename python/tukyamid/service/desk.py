@@ -5,21 +5,21 @@ from __future__ import annotations
 
 import asyncio
 import contextlib
-from collections.abc import Callable, Sequence
+from collections.abc import Awaitable, Callable, Sequence
 from dataclasses import replace
 from functools import partial
 from typing import Protocol, TypeVar
 
 from .access import Access
 from .cursors import Cursors
-from .database import Actor, Database, DatabaseFault, Finder, News, Shared, Snapshot
-from .growth import growth_of, measured, sum_of
+from .database import Actor, DatabaseFault, Finder, News, Shared, Snapshot
+from .holding import Holding
 from .hub import Hub
 from .journal import Done
 from .kinds import OF_THE_WHOLE
 from .outbox import Outbox, Pieces
-from .parts import MOST, HasParts, SharedInParts, Sizes
-from .reading import brought
+from .parts import MOST, HasParts, SharedInParts
+from .room import Room
 from .shared_hub import SharedHub
 from .shared_sliced import SharedSliced
 from .sliced import Sliced
@@ -45,69 +45,25 @@ class Sitting(Protocol):
         """Lines that have come meanwhile may begin."""
 
 
-class Desk:
+class Desk(Holding):
     """`budget` is how many certificates an engine may hold."""
 
     def __init__(self, program: Sequence[str], most_engines: int, access: Access, budget: int) -> None:
+        super().__init__(access, Room(access.database, replace(MOST, certificates=min(budget, MOST.certificates))))
         self.sitting: set[Sitting] = set()
         self.is_turning = False
         self._program = program
-        self._access = access
-        self._most = Sizes(min(budget, MOST.certificates), MOST.octets, MOST.signatures, MOST.verdicts)
         self._most_engines = most_engines
-        self._held: Hub | Sliced | None = None
         self.early: Sliced | None = None
-        self._bound = Sizes(0, 0, 0, 0)
         self._later: list[Callable[[], None]] = []
         self._task: asyncio.Task[None] | None = None
-
-    @property
-    def held(self) -> Hub | Sliced:
-        assert self._held is not None
-        return self._held
-
-    @property
-    def database(self) -> Database:
-        return self._access.database
-
-    @property
-    def fault(self) -> str:
-        """Why nothing can be committed at present; empty where all is well."""
-        return self.held.fault
-
-    @property
-    def count(self) -> int | None:
-        """The number of the last change that all engines have; None of a sliced keyring that nobody else changes."""
-        return self.held.count if isinstance(self.held, Hub | SharedSliced) else None
-
-    @property
-    def age(self) -> float:
-        """For how many seconds changes of other services may have been missed."""
-        return self.held.age if isinstance(self.held, SharedHub | SharedSliced) else 0.0
-
-    @property
-    def pids(self) -> list[int]:
-        """The engines' process numbers."""
-        return self.held.pids
-
-    @property
-    def loaded(self) -> int | None:
-        """How many certificates are loaded of a sliced keyring; None if each engine holds all."""
-        return self.held.loaded if isinstance(self.held, Sliced) else None
-
-    @property
-    def budget(self) -> int:
-        return self._most.certificates
 
     async def start(self) -> None:
         """Starts the first engine; OSError, ValueError or DatabaseFault where it can't take the database. If there is
         much to load, questions are answered from slices until `load` is over."""
-        sizes = await measured(self.database)
-        self._bound = sizes or self._bound
-        held: Hub | Sliced = self._whole() if sizes is None or sizes.fits(self._most) else self._sliced()
+        held: Hub | Sliced = self._whole() if await self._room.has_all() else self._sliced()
         self._held = held
-        if not isinstance(held, Hub) or sizes is None or sizes.octets <= LOADED_AT_ONCE \
-                or isinstance(self.database, Shared):
+        if not isinstance(held, Hub) or self._room.octets <= LOADED_AT_ONCE or isinstance(self.database, Shared):
             await held.start()
             return
         await held.begin()
@@ -180,56 +136,41 @@ class Desk:
             self._change_whole(self.held, line, actor, done, begun)
 
     def _change_whole(self, hub: Hub, line: bytes, actor: Actor, done: Done, begun: Begun) -> None:
-        bound = sum_of(self._bound, growth_of(line))
-        if bound.fits(self._most) or hub.fault or not isinstance(self.database, HasParts):
-            self._bound = bound
+        if hub.fault or self._room.takes(line):
             hub.change(line, actor, done, begun)
             return
         self.is_turning = True
         self._task = asyncio.get_running_loop().create_task(self._turn(
-            hub, line, lambda: self.held.change(line, actor, done, begun)))
+            hub, lambda: self._room.takes_measured(line), [lambda: self.held.change(line, actor, done, begun)]))
 
-    async def _fits(self, news: News) -> bool:
+    async def _takes_news(self, news: News) -> bool:
         """Whether engines that hold everything have room for what other services have changed. If they haven't, the
         keyring is sliced from now on."""
-        hub = self.held
-        assert isinstance(hub, SharedHub)
-        bound = self._bound
-        for _, line in news.lines or ():
-            bound = sum_of(bound, growth_of(line))
-        if news.lines is None or not bound.fits(self._most):
-            bound = await measured(self.database) or bound
-        if bound.fits(self._most):
-            self._bound = bound
+        if await self._room.takes_news(news):
             return True
-        self.is_turning = True
-        self._task = asyncio.get_running_loop().create_task(self._turn_at_once(hub))
+        if not self.is_turning:
+            self.is_turning = True
+            self._task = asyncio.get_running_loop().create_task(self._turn(self.held, self._room.has_all, []))
         return False
 
-    async def _turn_at_once(self, hub: SharedHub) -> None:
+    async def _turn(self, hub: Hub | Sliced, has_room: Callable[[], Awaitable[bool]],
+                    changes: list[Callable[[], None]]) -> None:
+        """When all that came before is done, the keyring is sliced unless an engine has room for it. Then these changes
+        are made, behind those that have waited for their turn."""
+        assert isinstance(hub, Hub)
         await hub.settle()
         waiting = hub.waiting()
         while self.held is hub:
             try:
+                if await has_room():
+                    break
                 await self._slice(hub)
             except (DatabaseFault, OSError) as fault:
                 self.tell(str(fault))
+                if not hub.is_outgrown:
+                    break
                 await asyncio.sleep(_PAUSE)
-        self._resume([partial(self.change, one.line, one.actor, one.done, one.begun) for one in waiting])
-
-    async def _turn(self, hub: Hub, line: bytes, change: Callable[[], None]) -> None:
-        """Measures the keyring when all that came before is done. If what comes may be too much for an engine, it is
-        sliced from now on."""
-        await hub.settle()
-        try:
-            sizes = await measured(self.database, brought(line))
-            if sizes is not None:
-                self._bound = sum_of(sizes, replace(growth_of(line), certificates=0))
-                if not self._bound.fits(self._most):
-                    await self._slice(hub)
-        except (DatabaseFault, OSError) as fault:
-            self.tell(str(fault))
-        self._resume([change])
+        self._resume([*(partial(self.change, one.line, one.actor, one.done, one.begun) for one in waiting), *changes])
 
     def _resume(self, first: list[Callable[[], None]]) -> None:
         self.is_turning = False
@@ -250,14 +191,14 @@ class Desk:
 
     def _whole(self) -> Hub:
         if isinstance(self.database, Shared):
-            return SharedHub(self._program, self._most_engines, self.database, self._access, self._fits)
+            return SharedHub(self._program, self._most_engines, self.database, self._access, self._takes_news)
         return Hub(self._program, self._most_engines, self.database, self._access)
 
     def _sliced(self) -> Sliced:
         if isinstance(self.database, SharedInParts):
-            return SharedSliced(self._program, self._access, self.database, self._most.certificates)
+            return SharedSliced(self._program, self._access, self.database, self._room.certificates)
         assert isinstance(self.database, HasParts)
-        return Sliced(self._program, self._access, self.database, self._most.certificates)
+        return Sliced(self._program, self._access, self.database, self._room.certificates)
 
     def ask(self, line: bytes, done: Done) -> None:
         """Asks what is no view's, and changes nothing."""
@@ -265,10 +206,6 @@ class Desk:
             self._later.append(partial(self.ask, line, done))
         else:
             (self.early or self.held).ask(line, done)
-
-    async def pending(self) -> int | None:
-        """How many signatures of a sliced keyring have no verdict, well-formed or not; None if engines hold all."""
-        return await self.held.read(lambda parts: parts.pending()) if isinstance(self.held, Sliced) else None
 
     def keys(self, done: Callable[[bytes | Pieces | None, int], None]) -> None:
         if isinstance(self.held, Sliced):

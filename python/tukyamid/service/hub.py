@@ -14,7 +14,7 @@ from .importing import exported_as
 from .journal import Change, Done, Journal, Point
 from .reading import brought
 from .seats import Seats
-from .turns import Begun
+from .turns import Begun, Waiting
 
 _BUSY_SECONDS = 0.05
 _RENEWING_SECONDS = 1.0
@@ -87,6 +87,15 @@ class Hub:
         """Comes back when all that was handed in is answered, and committed."""
         while self._committer.is_busy or any(engine.is_busy for engine in self.engines):
             await asyncio.sleep(0.002)
+
+    @property
+    def is_outgrown(self) -> bool:
+        """Whether others have made the keyring larger than an engine: then this takes no change any more."""
+        return False
+
+    def waiting(self) -> list[Waiting]:
+        """The changes that wait for their turn, where there are turns."""
+        return []
 
     def tell(self, text: str) -> None:
         self.access.tell(text)

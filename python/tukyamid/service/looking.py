@@ -9,6 +9,10 @@ from pathlib import Path
 from .database import Actor, Binding, DatabaseFault, Figures, LogEntry, Source, with_part
 
 _BINDINGS = "SELECT fingerprint, user_id FROM user_ids JOIN keys ON keys.id = certificate"
+# In the order of an index.
+_VERDICTS = ("SELECT number, fingerprint FROM verdicts JOIN keys ON keys.id = issuer "
+             "ORDER BY substr(number, 1, 8), number")
+_CERTIFICATES = "SELECT octets FROM certificates JOIN keys USING (id) ORDER BY fingerprint"
 _KILOBYTES_OF_A_SNAPSHOT = 128
 
 
@@ -38,13 +42,11 @@ class SqliteSnapshot:
     def lines(self) -> Iterator[bytes]:
         for octets in self.certificates():
             yield b"import " + hexlify(octets)
-        for number, issuer in self._connection.execute(
-                "SELECT number, fingerprint FROM verdicts JOIN keys ON keys.id = issuer "
-                "ORDER BY substr(number, 1, 8), number"):  # As the index has them.
+        for number, issuer in self._connection.execute(_VERDICTS):
             yield b"verdict %s " % hexlify(number) + (b"good " + hexlify(issuer) if issuer else b"bad")
 
     def certificates(self) -> Iterator[bytes]:
-        for (octets,) in self._connection.execute("SELECT octets FROM certificates JOIN keys USING (id) ORDER BY fingerprint"):
+        for (octets,) in self._connection.execute(_CERTIFICATES):
             yield octets
 
     def close(self) -> None:

@@ -47,6 +47,15 @@ def judged(change: Change) -> bytes | None:
     return bytes.fromhex(match[1].decode()) if match else None
 
 
+def touched_by(changes: Sequence[Change], parts: Parts) -> set[bytes]:
+    """The certificates that these changes bring or drop, or on whose signatures they set a verdict."""
+    touched = {fpr for change in changes for fpr in change.fprs}
+    for change in changes:
+        number = judged(change)
+        touched.update(fpr for fpr in (dropped(change), number and parts.certificate_of(number)) if fpr)
+    return touched
+
+
 class Merging:
     """Finds the reply to each change, and what it does to the database."""
 

@@ -9,7 +9,7 @@ from .writing import OF_NUMBER
 
 _OWN = "(SELECT id FROM keys WHERE fingerprint = ?)"
 # UNION meets no key twice, and rows come as they are found: so a limit ends the search.
-_ONWARD = f"""
+_ONWARD = """
 WITH RECURSIVE slice (id) AS (
     SELECT id FROM keys WHERE fingerprint = ? UNION
     SELECT verdicts.certificate FROM slice

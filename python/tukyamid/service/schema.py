@@ -164,7 +164,7 @@ def prepare(connection: sqlite3.Connection, path: str) -> None:
     if version > VERSION:
         raise DatabaseFault(f"{path} has version {version}, and this program reads versions up to {VERSION}; "
                             "it was made by a later Tukyamid")
-    connection.execute(f"PRAGMA page_size = {PAGE_OCTETS}")  # Of a new file, or one that is written anew.
+    connection.execute(f"PRAGMA page_size = {PAGE_OCTETS}")  # Of a new file, or of one that is rewritten.
     for number in range(version, VERSION):
         connection.executescript(f"BEGIN IMMEDIATE; {MIGRATIONS[number]} PRAGMA user_version = {number + 1}; "
                                  f"PRAGMA application_id = {APPLICATION_ID}; COMMIT;")

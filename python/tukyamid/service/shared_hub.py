@@ -50,8 +50,11 @@ class SharedHub(Hub):
             await asyncio.sleep(0.002)
         await super().settle()
 
+    @property
+    def is_outgrown(self) -> bool:
+        return self._turns is not None and self._turns.is_over
+
     def waiting(self) -> list[Waiting]:
-        """The changes that wait for their turn."""
         return list(self._turns.waiting) if self._turns is not None else []
 
     def change(self, line: bytes, actor: Actor, done: Done, begun: Begun = lambda: None) -> None:

@@ -140,13 +140,12 @@ class SharedSliced(Sliced):
 
     async def _renew(self, made: Sequence[Change] = ()) -> None:
         """Reads what is committed now from now on, and takes what has changed: these changes, and those of others."""
-        def renew() -> tuple[int, tuple[tuple[int, bytes], ...] | None]:
-            parts = self._opened()
+        def renew(parts: Parts) -> tuple[int, tuple[tuple[int, bytes], ...] | None]:
             assert isinstance(parts, SharedParts)
             self._shared.place, lines = parts.renew(self._shared.place)
             return self._shared.place.number, lines
 
-        self._committer.count, lines = await self.access.read(renew)
+        self._committer.count, lines = await self.read(renew)
         if lines is None:
             await self._begin_anew()
             return

@@ -8,7 +8,6 @@ import re
 from binascii import hexlify
 from collections.abc import Awaitable, Callable, Sequence
 from functools import partial
-from typing import TypeVar
 
 from .access import Access
 from .asking import Asker, wanted_of
@@ -19,16 +18,16 @@ from .journal import Change, Done
 from .lane import Lane, Turn
 from .loading import BudgetPassed, Loader
 from .long_replies import keys_of
-from .merging import REFUSED_BUDGET, Merging, dropped, judged
+from .merging import REFUSED_BUDGET, Merging, touched_by
 from .outbox import Pieces
 from .parts import HasParts, Parts
+from .reader import Reader
 from .reading import brought
 from .sliced_watches import Watched
 from .talking import EngineGone
 from .turns import Begun
 from .views import Value
 
-_R = TypeVar("_R")
 _TRIES = 3
 _FEW_TARGETS = 16
 _REFUSED_ABSENT = b"refused absent\n"
@@ -42,8 +41,7 @@ class Sliced:
         self.access = access
         self.budget = budget
         self.watched = Watched(self)
-        self._database = database
-        self._parts: Parts | None = None
+        self.read = Reader(access, database)
         self._asker = Asker(Loader(program, budget), self.read)
         self._merging = Merging(program, budget)
         self._errands = Errands(program, budget, self._freeze, self.answer)
@@ -82,30 +80,20 @@ class Sliced:
             await asyncio.sleep(0.01)
         await self._asker.loader.close()
         await self._merging.close()
-        if self._parts is not None:
-            self._parts.close()
-
-    async def read(self, call: Callable[[Parts], _R], /) -> _R:
-        return await self.access.read(lambda: call(self._opened()))
+        self.read.close()
 
     async def _freeze(self) -> Parts:
         """Has the database read as it is now, whatever is committed later."""
-        for _ in range(_TRIES):
-            try:
-                return await self.read(lambda parts: parts.frozen())
-            except DatabaseFault as fault:
-                if not await self._is_mended():
-                    raise fault
-        raise DatabaseFault("the database can't be read")
+        try:
+            return await self.read(lambda parts: parts.frozen())
+        except DatabaseFault:
+            if not await self._is_mended():
+                raise
+            return await self.read(lambda parts: parts.frozen())
 
     async def _is_mended(self) -> bool:
         """Whether the database can be read again that couldn't."""
         return False
-
-    def _opened(self) -> Parts:
-        if self._parts is None:
-            self._parts = self._database.parts()
-        return self._parts
 
     def change(self, line: bytes, actor: Actor, done: Done, begun: Begun = lambda: None) -> None:
         """Has a change made; `begun` is called when it has its place in the order of lines."""
@@ -257,9 +245,6 @@ class Sliced:
         await self.watched.look_at_all()
 
     def _touched(self, made: list[Change], parts: Parts) -> tuple[set[bytes], set[tuple[bytes, ...]]]:
-        touched = {fpr for change in made for fpr in change.fprs}
-        for change in made:
-            number = judged(change)
-            touched.update(fpr for fpr in (dropped(change), number and parts.certificate_of(number)) if fpr)
+        touched = touched_by(made, parts)
         unknown = {roots for roots in self.watched.roots() if self._asker.slices.kept(roots) is None}
         return touched, unknown | set(self._asker.slices.change(touched, parts))

@@ -76,7 +76,8 @@ class Turns:
         self._committer = committer
         self._home = home
         self.waiting: deque[Waiting] = deque()
-        self._is_working = self._is_over = False
+        self._is_working = False
+        self.is_over = False  # Whether the engines have no room for what others have changed.
         self._barriers: deque[Barrier] = deque()
         self._is_behind = False
         self._wake = asyncio.Event()
@@ -91,7 +92,7 @@ class Turns:
 
     @property
     def is_busy(self) -> bool:
-        return not self._is_over and (self._is_working or self._wake.is_set())
+        return not self.is_over and (self._is_working or self._wake.is_set())
 
     def change(self, waiting: Waiting) -> None:
         if self._committer.fault:
@@ -139,7 +140,7 @@ class Turns:
                 try:
                     await self._step()
                 except Outgrown:
-                    self._is_over = True
+                    self.is_over = True
                     return
                 except DatabaseFault as fault:
                     self._fail(fault)

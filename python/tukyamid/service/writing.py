@@ -44,6 +44,8 @@ class Writing:
         self._number = int(connection.execute("SELECT coalesce(max(number), 0) FROM changes").fetchone()[0])
         self._keys: dict[bytes, int] = {b"": NOBODY}
         self._more: Counter[str] = Counter()
+        # How many verdicts are on signatures that no kept certificate has.
+        self._loose = int(connection.execute("SELECT verdicts + pending - signatures FROM counts").fetchone()[0])
 
     def make(self, change: Change, now: int) -> int:
         """Makes a change, and gives the number of the last change so far."""
@@ -61,6 +63,7 @@ class Writing:
         for table in _TABLES:
             self._connection.execute(f"DELETE FROM {table}")
         self._connection.execute(f"UPDATE counts SET {', '.join(f'{name} = 0' for name in COUNTED)}")
+        self._loose = 0
         for line in lines:
             word, _, rest = line.partition(b" ")
             if word == b"import":
@@ -128,12 +131,17 @@ class Writing:
         known = set() if is_new else {bytes(row[0]) for row in self._connection.execute(
             "SELECT number FROM verdicts WHERE certificate = ?", (place,)).fetchall()}
         new = [(number, depth) for number, depth in signatures.items() if number not in known]
-        if new:
+        self._more["signatures"] += len(new)
+        self._more["pending"] += len(new)
+        if new and self._loose:
             adopted = self._connection.executemany(
                 _ADOPT, [(place, depth, number, number) for number, depth in new]).rowcount
             self._connection.executemany(_BRING, [(number, place, depth, number, number) for number, depth in new])
-            self._more["signatures"] += len(new)
-            self._more["pending"] += len(new) - adopted
+            self._more["pending"] -= adopted
+            self._loose -= adopted
+        elif new:
+            self._connection.executemany("INSERT INTO verdicts (number, certificate, depth) VALUES (?, ?, ?)",
+                                         [(number, place, depth) for number, depth in new])
 
     def _drop(self, fpr: bytes) -> bool:
         row = self._one("SELECT id, length(octets), (SELECT count(*) FROM user_ids WHERE certificate = id) "
@@ -145,6 +153,7 @@ class Writing:
         judged = self._connection.execute("UPDATE verdicts SET certificate = NULL, depth = 0 WHERE certificate = ?",
                                           (place,))
         self._connection.execute("DELETE FROM certificates WHERE id = ?", (place,))
+        self._loose += judged.rowcount
         self._more.subtract({"certificates": 1, "octets": octets, "user_ids": user_ids, "pending": unjudged.rowcount,
                              "signatures": unjudged.rowcount + judged.rowcount})
         return True
@@ -165,4 +174,6 @@ class Writing:
         self._more["verdicts"] += more
         if row is not None and row[0] is not None:
             self._more["pending"] -= more
+        else:
+            self._loose += more
         return True

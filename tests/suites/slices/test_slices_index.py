@@ -97,6 +97,7 @@ class Index(unittest.TestCase):
             self.assertEqual(self.parts.certified_by([fpr]),
                              sorted({target for issuer, target in self.plain.rows(0) if issuer == fpr}))
             self.change_one(draw)
+        self.assertEqual(self.database.check(), [])
 
     def test_a_search_ends_at_its_limit(self):
         fpr = max(self.plain.fprs, key=lambda one: len(self.plain.onward({one})))

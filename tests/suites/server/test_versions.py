@@ -1,0 +1,75 @@
+"""Databases of other versions, and of other programs: those of earlier versions are brought to this one."""
+
+import sqlite3
+from contextlib import closing
+
+from earlier import Earlier
+from outside import alone, needs_engine, script_of
+from test_database import InAFolder
+from tukyamid.service.database import DatabaseFault
+from tukyamid.service.parts import Sizes
+from tukyamid.service.schema import MIGRATIONS, PAGE_OCTETS, VERSION
+from tukyamid.service.sqlite import Sqlite
+from world import World
+
+
+class Versions(InAFolder):
+    def test_a_later_version(self):
+        self.open().close()
+        with closing(sqlite3.connect(self.path)) as raw:
+            raw.execute(f"PRAGMA user_version = {VERSION + 1}")
+        with self.assertRaisesRegex(DatabaseFault, "made by a later Tukyamid"):
+            Sqlite(self.path)
+
+    def fill_earlier(self, version, lines):
+        """A file as this version has made it."""
+        with closing(sqlite3.connect(self.path)) as raw, raw:
+            raw.execute("PRAGMA journal_mode = WAL")
+            for migration in MIGRATIONS[:version]:
+                raw.executescript(migration)
+            for statement, values in Earlier(lines).statements():
+                raw.executemany(statement, values)
+            raw.execute("INSERT INTO changes VALUES (1, 5, 0, 0, 'filled')")
+            raw.execute(f"PRAGMA user_version = {version}")
+            raw.execute("PRAGMA application_id = 0x54756B79")
+
+    @needs_engine
+    def test_earlier_versions(self):
+        """Also with a verdict that is bad, one on a signature that isn't kept, one by a key that isn't kept, and
+        signatures without a verdict."""
+        world, unkept = World(count=6), b"5" * 40
+        number, other = (number for number, _ in world.verdicts[:2])
+        lines = [*world.lines(), b"verdict %s bad" % number, b"verdict %s good %s" % (other, unkept),
+                 b"verdict %064x bad" % 1, b"verdict %064x good %s" % (2, world.fprs[0])]
+        for line in world.verdicts[2:5]:
+            lines.append(b"verdict %s none" % line[0])
+        told = alone([*lines, b"dump"])[-1].splitlines()[1:]
+        for version in range(1, VERSION):
+            with self.subTest(version):
+                self.path.unlink(missing_ok=True)
+                self.fill_earlier(version, told)
+                with closing(Sqlite(self.path)) as database, closing(database.finder()) as finder:
+                    self.assertEqual(database.check(), [])
+                    self.assertEqual(script_of(database).splitlines(), told)
+                    self.assertEqual([one.what for one in finder.log(9)], ["filled"])
+                    self.check_counts(database, finder, told)
+                with closing(sqlite3.connect(self.path)) as raw:
+                    self.assertEqual(raw.execute("PRAGMA page_size").fetchone(), (PAGE_OCTETS,))
+                    self.assertEqual(raw.execute("PRAGMA freelist_count").fetchone(), (0,))
+
+    def check_counts(self, database, finder, told):
+        """What is counted, beside the lines and the world: each certificate has a direct signature and five more."""
+        figures, verdicts = finder.figures(), sum(line.startswith(b"verdict ") for line in told)
+        self.assertEqual((figures.certificates, figures.user_ids, figures.verdicts), (6, 6, verdicts))
+        with closing(database.parts()) as parts:
+            self.assertEqual((parts.count(), parts.pending()), (6, 3))
+            octets = sum(len(line) - len(b"import ") for line in told if line.startswith(b"import ")) // 2
+            self.assertEqual(parts.sizes(), Sizes(6, octets, 36, verdicts))
+
+    def test_another_programs_database(self):
+        with closing(sqlite3.connect(self.path)) as raw, raw:
+            raw.execute("CREATE TABLE theirs (row TEXT)")
+        with self.assertRaisesRegex(DatabaseFault, "another program's"):
+            Sqlite(self.path)
+        with closing(sqlite3.connect(self.path)) as raw:
+            self.assertEqual(raw.execute("SELECT count(*) FROM sqlite_schema").fetchone(), (1,))
