@@ -9,8 +9,8 @@ from __future__ import annotations
 import os
 
 from ..bare import sha256
+from ..runtime import runtime_file
 from ..values import Value
-from .runtime import runtime_file
 from .sources import Stamp, stamp_of
 
 # A file that was changed within this time before its stamp was taken may change again without another stamp.

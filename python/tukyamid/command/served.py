@@ -7,9 +7,9 @@ import os
 from ..bare import TYPE_CHECKING
 from ..client.unix import ServiceSilent, connect_in_time
 from ..refusals import ServiceMissing
+from ..runtime import runtime_file
 from ..served import served_keyring
 from .failures import NoAnswer
-from .runtime import runtime_file
 
 if TYPE_CHECKING:
     from collections.abc import Iterable

@@ -2,24 +2,23 @@
 
 from __future__ import annotations
 
-import contextlib
 import fcntl
 import os
-import stat
 import time
 from pathlib import Path
 
+from tukyamid.runtime import runtime_file
+
 _PAUSE = 0.01
+
 
 class Taken(OSError):
     """Another process has the lock."""
 
 
 def default_socket() -> Path:
-    """The socket of the user's service: in the folder that the session made for such things, else in one of the user's
-    own below /tmp."""
-    folder = os.environ.get("XDG_RUNTIME_DIR")
-    return (Path(folder) if folder else own_folder(Path(f"/tmp/tukyamid-{os.getuid()}"))) / "tukyamid.socket"
+    """The socket of the user's service."""
+    return Path(runtime_file("tukyamid.socket"))
 
 
 def default_database() -> Path:
@@ -41,17 +40,6 @@ def default_log() -> Path:
 def _data() -> Path:
     named = os.environ.get("XDG_DATA_HOME")
     return Path(named) if named else Path.home() / ".local" / "share"
-
-
-def own_folder(folder: Path) -> Path:
-    """Makes a folder that is the user's alone, whoever else may write beside it; PermissionError where another thing
-    is there."""
-    with contextlib.suppress(FileExistsError):
-        folder.mkdir(mode=0o700)
-    found = folder.lstat()
-    if not stat.S_ISDIR(found.st_mode) or found.st_uid != os.getuid() or found.st_mode & 0o077:
-        raise PermissionError(f"{folder} has to be a directory that only you can use; set XDG_RUNTIME_DIR")
-    return folder
 
 
 class Lock:

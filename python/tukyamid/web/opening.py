@@ -8,7 +8,7 @@ from collections.abc import Iterator
 from contextlib import contextmanager, suppress
 
 from ..command.output import tell
-from ..command.runtime import runtime_file
+from ..runtime import runtime_file
 
 
 def leading(address: str) -> str:

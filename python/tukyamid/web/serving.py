@@ -7,8 +7,8 @@ from typing import TYPE_CHECKING, NamedTuple
 
 from ..command.given import Given
 from ..command.inputs import Inputs
-from ..command.runtime import runtime_file
 from ..command.sources import sources_of
+from ..runtime import runtime_file
 
 if TYPE_CHECKING:
     from ..command.inputs import Tell

@@ -13,6 +13,7 @@ import unittest
 from pathlib import Path
 
 from outside import PATIENCE, PROGRAM, PYTHON, ROOT, Client, needs_engine
+from tukyamid import runtime
 from tukyamid.service import places, starting
 
 ENSURE = """
@@ -156,5 +157,5 @@ class InTmp(unittest.TestCase):
             own = Path(folder) / "own"
             for place in (loose, link):
                 with self.assertRaises(PermissionError):
-                    places.own_folder(place)
-            self.assertEqual(places.own_folder(own).stat().st_mode & 0o777, 0o700)
+                    runtime.own_folder(str(place))
+            self.assertEqual(os.stat(runtime.own_folder(str(own))).st_mode & 0o777, 0o700)
