@@ -3,11 +3,11 @@
 //! It stands on `demand` and `reached`, and on `specs/Growth.antt`. `extend` calls it for each edge, so most of a
 //! search's time is spent here.
 ghost use Rattle.std.specs.Prelude.{◌≡◌, ◌<◌, ℕ, List, true, IfOk, OnOk};
-ghost use Rattle.wot_edge.specs.Record.{Record, Has, IsRecord, edges_into};
+ghost use Rattle.wot_edge.specs.Record.{Record, Has, IsRecord, EachRow, edges_into};
 ghost use Rattle.wot_search.specs.Demand.{demand_of};
 ghost use Rattle.wot_search.specs.Quest.{quest_of};
 ghost use Rattle.wot_search.specs.Reached.{look};
-ghost use Rattle.wot_search.specs.Growth.{wanted_of, may_stand_of, KeepsNoted, EachRow, PutsIfStands};
+ghost use Rattle.wot_search.specs.Growth.{wanted_of, may_stand_of, KeepsNoted, PutsIfStands};
 ghost use Rattle.wot_search.specs.Growth.{GrowsByEdge, TakesEdge, SeesEdge};
 ghost use Rattle.wot_search.specs.Looked.{Gains, Widens};
 ghost use Rattle.wot_search.specs.Onward.{IsUsable};
