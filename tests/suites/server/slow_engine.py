@@ -1,5 +1,6 @@
 #!/usr/bin/env python3
-"""The program, whose first run in the folder SLOW_FOLDER answers one line and then waits for the file `go` there."""
+"""The program, whose first run in the folder SLOW_FOLDER answers one line and then waits for the file `go` there, or
+until the folder is gone."""
 
 import os
 import subprocess
@@ -29,7 +30,7 @@ def main():
             octets = first + feed
         child.stdin.write(octets)
         child.stdin.flush()
-        while waits and feed and not (folder / "go").exists():
+        while waits and feed and folder.exists() and not (folder / "go").exists():
             time.sleep(0.01)
         waits = waits and not feed
     child.stdin.close()
