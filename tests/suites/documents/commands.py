@@ -28,6 +28,7 @@ PAGES = [
 OTHER_PAGES = {
     "docs/USING.md": "the suite `python` runs them in their order, and the suite `web` those of the page",
     "docs/SPEED.md": "benches take minutes; the suite `tools` runs what reads their records",
+    "docs/SCALE.md": "a network of a million certificates takes minutes; the suite `slices` makes a small one",
     "docs/CLUSTER.md": "needs servers on several machines; the suite `shared` starts such servers here",
 }
 # The beginnings of commands that aren't run, and why.

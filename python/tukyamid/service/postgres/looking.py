@@ -81,7 +81,8 @@ class PostgresFinder(Connected):
         if self._wire is None:
             self._wire = self._connect()
         statements = Statements(self._wire.connection)
-        if statements.row("SELECT number FROM head")[0] < self._database.place.number:
+        wanted = self._database.place.number  # It may grow while the server is asked.
+        if statements.row("SELECT number FROM head")[0] < wanted:
             raise DatabaseFault(f"{self.name}: the standby lacks changes that this service has read")
         return statements.rows(query, *values)
 
