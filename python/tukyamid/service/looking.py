@@ -10,8 +10,7 @@ from .database import Actor, Binding, DatabaseFault, Figures, LogEntry, Source, 
 
 _BINDINGS = "SELECT fingerprint, user_id FROM user_ids JOIN keys ON keys.id = certificate"
 # In the order of an index.
-_VERDICTS = ("SELECT number, fingerprint FROM verdicts JOIN keys ON keys.id = issuer "
-             "ORDER BY substr(number, 1, 8), number")
+_VERDICTS = "SELECT number, fingerprint FROM verdicts JOIN keys ON keys.id = issuer ORDER BY number"
 _CERTIFICATES = "SELECT octets FROM certificates JOIN keys USING (id) ORDER BY fingerprint"
 _KILOBYTES_OF_A_SNAPSHOT = 128
 

@@ -5,7 +5,6 @@ from abc import ABC, abstractmethod
 from collections.abc import Collection, Iterator
 
 from .parts import Part, Sizes
-from .writing import OF_NUMBER
 
 _OWN = "(SELECT id FROM keys WHERE fingerprint = ?)"
 # UNION meets no key twice, and rows come as they are found: so a limit ends the search.
@@ -38,8 +37,8 @@ _KEYS = """
 SELECT fingerprint, (SELECT count(*) FROM user_ids WHERE user_ids.certificate = certificates.id),
     (SELECT count(*) FROM verdicts WHERE verdicts.certificate = certificates.id)
 FROM certificates JOIN keys USING (id) ORDER BY fingerprint"""
-_CERTIFICATE_OF = f"SELECT fingerprint FROM verdicts JOIN keys ON keys.id = certificate WHERE {OF_NUMBER}"
-_VERDICT = f"SELECT fingerprint FROM verdicts JOIN keys ON keys.id = issuer WHERE {OF_NUMBER}"
+_CERTIFICATE_OF = "SELECT fingerprint FROM verdicts JOIN keys ON keys.id = certificate WHERE number = ?"
+_VERDICT = "SELECT fingerprint FROM verdicts JOIN keys ON keys.id = issuer WHERE number = ?"
 _VERDICTS = "SELECT number, fingerprint FROM verdicts JOIN keys ON keys.id = issuer WHERE certificate = ?"
 _UNJUDGED = """
 SELECT fingerprint FROM keys WHERE id IN (SELECT certificate FROM verdicts INDEXED BY unjudged_by_certificate
@@ -115,10 +114,10 @@ class QueriedParts(ABC):
         return list(self._fprs(_USER_IDS, fpr))
 
     def verdict(self, number: bytes) -> bytes | None:
-        return next(self._fprs(_VERDICT, number, number), None)
+        return next(self._fprs(_VERDICT, number), None)
 
     def certificate_of(self, number: bytes) -> bytes | None:
-        return next(self._fprs(_CERTIFICATE_OF, number, number), None)
+        return next(self._fprs(_CERTIFICATE_OF, number), None)
 
     def unjudged(self) -> Iterator[bytes]:
         for (fpr,) in self._scan(_UNJUDGED):

@@ -73,8 +73,8 @@ CREATE INDEX unjudged_by_certificate ON verdicts (certificate) WHERE issuer IS N
 """
 
 # A third of the room: keys are numbered, and each fingerprint is kept once. The key of number 0 is nobody's, and has no
-# octets: it is the issuer of a signature that is bad. Who certified whom is read off the verdicts. A signature is found
-# by the first octets of its number. What there is of everything is counted with each change.
+# octets: it is the issuer of a signature that is bad. Who certified whom is read off the verdicts. What there is of
+# everything is counted with each change.
 _THIRD = """
 CREATE TABLE keys (
     id INTEGER PRIMARY KEY,
@@ -121,7 +121,7 @@ ALTER TABLE new_verdicts RENAME TO verdicts;
 CREATE INDEX certificates_by_key_id ON certificates (key_id);
 CREATE INDEX user_ids_by_address ON user_ids (address) WHERE address IS NOT NULL;
 CREATE INDEX user_ids_by_user_id ON user_ids (user_id);
-CREATE INDEX verdicts_by_number ON verdicts (substr(number, 1, 8));
+CREATE UNIQUE INDEX verdicts_by_number ON verdicts (number);
 CREATE INDEX verdicts_by_certificate ON verdicts (certificate) WHERE certificate IS NOT NULL;
 CREATE INDEX verdicts_by_issuer ON verdicts (issuer, certificate) WHERE issuer > 0;
 CREATE INDEX trust_by_issuer ON verdicts (issuer, certificate) WHERE issuer > 0 AND depth > 0;

@@ -9,12 +9,11 @@ from .database import Change, DropCertificate, Effect, PutCertificate, SetVerdic
 from .reading import Described, describe
 
 NOBODY = 0  # The key of this number has no octets: the issuer of a signature that is bad.
-OF_NUMBER = "substr(number, 1, 8) = substr(?, 1, 8) AND number = ?"
 COUNTED = ("certificates", "octets", "user_ids", "signatures", "verdicts", "pending")
 _TABLES = ("verdicts", "user_ids", "certificates")
-_ADOPT = f"UPDATE verdicts SET certificate = ?, depth = ? WHERE {OF_NUMBER} AND certificate IS NULL"
+_ADOPT = "UPDATE verdicts SET certificate = ?, depth = ? WHERE number = ? AND certificate IS NULL"
 _BRING = "INSERT INTO verdicts (number, certificate, depth) SELECT ?, ?, ? " \
-    f"WHERE NOT EXISTS (SELECT 1 FROM verdicts WHERE {OF_NUMBER})"
+    "WHERE NOT EXISTS (SELECT 1 FROM verdicts WHERE number = ?)"
 
 
 class Rows(Protocol):
@@ -135,8 +134,8 @@ class Writing:
         self._more["pending"] += len(new)
         if new and self._loose:
             adopted = self._connection.executemany(
-                _ADOPT, [(place, depth, number, number) for number, depth in new]).rowcount
-            self._connection.executemany(_BRING, [(number, place, depth, number, number) for number, depth in new])
+                _ADOPT, [(place, depth, number) for number, depth in new]).rowcount
+            self._connection.executemany(_BRING, [(number, place, depth, number) for number, depth in new])
             self._more["pending"] -= adopted
             self._loose -= adopted
         elif new:
@@ -160,16 +159,16 @@ class Writing:
 
     def _judge(self, number: bytes, issuer: bytes | None) -> bool:
         by = None if issuer is None else self._key(issuer)
-        row = self._one(f"SELECT certificate, issuer FROM verdicts WHERE {OF_NUMBER}", number, number)
+        row = self._one("SELECT certificate, issuer FROM verdicts WHERE number = ?", number)
         before = row[1] if row else None
         if before == by:
             return False
         if row is None:
             self._connection.execute("INSERT INTO verdicts (number, issuer) VALUES (?, ?)", (number, by))
         elif by is None and row[0] is None:
-            self._connection.execute(f"DELETE FROM verdicts WHERE {OF_NUMBER}", (number, number))
+            self._connection.execute("DELETE FROM verdicts WHERE number = ?", (number,))
         else:
-            self._connection.execute(f"UPDATE verdicts SET issuer = ? WHERE {OF_NUMBER}", (by, number, number))
+            self._connection.execute("UPDATE verdicts SET issuer = ? WHERE number = ?", (by, number))
         more = (by is not None) - (before is not None)
         self._more["verdicts"] += more
         if row is not None and row[0] is not None:

@@ -120,7 +120,7 @@ CREATE INDEX certificates_by_key_id ON certificates (key_id);
 CREATE UNIQUE INDEX user_ids_of_certificates ON user_ids (certificate, sha256(user_id));
 CREATE INDEX user_ids_by_address ON user_ids (sha256(address)) WHERE address IS NOT NULL;
 CREATE INDEX user_ids_by_user_id ON user_ids (sha256(user_id));
-CREATE INDEX verdicts_by_number ON verdicts (substr(number, 1, 8));
+CREATE UNIQUE INDEX verdicts_by_number ON verdicts (number);
 CREATE INDEX verdicts_by_certificate ON verdicts (certificate) WHERE certificate IS NOT NULL;
 CREATE INDEX verdicts_by_issuer ON verdicts (issuer, certificate) WHERE issuer > 0;
 CREATE INDEX trust_by_issuer ON verdicts (issuer, certificate) WHERE issuer > 0 AND depth > 0;
