@@ -7,7 +7,6 @@ from .reading import describe
 from .writing import COUNTED, Statements
 
 EVERY_CERTIFICATE = "SELECT id, fingerprint, octets FROM certificates JOIN keys USING (id)"
-_TWICE = "SELECT number FROM verdicts GROUP BY number HAVING count(*) > 1 LIMIT 1"
 _COUNTS = """SELECT (SELECT count(*) FROM certificates),
     (SELECT coalesce(sum(length(octets)), 0) FROM certificates),
     (SELECT count(*) FROM user_ids),
@@ -32,8 +31,6 @@ def compare(connection: Statements, certificates: Iterable[tuple[Any, ...]]) -> 
         signatures = connection.execute("SELECT number, depth FROM verdicts WHERE certificate = ?", (place,))
         if dict(signatures.fetchall()) != described.signatures:
             yield f"the signatures of {fpr.hex()} aren't those of its octets"
-    if connection.execute(_TWICE).fetchone():
-        yield "there are two verdicts on one signature"
     counted = connection.execute(f"SELECT {', '.join(COUNTED)} FROM counts").fetchall()
     if [tuple(map(int, row)) for row in counted] != [tuple(map(int, connection.execute(_COUNTS).fetchone()))]:
         yield "the counts aren't those of what is there"

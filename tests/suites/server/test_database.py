@@ -132,12 +132,18 @@ class Changes(InAFolder):
             self.assertEqual(b"".join(line + b"\n" for line in snapshot.lines()), self.script)
             self.assertEqual(snapshot.count(), self.script.count(b"\n"))
 
+    def test_a_signature_has_one_verdict(self):
+        with tempfile.TemporaryDirectory() as folder:
+            copy = Path(folder) / "copy.db"
+            self.database.backup(copy)
+            with closing(sqlite3.connect(copy)) as raw, self.assertRaisesRegex(sqlite3.IntegrityError, "UNIQUE"):
+                raw.execute("INSERT INTO verdicts SELECT number, NULL, 0, 0 FROM verdicts LIMIT 1")
+
     def test_what_check_finds(self):
         """Each of these was changed behind the back of the service."""
         for statement, told in (
                 ("UPDATE user_ids SET address = 'eve@example.org' WHERE address = 'u3@example.org'", "user IDs"),
                 ("UPDATE counts SET pending = pending + 1", "counts"),
-                ("INSERT INTO verdicts SELECT number, NULL, 0, 0 FROM verdicts LIMIT 1", "two verdicts"),
                 ("UPDATE verdicts SET depth = depth + 1 WHERE depth = 0 AND certificate IS NOT NULL", "signatures"),
                 ("UPDATE certificates SET octets = x'99' WHERE id = 2", "can't be read"),
                 ("UPDATE keys SET fingerprint = zeroblob(20) WHERE id = 3", "is that of")):
