@@ -8,8 +8,8 @@ use Rattle.wot_cache.specs.State.{Engine, marks_at}
 use Rattle.wot_cache.specs.Views.{view_at}
 use Rattle.wot_watch.specs.Watches.{Watch, Watches}
 use Rattle.wot_machine.specs.Machine.{Machine}
-use Rattle.wot_machine.specs.Made.{TellingMakes, WatchMakes, WatchesMake}
-use Rattle.wot_machine.proofs.Making.{refreshed_as}
+use Rattle.wot_command.specs.Made.{TellingMakes, WatchMakes, WatchesMake}
+use Rattle.wot_command.proofs.Making.{refreshed_as}
 
 -- ---- bounds for one result hold for another that is Ok only if the first one is
 

@@ -26,13 +26,13 @@ use Rattle.wot_cursor.specs.declared.stamps.Stamps.{Stamps}
 use Rattle.wot_explain.specs.declared.bind.Bind.{Bind}
 use Rattle.wot_explain.specs.Listing.{HasList, IsOfEachList, pairs_in}
 use Rattle.wot_explain.specs.Piece.{IsThePiece, piece_of}
-use Rattle.wot_machine.specs.declared.told.Moved.{Moved}
-use Rattle.wot_machine.specs.declared.told.Told.{Told}
-use Rattle.wot_machine.specs.Listing.{bind_line}
-use Rattle.wot_machine.specs.Pacing.{ReturnsPiece, GivesPiece, Goes, GoesBy, GoesFrom, Leaves, OnTold, TellsPiece, behind}
-use Rattle.wot_machine.specs.Pacing.{piece, settled, stamps_in}
-use Rattle.wot_machine.specs.Session.{Session, session_of}
-use Rattle.wot_machine.proofs.Refusing.{if_ok}
+use Rattle.wot_step.specs.declared.told.Moved.{Moved}
+use Rattle.wot_step.specs.declared.told.Told.{Told}
+use Rattle.wot_step.specs.Listing.{bind_line}
+use Rattle.wot_step.specs.Pacing.{ReturnsPiece, GivesPiece, Goes, GoesBy, GoesFrom, Leaves, OnTold, TellsPiece, behind}
+use Rattle.wot_step.specs.Pacing.{piece, settled, stamps_in}
+use Rattle.wot_step.specs.Session.{Session, session_of}
+use Rattle.wot_command.proofs.Refusing.{if_ok}
 
 -- a reply that moves no cursor
 pub left : (s : Session) (told : Told) (reply : Reply) → told.reply ≡ reply → told.moved ≡ None →

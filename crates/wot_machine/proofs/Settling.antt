@@ -21,25 +21,25 @@ use Rattle.wot_cache.specs.State.{Engine, State, StaysButMarks, closing, state_o
 use Rattle.wot_cache.specs.Turns.{AreTurnsBy, Turns, without_turn}
 use Rattle.wot_cache.specs.Views.{Views, view_at}
 use Rattle.wot_watch.specs.Watches.{Watch, Watches, is_full, is_name, watch_at, with_watch, without_watch}
-use Rattle.wot_machine.specs.declared.class.Class.{Class}
-use Rattle.wot_machine.specs.declared.class.Class.TheVariants.{State as OfState}
-use Rattle.wot_machine.specs.declared.class.StateCommand.TheVariants as kinds
-use Rattle.wot_machine.specs.declared.class.ViewChange.{ViewChange}
-use Rattle.wot_machine.specs.declared.class.ViewChange.TheVariants as turns
-use Rattle.wot_machine.specs.Classes.{class_of, view_change_of}
-use Rattle.wot_machine.specs.Served.{Served}
+use Rattle.wot_step.specs.declared.class.Class.{Class}
+use Rattle.wot_step.specs.declared.class.Class.TheVariants.{State as OfState}
+use Rattle.wot_step.specs.declared.class.StateCommand.TheVariants as kinds
+use Rattle.wot_step.specs.declared.class.ViewChange.{ViewChange}
+use Rattle.wot_step.specs.declared.class.ViewChange.TheVariants as turns
+use Rattle.wot_step.specs.Classes.{class_of, view_change_of}
+use Rattle.wot_step.specs.Served.{Served}
 use Rattle.wot_cursor.specs.Cursors.{Cursors}
-use Rattle.wot_machine.specs.LineStep.{ReadLineStep, StateStep, ComesTo, CommandStep}
-use Rattle.wot_machine.specs.Outcome.{close, done, only}
+use Rattle.wot_step.specs.LineStep.{ReadLineStep, StateStep, ComesTo, CommandStep}
+use Rattle.wot_step.specs.Outcome.{close, done, only}
 use Rattle.wot_machine.specs.Settled.{AllSettled, AreOpen, AreSettled, IsNoAmount, IsSettled}
 use Rattle.wot_machine.specs.Stepped.{TellsBehind}
-use Rattle.wot_machine.specs.Watching.{AreLines, HasAmount, LeavesWatches, Opens, TakesOff, Watching, is_watching}
-use Rattle.wot_machine.specs.Watching.{line_by, opened}
-use Rattle.wot_machine.specs.Session.{IsCounted, IsTurnedBy, Session, watched, session_of}
-use Rattle.wot_machine.proofs.Entries.{all_weaker, all_without}
-use Rattle.wot_machine.proofs.Viewed.{changes_view, does_views}
-use Rattle.wot_machine.proofs.Watched.{amount_has, plain_watching, watched_cases}
-use Rattle.wot_machine.proofs.Sessions.{turned_still}
+use Rattle.wot_step.specs.Watching.{AreLines, HasAmount, LeavesWatches, Opens, TakesOff, Watching, is_watching}
+use Rattle.wot_step.specs.Watching.{line_by, opened}
+use Rattle.wot_step.specs.Session.{IsCounted, IsTurnedBy, Session, watched, session_of}
+use Rattle.wot_step.proofs.Entries.{all_weaker, all_without}
+use Rattle.wot_step.proofs.Viewed.{changes_view, does_views}
+use Rattle.wot_step.proofs.Watched.{amount_has, plain_watching, watched_cases}
+use Rattle.wot_step.proofs.Sessions.{turned_still}
 
 -- ---- what is settled stays settled
 

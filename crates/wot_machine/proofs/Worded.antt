@@ -48,33 +48,33 @@ use Rattle.wot_explain.specs.Explaining.{explained_at, explained_on}
 use Rattle.wot_explain.specs.Reasons.{Reason, issuer_standing, reason_of, reason_words}
 use Rattle.wot_explain.specs.Target.{target_word, target_words}
 use Rattle.wot_explain.specs.Words.{Word, first_word}
-use Rattle.wot_machine.specs.declared.class.Class.{Class}
-use Rattle.wot_machine.specs.declared.class.Class.TheVariants.{State as OfState, Cursor as OfCursor, Watch as OfWatch}
-use Rattle.wot_machine.specs.declared.class.StateCommand.{StateCommand}
-use Rattle.wot_machine.specs.declared.class.StateCommand.TheVariants as kinds
-use Rattle.wot_machine.specs.declared.class.Change.{Change}
-use Rattle.wot_machine.specs.declared.class.Change.TheVariants as changes
-use Rattle.wot_machine.specs.declared.class.ViewChange.{ViewChange}
-use Rattle.wot_machine.specs.declared.class.ViewChange.TheVariants as turns
-use Rattle.wot_machine.specs.declared.class.ViewQuestion.{ViewQuestion}
-use Rattle.wot_machine.specs.declared.class.ViewQuestion.TheVariants as questions
-use Rattle.wot_machine.specs.declared.class.Read.{Read}
-use Rattle.wot_machine.specs.declared.class.Read.TheVariants as reads
-use Rattle.wot_machine.specs.declared.class.ShelfCall.{ShelfCall}
-use Rattle.wot_machine.specs.declared.class.ShelfCall.TheVariants as calls
-use Rattle.wot_machine.specs.Classes.{AnswersQuestion, call_of, change_of, reading, view_change_of}
-use Rattle.wot_machine.specs.Absent.{Checks, Misses}
-use Rattle.wot_machine.specs.Answer.{Asks}
-use Rattle.wot_machine.specs.Listing.{Lists, explained, explained_from, reason_by, reason_line}
-use Rattle.wot_machine.specs.Session.{Session}
-use Rattle.wot_machine.proofs.Paced.{paces_worded}
-use Rattle.wot_machine.proofs.Watched.{watching_worded}
-use Rattle.wot_machine.specs.LineStep.{DoesTo, ComesTo, CommandStep}
-use Rattle.wot_machine.specs.Outcome.{Outcome, cert_refusal, done, exported, imports, load, only, refusal, unless}
-use Rattle.wot_machine.specs.Outcome.{view_refusal}
-use Rattle.wot_machine.specs.Served.{Served}
-use Rattle.wot_machine.specs.Storing.{stored, stored_from, text_unless, merged_entry, writing}
-use Rattle.wot_machine.proofs.Absences.{tells_worded, verdicts_worded}
+use Rattle.wot_step.specs.declared.class.Class.{Class}
+use Rattle.wot_step.specs.declared.class.Class.TheVariants.{State as OfState, Cursor as OfCursor, Watch as OfWatch}
+use Rattle.wot_step.specs.declared.class.StateCommand.{StateCommand}
+use Rattle.wot_step.specs.declared.class.StateCommand.TheVariants as kinds
+use Rattle.wot_step.specs.declared.class.Change.{Change}
+use Rattle.wot_step.specs.declared.class.Change.TheVariants as changes
+use Rattle.wot_step.specs.declared.class.ViewChange.{ViewChange}
+use Rattle.wot_step.specs.declared.class.ViewChange.TheVariants as turns
+use Rattle.wot_step.specs.declared.class.ViewQuestion.{ViewQuestion}
+use Rattle.wot_step.specs.declared.class.ViewQuestion.TheVariants as questions
+use Rattle.wot_step.specs.declared.class.Read.{Read}
+use Rattle.wot_step.specs.declared.class.Read.TheVariants as reads
+use Rattle.wot_step.specs.declared.class.ShelfCall.{ShelfCall}
+use Rattle.wot_step.specs.declared.class.ShelfCall.TheVariants as calls
+use Rattle.wot_step.specs.Classes.{AnswersQuestion, call_of, change_of, reading, view_change_of}
+use Rattle.wot_step.specs.Absent.{Checks, Misses}
+use Rattle.wot_step.specs.Answer.{Asks}
+use Rattle.wot_step.specs.Listing.{Lists, explained, explained_from, reason_by, reason_line}
+use Rattle.wot_step.specs.Session.{Session}
+use Rattle.wot_step.proofs.Paced.{paces_worded}
+use Rattle.wot_step.proofs.Watched.{watching_worded}
+use Rattle.wot_step.specs.LineStep.{DoesTo, ComesTo, CommandStep}
+use Rattle.wot_step.specs.Outcome.{Outcome, cert_refusal, done, exported, imports, load, only, refusal, unless}
+use Rattle.wot_step.specs.Outcome.{view_refusal}
+use Rattle.wot_step.specs.Served.{Served}
+use Rattle.wot_step.specs.Storing.{stored, stored_from, text_unless, merged_entry, writing}
+use Rattle.wot_step.proofs.Absences.{tells_worded, verdicts_worded}
 
 -- ---- explanations
 

@@ -1,26 +1,24 @@
 //! The `cursor` commands: `over`, `next` and `close`. A piece is listed from the cursor's place, and the cursor moves
-//! only once the piece was written. It stands on wot_cursor and wot_explain; the law that pieces join to the list is in
-//! `laws`.
+//! only once the piece was written. It stands on wot_cursor and wot_explain; wot_cursor_law says that pieces
+//! join to the list.
 ghost use Rattle.std.specs.Prelude.{◌≡◌, ◌≤◌, Some, false, true, length, IfOk, OnErr, is_some};
 ghost use Rattle.wot_script.specs.Replies.{is_short};
 ghost use Rattle.wot_cache.specs.State.{StaysButMarks};
 ghost use Rattle.wot_cache.specs.Views.{view_at};
 ghost use Rattle.wot_cursor.specs.Cursors.{Cursors as TheCursors, cursor_at};
-ghost use Rattle.wot_machine.specs.declared.class.CursorCommand.TheVariants as paces;
-ghost use Rattle.wot_machine.specs.Pacing.{ReturnsPiece, OnTold, PacesCursor, TellsPiece, behind, settled};
-ghost use Rattle.wot_machine.specs.Made.{CursorMakes, PieceMakes};
-ghost use Rattle.wot_machine.specs.Session.{session_of};
+ghost use Rattle.wot_step.specs.declared.class.CursorCommand.TheVariants as paces;
+ghost use Rattle.wot_step.specs.Pacing.{ReturnsPiece, OnTold, PacesCursor, TellsPiece, behind, settled};
+ghost use Rattle.wot_command.specs.Made.{CursorMakes, PieceMakes};
+ghost use Rattle.wot_step.specs.Session.{session_of};
 
-use crate::bindings::bind_lines;
-use crate::class::CursorCommand;
-use crate::refusal::{Refused, reply_to};
-use crate::told::{Moved, Told, alone};
 use std::alloc::Global;
 use wot_cache::{Engine, Parts};
+use wot_command::{Refused, bind_lines, reply_to};
 use wot_cursor::{Age, Cursor, Cursors, Stamps, age};
 use wot_explain::laws::list_is_one;
 use wot_explain::{Bind, list_after};
 use wot_script::{BindLines, Reply};
+use wot_step::{CursorCommand, Moved, Told, alone};
 use wot_types::{Memory, Place, Steps, UserId, ViewName};
 
 /// Runs a command about the cursor of this name. A cursor moves only once the reply is written.

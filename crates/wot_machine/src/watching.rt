@@ -7,20 +7,20 @@ ghost use Rattle.wot_cache.specs.Basis.{HasGrown, IsPresent, RestsOn};
 ghost use Rattle.wot_cache.specs.Marks.{IsRefreshed};
 ghost use Rattle.wot_cache.specs.State.{StaysButMarks, state_of};
 ghost use Rattle.wot_cache.specs.Views.{view_at};
-ghost use Rattle.wot_machine.specs.declared.class.WatchCommand.TheVariants as commands;
-ghost use Rattle.wot_machine.specs.Classes.{IsWatched};
-ghost use Rattle.wot_machine.specs.Made.{WatchMakes, WatchMakesMarks, WatchesMake};
+ghost use Rattle.wot_step.specs.declared.class.WatchCommand.TheVariants as commands;
+ghost use Rattle.wot_step.specs.Classes.{IsWatched};
+ghost use Rattle.wot_command.specs.Made.{WatchMakes, WatchMakesMarks, WatchesMake};
 ghost use Rattle.wot_machine.specs.Settled.{AllSettled, AreOpen, AreSettled, IsSettled};
-ghost use Rattle.wot_machine.specs.Watching.{AreLines, BeginsWatch, HasAmount, IsLine, IsWatchLine};
-ghost use Rattle.wot_machine.specs.Watching.{OpensOver, SetsOver, SetsWatch, told_all, told_by};
-ghost use Rattle.wot_machine.specs.Session.{Session, watched};
+ghost use Rattle.wot_step.specs.Watching.{AreLines, BeginsWatch, HasAmount, IsLine, IsWatchLine};
+ghost use Rattle.wot_step.specs.Watching.{OpensOver, SetsOver, SetsWatch, told_all, told_by};
+ghost use Rattle.wot_step.specs.Session.{Session, watched};
 
-use crate::class::WatchCommand;
-use crate::refusal::{Refused, reply_to};
 use std::alloc::Global;
 use wot_cache::laws::{kept_on_is_order, rests_on};
 use wot_cache::{AskFault, Basis, Engine};
+use wot_command::{Refused, reply_to};
 use wot_script::Reply;
+use wot_step::WatchCommand;
 use wot_types::{Fpr, Memory, Steps, UserId, ViewName};
 use wot_watch::{Watch, Watches};
 

@@ -1,7 +1,7 @@
 use Rattle.std.proofs.Common.{rules, ◌≤◌, ap, inl, arith}
 use Rattle.std.specs.Prelude.{is_ok}
 use Rattle.wot_cache.specs.Marks.{IsRefreshed}
-use Rattle.wot_machine.proofs.Making.{refreshed_as}
+use Rattle.wot_command.proofs.Making.{refreshed_as}
 use Rattle.wot_machine.proofs.Pieces.{gives_piece}
 use Rattle.wot_machine.proofs.pacing.give.Goals as goal
 

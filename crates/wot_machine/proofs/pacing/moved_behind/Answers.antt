@@ -1,5 +1,5 @@
 use Rattle.std.proofs.Common.{◌∙◌, refl}
-use Rattle.wot_machine.proofs.Paced.{moved_to}
+use Rattle.wot_step.proofs.Paced.{moved_to}
 use Rattle.wot_machine.proofs.pacing.moved_behind.Goals as goal
 
 pub returns : goal.returns

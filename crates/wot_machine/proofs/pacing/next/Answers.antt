@@ -5,8 +5,8 @@ use Rattle.wot_cache.specs.Views.{view_at}
 use Rattle.wot_cursor.specs.Age.{age_of}
 use Rattle.wot_cursor.specs.Cursors.{cursor_at}
 use Rattle.wot_cursor.specs.declared.stamps.Stamps.{Stamps}
-use Rattle.wot_machine.specs.Pacing.{stamps_in}
-use Rattle.wot_machine.specs.Session.{Session, session_of}
+use Rattle.wot_step.specs.Pacing.{stamps_in}
+use Rattle.wot_step.specs.Session.{Session, session_of}
 use Rattle.wot_machine.proofs.Pieces.{given_by, stamps_now}
 use Rattle.wot_machine.proofs.pacing.next.Goals as goal
 

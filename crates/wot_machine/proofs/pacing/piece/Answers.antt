@@ -1,5 +1,5 @@
 use Rattle.std.proofs.Common.{◌∙◌, ap}
-use Rattle.wot_machine.specs.Pacing.{behind}
+use Rattle.wot_step.specs.Pacing.{behind}
 use Rattle.wot_machine.proofs.Pieces.{piece_is}
 use Rattle.wot_machine.proofs.pacing.piece.Goals as goal
 

@@ -2,7 +2,7 @@ use Rattle.std.proofs.Common.{ap, arith}
 use Rattle.std.specs.Prelude.{is_ok}
 use Rattle.wot_cache.specs.State.{state_of}
 use Rattle.wot_cache.specs.Views.{view_at}
-use Rattle.wot_machine.proofs.Making.{refreshed_as, refreshed_fault, refreshed_unopened}
+use Rattle.wot_command.proofs.Making.{refreshed_as, refreshed_fault, refreshed_unopened}
 use Rattle.wot_machine.proofs.Settling.{sum_has}
 use Rattle.wot_machine.proofs.watching.amount_of.Goals as goal
 

@@ -1,10 +1,10 @@
 use Rattle.std.proofs.Common.{List, ℕ, ap, ◌∙◌}
 use Rattle.wot_script.specs.declared.reply.Reply.TheVariants as replies
 use Rattle.wot_watch.specs.Watches.{Watches, with_watch}
-use Rattle.wot_machine.specs.Watching.{opened}
-use Rattle.wot_machine.proofs.Watched.{begins_full, begins_new}
-use Rattle.wot_machine.proofs.Faults.{full_watches}
-use Rattle.wot_machine.proofs.Putting.{any_err}
+use Rattle.wot_step.specs.Watching.{opened}
+use Rattle.wot_step.proofs.Watched.{begins_full, begins_new}
+use Rattle.wot_command.proofs.Faults.{full_watches}
+use Rattle.wot_command.proofs.Putting.{any_err}
 use Rattle.wot_machine.proofs.watching.begin.Goals as goal
 
 pub returns-in-Ok-clause-begins : goal.returns-in-Ok-clause-begins

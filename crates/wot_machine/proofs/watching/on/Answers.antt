@@ -1,15 +1,15 @@
 use Rattle.std.proofs.Common.{Option, ap, refl}
 use Rattle.std.specs.Prelude.{is_ok}
 use Rattle.wot_cache.specs.Views.{view_at}
-use Rattle.wot_machine.specs.Session.{watched, session_of}
+use Rattle.wot_step.specs.Session.{watched, session_of}
 use Rattle.wot_script.specs.declared.reply.Reply.{Reply}
 use Rattle.wot_cache.specs.declared.view.View.{View}
 use Rattle.wot_cursor.specs.Cursors.{Cursors}
-use Rattle.wot_machine.specs.Watching.{Opens}
-use Rattle.wot_machine.proofs.Faults.{refreshed_refused, unopened}
-use Rattle.wot_machine.proofs.Making.{refreshed_as}
-use Rattle.wot_machine.proofs.Refusing.{if_ok}
-use Rattle.wot_machine.proofs.Watched.{opens_answered}
+use Rattle.wot_step.specs.Watching.{Opens}
+use Rattle.wot_command.proofs.Faults.{refreshed_refused, unopened}
+use Rattle.wot_command.proofs.Making.{refreshed_as}
+use Rattle.wot_command.proofs.Refusing.{if_ok}
+use Rattle.wot_step.proofs.Watched.{opens_answered}
 use Rattle.wot_machine.proofs.watching.on.Goals as goal
 
 pub returns-in-Ok-clause-watching : goal.returns-in-Ok-clause-watching

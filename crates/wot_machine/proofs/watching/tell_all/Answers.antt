@@ -1,4 +1,4 @@
-use Rattle.wot_machine.proofs.Watched.{told_end, told_on}
+use Rattle.wot_step.proofs.Watched.{told_end, told_on}
 use Rattle.wot_machine.proofs.watching.tell_all.Goals as goal
 
 pub rest-preserved : goal.rest-preserved

@@ -1,5 +1,5 @@
 use Rattle.std.proofs.Common.{◌≡◌, length}
-use Rattle.wot_machine.specs.Watching.{told_all}
+use Rattle.wot_step.specs.Watching.{told_all}
 use Rattle.wot_machine.proofs.watching.tell_all.Given as goal
 
 abbrev pub invariant-rest : goal.invariant-rest

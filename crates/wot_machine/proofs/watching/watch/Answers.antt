@@ -1,4 +1,4 @@
-use Rattle.wot_machine.specs.Session.{session_of}
+use Rattle.wot_step.specs.Session.{session_of}
 use Rattle.wot_machine.proofs.watching.watch.Goals as goal
 
 pub returns-in-Off-clause-sets : goal.returns-in-Off-clause-sets

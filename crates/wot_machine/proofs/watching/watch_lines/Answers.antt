@@ -5,12 +5,12 @@ use Rattle.wot_cache.specs.Basis.{Basis}
 use Rattle.wot_cache.specs.State.{State, state_of}
 use Rattle.wot_watch.specs.Watches.{Watch, Watches}
 use Rattle.wot_machine.specs.Settled.{IsSettled}
-use Rattle.wot_machine.specs.Watching.{IsLine, IsWatchLine}
+use Rattle.wot_step.specs.Watching.{IsLine, IsWatchLine}
 use Rattle.wot_machine.proofs.Asking.{MakesSoFar, never_ok, so_far_done, so_far_failed, so_far_more}
-use Rattle.wot_machine.proofs.Making.{same_state}
+use Rattle.wot_command.proofs.Making.{same_state}
 use Rattle.wot_machine.proofs.Settling.{SettlesSoFar, all_later, present_grown, settled_before, settles_all}
 use Rattle.wot_machine.proofs.Settling.{settles_not, settles_still, stays_back}
-use Rattle.wot_machine.proofs.Watched.{AreSoFar, all_more, line_is_watch, so_far_all, so_far_line, so_far_still}
+use Rattle.wot_step.proofs.Watched.{AreSoFar, all_more, line_is_watch, so_far_all, so_far_line, so_far_still}
 use Rattle.wot_machine.proofs.watching.watch_lines.Goals as goal
 
 pub rest-preserved-in-Continue-branch-3 : goal.rest-preserved-in-Continue-branch-3

@@ -2,10 +2,10 @@ use Rattle.std.proofs.Common.{◌≤◌}
 use Rattle.std.specs.List.{AllByRecursion}
 use Rattle.wot_cache.specs.Basis.{IsPresent}
 use Rattle.wot_cache.specs.State.{StaysButMarks, state_of}
-use Rattle.wot_machine.specs.Watching.{IsWatchLine}
+use Rattle.wot_step.specs.Watching.{IsWatchLine}
 use Rattle.wot_machine.proofs.Asking.{MakesSoFar}
 use Rattle.wot_machine.proofs.Settling.{SettlesSoFar}
-use Rattle.wot_machine.proofs.Watched.{AreSoFar}
+use Rattle.wot_step.proofs.Watched.{AreSoFar}
 use Rattle.wot_machine.proofs.watching.watch_lines.Given as goal
 
 abbrev pub invariant-rest : goal.invariant-rest

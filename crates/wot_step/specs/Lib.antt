@@ -1,0 +1,17 @@
+pub mod Absent
+pub mod Answer
+pub mod Both
+pub mod Classes
+pub mod Entry
+pub mod Fresh
+pub mod LineStep
+pub mod Lines
+pub mod Listing
+pub mod Outcome
+pub mod Pacing
+pub mod Scene
+pub mod Served
+pub mod Session
+pub mod Storing
+pub mod Transcript
+pub mod Watching
