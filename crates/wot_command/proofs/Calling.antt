@@ -31,7 +31,7 @@ use Rattle.wot_command.specs.CommandRun.{StateRun, Seen}
 use Rattle.wot_step.specs.Served.{Served, unserved}
 use Rattle.wot_command.specs.Stored.{Puts, Stores, answer_of}
 use Rattle.wot_step.specs.Storing.{put_from, stored, stored_from, writing}
-use Rattle.wot_command.proofs.Refusing.{if_ok}
+use Rattle.wot_step.proofs.Results.{if_ok}
 
 -- ---- commands that don't use the certificate directory
 

@@ -23,10 +23,10 @@ use Rattle.wot_step.specs.declared.class.Change.TheVariants as changes
 use Rattle.wot_step.specs.declared.class.ShelfCall.{ShelfCall}
 use Rattle.wot_step.specs.declared.class.ShelfCall.TheVariants as calls
 use Rattle.wot_step.specs.Classes.{class_of}
-use Rattle.wot_command.specs.declared.refusal.Refused.TheVariants.{Keyring as OfKeyring}
+use Rattle.wot_step.specs.declared.refusal.Refused.TheVariants.{Keyring as OfKeyring}
 use Rattle.wot_command.specs.Asked.{AsksBy, AsksForNew, CallAsks, ChangeAsks, LineAsks, sound_in}
 use Rattle.wot_step.specs.Lines.{heard, is_silent, longest}
-use Rattle.wot_command.specs.Refused.{IsReplyTo}
+use Rattle.wot_step.specs.Refused.{IsReplyTo}
 use Rattle.wot_step.proofs.Stepping.{heard_read}
 
 none_more : (n : ℕ) → n ≡ max n (min (n + 0) (2 ^ 64 - 1))

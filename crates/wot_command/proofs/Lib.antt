@@ -1,10 +1,8 @@
 mod Anew
 pub mod Calling
 pub mod EdgeLines
-pub mod Faults
 pub mod Judging
 mod Keeping
-pub mod Making
 pub mod Putting
 pub mod Refusing
 mod Short

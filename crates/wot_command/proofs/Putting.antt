@@ -18,11 +18,6 @@ use Rattle.wot_step.specs.Entry.{entry_for, put_for, stores}
 use Rattle.wot_step.specs.Served.{Served}
 use Rattle.wot_step.specs.Storing.{put_from, writing}
 
--- what always holds, holds after a failure
-pub any_err : {T E : Type 0} (r : Result T E) (P : Type 0) → P → OnErr r P
-any_err (Ok a) P p = tt
-any_err (Err e) P p = p
-
 -- no call was made
 pub puts_still : (s : State) (use_ : Use) (world : Option World) → MayPut s use_ world world
 puts_still s use_ None = tt

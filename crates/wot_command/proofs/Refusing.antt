@@ -1,6 +1,5 @@
 -- Refused commands and their replies.
-use Rattle.std.proofs.Common.{◌≡◌, ◌≢◌, inl, inr, ℕ, true, List, Option, Result, Ok, Err, refl}
-use Rattle.std.specs.Prelude.{IfOk}
+use Rattle.std.proofs.Common.{◌≡◌, ◌≢◌, inl, inr, ℕ, true, List, Option, Err, refl}
 use Rattle.wot_types.specs.declared.limits.Limit.TheVariants as words
 use Rattle.wot_types.specs.declared.name.Name.{Name}
 use Rattle.wot_types.specs.declared.number.SigNumber.{SigNumber}
@@ -19,10 +18,6 @@ use Rattle.wot_cache.specs.State.{State, Engine, state_of}
 use Rattle.wot_cache.specs.Views.{TellsFault}
 use Rattle.wot_step.specs.Outcome.{unless, view_refusal, refusal, import, imports, load, set_verdict}
 use Rattle.wot_step.specs.LineStep.{ComesTo}
-
-pub if_ok : {A E : Type 0} (r : Result A E) (P Q : A → Type 0) → ((a : A) → P a → Q a) → IfOk r P → IfOk r Q
-if_ok (Ok a) P Q f p = f a p
-if_ok (Err e) P Q f p = tt
 
 pub view_gives : (s new changed : State) (o : Option ViewFault) (fault : ViewFault) (reply : Reply)
     → TellsFault {T = Unit {0}} (Err fault) o → new ≡ s → (reply ≡ view_refusal fault) × (fault ≢ faults.Memory) →

@@ -7,7 +7,6 @@ ghost use Rattle.wot_cache.specs.State.{state_of};
 ghost use Rattle.wot_cache.specs.Views.{view_at};
 ghost use Rattle.wot_step.specs.Absent.{Misses, MissesBy, asked_from, claim_line, claim_step, label_line, missed};
 
-use crate::refusal::{Refused, reply_to};
 use std::alloc::Global;
 use wot_auth::authenticate;
 use wot_cache::{Engine, Parts};
@@ -18,6 +17,7 @@ use wot_script::{
     ClaimLine, ClaimLines, ClaimStepLine, ClaimStepLines, LabelLine, LabelLines, Reply,
 };
 use wot_search::Consulted;
+use wot_step::{Refused, reply_to};
 use wot_types::{Fpr, Memory, Steps, ViewName};
 
 /// The reply to `absence`: why the answer to a question doesn't reach the amount `wanted`, from a view: its paths, and

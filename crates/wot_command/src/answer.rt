@@ -10,12 +10,12 @@ ghost use Rattle.wot_cache.specs.Views.{view_at};
 ghost use Rattle.wot_step.specs.Answer.{Asks, uid_at, step_line, path_lines, told as told_of};
 
 use crate::listing::cert_of;
-use crate::refusal::{Refused, reply_to};
 use std::alloc::Global;
 use wot_auth::Answer;
 use wot_cache::Engine;
 use wot_edge::{Path, Step};
 use wot_script::{AnswerLine, AnswerLines, Reply};
+use wot_step::{Refused, reply_to};
 use wot_types::{Fpr, Memory, Steps, UserId, ViewName};
 
 /// The reply to `ask`: how confident one can be that a user ID belongs to a target, from a view. `wanted` is the amount

@@ -1,18 +1,17 @@
 //! The reply to `list`: the bindings that are authenticated to an amount, as a view sees them. It stands on
-//! wot_explain; wot_machine prints the same lines in pieces.
-ghost use Rattle.std.specs.Prelude.{◌≡◌, ◌≤◌, length, map, IfOk};
+//! wot_explain; wot_pacing prints the same lines in pieces.
+ghost use Rattle.std.specs.Prelude.{◌≡◌, ◌≤◌, length, IfOk};
 ghost use Rattle.wot_network.specs.Net.{told_of};
 ghost use Rattle.wot_network.specs.Roads.{present_of};
 ghost use Rattle.wot_cache.specs.Marks.{IsRefreshed};
 ghost use Rattle.wot_cache.specs.State.{state_of};
 ghost use Rattle.wot_cache.specs.Views.{view_at};
-ghost use Rattle.wot_step.specs.Listing.{Lists, ListsBy, bind_line};
+ghost use Rattle.wot_step.specs.Listing.{Lists, ListsBy};
 
-use crate::refusal::{Refused, reply_to};
 use std::alloc::Global;
 use wot_cache::{Engine, Parts};
-use wot_explain::Bind;
-use wot_script::{BindLine, BindLines, Reply};
+use wot_script::Reply;
+use wot_step::{Refused, bind_lines, reply_to};
 use wot_types::{Memory, Steps, ViewName};
 
 /// The reply to `list`: the bindings that are authenticated to the amount `wanted`, from a view. Refused if the view
@@ -46,15 +45,4 @@ fn list_from(alloc: Global, parts: &Parts<'_>, wanted: u32) -> Result<Reply, Mem
     let binds = wot_explain::list(alloc, parts.keyring, &parts.roads, parts.roots, wanted)?;
     let lines = bind_lines(alloc, binds)?;
     Ok(Reply::List(lines.items().len() as u64, lines))
-}
-
-/// A line for each of these bindings.
-pub fn bind_lines(alloc: Global, binds: Vec<Bind>) -> Result<BindLines, Memory>
-    ensures lines { IfOk result (λ lines. lines ≡ map bind_line binds.items) }
-{
-    let mut lines = BindLines::new(alloc);
-    'binds: for bind in binds {
-        lines.push(BindLine(bind.sum, bind.fpr, bind.uid))?;
-    }
-    Ok(lines)
 }

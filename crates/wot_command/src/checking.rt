@@ -8,11 +8,11 @@ ghost use Rattle.wot_cache.specs.State.{state_of};
 ghost use Rattle.wot_cache.specs.Views.{view_at};
 ghost use Rattle.wot_step.specs.Absent.{Checks, ChecksBy, asked_from, claim_in, sum_in, table_in, verdict_on};
 
-use crate::refusal::{Refused, reply_to};
 use std::alloc::Global;
 use wot_cache::{Engine, Parts};
 use wot_check::{Checked, Claimed, Table};
 use wot_script::{ClaimLine, ClaimLines, LabelLine, LabelLines, Reply};
+use wot_step::{Refused, reply_to};
 use wot_types::{Fpr, Memory, Steps, ViewName};
 
 /// The reply to `check`: whether claimed paths and a table prove, from a view, that the amount isn't higher. Nothing is

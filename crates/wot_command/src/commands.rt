@@ -1,5 +1,5 @@
 //! What each command that changes something does to the engine, and its reply: imports, removals, verdicts and views.
-//! It stands on wot_cache's calls and on `refusal` for their errors.
+//! It stands on wot_cache's calls and on `Refused` of wot_step for their errors.
 ghost use Rattle.std.specs.Prelude.{◌≡◌, ◌<◌, ◌-◌, ◌^◌, [], length, None, true, IfOk, OnErr};
 ghost use Rattle.wot_types.specs.Limits.{standard_limits};
 ghost use Rattle.wot_policy.specs.Kept.{IsFaithful, rows_of};
@@ -15,11 +15,11 @@ ghost use Rattle.wot_step.specs.Outcome.{clear_verdict as clear_verdict_of, time
 ghost use Rattle.wot_step.specs.Outcome.{close as close_of};
 ghost use Rattle.wot_step.specs.LineStep.{ComesTo};
 
-use crate::refusal::{Refused, reply_to};
 use wot_cache::{Engine, NoView};
 use wot_keyring::{Absent, Imported};
 use wot_policy::{Ask, Policy};
 use wot_script::Reply;
+use wot_step::{Refused, reply_to};
 use wot_types::{Fpr, Memory, SigNumber, ViewName};
 use wot_verdict::Verdict;
 

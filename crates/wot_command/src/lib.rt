@@ -1,6 +1,6 @@
 //! The commands that don't change cursors or watches: each is run on the engine and the certificate directory, and gets
 //! its reply. One file for each family. It stands on wot_step for what each does, and on the layers below for how.
-//! wot_machine calls `obey` for them, and lists bindings and joins errors with it for cursors and watches.
+//! wot_machine calls `obey` for them.
 #![tactic(auto)]
 
 mod absence;
@@ -13,11 +13,8 @@ mod listing;
 mod load;
 mod pending;
 mod reasons;
-mod refusal;
 mod state;
 mod store;
 
-pub use bindings::bind_lines;
 pub use fresh::dump_makes_the_state_anew;
-pub use refusal::{Refused, reply_to};
 pub use state::obey;

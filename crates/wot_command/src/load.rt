@@ -13,12 +13,12 @@ ghost use Rattle.wot_step.specs.Entry.{MayPutTo, loads};
 ghost use Rattle.wot_step.specs.LineStep.{Loads};
 ghost use Rattle.wot_command.specs.CommandRun.{LoadsBy, seen};
 
-use crate::refusal::{Refused, reply_to};
 use wot_cache::Engine;
 use wot_certd::{Given, Shelf};
 use wot_keyring::Imported;
 use wot_policy::{Ask, Policy};
 use wot_script::Reply;
+use wot_step::{Refused, reply_to};
 use wot_types::{Memory, Name};
 
 /// The reply to `load`: reads an entry of the certificate directory, and merges its one certificate with what is held.

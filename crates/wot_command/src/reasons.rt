@@ -11,11 +11,11 @@ ghost use Rattle.wot_explain.specs.Usable.{AreRoadsOf};
 ghost use Rattle.wot_command.specs.EdgeLines.{EdgesAreTold, MarksFrom};
 ghost use Rattle.wot_step.specs.Listing.{Explains, explained_from, reason_line as reason_line_of};
 
-use crate::refusal::{Refused, reply_to};
 use std::alloc::Global;
 use wot_cache::{Engine, Parts};
 use wot_explain::Reason;
 use wot_script::{ReasonLine, ReasonLines, Reply};
+use wot_step::{Refused, reply_to};
 use wot_types::{Fpr, Memory, Steps, ViewName};
 
 /// The reply to `explain`: why a certificate is or isn't usable for a user ID, and why each certification on it counts

@@ -20,7 +20,7 @@ ghost use Rattle.wot_command.specs.EdgeLines.{CommandMarks, QuestionMarks};
 ghost use Rattle.wot_step.specs.Entry.{MayPutTo, entry_for, use_by, use_in};
 ghost use Rattle.wot_step.specs.Fresh.{IsMadeAnew, OnDump};
 ghost use Rattle.wot_step.specs.LineStep.{ComesTo};
-ghost use Rattle.wot_command.specs.Made.{ChangesMarks, MakesFor};
+ghost use Rattle.wot_step.specs.Made.{ChangesMarks, MakesFor};
 ghost use Rattle.wot_command.specs.CommandRun.{StateRunOver, over};
 ghost use Rattle.wot_step.specs.Session.{AreTurned, IsTurnedBy, turning_in};
 

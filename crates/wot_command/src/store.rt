@@ -16,7 +16,6 @@ ghost use Rattle.wot_command.specs.Stored.{IsShort, answer_of, Puts, Stores, Tel
 ghost use Rattle.wot_step.specs.Storing.{text_unless, united as united_of, merged_entry, unless_great, writing};
 
 use crate::listing::cert_of;
-use crate::refusal::{Refused, reply_to};
 use std::alloc::Global;
 use wot_cache::Engine;
 use wot_cert::laws::marks_weigh_nothing;
@@ -24,6 +23,7 @@ use wot_cert::{Cert, MergeFault};
 use wot_certd::{Given, Shelf};
 use wot_keyring::{Refusal, read_entry};
 use wot_script::Reply;
+use wot_step::{Refused, reply_to};
 use wot_types::{Fpr, Limit, Limits, Memory, Name};
 
 /// Why nothing is written in place of an entry.

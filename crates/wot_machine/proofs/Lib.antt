@@ -1,7 +1,5 @@
-pub mod Pieces
 pub mod Running
 pub mod Unchanged
+mod Reported
 mod Dumping
 mod Worded
-mod Settling
-mod Asking

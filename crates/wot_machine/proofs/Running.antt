@@ -31,7 +31,7 @@ use Rattle.wot_step.specs.Served.{Served, unserved}
 use Rattle.wot_machine.specs.Stepped.{Replied, Stepped, TellsBehind}
 use Rattle.wot_step.specs.Pacing.{Paces, is_pacing, settled}
 use Rattle.wot_step.specs.Transcript.{octets_of}
-use Rattle.wot_command.proofs.Making.{same_state}
+use Rattle.wot_step.proofs.Making.{same_state}
 use Rattle.wot_step.proofs.Paced.{paces_plain, paces_watched, state_paced, turns_paced, uncalled_paced}
 use Rattle.wot_step.proofs.Watched.{paced_unwatched, state_watched, turns_watched, uncalled_watched, watched_unpaced}
 use Rattle.wot_step.proofs.Watched.{watching_plain}

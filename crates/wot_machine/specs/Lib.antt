@@ -1,3 +1,2 @@
 pub mod Stepped
 pub mod Machine
-pub mod Settled

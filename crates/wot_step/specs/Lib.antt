@@ -7,8 +7,10 @@ pub mod Fresh
 pub mod LineStep
 pub mod Lines
 pub mod Listing
+pub mod Made
 pub mod Outcome
 pub mod Pacing
+pub mod Refused
 pub mod Scene
 pub mod Served
 pub mod Session

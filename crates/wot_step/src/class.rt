@@ -1,5 +1,5 @@
 //! Commands by what they may do. `sort` gives each command a class, and the types of the classes say what every command
-//! of a class can change. `specs/Classes.antt` defines the classes; wot_command and wot_machine run them.
+//! of a class can change. `specs/Classes.antt` defines the classes; wot_command, wot_pacing and wot_watching run them.
 //! A new command is a variant here, an arm of `sort` and a case of `class_of`.
 ghost use Rattle.std.specs.Prelude.{◌≡◌};
 ghost use Rattle.wot_script.specs.Spelling.{HasSpelling, FitsLine};

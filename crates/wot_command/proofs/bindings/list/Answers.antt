@@ -5,7 +5,7 @@ use Rattle.wot_cache.specs.Marks.{IsRefreshed}
 use Rattle.wot_cache.specs.State.{state_of}
 use Rattle.wot_cache.specs.Views.{view_at}
 use Rattle.wot_step.specs.Listing.{Lists}
-use Rattle.wot_command.proofs.Faults.{refreshed_refused, unopened}
+use Rattle.wot_step.proofs.Faults.{refreshed_refused, unopened}
 use Rattle.wot_command.proofs.bindings.list.Goals as goal
 
 pub returns-in-Err-clause-lists : goal.returns-in-Err-clause-lists

@@ -4,7 +4,7 @@ use Rattle.wot_cache.specs.declared.view.View.{View}
 use Rattle.wot_cache.specs.Marks.{IsRefreshed}
 use Rattle.wot_cache.specs.State.{state_of}
 use Rattle.wot_step.specs.Absent.{Checks}
-use Rattle.wot_command.proofs.Faults.{refreshed_refused, unopened}
+use Rattle.wot_step.proofs.Faults.{refreshed_refused, unopened}
 use Rattle.wot_cache.specs.Views.{view_at}
 use Rattle.wot_step.proofs.Absences.{checks_shown}
 use Rattle.wot_command.proofs.checking.check.Goals as goal

@@ -4,9 +4,10 @@ use Rattle.wot_cache.specs.State.{state_of}
 use Rattle.wot_step.specs.Entry.{unused}
 use Rattle.wot_step.specs.declared.class.StateCommand.TheVariants as kinds
 use Rattle.wot_command.proofs.Judging.{always}
-use Rattle.wot_command.proofs.Making.{same_state}
-use Rattle.wot_command.proofs.Putting.{any_err, puts_still}
-use Rattle.wot_command.proofs.Refusing.{if_ok}
+use Rattle.wot_step.proofs.Making.{same_state}
+use Rattle.wot_step.proofs.Results.{any_err}
+use Rattle.wot_command.proofs.Putting.{puts_still}
+use Rattle.wot_step.proofs.Results.{if_ok}
 use Rattle.wot_command.proofs.Calling.{uncalled}
 use Rattle.wot_command.proofs.state.obey.Goals as goal
 

@@ -1,5 +1,6 @@
 use Rattle.std.proofs.Common.{refl}
-use Rattle.wot_command.proofs.Faults.{failed, for_memory, put_failed}
+use Rattle.wot_step.proofs.Faults.{failed, for_memory}
+use Rattle.wot_command.proofs.Storing.{put_failed}
 use Rattle.wot_command.proofs.Putting.{replaced_may}
 use Rattle.wot_command.proofs.store.put.Goals as goal
 

@@ -12,7 +12,7 @@ use Rattle.wot_machine.proofs.Dumping.{on_dump, dump_is_read}
 use Rattle.wot_command.proofs.EdgeLines.{none_marks}
 use Rattle.wot_step.specs.Entry.{use_of}
 use Rattle.wot_command.proofs.Putting.{puts_still}
-use Rattle.wot_command.proofs.Refusing.{if_ok}
+use Rattle.wot_step.proofs.Results.{if_ok}
 use Rattle.wot_machine.proofs.Running.{ran_told_line}
 use Rattle.wot_machine.proofs.Worded.{obeys_worded}
 use Rattle.wot_machine.proofs.machine.answer.Goals as goal
