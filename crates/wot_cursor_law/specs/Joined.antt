@@ -11,7 +11,7 @@ use Rattle.wot_script.specs.declared.reply.Reply.TheVariants as replies
 use Rattle.wot_certd.specs.World.{World}
 use Rattle.wot_cache.specs.State.{State}
 use Rattle.wot_cache.specs.Views.{view_at}
-use Rattle.wot_cursor.specs.Cursors.{is_name}
+use Rattle.wot_table.specs.Table.{is_name}
 use Rattle.wot_step.specs.declared.class.Class.{Class}
 use Rattle.wot_step.specs.declared.class.Class.TheVariants.{Cursor as OfCursor}
 use Rattle.wot_step.specs.declared.class.CursorCommand.TheVariants as paces

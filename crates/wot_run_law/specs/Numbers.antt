@@ -2,7 +2,7 @@
 use Rattle.std.specs.Prelude.{◌≢◌, ℕ, if◌then◌else◌, List, [], ◌∷◌}
 use Rattle.wot_script.specs.declared.reply.Reply.{Reply}
 use Rattle.wot_script.specs.declared.reply.Reply.TheVariants as replies
-use Rattle.wot_watch.specs.Watches.{is_name}
+use Rattle.wot_table.specs.Table.{is_name}
 
 -- the amount that this reply reports for the named watch, first or later, if it does
 abbrev pub amount_in : List ℕ → Reply → List ℕ

@@ -16,7 +16,8 @@ use Rattle.std.specs.Ordering.{is_eq}
 use Rattle.wot_types.specs.ViewName.{view_name_cmp}
 use Rattle.wot_cache.specs.State.{State}
 use Rattle.wot_cache.specs.Views.{view_at}
-use Rattle.wot_watch.specs.Watches.{Watch, Watches, is_name, watch_at, with_told, without_watch}
+use Rattle.wot_table.specs.Table.{is_name}
+use Rattle.wot_watch.specs.Watches.{Watch, Watches, watch_at, with_told, without_watch}
 use Rattle.wot_step.specs.Watching.{HasAmount, AreLines, IsLine, IsWatchLine, line_by, told_all, told_by, with_line}
 use Rattle.wot_script.specs.declared.reply.Reply.{Reply}
 use Rattle.wot_script.specs.declared.reply.Reply.TheVariants as replies

@@ -25,7 +25,8 @@ use Rattle.wot_cache.specs.declared.view.View.{View}
 use Rattle.wot_cache.specs.Question.{question_in}
 use Rattle.wot_cache.specs.State.{IsState, State}
 use Rattle.wot_cache.specs.Views.{view_at}
-use Rattle.wot_watch.specs.Watches.{Watch, Watches, is_full, is_name, watch_at, with_watch, without_watch}
+use Rattle.wot_table.specs.Table.{is_name}
+use Rattle.wot_watch.specs.Watches.{Watch, Watches, is_full, watch_at, with_watch, without_watch}
 use Rattle.wot_step.specs.declared.class.Class.{Class}
 use Rattle.wot_step.specs.Classes.{IsFit, class_of}
 use Rattle.wot_run_law.proofs.Fit.{fit_of}

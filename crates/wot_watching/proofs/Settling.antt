@@ -19,7 +19,8 @@ use Rattle.wot_cache.specs.Question.{question_in}
 use Rattle.wot_cache.specs.State.{Engine, State, StaysButMarks, closing, state_of}
 use Rattle.wot_cache.specs.Turns.{AreTurnsBy, Turns, without_turn}
 use Rattle.wot_cache.specs.Views.{Views, view_at}
-use Rattle.wot_watch.specs.Watches.{Watch, Watches, is_full, is_name, watch_at, with_watch, without_watch}
+use Rattle.wot_table.specs.Table.{is_name}
+use Rattle.wot_watch.specs.Watches.{Watch, Watches, is_full, watch_at, with_watch, without_watch}
 use Rattle.wot_step.specs.declared.class.Class.{Class}
 use Rattle.wot_step.specs.declared.class.Class.TheVariants.{State as OfState}
 use Rattle.wot_step.specs.declared.class.StateCommand.TheVariants as kinds
