@@ -17,7 +17,6 @@ use Rattle.wot_edge.specs.declared.path.Path.{Path}
 use Rattle.wot_edge.specs.Answer.{IsAnswer, amount_of}
 use Rattle.wot_edge.specs.Path.{Question, Use, asks, use_of}
 use Rattle.wot_check.specs.declared.checking.Checked.{Checked}
-use Rattle.wot_check.specs.declared.checking.Checked.TheVariants as answers
 use Rattle.wot_check.specs.Absence.{IsChecked, IsLeastTable, IsMade}
 use Rattle.wot_check.specs.Table.{AreLabels, IsTable, Labels}
 use Rattle.wot_script.specs.Claims.{IsClaimSpelled, IsLabelSpelled, is_rising}
@@ -25,7 +24,6 @@ use Rattle.wot_script.specs.declared.reply.ClaimLine.{ClaimLine}
 use Rattle.wot_script.specs.declared.reply.LabelLine.{LabelLine}
 use Rattle.wot_script.specs.declared.reply.Reply.{Reply}
 use Rattle.wot_script.specs.declared.reply.Reply.TheVariants as replies
-use Rattle.wot_script.specs.Replies.{HasWords}
 use Rattle.wot_network.specs.Net.{told_of}
 use Rattle.wot_network.specs.Roads.{present_of}
 use Rattle.wot_cache.specs.declared.parts.Parts.{Parts}
@@ -131,18 +129,6 @@ pub first_some : (labels left later : List LabelLine) (label : LabelLine) (table
     → Left table left labels → 1 ≤ label.1
 first_some labels left later label table good e so =
     label_some labels later label table good (subst (λ (ls : List LabelLine). Left table ls labels) e so)
-
--- ---- the result of a check
-
-pub verdicts_worded : (claims : List ClaimLine) (checked : Checked) → HasWords (verdict_on claims checked)
-verdicts_worded claims answers.Yes = tt
-verdicts_worded claims answers.BadPaths = tt
-verdicts_worded claims answers.BadTable = tt
-
-pub tells_worded : (reached : Bool) (q : Question) (paths : List Path) (reply : Reply) →
-    TellsAbsence reached q paths reply → HasWords reply
-tells_worded true q paths reply tells = subst HasWords (sym tells) tt
-tells_worded false q paths reply tells = subst HasWords (sym tells.3) tt
 
 -- ---- the reply to `absence`
 

@@ -8,6 +8,7 @@ pub mod Making
 pub mod Paced
 pub mod Results
 pub mod Sessions
+pub mod StateReplies
 pub mod Stepping
 pub mod Viewed
 pub mod Watched
