@@ -11,7 +11,7 @@ use Rattle.wot_cache.specs.State.{Engine, empty}
 use Rattle.wot_cursor.specs.Cursors.{Cursors}
 use Rattle.wot_watch.specs.Watches.{Watches}
 use Rattle.wot_machine.specs.Machine.{Machine, kept}
-use Rattle.wot_machine.specs.Session.{Session, beginning, watched, session_of}
+use Rattle.wot_step.specs.Session.{Session, beginning, watched, session_of}
 use Rattle.wot_engine.specs.Turn.{Replies, RepliesBehind}
 use Rattle.wot_engine.proofs.Held.{Held, Held-init}
 

@@ -5,8 +5,8 @@ use Rattle.std.proofs.lemmas.Option.{same_Some}
 use Rattle.wot_script.specs.declared.command.Command.{Command}
 use Rattle.wot_script.specs.declared.command.Command.TheVariants.{Dump}
 use Rattle.wot_script.specs.Grammar.{command_of, single_of}
-use Rattle.wot_machine.specs.Classes.{class_of}
-use Rattle.wot_machine.specs.Fresh.{IsDump, OnDump}
+use Rattle.wot_step.specs.Classes.{class_of}
+use Rattle.wot_step.specs.Fresh.{IsDump, OnDump}
 
 dump_read : command_of (codes "dump") ≡ Some Dump
 unfolding command_of single_of

@@ -1,0 +1,5 @@
+mod Alike
+mod Claiming
+mod Explained
+mod Leading
+mod Slices
