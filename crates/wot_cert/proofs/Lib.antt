@@ -15,6 +15,7 @@ pub mod TextSize
 pub mod Counting
 pub mod Fits
 pub mod Adding
+pub mod AppendedTexts
 pub mod AddingSigs
 pub mod AddingParts
 pub mod Totals

@@ -1,6 +1,6 @@
 -- The text of a certificate: the key and its signatures, then user IDs, attributes and subkeys, each followed by its
 -- signatures (RFC 9580, section 10.1).
-use Rattle.std.specs.Prelude.{ℕ, List, ◌++◌, length}
+use Rattle.std.specs.Prelude.{◌≡◌, ℕ, List, ◌++◌, length, Result, OnOk}
 use Rattle.std.specs.List.{flat_map}
 use Rattle.wot_packet.specs.Writing.{written}
 use Rattle.wot_cert.specs.Certificate.{Signature, Component, Certificate}
@@ -22,3 +22,7 @@ text_of c =
 -- how long the text is
 abbrev pub size_of : Certificate → ℕ
 size_of c = length (text_of c)
+
+-- This text was appended; if memory ran out, some text was.
+abbrev pub Appends : {T E : Type 0} → Result T E → List ℕ → List ℕ → List ℕ → Type 0
+Appends result before after text = (more : List ℕ) × (after ≡ before ++ more) × OnOk result (more ≡ text)
