@@ -15,7 +15,7 @@ use Rattle.wot_edge.specs.Path.{Question}
 use Rattle.wot_edge.specs.declared.path.Path.{Path}
 use Rattle.wot_check.specs.declared.checking.Checked.{Checked}
 use Rattle.wot_check.specs.declared.checking.Checked.TheVariants as answers
-use Rattle.wot_cert.specs.Certificate.{Certificate}
+use Rattle.wot_part.specs.Certificate.{Certificate}
 use Rattle.wot_cert.specs.declared.fault.CertFault.{CertFault}
 use Rattle.wot_cert.specs.declared.fault.CertFault.TheVariants as certs
 use Rattle.wot_keyring.specs.declared.import.Imported.{Imported}

@@ -21,7 +21,7 @@ use Rattle.wot_machine.specs.Watching.{HasAmount, AreLines, IsLine, IsWatchLine,
 use Rattle.wot_script.specs.declared.reply.Reply.{Reply}
 use Rattle.wot_script.specs.declared.reply.Reply.TheVariants as replies
 use Rattle.wot_machine.specs.Worth.{IsLast, amount_in, amounts_in}
-use Rattle.wot_cert.specs.Ranked.{IsBelow}
+use Rattle.wot_part.specs.Ranked.{IsBelow}
 use Rattle.wot_machine.proofs.Entries.{AllValues, AreInOrder, all_found, all_set, all_without, apart, by_key, found_set}
 use Rattle.wot_machine.proofs.Entries.{gone_without, other_set, other_without, rising_set, rising_without}
 

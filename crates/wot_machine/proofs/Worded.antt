@@ -16,7 +16,7 @@ use Rattle.wot_verdict.specs.Verdicts.{Entries, verdict_at}
 use Rattle.wot_verdict.specs.declared.verdict.Verdict.{Verdict}
 use Rattle.wot_cert.specs.declared.fault.CertFault.{CertFault}
 use Rattle.wot_cert.specs.declared.fault.CertFault.TheVariants as certs
-use Rattle.wot_cert.specs.Certificate.{Component, Certificate, Signature}
+use Rattle.wot_part.specs.Certificate.{Component, Certificate, Signature}
 use Rattle.wot_edge.specs.declared.path.Step.{Step}
 use Rattle.wot_edge.specs.Answer.{amount_of}
 use Rattle.wot_keyring.specs.declared.import.Imported.{Imported}

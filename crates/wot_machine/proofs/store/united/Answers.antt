@@ -1,5 +1,5 @@
 use Rattle.std.proofs.Common.{ap, ◌∙◌}
-use Rattle.wot_cert.specs.Certificate.{Certificate, unite, unmarked}
+use Rattle.wot_part.specs.Certificate.{Certificate, unite, unmarked}
 use Rattle.wot_machine.proofs.Storing.{tells_clash, tells_union}
 use Rattle.wot_machine.proofs.store.united.Goals as goal
 
