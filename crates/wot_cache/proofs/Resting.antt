@@ -9,8 +9,8 @@ use Rattle.std.proofs.lemmas.Bool.{leb-false, leb-true}
 use Rattle.wot_types.specs.declared.fpr.Fpr.{Fpr}
 use Rattle.wot_types.specs.FprLaws.{same_fpr-true}
 use Rattle.wot_verdict.specs.Verdicts as verdicts
-use Rattle.wot_cert.specs.Certificate.{Signature}
-use Rattle.wot_cert.specs.Counts.{all_sigs}
+use Rattle.wot_part.specs.Certificate.{Signature}
+use Rattle.wot_part.specs.Counts.{all_sigs}
 use Rattle.wot_auth.specs.declared.answer.Answer.{Answer}
 use Rattle.wot_edge.specs.Answer.{IsAnswer, amount_of}
 use Rattle.wot_edge.specs.Path.{Question}

@@ -10,7 +10,7 @@ use Rattle.wot_types.specs.ViewName.{view_name_cmp}
 use Rattle.wot_key.specs.Key.{fpr_of}
 use Rattle.wot_policy.specs.declared.rows.PolicyRows.{PolicyRows}
 use Rattle.wot_verdict.specs.Verdicts.{Entries}
-use Rattle.wot_cert.specs.Certificate.{Certificate}
+use Rattle.wot_part.specs.Certificate.{Certificate}
 use Rattle.wot_edge.specs.Record.{IsRecord}
 use Rattle.wot_keyring.specs.Keyring.{Certificates}
 use Rattle.wot_network.specs.Told.{record_of}

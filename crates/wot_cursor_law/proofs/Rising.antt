@@ -23,10 +23,10 @@ use Rattle.wot_edge.specs.Answer.{amount_of}
 use Rattle.wot_edge.specs.Record.{Record}
 use Rattle.wot_cert.specs.Assembly.{Section, certificate_of, cut_at, part_of, parts_of}
 use Rattle.wot_cert.specs.Packets.{begins_component}
-use Rattle.wot_cert.specs.Certificate.{Certificate, Component, Signature, on_user_id, part_cmp, part_with, unite}
-use Rattle.wot_cert.specs.Certificate.{unite_part}
-use Rattle.wot_cert.specs.Judged.{judged, judged_sig}
-use Rattle.wot_cert.specs.Ranked.{IsBelow, IsRising, placed, put, united}
+use Rattle.wot_part.specs.Certificate.{Certificate, Component, Signature, on_user_id, part_cmp, part_with, unite}
+use Rattle.wot_part.specs.Certificate.{unite_part}
+use Rattle.wot_part.specs.Judged.{judged, judged_sig}
+use Rattle.wot_part.specs.Ranked.{IsBelow, IsRising, placed, put, united}
 use Rattle.wot_keyring.specs.Keyring.{Certificates, is_fpr}
 use Rattle.wot_keyring.specs.Import.{of_packets, spelled_in, merged_into, with_cert, with_certs}
 use Rattle.wot_script.specs.declared.reply.Reply.{Reply}

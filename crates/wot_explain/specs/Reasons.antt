@@ -8,9 +8,9 @@ use Rattle.wot_types.specs.declared.fpr.Fpr.{Fpr}
 use Rattle.wot_types.specs.declared.number.SigNumber.{SigNumber}
 use Rattle.wot_verdict.specs.Verdicts.{Entries, verdict_at}
 use Rattle.wot_verdict.specs.declared.verdict.Verdict.{Verdict}
-use Rattle.wot_cert.specs.Certificate.{Signature, Component, Certificate, sig_cmp}
+use Rattle.wot_part.specs.Certificate.{Signature, Component, Certificate, sig_cmp}
 use Rattle.wot_cert.specs.Issuer.{allows, good_by}
-use Rattle.wot_cert.specs.Judged.{is_sound, is_true_of}
+use Rattle.wot_part.specs.Judged.{is_sound, is_true_of}
 use Rattle.wot_cert.specs.Revoked.{is_unrevoked}
 use Rattle.wot_cert.specs.Time.{is_live, made_of}
 use Rattle.wot_edge.specs.Path.{step_of}

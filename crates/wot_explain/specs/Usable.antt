@@ -4,8 +4,8 @@ use Rattle.std.specs.List.{slice_get}
 use Rattle.std.specs.Map.{lookup}
 use Rattle.wot_types.specs.declared.fpr.Fpr.{Fpr}
 use Rattle.wot_verdict.specs.Verdicts.{Entries}
-use Rattle.wot_cert.specs.Certificate.{Signature, Component, Certificate, sig_cmp}
-use Rattle.wot_cert.specs.Ranked.{IsRising}
+use Rattle.wot_part.specs.Certificate.{Signature, Component, Certificate, sig_cmp}
+use Rattle.wot_part.specs.Ranked.{IsRising}
 use Rattle.wot_edge.specs.declared.edge.EdgeFacts.{EdgeFacts}
 use Rattle.wot_edge.specs.declared.path.Step.{Step}
 use Rattle.wot_edge.specs.Path.{step_of}

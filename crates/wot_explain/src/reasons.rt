@@ -2,7 +2,7 @@
 //! a usable edge. Each issuer's newest certification is found once for all of them.
 ghost use Rattle.std.specs.Prelude.{◌≡◌, ℕ, List, IfOk};
 ghost use Rattle.std.specs.Option.{option_map};
-ghost use Rattle.wot_cert.specs.Certificate.{Signature};
+ghost use Rattle.wot_part.specs.Certificate.{Signature};
 ghost use Rattle.wot_edge.specs.Path.{step_of as step_of_spec};
 ghost use Rattle.wot_live.specs.Edge.{edge_by, edge_facts};
 ghost use Rattle.wot_explain.specs.Explaining.{reasons_on};

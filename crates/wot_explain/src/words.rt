@@ -2,7 +2,7 @@
 //! reason is a row there, a test here, and a word in wot_script.
 ghost use Rattle.std.specs.Prelude.{◌≡◌, not};
 ghost use Rattle.std.specs.Ordering.{is_eq};
-ghost use Rattle.wot_cert.specs.Certificate.{sig_cmp};
+ghost use Rattle.wot_part.specs.Certificate.{sig_cmp};
 ghost use Rattle.wot_explain.specs.Reasons.{counted_words, good_words, issuer_words};
 ghost use Rattle.wot_explain.specs.Reasons.{reason_word as reason_word_spec, standing_by as standing_by_spec};
 ghost use Rattle.wot_explain.specs.Words.{first_word, is_so};

@@ -7,11 +7,11 @@ use Rattle.std.proofs.lemmas.Bool.Decides.{nat_tests}
 use Rattle.wot_key.specs.Key.{fpr_of}
 use Rattle.wot_policy.specs.declared.rows.PolicyRows.{PolicyRows}
 use Rattle.wot_types.specs.declared.limits.Limit.{Limit}
-use Rattle.wot_cert.specs.Certificate.{Certificate, unite}
-use Rattle.wot_cert.specs.Counts.{items_of, signatures_of}
-use Rattle.wot_cert.specs.Judged.{judged, sound_of}
-use Rattle.wot_cert.specs.Text.{size_of}
-use Rattle.wot_cert.specs.Whole.{IsCertificate}
+use Rattle.wot_part.specs.Certificate.{Certificate, unite}
+use Rattle.wot_part.specs.Counts.{items_of, signatures_of}
+use Rattle.wot_part.specs.Judged.{judged, sound_of}
+use Rattle.wot_part.specs.Text.{size_of}
+use Rattle.wot_part.specs.Whole.{IsCertificate}
 use Rattle.wot_keyring.specs.declared.import.Imported.{Imported}
 use Rattle.wot_keyring.specs.declared.kept.Kept.{Kept}
 use Rattle.wot_keyring.specs.declared.refusal.Refusal.TheVariants.{Clash}

@@ -12,9 +12,9 @@ use Rattle.wot_types.specs.Fpr.{fpr_cmp}
 use Rattle.wot_types.specs.FprLaws.{same_fpr-true, same_fpr-sym}
 use Rattle.wot_key.specs.Key.{fpr_of}
 use Rattle.wot_policy.specs.declared.rows.PolicyRows.{PolicyRows}
-use Rattle.wot_cert.specs.Certificate.{Certificate, unite, unmarked}
-use Rattle.wot_cert.specs.Judged.{judged}
-use Rattle.wot_cert.specs.Whole.{IsCertificate}
+use Rattle.wot_part.specs.Certificate.{Certificate, unite, unmarked}
+use Rattle.wot_part.specs.Judged.{judged}
+use Rattle.wot_part.specs.Whole.{IsCertificate}
 use Rattle.wot_keyring.specs.declared.staging.Fault.{Fault}
 use Rattle.wot_keyring.specs.declared.staging.Fault.TheVariants.{Clash, Memory}
 use Rattle.wot_keyring.specs.Gather.{taken_one, taken_all, IsWholeState, DoTheSame, ComeToNothing, IsNothingTold, IsOwn}

@@ -11,7 +11,7 @@ use Rattle.wot_verdict.specs.Verdicts as verdicts
 use Rattle.wot_verdict.specs.Verdicts.{verdict_at, with_verdict, without_verdict}
 use Rattle.wot_verdict.specs.declared.verdict.Verdict.{Verdict}
 use Rattle.wot_verdict.specs.declared.verdict.Verdict.TheVariants.{Good, Bad}
-use Rattle.wot_cert.specs.Certificate.{Certificate}
+use Rattle.wot_part.specs.Certificate.{Certificate}
 use Rattle.wot_keyring.specs.Keyring.{Entries, Keyring, Certificates, is_fpr, certificates_in, stripped, verdict_on}
 use Rattle.wot_keyring.specs.Held.{Held, held_of, is_said, is_verdict, verdict_set, removing, verdict_cleared}
 use Rattle.wot_keyring.specs.Import.{imported, importing, spelled_in, stamped, with_united}

@@ -12,7 +12,7 @@ use Rattle.wot_types.specs.declared.fpr.Fpr.{Fpr}
 use Rattle.wot_types.specs.Fpr.{fpr_cmp}
 use Rattle.wot_types.specs.FprLaws.{fpr_total}
 use Rattle.wot_cert.specs.declared.growth.Growth.{Growth}
-use Rattle.wot_cert.specs.Certificate.{Certificate}
+use Rattle.wot_part.specs.Certificate.{Certificate}
 use Rattle.wot_cert.specs.Growing.{LeadsBack as CertLeadsBack}
 use Rattle.wot_keyring.specs.declared.kept.Kept.{Kept}
 use Rattle.wot_keyring.specs.declared.staging.Before.TheVariants.{Smaller}
@@ -21,7 +21,7 @@ use Rattle.wot_keyring.specs.Keyring.{Entries, is_fpr}
 use Rattle.wot_keyring.specs.Kept.{AreSortedByFpr}
 use Rattle.wot_key.specs.Key.{fpr_of}
 use Rattle.wot_policy.specs.declared.rows.PolicyRows.{PolicyRows}
-use Rattle.wot_cert.specs.Judged.{sound_of}
+use Rattle.wot_part.specs.Judged.{sound_of}
 use Rattle.wot_keyring.specs.declared.staging.Grown.{Grown}
 use Rattle.wot_keyring.specs.Staging.{LeadsBack, IsLog, IsGrownAt, IsStaged, MayShrink, StillLeadsBack, found_by}
 use Rattle.wot_keyring.specs.Staging.{found_for, joined, kept_as, kept_with, shrunk_found, smaller, sound_in}

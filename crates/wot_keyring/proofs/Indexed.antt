@@ -13,8 +13,8 @@ use Rattle.wot_types.specs.declared.number.SigNumber.{SigNumber}
 use Rattle.wot_types.specs.SigNumber.{number_cmp}
 use Rattle.wot_key.specs.Key.{fpr_of}
 use Rattle.wot_verdict.specs.Verdicts.{is_number}
-use Rattle.wot_cert.specs.Certificate.{Signature, Component, Certificate}
-use Rattle.wot_cert.specs.Counts.{sigs_on}
+use Rattle.wot_part.specs.Certificate.{Signature, Component, Certificate}
+use Rattle.wot_part.specs.Counts.{sigs_on}
 use Rattle.wot_keyring.specs.declared.index.Index.{Index}
 use Rattle.wot_keyring.specs.Keyring.{is_fpr}
 use Rattle.wot_keyring.specs.Index.{Holders, holder_of, is_holder, is_noted, unless, is_logged, holder_without, Notes}

@@ -17,10 +17,10 @@ use Rattle.wot_types.specs.SigNumber.{number_cmp}
 use Rattle.wot_key.specs.Key.{fpr_of}
 use Rattle.wot_verdict.specs.Verdicts as verdicts
 use Rattle.wot_verdict.specs.declared.verdict.Verdict as verdict
-use Rattle.wot_cert.specs.Certificate.{Certificate}
-use Rattle.wot_cert.specs.Counts.{signatures_of}
-use Rattle.wot_cert.specs.Text.{size_of}
-use Rattle.wot_cert.specs.Whole.{IsCertificate}
+use Rattle.wot_part.specs.Certificate.{Certificate}
+use Rattle.wot_part.specs.Counts.{signatures_of}
+use Rattle.wot_part.specs.Text.{size_of}
+use Rattle.wot_part.specs.Whole.{IsCertificate}
 use Rattle.wot_keyring.specs.declared.kept.Kept.{Kept}
 use Rattle.wot_keyring.specs.Import.{weigh}
 use Rattle.wot_keyring.specs.Keyring.{Entries, Keyring, Certificates, is_fpr, stripped}

@@ -16,8 +16,8 @@ use Rattle.wot_types.specs.SigNumber.{number_cmp}
 use Rattle.wot_verdict.specs.Verdicts as verdicts
 use Rattle.wot_verdict.specs.Verdicts.{verdict_at, is_number}
 use Rattle.wot_verdict.specs.declared.verdict.Verdict.{Verdict}
-use Rattle.wot_cert.specs.Certificate.{Signature, Component, Certificate}
-use Rattle.wot_cert.specs.Counts.{all_sigs, parts_in, sigs_on}
+use Rattle.wot_part.specs.Certificate.{Signature, Component, Certificate}
+use Rattle.wot_part.specs.Counts.{all_sigs, parts_in, sigs_on}
 use Rattle.wot_keyring.specs.declared.kept.Kept.{Kept}
 use Rattle.wot_keyring.specs.Keyring.{Entries, Keyring, kept_at, stamp_at, is_fpr}
 use Rattle.wot_keyring.specs.Kept.{IsKeyring}

@@ -5,8 +5,8 @@ use Rattle.std.proofs.lemmas.Grind.{flat_map-append}
 use Rattle.wot_script.specs.declared.command.Command.{Command}
 use Rattle.wot_types.specs.declared.fpr.Fpr.{Fpr}
 use Rattle.wot_verdict.specs.Verdicts as verdicts
-use Rattle.wot_cert.specs.Certificate.{Certificate}
-use Rattle.wot_cert.specs.Text.{size_of}
+use Rattle.wot_part.specs.Certificate.{Certificate}
+use Rattle.wot_part.specs.Text.{size_of}
 use Rattle.wot_keyring.specs.declared.kept.Kept.{Kept}
 use Rattle.wot_keyring.specs.Keyring.{Entries, Keyring, stripped}
 use Rattle.wot_keyring.specs.Held.{held_of}

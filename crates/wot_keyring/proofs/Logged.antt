@@ -11,7 +11,7 @@ use Rattle.wot_types.specs.declared.fpr.Fpr.{Fpr}
 use Rattle.wot_types.specs.declared.number.SigNumber.{SigNumber}
 use Rattle.wot_types.specs.FprLaws.{same_fpr-true, same_fpr-refl}
 use Rattle.wot_key.specs.Key.{fpr_of}
-use Rattle.wot_cert.specs.Certificate.{Certificate}
+use Rattle.wot_part.specs.Certificate.{Certificate}
 use Rattle.wot_keyring.specs.declared.kept.Kept.{Kept}
 use Rattle.wot_keyring.specs.declared.log.Log.{Log}
 use Rattle.wot_keyring.specs.Index.{stands_at}

@@ -32,13 +32,13 @@ use Rattle.wot_verdict.specs.declared.verdict.Verdict.TheVariants.{Good, Bad}
 use Rattle.wot_verdict.specs.Verdicts as verdicts
 use Rattle.wot_verdict.specs.Verdicts.{AreSortedByNumber, with_verdict}
 use Rattle.wot_cert.specs.Assembly.{certificates_of, skipped_in}
-use Rattle.wot_cert.specs.Certificate.{Certificate, unmarked}
-use Rattle.wot_cert.specs.Counts.{signatures_of}
+use Rattle.wot_part.specs.Certificate.{Certificate, unmarked}
+use Rattle.wot_part.specs.Counts.{signatures_of}
 use Rattle.wot_cert.specs.Fault.{first_fault}
-use Rattle.wot_cert.specs.Judged.{judged}
+use Rattle.wot_part.specs.Judged.{judged}
 use Rattle.wot_cert.specs.ReadBack.{ReadBack}
-use Rattle.wot_cert.specs.Text.{size_of, text_of}
-use Rattle.wot_cert.specs.Whole.{IsCertificate}
+use Rattle.wot_part.specs.Text.{size_of, text_of}
+use Rattle.wot_part.specs.Whole.{IsCertificate}
 use Rattle.wot_keyring.specs.declared.import.Imported.{Imported}
 use Rattle.wot_keyring.specs.declared.kept.Kept.{Kept}
 use Rattle.wot_keyring.specs.declared.refusal.Refusal.TheVariants.{Clash}

@@ -10,10 +10,10 @@ use Rattle.wot_types.specs.declared.fpr.Fpr.{Fpr}
 use Rattle.wot_types.specs.FprLaws.{same_fpr-true, same_fpr-sym}
 use Rattle.wot_key.specs.Key.{fpr_of}
 use Rattle.wot_policy.specs.declared.rows.PolicyRows.{PolicyRows}
-use Rattle.wot_cert.specs.Certificate.{Certificate, unite}
-use Rattle.wot_cert.specs.Counts.{items_of, all_sigs}
+use Rattle.wot_part.specs.Certificate.{Certificate, unite}
+use Rattle.wot_part.specs.Counts.{items_of, all_sigs}
 use Rattle.wot_verdict.specs.Verdicts as verdicts
-use Rattle.wot_cert.specs.Judged.{judged}
+use Rattle.wot_part.specs.Judged.{judged}
 use Rattle.wot_keyring.specs.declared.kept.Kept.{Kept}
 use Rattle.wot_keyring.specs.Keyring.{Entries, Keyring, is_fpr, kept_at}
 use Rattle.wot_keyring.specs.Kept.{IsKeyring}

@@ -7,13 +7,13 @@ use Rattle.std.proofs.lemmas.Map.Made.{lookup-map_values}
 use Rattle.wot_key.specs.Key.{fpr_of}
 use Rattle.wot_policy.specs.declared.rows.PolicyRows.{PolicyRows}
 use Rattle.wot_types.specs.declared.limits.Limit.{Limit}
-use Rattle.wot_cert.specs.Certificate.{Certificate}
+use Rattle.wot_part.specs.Certificate.{Certificate}
 use Rattle.wot_keyring.specs.declared.import.Imported.{Imported}
 use Rattle.wot_keyring.specs.declared.kept.Kept.{Kept}
 use Rattle.wot_keyring.specs.declared.refusal.Refusal.{Refusal}
 use Rattle.wot_keyring.specs.declared.refusal.Refusal.TheVariants.{Packet, Cert, Clash, Full, Misfiled, Memory}
 use Rattle.wot_keyring.specs.Gather.{clashes_with, taken_all, AreAllWhole, DoTheSame, ComeToNothing}
-use Rattle.wot_cert.specs.Judged.{sound_of}
+use Rattle.wot_part.specs.Judged.{sound_of}
 use Rattle.wot_keyring.specs.Import.{any_clash, weigh, with_cert, with_certs, first_full, fresh_in, holding}
 use Rattle.wot_keyring.specs.Import.{unless_full, answer_united}
 use Rattle.wot_keyring.specs.Importing.{alone, TellsUnion, AnswersUnited, asked_for}

@@ -8,10 +8,10 @@ use Rattle.wot_types.specs.declared.limits.Limits.{Limits}
 use Rattle.wot_types.specs.declared.limits.Limit.TheVariants as limits
 use Rattle.wot_key.specs.Key.{fpr_of}
 use Rattle.wot_policy.specs.declared.rows.PolicyRows.{PolicyRows}
-use Rattle.wot_cert.specs.Certificate.{Certificate, unite}
-use Rattle.wot_cert.specs.Counts.{signatures_of}
-use Rattle.wot_cert.specs.Judged.{judged}
-use Rattle.wot_cert.specs.Text.{size_of, text_of}
+use Rattle.wot_part.specs.Certificate.{Certificate, unite}
+use Rattle.wot_part.specs.Counts.{signatures_of}
+use Rattle.wot_part.specs.Judged.{judged}
+use Rattle.wot_part.specs.Text.{size_of, text_of}
 use Rattle.wot_keyring.specs.declared.kept.Kept.{Kept}
 use Rattle.wot_keyring.specs.declared.tally.Weight.{Weight}
 use Rattle.wot_keyring.specs.Import.{any_clash, clash, first_full, weigh, with_certs}

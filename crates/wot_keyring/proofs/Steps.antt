@@ -11,10 +11,10 @@ use Rattle.wot_types.specs.Fpr.{fpr_cmp}
 use Rattle.wot_types.specs.FprLaws.{fpr_total}
 use Rattle.wot_key.specs.Key.{fpr_of}
 use Rattle.wot_policy.specs.declared.rows.PolicyRows.{PolicyRows}
-use Rattle.wot_cert.specs.Certificate.{Certificate}
-use Rattle.wot_cert.specs.Counts.{items_of, signatures_of}
-use Rattle.wot_cert.specs.Judged.{IsJudged, sound_of}
-use Rattle.wot_cert.specs.Text.{size_of}
+use Rattle.wot_part.specs.Certificate.{Certificate}
+use Rattle.wot_part.specs.Counts.{items_of, signatures_of}
+use Rattle.wot_part.specs.Judged.{IsJudged, sound_of}
+use Rattle.wot_part.specs.Text.{size_of}
 use Rattle.wot_keyring.specs.declared.kept.Kept.{Kept}
 use Rattle.wot_keyring.specs.declared.staging.Staged.{Staged}
 use Rattle.wot_keyring.specs.declared.tally.Weight.{Weight}

@@ -11,9 +11,9 @@ use Rattle.wot_types.specs.Fpr.{fpr_cmp}
 use Rattle.wot_types.specs.FprLaws.{same_fpr-refl, same_fpr-sym}
 use Rattle.wot_key.specs.Key.{fpr_of}
 use Rattle.wot_policy.specs.declared.rows.PolicyRows.{PolicyRows}
-use Rattle.wot_cert.specs.Certificate.{Certificate, unite, unmarked}
-use Rattle.wot_cert.specs.Judged.{judged}
-use Rattle.wot_cert.specs.Whole.{IsCertificate}
+use Rattle.wot_part.specs.Certificate.{Certificate, unite, unmarked}
+use Rattle.wot_part.specs.Judged.{judged}
+use Rattle.wot_part.specs.Whole.{IsCertificate}
 use Rattle.wot_keyring.specs.Gather.{clashes_with, taken_one, taken_all, IsWholeState}
 use Rattle.wot_keyring.specs.Import.{merged_into, with_cert}
 use Rattle.wot_keyring.specs.Keyring.{Certificates, is_fpr}

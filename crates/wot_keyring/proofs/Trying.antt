@@ -2,10 +2,10 @@
 use Rattle.std.proofs.Common.{◌≡◌, ℕ, nat_lt, if◌then◌else◌, List, length, sym, ap, ◌∙◌, refl}
 use Rattle.wot_types.specs.declared.limits.Limits.{Limits}
 use Rattle.wot_policy.specs.declared.rows.PolicyRows.{PolicyRows}
-use Rattle.wot_cert.specs.Certificate.{Certificate, unite, unmarked}
-use Rattle.wot_cert.specs.Counts.{signatures_of}
-use Rattle.wot_cert.specs.Judged.{judged}
-use Rattle.wot_cert.specs.Text.{size_of, text_of}
+use Rattle.wot_part.specs.Certificate.{Certificate, unite, unmarked}
+use Rattle.wot_part.specs.Counts.{signatures_of}
+use Rattle.wot_part.specs.Judged.{judged}
+use Rattle.wot_part.specs.Text.{size_of, text_of}
 use Rattle.wot_keyring.specs.declared.tally.Weight.{Weight}
 use Rattle.wot_keyring.specs.Import.{weigh, with_certs, first_full}
 use Rattle.wot_keyring.specs.Keyring.{Entries, stripped}

@@ -5,11 +5,11 @@ use Rattle.std.specs.Option.{option_map}
 use Rattle.std.proofs.lemmas.Bool.Decides.{nat_tests}
 use Rattle.wot_policy.specs.declared.rows.PolicyRows.{PolicyRows}
 use Rattle.wot_cert.specs.Assembly.{bare}
-use Rattle.wot_cert.specs.Certificate.{Certificate, unite}
-use Rattle.wot_cert.specs.Counts.{items_of}
-use Rattle.wot_cert.specs.Judged.{IsJudged, judged}
-use Rattle.wot_cert.specs.Text.{size_of, text_of}
-use Rattle.wot_cert.specs.Whole.{IsCertificate}
+use Rattle.wot_part.specs.Certificate.{Certificate, unite}
+use Rattle.wot_part.specs.Counts.{items_of}
+use Rattle.wot_part.specs.Judged.{IsJudged, judged}
+use Rattle.wot_part.specs.Text.{size_of, text_of}
+use Rattle.wot_part.specs.Whole.{IsCertificate}
 use Rattle.wot_keyring.specs.declared.kept.Kept.{Kept}
 use Rattle.wot_keyring.specs.declared.tally.Weight.{Weight}
 use Rattle.wot_keyring.specs.Import.{stamp_for}

@@ -6,7 +6,7 @@ use Rattle.wot_packet.specs.Spelling.{Spelled}
 use Rattle.wot_packet.specs.Reading.{packets_of}
 use Rattle.wot_cert.specs.declared.assembling.Assembled.{Assembled}
 use Rattle.wot_cert.specs.declared.fault.CertFault.{CertFault}
-use Rattle.wot_cert.specs.Certificate.{Certificate}
+use Rattle.wot_part.specs.Certificate.{Certificate}
 use Rattle.wot_cert.specs.Assembly.{certificates_of, skipped_in}
 use Rattle.wot_cert.specs.Fault.{first_fault}
 use Rattle.wot_keyring.specs.declared.refusal.Refusal.{Refusal}

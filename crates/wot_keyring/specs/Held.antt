@@ -7,7 +7,7 @@ use Rattle.wot_types.specs.declared.number.SigNumber.{SigNumber}
 use Rattle.wot_verdict.specs.Verdicts as verdicts
 use Rattle.wot_verdict.specs.declared.verdict.Verdict.{Verdict}
 use Rattle.wot_verdict.specs.declared.verdict.Verdict.TheVariants.{Good, Bad}
-use Rattle.wot_cert.specs.Certificate.{Certificate}
+use Rattle.wot_part.specs.Certificate.{Certificate}
 use Rattle.wot_keyring.specs.Keyring.{Keyring, Certificates, certificates_in, is_fpr}
 
 -- Each signature has its mark of admission. Limits, stamps and the count of changes are no part of it.

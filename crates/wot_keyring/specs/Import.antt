@@ -19,12 +19,12 @@ use Rattle.wot_packet.specs.Spelling.{Spelled}
 use Rattle.wot_packet.specs.Reading.{packets_of}
 use Rattle.wot_policy.specs.declared.rows.PolicyRows.{PolicyRows}
 use Rattle.wot_cert.specs.declared.fault.CertFault.{CertFault}
-use Rattle.wot_cert.specs.Certificate.{Certificate, unite}
+use Rattle.wot_part.specs.Certificate.{Certificate, unite}
 use Rattle.wot_cert.specs.Assembly.{certificates_of, skipped_in}
-use Rattle.wot_cert.specs.Counts.{sum_of, items_of, signatures_of}
+use Rattle.wot_part.specs.Counts.{sum_of, items_of, signatures_of}
 use Rattle.wot_cert.specs.Fault.{first_fault}
-use Rattle.wot_cert.specs.Judged.{judged, sound_of}
-use Rattle.wot_cert.specs.Text.{size_of}
+use Rattle.wot_part.specs.Judged.{judged, sound_of}
+use Rattle.wot_part.specs.Text.{size_of}
 use Rattle.wot_keyring.specs.declared.import.Imported.{Imported}
 use Rattle.wot_keyring.specs.declared.kept.Kept.{Kept}
 use Rattle.wot_keyring.specs.declared.refusal.Refusal.{Refusal}

@@ -9,7 +9,7 @@ use Rattle.wot_types.specs.declared.number.SigNumber.{SigNumber}
 use Rattle.wot_types.specs.Fpr.{fpr_cmp}
 use Rattle.wot_verdict.specs.Verdicts as verdicts
 use Rattle.wot_verdict.specs.declared.verdict.Verdict.{Verdict}
-use Rattle.wot_cert.specs.Certificate.{Certificate}
+use Rattle.wot_part.specs.Certificate.{Certificate}
 use Rattle.wot_keyring.specs.declared.refusal.ExportFault.{ExportFault}
 use Rattle.wot_keyring.specs.declared.refusal.ExportFault.TheVariants.{Absent, Memory}
 use Rattle.wot_keyring.specs.declared.kept.Kept.{Kept}

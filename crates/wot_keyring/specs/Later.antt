@@ -4,8 +4,8 @@ use Rattle.std.specs.List.{AllByRecursion}
 use Rattle.wot_types.specs.declared.fpr.Fpr.{Fpr}
 use Rattle.wot_verdict.specs.Verdicts as verdicts
 use Rattle.wot_verdict.specs.Verdicts.{verdict_at}
-use Rattle.wot_cert.specs.Certificate.{Signature}
-use Rattle.wot_cert.specs.Counts.{all_sigs}
+use Rattle.wot_part.specs.Certificate.{Signature}
+use Rattle.wot_part.specs.Counts.{all_sigs}
 use Rattle.wot_keyring.specs.declared.kept.Kept.{Kept}
 use Rattle.wot_keyring.specs.Keyring.{Keyring, kept_at, stamp_at}
 

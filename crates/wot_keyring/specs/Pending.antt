@@ -5,9 +5,9 @@ use Rattle.std.specs.Option.{option_and_then}
 use Rattle.wot_types.specs.declared.fpr.Fpr.{Fpr}
 use Rattle.wot_signature.specs.Signature.{hint_of}
 use Rattle.wot_verdict.specs.Verdicts as verdicts
-use Rattle.wot_cert.specs.Certificate.{Signature, Certificate, said_by}
-use Rattle.wot_cert.specs.Counts.{all_sigs}
-use Rattle.wot_cert.specs.Judged.{is_sound}
+use Rattle.wot_part.specs.Certificate.{Signature, Certificate, said_by}
+use Rattle.wot_part.specs.Counts.{all_sigs}
+use Rattle.wot_part.specs.Judged.{is_sound}
 use Rattle.wot_keyring.specs.declared.pending.Pending.{Pending}
 use Rattle.wot_keyring.specs.Held.{Held}
 

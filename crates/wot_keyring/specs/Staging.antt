@@ -15,13 +15,13 @@ use Rattle.wot_policy.specs.declared.policy.Policy.{Policy}
 use Rattle.wot_policy.specs.declared.rows.PolicyRows.{PolicyRows}
 use Rattle.wot_policy.specs.Kept.{asked_more, rows_of}
 use Rattle.wot_cert.specs.Assembly.{bare}
-use Rattle.wot_cert.specs.Certificate.{Certificate}
+use Rattle.wot_part.specs.Certificate.{Certificate}
 use Rattle.wot_cert.specs.declared.growth.Growth.{Growth}
-use Rattle.wot_cert.specs.Asking.{Asks, AsksUpTo}
+use Rattle.wot_part.specs.Asking.{Asks, AsksUpTo}
 use Rattle.wot_cert.specs.Growing.{shrunk, LeadsBack as CertLeadsBack}
-use Rattle.wot_cert.specs.Counts.{sum_of, items_of, signatures_of}
-use Rattle.wot_cert.specs.Judged.{IsJudged, judged, sound_of}
-use Rattle.wot_cert.specs.Text.{size_of}
+use Rattle.wot_part.specs.Counts.{sum_of, items_of, signatures_of}
+use Rattle.wot_part.specs.Judged.{IsJudged, judged, sound_of}
+use Rattle.wot_part.specs.Text.{size_of}
 use Rattle.wot_keyring.specs.declared.kept.Kept.{Kept}
 use Rattle.wot_keyring.specs.declared.in_place.Leap.{Leap}
 use Rattle.wot_keyring.specs.declared.staging.Grown.{Grown}

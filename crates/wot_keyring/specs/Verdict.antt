@@ -8,8 +8,8 @@ use Rattle.wot_types.specs.declared.limits.Limits.{Limits}
 use Rattle.wot_verdict.specs.Verdicts as verdicts
 use Rattle.wot_verdict.specs.Verdicts.{is_number, with_verdict, without_verdict}
 use Rattle.wot_verdict.specs.declared.verdict.Verdict.{Verdict}
-use Rattle.wot_cert.specs.Certificate.{Signature, Component, Certificate}
-use Rattle.wot_cert.specs.Counts.{sigs_on}
+use Rattle.wot_part.specs.Certificate.{Signature, Component, Certificate}
+use Rattle.wot_part.specs.Counts.{sigs_on}
 use Rattle.wot_keyring.specs.declared.kept.Kept.{Kept}
 use Rattle.wot_types.specs.declared.limits.Limit.TheVariants.{Verdicts}
 use Rattle.wot_keyring.specs.declared.refusal.Refusal.{Refusal}

@@ -23,7 +23,7 @@ pub struct CertsFrom<'a> {
 impl<'a> Model for CertsFrom<'a> {
     ghost use Rattle.std.specs.Prelude.{List, map};
     ghost use Rattle.wot_types.specs.declared.fpr.Fpr.{Fpr};
-    ghost use Rattle.wot_cert.specs.Certificate.{Certificate};
+    ghost use Rattle.wot_part.specs.Certificate.{Certificate};
     ghost use Rattle.wot_keyring.specs.declared.kept.Kept.{Kept};
 
     ghost Value = { List Certificate };

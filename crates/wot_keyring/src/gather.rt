@@ -8,7 +8,7 @@ ghost use Rattle.std.specs.List.{AllByRecursion};
 ghost use Rattle.std.specs.Map.{lookup, remove_entry, values_of};
 ghost use Rattle.wot_types.specs.Fpr.{fpr_cmp};
 ghost use Rattle.wot_key.specs.Key.{fpr_of};
-ghost use Rattle.wot_cert.specs.Whole.{IsCertificate};
+ghost use Rattle.wot_part.specs.Whole.{IsCertificate};
 ghost use Rattle.wot_keyring.specs.Gather.{AreOwn, DoTheSame, IsGathered, TellsClashWith, TellsNothing};
 ghost use Rattle.wot_keyring.specs.Keyring.{is_fpr};
 

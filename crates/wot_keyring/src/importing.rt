@@ -3,7 +3,7 @@
 //! and in `Keyring::take`.
 ghost use Rattle.std.specs.Prelude.{◌≡◌, ◌<◌, ◌^◌, ◌+◌, length, IfOk, OnOk, OnErr};
 ghost use Rattle.wot_policy.specs.Kept.{IsFaithful, rows_of};
-ghost use Rattle.wot_cert.specs.Counts.{items_of};
+ghost use Rattle.wot_part.specs.Counts.{items_of};
 ghost use Rattle.wot_keyring.specs.Import.{any_clash, is_entry, stands_under};
 ghost use Rattle.wot_keyring.specs.Entry.{TellsEntry, TellsParts};
 ghost use Rattle.wot_keyring.specs.Importing.{alone, IsFirstFull, TellsRead};

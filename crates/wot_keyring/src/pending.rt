@@ -3,7 +3,7 @@
 //! wot_machine, and the verifier.
 ghost use Rattle.std.specs.Prelude.{◌≡◌, ◌++◌, ◌∷◌, [], IfOk, OnOk};
 ghost use Rattle.std.specs.List.{flat_map};
-ghost use Rattle.wot_cert.specs.Counts.{sigs_on};
+ghost use Rattle.wot_part.specs.Counts.{sigs_on};
 ghost use Rattle.wot_keyring.specs.Keyring.{stripped};
 ghost use Rattle.wot_keyring.specs.Pending.{is_pending, pending_among, pending_on, told_of};
 

@@ -2,7 +2,7 @@
 //! merge. The answer may be "no" when there is room, and then `importing` tries.
 ghost use Rattle.std.specs.Prelude.{◌≡◌, ◌≤◌, ◌+◌, [], ◌∷◌, true};
 ghost use Rattle.std.specs.Option.{option_copied, IfSome};
-ghost use Rattle.wot_cert.specs.Text.{size_of};
+ghost use Rattle.wot_part.specs.Text.{size_of};
 ghost use Rattle.wot_keyring.specs.Room.{BringsFew, FitsBeside, HasRoom};
 
 use crate::kept::Kept;

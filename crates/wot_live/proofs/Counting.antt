@@ -5,9 +5,9 @@ use Rattle.std.specs.List.{AllByRecursion, cons_option, filter_map}
 use Rattle.wot_types.specs.declared.fpr.Fpr.{Fpr}
 use Rattle.wot_verdict.specs.Verdicts.{Entries}
 use Rattle.wot_packet.specs.Writing.{written}
-use Rattle.wot_cert.specs.Certificate.{Signature, Component, Certificate}
-use Rattle.wot_cert.specs.Counts.{sum_of, part_weight, signatures_of}
-use Rattle.wot_cert.specs.Text.{sigs_text, part_text, parts_text, size_of}
+use Rattle.wot_part.specs.Certificate.{Signature, Component, Certificate}
+use Rattle.wot_part.specs.Counts.{sum_of, part_weight, signatures_of}
+use Rattle.wot_part.specs.Text.{sigs_text, part_text, parts_text, size_of}
 use Rattle.wot_edge.specs.declared.edge.EdgeFacts.{EdgeFacts}
 use Rattle.wot_standing.specs.Standing.{own}
 use Rattle.wot_live.specs.declared.found.EdgePlace.{EdgePlace}

@@ -12,9 +12,9 @@ use Rattle.wot_types.specs.Fpr.{same_fpr}
 use Rattle.wot_types.specs.FprLaws.{same_fpr-true, same_fpr-sym}
 use Rattle.wot_signature.specs.declared.facts.SigFacts.{SigFacts}
 use Rattle.wot_verdict.specs.Verdicts.{Entries}
-use Rattle.wot_cert.specs.Certificate.{Signature, Component, Certificate, said_by}
+use Rattle.wot_part.specs.Certificate.{Signature, Component, Certificate, said_by}
 use Rattle.wot_cert.specs.Issuer.{issuer_of, counts_by}
-use Rattle.wot_cert.specs.Ranked.{placed}
+use Rattle.wot_part.specs.Ranked.{placed}
 use Rattle.wot_edge.specs.declared.edge.EdgeFacts.{EdgeFacts}
 use Rattle.wot_edge.specs.Order.{edge_cmp}
 use Rattle.wot_edge.specs.Record.{Has}

@@ -10,8 +10,8 @@ use Rattle.std.specs.Ordering.{match_ordering, ordering_reverse}
 use Rattle.std.proofs.lemmas.Map.Keys.{sorted_head, sorted_tail}
 use Rattle.wot_types.specs.declared.fpr.Fpr.{Fpr}
 use Rattle.wot_verdict.specs.Verdicts.{Entries}
-use Rattle.wot_cert.specs.Certificate.{Component}
-use Rattle.wot_cert.specs.Ranked.{placed}
+use Rattle.wot_part.specs.Certificate.{Component}
+use Rattle.wot_part.specs.Ranked.{placed}
 use Rattle.wot_edge.specs.declared.edge.EdgeFacts.{EdgeFacts}
 use Rattle.wot_edge.specs.Order.{edge_cmp}
 use Rattle.wot_live.specs.declared.found.EdgePlace.{EdgePlace}

@@ -4,7 +4,7 @@ use Rattle.std.specs.List.{AllByRecursion, filter_map}
 use Rattle.std.specs.Option.{option_and_then}
 use Rattle.wot_types.specs.declared.fpr.Fpr.{Fpr}
 use Rattle.wot_verdict.specs.Verdicts.{Entries}
-use Rattle.wot_cert.specs.Certificate.{Signature, Component, Certificate}
+use Rattle.wot_part.specs.Certificate.{Signature, Component, Certificate}
 use Rattle.wot_cert.specs.Issuer.{issuer_of}
 use Rattle.wot_edge.specs.declared.edge.EdgeFacts.{EdgeFacts}
 use Rattle.wot_standing.specs.Own.{is_own_revoked}

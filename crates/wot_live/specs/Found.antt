@@ -7,9 +7,9 @@ use Rattle.std.specs.Ordering.{nat_cmp, on, then_cmp}
 use Rattle.wot_types.specs.declared.fpr.Fpr.{Fpr}
 use Rattle.wot_types.specs.Fpr.{fpr_cmp}
 use Rattle.wot_verdict.specs.Verdicts.{Entries}
-use Rattle.wot_cert.specs.Certificate.{Signature, Component}
+use Rattle.wot_part.specs.Certificate.{Signature, Component}
 use Rattle.wot_cert.specs.Issuer.{issuer_of}
-use Rattle.wot_cert.specs.Ranked.{put, united}
+use Rattle.wot_part.specs.Ranked.{put, united}
 use Rattle.wot_edge.specs.declared.edge.EdgeFacts.{EdgeFacts}
 use Rattle.wot_edge.specs.Order.{edge_cmp}
 use Rattle.wot_standing.specs.Certifiers.{kept_for}

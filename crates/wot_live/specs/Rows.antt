@@ -6,9 +6,9 @@ use Rattle.std.specs.Option.{option_and_then}
 use Rattle.wot_types.specs.declared.fpr.Fpr.{Fpr}
 use Rattle.wot_types.specs.Fpr.{same_fpr}
 use Rattle.wot_verdict.specs.Verdicts.{Entries}
-use Rattle.wot_cert.specs.Certificate.{Signature, Component, Certificate}
+use Rattle.wot_part.specs.Certificate.{Signature, Component, Certificate}
 use Rattle.wot_cert.specs.Issuer.{issuer_of}
-use Rattle.wot_cert.specs.Ranked.{united}
+use Rattle.wot_part.specs.Ranked.{united}
 use Rattle.wot_edge.specs.declared.edge.EdgeFacts.{EdgeFacts}
 use Rattle.wot_edge.specs.Order.{edge_cmp}
 use Rattle.wot_edge.specs.Record.{Has}

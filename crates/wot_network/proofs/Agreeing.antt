@@ -5,8 +5,8 @@ use Rattle.std.specs.Map.{lookup}
 use Rattle.std.specs.Option.{option_map_or}
 use Rattle.wot_types.specs.declared.fpr.Fpr.{Fpr}
 use Rattle.wot_verdict.specs.Verdicts.{Entries}
-use Rattle.wot_cert.specs.Certificate.{Component, Certificate}
-use Rattle.wot_cert.specs.Counts.{all_sigs}
+use Rattle.wot_part.specs.Certificate.{Component, Certificate}
+use Rattle.wot_part.specs.Counts.{all_sigs}
 use Rattle.wot_edge.specs.declared.edge.EdgeFacts.{EdgeFacts}
 use Rattle.wot_edge.specs.Agree.{Agree, scoped_edge}
 use Rattle.wot_edge.specs.Path.{asks}

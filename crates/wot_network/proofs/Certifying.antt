@@ -12,9 +12,9 @@ use Rattle.wot_types.specs.Fpr.{same_fpr}
 use Rattle.wot_types.specs.FprLaws.{same_fpr-true}
 use Rattle.wot_signature.specs.declared.facts.SigFacts.{SigFacts}
 use Rattle.wot_verdict.specs.Verdicts.{Entries, verdict_at}
-use Rattle.wot_cert.specs.Certificate.{Certificate, Component, Signature, said_by}
+use Rattle.wot_part.specs.Certificate.{Certificate, Component, Signature, said_by}
 use Rattle.wot_cert.specs.Issuer.{allows, counts_by, good_by, issuer_of, issuer_with}
-use Rattle.wot_cert.specs.Ranked.{greatest, higher, higher_of, placed, put, united}
+use Rattle.wot_part.specs.Ranked.{greatest, higher, higher_of, placed, put, united}
 use Rattle.wot_cert.specs.Revoked.{is_unrevoked}
 use Rattle.wot_cert.specs.Time.{is_live, newness}
 use Rattle.wot_edge.specs.declared.edge.EdgeFacts.{EdgeFacts}

@@ -4,7 +4,7 @@ use Rattle.std.specs.List.{AllByRecursion}
 use Rattle.wot_types.specs.declared.fpr.Fpr.{Fpr}
 use Rattle.wot_key.specs.Key.{fpr_of}
 use Rattle.wot_verdict.specs.Verdicts.{Entries}
-use Rattle.wot_cert.specs.Certificate.{Certificate}
+use Rattle.wot_part.specs.Certificate.{Certificate}
 use Rattle.wot_edge.specs.Lawful.{AreEntries, AreRows}
 use Rattle.wot_keyring.specs.Keyring.{Certificates}
 use Rattle.wot_live.specs.Rows.{edges_of, AreInto}

@@ -8,10 +8,10 @@ use Rattle.wot_types.specs.Fpr.{same_fpr}
 use Rattle.wot_types.specs.PlainLaws.{all_prefix, all_back, all_each}
 use Rattle.wot_verdict.specs.Verdicts.{Entries}
 use Rattle.wot_verdict.specs.declared.verdict.Verdict.{Verdict}
-use Rattle.wot_cert.specs.Certificate.{Signature, Component, Certificate, said_by}
-use Rattle.wot_cert.specs.Counts.{all_sigs, parts_in, sigs_on}
+use Rattle.wot_part.specs.Certificate.{Signature, Component, Certificate, said_by}
+use Rattle.wot_part.specs.Counts.{all_sigs, parts_in, sigs_on}
 use Rattle.wot_cert.specs.Issuer.{good_by, issuer_with, issuer_of, counts_by}
-use Rattle.wot_cert.specs.Ranked.{greatest}
+use Rattle.wot_part.specs.Ranked.{greatest}
 use Rattle.wot_cert.specs.Revoked.{has_kind, revokes_by, is_unrevoked, is_revocable}
 use Rattle.wot_cert.specs.Span.{created_of}
 use Rattle.wot_cert.specs.Time.{is_live, made_of, newness}

@@ -5,8 +5,8 @@ use Rattle.std.specs.Option.{option_map_or, MatchOption}
 use Rattle.std.specs.Map.{lookup}
 use Rattle.wot_types.specs.declared.fpr.Fpr.{Fpr}
 use Rattle.wot_verdict.specs.Verdicts.{Entries}
-use Rattle.wot_cert.specs.Certificate.{Certificate}
-use Rattle.wot_cert.specs.Counts.{sum_of, signatures_of}
+use Rattle.wot_part.specs.Certificate.{Certificate}
+use Rattle.wot_part.specs.Counts.{sum_of, signatures_of}
 use Rattle.wot_cert.specs.Span.{InSpan}
 use Rattle.wot_cert.specs.declared.moments.Span.{Span}
 use Rattle.wot_edge.specs.declared.edge.EdgeFacts.{EdgeFacts}

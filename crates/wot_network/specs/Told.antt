@@ -10,7 +10,7 @@ use Rattle.wot_types.specs.declared.fpr.Fpr.{Fpr}
 use Rattle.wot_key.specs.Key.{fpr_of}
 use Rattle.wot_verdict.specs.Verdicts.{Entries}
 use Rattle.wot_signature.specs.Signature.{scopes_of}
-use Rattle.wot_cert.specs.Certificate.{Signature, Component, Certificate}
+use Rattle.wot_part.specs.Certificate.{Signature, Component, Certificate}
 use Rattle.wot_edge.specs.declared.edge.EdgeFacts.{EdgeFacts}
 use Rattle.wot_edge.specs.Lawful.{AreEntries}
 use Rattle.wot_edge.specs.Record.{Row, Entry, Record}

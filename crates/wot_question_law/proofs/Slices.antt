@@ -12,8 +12,8 @@ use Rattle.wot_script.specs.declared.reply.AnswerLine.{AnswerLine}
 use Rattle.wot_script.specs.declared.reply.AnswerLine.TheVariants as lines
 use Rattle.wot_script.specs.declared.reply.Reply.{Reply}
 use Rattle.wot_script.specs.declared.reply.Reply.TheVariants as replies
-use Rattle.wot_cert.specs.Certificate.{Certificate, unmarked}
-use Rattle.wot_cert.specs.Judged.{judged}
+use Rattle.wot_part.specs.Certificate.{Certificate, unmarked}
+use Rattle.wot_part.specs.Judged.{judged}
 use Rattle.wot_edge.specs.declared.path.Path.{Path}
 use Rattle.wot_edge.specs.declared.path.Step.{Step}
 use Rattle.wot_edge.specs.Answer.{EachNext, IsAnswer, amount_of}

@@ -9,8 +9,8 @@ use Rattle.wot_policy.specs.declared.rows.PolicyRows.{PolicyRows}
 use Rattle.wot_script.specs.declared.command.Command.TheVariants.{Ask, Explain}
 use Rattle.wot_script.specs.Grammar.{command_of}
 use Rattle.wot_verdict.specs.Verdicts.{verdict_at}
-use Rattle.wot_cert.specs.Certificate.{Certificate, Signature, unmarked}
-use Rattle.wot_cert.specs.Counts.{all_sigs}
+use Rattle.wot_part.specs.Certificate.{Certificate, Signature, unmarked}
+use Rattle.wot_part.specs.Counts.{all_sigs}
 use Rattle.wot_cert.specs.Issuer.{good_by}
 use Rattle.wot_edge.specs.declared.path.Path.{Path}
 use Rattle.wot_edge.specs.Answer.{IsAnswer}

@@ -7,7 +7,7 @@ use Rattle.wot_types.specs.declared.fpr.Fpr.{Fpr}
 use Rattle.wot_policy.specs.declared.rows.PolicyRows.{PolicyRows}
 use Rattle.wot_verdict.specs.Verdicts.{Entries}
 use Rattle.wot_key.specs.Key.{fpr_of}
-use Rattle.wot_cert.specs.Certificate.{Certificate}
+use Rattle.wot_part.specs.Certificate.{Certificate}
 use Rattle.wot_edge.specs.declared.path.Path.{Path}
 use Rattle.wot_edge.specs.Path.{Question, Use}
 use Rattle.wot_edge.specs.Record.{IsRecord, Record}

@@ -5,9 +5,9 @@ ghost use Rattle.std.specs.Prelude.{◌≡◌, ◌<◌, ◌^◌, length, true, S
 ghost use Rattle.std.specs.List.{slice_get};
 ghost use Rattle.std.specs.Option.{option_and_then, option_copied};
 ghost use Rattle.wot_types.specs.declared.fpr.Fpr.{Fpr as TheFpr};
-ghost use Rattle.wot_cert.specs.Certificate.{said_by};
+ghost use Rattle.wot_part.specs.Certificate.{said_by};
 ghost use Rattle.wot_cert.specs.Issuer.{issuer_of as issuer_in};
-ghost use Rattle.wot_cert.specs.Ranked.{higher_of};
+ghost use Rattle.wot_part.specs.Ranked.{higher_of};
 ghost use Rattle.wot_cert.specs.Time.{newness};
 ghost use Rattle.wot_standing.specs.declared.kinds.Binding.TheVariants.{Certification};
 ghost use Rattle.wot_standing.specs.Certifiers.{certifier_of, kept_for, number_for, revoker_of};

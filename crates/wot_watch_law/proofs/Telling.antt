@@ -23,7 +23,7 @@ use Rattle.wot_script.specs.declared.reply.Reply.{Reply}
 use Rattle.wot_script.specs.declared.reply.Reply.TheVariants as replies
 use Rattle.wot_watch_law.specs.Worth.{IsLast, amounts_in}
 use Rattle.wot_run_law.specs.Numbers.{amount_in}
-use Rattle.wot_cert.specs.Ranked.{IsBelow}
+use Rattle.wot_part.specs.Ranked.{IsBelow}
 use Rattle.wot_step.proofs.Entries.{AllValues, AreInOrder, all_found, all_set, all_without, apart, by_key, found_set}
 use Rattle.wot_step.proofs.Entries.{gone_without, other_set, other_without, rising_set, rising_without}
 

@@ -1,5 +1,5 @@
 use Rattle.std.proofs.Common.{List, ap, ◌∙◌}
-use Rattle.wot_cert.specs.Certificate.{Certificate}
+use Rattle.wot_part.specs.Certificate.{Certificate}
 use Rattle.wot_keyring.specs.Keyring.{certificates_in}
 use Rattle.wot_network.specs.Told.{record_of}
 use Rattle.wot_explain.specs.Listing.{pairs_in, pairs_of_all}

@@ -1,6 +1,6 @@
 use Rattle.std.proofs.Common.{◌≡◌, length}
 use Rattle.wot_types.specs.declared.number.SigNumber.{SigNumber}
-use Rattle.wot_cert.specs.Counts.{sigs_on}
+use Rattle.wot_part.specs.Counts.{sigs_on}
 use Rattle.wot_keyring.specs.Index.{holder_of, unless}
 use Rattle.wot_keyring.specs.Verdict.{is_among}
 use Rattle.wot_keyring.proofs.forgetting.forget_parts.Given as goal

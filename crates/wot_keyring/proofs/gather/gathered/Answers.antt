@@ -1,6 +1,6 @@
 use Rattle.std.proofs.Common.{sym, subst}
 use Rattle.std.specs.List.{AllByRecursion}
-use Rattle.wot_cert.specs.Whole.{IsCertificate}
+use Rattle.wot_part.specs.Whole.{IsCertificate}
 use Rattle.wot_keyring.proofs.Gathering.{values_whole}
 use Rattle.wot_keyring.proofs.gather.gathered.Goals as goal
 

@@ -1,7 +1,7 @@
 use Rattle.std.proofs.Common.{inr, refl, sym, ap, ◌∙◌, subst}
 use Rattle.wot_key.specs.Key.{fpr_of}
 use Rattle.wot_policy.specs.Kept.{rows_of}
-use Rattle.wot_cert.specs.Judged.{sound_of}
+use Rattle.wot_part.specs.Judged.{sound_of}
 use Rattle.wot_keyring.specs.declared.kept.Kept.{Kept}
 use Rattle.wot_keyring.specs.declared.staging.Staged.{Staged}
 use Rattle.wot_keyring.specs.Keyring.{Entries}

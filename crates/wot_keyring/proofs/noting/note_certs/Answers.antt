@@ -1,5 +1,5 @@
 use Rattle.std.proofs.Common.{List, ap}
-use Rattle.wot_cert.specs.Certificate.{Certificate}
+use Rattle.wot_part.specs.Certificate.{Certificate}
 use Rattle.wot_keyring.specs.Index.{stands_among, stands_on}
 use Rattle.wot_keyring.proofs.Indexed.{notes_on, still_logged}
 use Rattle.wot_keyring.proofs.noting.note_certs.Goals as goal

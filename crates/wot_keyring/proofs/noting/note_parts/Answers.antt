@@ -3,8 +3,8 @@ use Rattle.std.proofs.lemmas.List.Folds.{list_any-append}
 use Rattle.wot_types.specs.declared.fpr.Fpr.{Fpr}
 use Rattle.wot_types.specs.declared.number.SigNumber.{SigNumber}
 use Rattle.wot_verdict.specs.Verdicts.{is_number}
-use Rattle.wot_cert.specs.Certificate.{Signature, Component}
-use Rattle.wot_cert.specs.Counts.{sigs_on}
+use Rattle.wot_part.specs.Certificate.{Signature, Component}
+use Rattle.wot_part.specs.Counts.{sigs_on}
 use Rattle.wot_keyring.specs.Keyring.{is_fpr}
 use Rattle.wot_keyring.specs.Verdict.{is_among}
 use Rattle.wot_keyring.proofs.Choices.{and_each}

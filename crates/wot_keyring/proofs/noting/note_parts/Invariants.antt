@@ -1,7 +1,7 @@
 use Rattle.std.proofs.Common.{◌&&◌, length}
 use Rattle.wot_types.specs.declared.fpr.Fpr.{Fpr}
 use Rattle.wot_types.specs.declared.number.SigNumber.{SigNumber}
-use Rattle.wot_cert.specs.Counts.{sigs_on}
+use Rattle.wot_part.specs.Counts.{sigs_on}
 use Rattle.wot_keyring.specs.Keyring.{is_fpr}
 use Rattle.wot_keyring.specs.Index.{NotesOn, StillLogged}
 use Rattle.wot_keyring.specs.Verdict.{is_among}

@@ -2,7 +2,7 @@ use Rattle.std.proofs.Common.{◌&&◌, ◌||◌, List, sym, ap, ◌∙◌}
 use Rattle.wot_types.specs.declared.fpr.Fpr.{Fpr}
 use Rattle.wot_types.specs.declared.number.SigNumber.{SigNumber}
 use Rattle.wot_verdict.specs.Verdicts.{is_number}
-use Rattle.wot_cert.specs.Certificate.{Signature}
+use Rattle.wot_part.specs.Certificate.{Signature}
 use Rattle.wot_keyring.specs.Keyring.{is_fpr}
 use Rattle.wot_keyring.specs.Verdict.{is_among}
 use Rattle.wot_keyring.proofs.Choices.{and_each}

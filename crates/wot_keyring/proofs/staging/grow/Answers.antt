@@ -1,5 +1,5 @@
 use Rattle.wot_policy.specs.Kept.{rows_of}
-use Rattle.wot_cert.specs.Judged.{judged}
+use Rattle.wot_part.specs.Judged.{judged}
 use Rattle.wot_keyring.proofs.Unions.{union_few}
 use Rattle.wot_keyring.proofs.staging.grow.Goals as goal
 

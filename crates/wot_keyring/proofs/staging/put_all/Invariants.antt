@@ -1,6 +1,6 @@
 use Rattle.std.proofs.Common.{◌≡◌, ◌+◌, ℕ, length}
 use Rattle.wot_policy.specs.Kept.{IsFaithful, rows_of, asked_more}
-use Rattle.wot_cert.specs.Judged.{sound_of}
+use Rattle.wot_part.specs.Judged.{sound_of}
 use Rattle.wot_keyring.specs.Staging.{weigh_kept}
 use Rattle.wot_keyring.proofs.Running.{Run}
 use Rattle.wot_keyring.proofs.staging.put_all.Given as goal

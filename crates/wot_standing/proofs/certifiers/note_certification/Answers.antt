@@ -2,7 +2,7 @@ use Rattle.std.proofs.Common.{◌∙◌, ap, Option, Some, sym}
 use Rattle.std.specs.List.{slice_get}
 use Rattle.std.specs.Option.{option_and_then}
 use Rattle.wot_types.specs.declared.fpr.Fpr.{Fpr}
-use Rattle.wot_cert.specs.Certificate.{Signature}
+use Rattle.wot_part.specs.Certificate.{Signature}
 use Rattle.wot_types.specs.Fpr.{same_fpr}
 use Rattle.wot_standing.specs.Certifiers.{kept_for, newer_by, number_for}
 use Rattle.wot_standing.proofs.Certifying.{changed, unchanged, none_newer, others_newer, not_newer, is_newer, valid_by}
