@@ -3,6 +3,7 @@ use Rattle.std.proofs.Common.{◌≡◌, ◌≢◌, ◌≤◌, ◌+◌, ◌-◌,
 use Rattle.std.proofs.Common.{List, [], ◌∷◌, length, Option, Some, None, Ok, Err, sym, ap, ◌∙◌, subst, refl, arith}
 use Rattle.std.specs.List.{AllByRecursion}
 use Rattle.std.specs.Map.{lookup}
+use Rattle.std.specs.Option.{option_map}
 use Rattle.std.proofs.lemmas.Bool.Decides.{nat_tests}
 use Rattle.wot_key.specs.Key.{fpr_of}
 use Rattle.wot_policy.specs.declared.rows.PolicyRows.{PolicyRows}
@@ -14,9 +15,9 @@ use Rattle.wot_cert.specs.Text.{size_of}
 use Rattle.wot_cert.specs.Whole.{IsCertificate}
 use Rattle.wot_keyring.specs.declared.import.Imported.{Imported}
 use Rattle.wot_keyring.specs.declared.kept.Kept.{Kept}
-use Rattle.wot_keyring.specs.declared.refusal.Refusal.TheVariants.{Clash}
+use Rattle.wot_keyring.specs.declared.refusal.Refusal.TheVariants.{Clash, Full}
 use Rattle.wot_keyring.specs.declared.tally.Weight.{Weight}
-use Rattle.wot_keyring.specs.Import.{weigh, with_certs, fresh_in, holding, answer_united, unless_full, first_full}
+use Rattle.wot_keyring.specs.Import.{◌>>◌, weigh, with_certs, fresh_in, holding, answer_united, first_full, refuse_if}
 use Rattle.wot_keyring.specs.Import.{IsOneChange, KeepsAll}
 use Rattle.wot_keyring.specs.Held.{Held, held_of}
 use Rattle.wot_keyring.specs.Importing.{MayUnite}
@@ -172,9 +173,9 @@ module _ (rows : PolicyRows) (k : Keyring) (cs : List Certificate) (new : Entrie
   answered skipped may =
       ap (λ n. Ok (record { taken = length cs; skipped = skipped; fresh = n })) fresh_is
       ∙ sym (
-      ap (λ b. if b then Err Clash else unless_full (first_full k.limits (with_certs rows (certificates_in k) cs))
-      (counts skipped)) may.clash
-      ∙ ap (λ (o : Option Limit). unless_full o (counts skipped)) (may.full rows)
+      ap (λ b. refuse_if b Clash >> (option_map Full (first_full k.limits (with_certs rows (certificates_in k) cs))
+      >> Ok (counts skipped))) may.clash
+      ∙ ap (λ (o : Option Limit). option_map Full o >> Ok (counts skipped)) (may.full rows)
       )
 
   module _ (still : (a b : Certificate) → items_of (unite a b) ≡ items_of a → unite a b ≡ a) where

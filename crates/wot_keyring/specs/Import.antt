@@ -3,6 +3,7 @@
 use Rattle.std.specs.Prelude.{◌≡◌, ◌≢◌, ◌<◌, ◌≤◌, ◌⊎◌, ℕ, ◌+◌, ◌-◌, Bool, true, false, not, ◌&&◌, ◌||◌, nat_eq, nat_lt}
 use Rattle.std.specs.Prelude.{if◌then◌else◌, List, [], ◌∷◌, map, length, Option, Some, None, Result, Ok, Err}
 use Rattle.std.specs.List.{list_any}
+use Rattle.std.specs.Option.{option_map}
 use Rattle.std.specs.Cmp.Lexicographic.{pointwise}
 use Rattle.std.specs.BTreeMap.{insert_entry}
 use Rattle.std.specs.Map.{lookup}
@@ -154,37 +155,46 @@ is_entry name cs skipped = false
 
 -- ---- the answer
 
-abbrev pub unless_full : Option Limit → Imported → Result Imported Refusal
-unless_full (Some limit) counts = Err (Full limit)
-unless_full None counts = Ok counts
+-- a first part, and a second one that uses its result
+infixl 10 ◌>>=◌
+abbrev pub ◌>>=◌ : {A B : Type 0} → Result A Refusal → (A → Result B Refusal) → Result B Refusal
+Ok x >>= f = f x
+Err refusal >>= f = Err refusal
+
+-- the refusal, if there is one, and else the answer
+infixl 10 ◌>>◌
+abbrev pub ◌>>◌ : {A : Type 0} → Option Refusal → Result A Refusal → Result A Refusal
+Some refusal >> answer = Err refusal
+None >> answer = answer
+
+abbrev pub refuse_if : Bool → Refusal → Option Refusal
+refuse_if test refusal = if test then Some refusal else None
 
 -- These certificates are merged with the kept ones, with this many keys skipped, unless two clash or a limit is
 -- exceeded.
 abbrev pub answer_united : PolicyRows → Limits → Certificates → List Certificate → ℕ → Result Imported Refusal
-answer_united rows limits certs cs skipped =
-    if any_clash (map (λ (e : Fpr × Certificate). e.1) certs) cs then Err Clash
-    else unless_full (first_full limits (with_certs rows certs cs))
-    (record { taken = length cs; skipped = skipped; fresh = fresh_in certs (with_certs rows certs cs) })
+answer_united rows limits certs cs skipped = do
+  refuse_if (any_clash (map (λ (e : Fpr × Certificate). e.1) certs) cs) Clash
+  option_map Full (first_full limits (with_certs rows certs cs))
+  Ok (record { taken = length cs; skipped = skipped; fresh = fresh_in certs (with_certs rows certs cs) })
 
 -- the answer with a demand on the certificates: if they don't meet it, the entry is misfiled
 abbrev pub answer_meeting : Demand → PolicyRows → Limits → Certificates → List Certificate → ℕ → Result Imported Refusal
-answer_meeting demand rows limits certs cs skipped =
-    if demand cs skipped then answer_united rows limits certs cs skipped else Err Misfiled
+answer_meeting demand rows limits certs cs skipped = do
+  refuse_if (not (demand cs skipped)) Misfiled
+  answer_united rows limits certs cs skipped
 
-abbrev pub unless_fault : Option CertFault → Result Imported Refusal → Result Imported Refusal
-unless_fault (Some fault) answer = Err (Cert fault)
-unless_fault None answer = answer
-
-abbrev pub answer_read : Demand → PolicyRows → Limits → Certificates → Result (List Spelled) PacketFault
-    → Result Imported Refusal
-answer_read demand rows limits certs (Err fault) = Err (Packet fault)
-answer_read demand rows limits certs (Ok packets) =
-    unless_fault (first_fault packets)
-    (answer_meeting demand rows limits certs (certificates_of packets) (skipped_in packets))
+-- the packets, or their fault as a refusal
+abbrev pub packets_or_refusal : Result (List Spelled) PacketFault → Result (List Spelled) Refusal
+packets_or_refusal (Ok packets) = Ok packets
+packets_or_refusal (Err fault) = Err (Packet fault)
 
 -- the answer to octets with a demand, if there is enough memory: the first refusal in this order, or the counts
 abbrev pub answer_under : Demand → PolicyRows → Limits → Certificates → List ℕ → Result Imported Refusal
-answer_under demand rows limits certs octets = answer_read demand rows limits certs (packets_of octets)
+answer_under demand rows limits certs octets = do
+  packets ← packets_or_refusal (packets_of octets)
+  option_map Cert (first_fault packets)
+  answer_meeting demand rows limits certs (certificates_of packets) (skipped_in packets)
 
 -- the answer to an import
 abbrev pub answer_to : PolicyRows → Limits → Certificates → List ℕ → Result Imported Refusal
