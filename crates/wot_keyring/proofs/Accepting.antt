@@ -77,10 +77,7 @@ module _ (united : (a b : Certificate) → IsCertificate a → IsCertificate b �
 less_is : (f a b : ℕ) → f + a ≡ b → f ≡ b - a
 less_is f a b h = omega arith
 
-more_is : (f a b : ℕ) → a + f ≡ b → f ≡ b - a
-more_is f a b h = omega arith
-
-at_most_is : (f a b : ℕ) → a + f ≤ b → f ≤ b - a
+at_most_is : (f a b : ℕ) → f + a ≤ b → f ≤ b - a
 at_most_is f a b h = omega arith
 
 pub weighs_stripped : (measure : Certificate → ℕ) (es : Entries) → weigh measure (stripped es) ≡ weigh_kept measure es
@@ -114,14 +111,14 @@ tally_of k octets signatures h t = record {
 
 -- how often the policy was asked
 pub asked_all : (rows : PolicyRows) (stamp : ℕ) (es : Entries) (cs : List Certificate) (n : ℕ) →
-    weigh_kept sound_of es + n ≡ weigh_kept sound_of (kept_all rows stamp es cs) →
+    n + weigh_kept sound_of es ≡ weigh_kept sound_of (kept_all rows stamp es cs) →
     n ≡ weigh sound_of (with_certs rows (stripped es) cs) - weigh sound_of (stripped es)
 asked_all rows stamp es cs n e =
-    more_is n (weigh_kept sound_of es) _ e
+    less_is n (weigh_kept sound_of es) _ e
     ∙ (λ i. weighs_all sound_of rows stamp es cs i - sym (weighs_stripped sound_of es) i)
 
 pub asked_some : (rows : PolicyRows) (stamp : ℕ) (es : Entries) (cs : List Certificate) (n : ℕ) →
-    weigh_kept sound_of es + n ≤ weigh_kept sound_of (kept_all rows stamp es cs) →
+    n + weigh_kept sound_of es ≤ weigh_kept sound_of (kept_all rows stamp es cs) →
     n ≤ weigh sound_of (with_certs rows (stripped es) cs) - weigh sound_of (stripped es)
 asked_some rows stamp es cs n h =
     let Least : ℕ → Type 0 = λ m. n ≤ m in

@@ -148,12 +148,12 @@ none_asked a u h = none_more (sound_of a) (sound_of u) h
 pub no_more : (n m : ℕ) → n ≡ m → n ≤ m
 no_more n m e = omega arith
 
-less_by : (k f s w v : ℕ) → k + f ≤ s → v + f ≡ w + s → w + k ≤ v
+less_by : (k f s w v : ℕ) → k + f ≤ s → v + f ≡ w + s → k + w ≤ v
 less_by k f s w v h e = omega arith
 
 pub asked_less : (rows : PolicyRows) (stamp : ℕ) (es : Entries) (c : Certificate) (k : ℕ) → AreSortedByFpr es →
     k + found_by sound_of (found_for es c) ≤ sound_of (joined rows (found_for es c) c) →
-    sound_in es + k ≤ sound_in (kept_with rows stamp es c)
+    k + sound_in es ≤ sound_in (kept_with rows stamp es c)
 asked_less rows stamp es c k sorted h =
     less_by k _ _ _ _ h (weighs_by sound_of es (fpr_of c.key) (kept_as rows stamp (found_for es c) c) sorted)
 

@@ -1,5 +1,5 @@
 -- The steps of an import, one after the other.
-use Rattle.std.proofs.Common.{◌≡◌, ◌≤◌, ◌+◌, ◌-◌, ◌^◌, max, min, ◌⊎◌, inl, inr, ℕ, false, ◌||◌, List, [], ◌∷◌, Option}
+use Rattle.std.proofs.Common.{◌≡◌, ◌≤◌, ◌+◌, ◌-◌, ◌^◌, max, min, ℕ, false, ◌||◌, List, [], ◌∷◌, Option}
 use Rattle.std.proofs.Common.{Some, None, sym, ap, ◌∙◌, subst, refl, arith}
 use Rattle.std.specs.declared.cmp.Ordering.TheVariants.{Less, Equal, Greater}
 use Rattle.std.specs.Ordering.{match_ordering, ordering_reverse}
@@ -25,7 +25,7 @@ use Rattle.wot_keyring.specs.declared.tally.Tally.{Tally}
 use Rattle.wot_keyring.specs.Keyring.{Entries}
 use Rattle.wot_keyring.specs.Kept.{AreSortedByFpr, AreJudged}
 use Rattle.wot_keyring.specs.Staging.{found_for, found_by, joined, kept_as, kept_with, kept_all, clash_at, clash_in}
-use Rattle.wot_keyring.specs.Staging.{weigh_kept, IsTally, AskedOnFault, AskedUpTo, StillLeadsBack, IsClashTold}
+use Rattle.wot_keyring.specs.Staging.{weigh_kept, IsTally, StillLeadsBack, IsClashTold}
 use Rattle.wot_keyring.proofs.Steps.{weighs_by}
 
 -- ---- order
@@ -157,35 +157,43 @@ run_on rows stamp limit all first log t left rest c es es' log' log2 t' t2 run s
       judged = λ h. p.judged (run.judged h);
     }
 
-pub none_yet : (a : ℕ) → a + 0 ≡ a
+pub none_yet : (a : ℕ) → 0 + a ≡ a
 none_yet a = omega arith
 
-summed : (a k w j v : ℕ) → a + k ≡ w → w + j ≡ v → a + (k + j) ≡ v
+summed : (a k w j v : ℕ) → k + a ≡ w → j + w ≡ v → k + j + a ≡ v
 summed a k w j v e f = omega arith
 
 pub asked_on : (rows : PolicyRows) (stamp : ℕ) (a k j : ℕ) (es es' : Entries) (c : Certificate) →
-    a + k ≡ weigh_kept sound_of es → weigh_kept sound_of es + j ≡ weigh_kept sound_of (kept_with rows stamp es c) →
-    es' ≡ kept_with rows stamp es c → a + (k + j) ≡ weigh_kept sound_of es'
+    k + a ≡ weigh_kept sound_of es → j + weigh_kept sound_of es ≡ weigh_kept sound_of (kept_with rows stamp es c) →
+    es' ≡ kept_with rows stamp es c → k + j + a ≡ weigh_kept sound_of es'
 asked_on rows stamp a k j es es' c e f p = summed a k _ j _ e f ∙ ap (weigh_kept sound_of) (sym p)
 
 -- what was asked before an error
-at_most : (a k w j v u : ℕ) → a + k ≡ w → (j ≡ 0) ⊎ (w + j ≤ v) → w ≤ v → v ≤ u → a + (k + j) ≤ u
-at_most a k w j v u e (inl f) h m = omega arith
-at_most a k w j v u e (inr f) h m = omega arith
+at_most : (a k w j v u : ℕ) → k + a ≡ w → j + w ≤ v → v ≤ u → k + j + a ≤ u
+at_most a k w j v u e f m = omega arith
+
+-- what wasn't asked
+none_before : (w v : ℕ) → w ≤ v → 0 + w ≤ v
+none_before w v h = omega arith
+
+pub none_asked : ((x y : Certificate) → sound_of x ≤ sound_of (unite x y)) → (rows : PolicyRows) (stamp : ℕ)
+    (es : Entries) (c : Certificate) (k : ℕ) → AreSortedByFpr es → k ≡ 0 →
+    k + weigh_kept sound_of es ≤ weigh_kept sound_of (kept_with rows stamp es c)
+none_asked grows rows stamp es c k sorted none =
+    subst (λ n. n + weigh_kept sound_of es ≤ weigh_kept sound_of (kept_with rows stamp es c)) (sym none)
+    (none_before _ _ (more_with sound_of grows rows stamp es c sorted))
 
 pub asked_up_to : ((x y : Certificate) → sound_of x ≤ sound_of (unite x y)) →
     (rows : PolicyRows) (stamp limit : ℕ) (all : List Certificate) (first : Entries) (log : List TheWas) (t : Tally)
     (left rest : List Certificate) (c : Certificate) (es : Entries) (log' : List TheWas) (t' : Tally) (k j : ℕ)
-    (fault : Fault)
     → Run rows stamp limit all first log t left es log' t' → left ≡ c ∷ rest →
-    weigh_kept sound_of first + k ≡ weigh_kept sound_of es
-    → AskedOnFault fault (weigh_kept sound_of es) (weigh_kept sound_of (kept_with rows stamp es c)) j
-    → AskedUpTo fault (weigh_kept sound_of first) (weigh_kept sound_of (kept_all rows stamp first all)) (k + j)
-asked_up_to grows rows stamp limit all first log t left rest c es log' t' k j Clash run split e f = tt
-asked_up_to grows rows stamp limit all first log t left rest c es log' t' k j Memory run split e f =
+    k + weigh_kept sound_of first ≡ weigh_kept sound_of es
+    → j + weigh_kept sound_of es ≤ weigh_kept sound_of (kept_with rows stamp es c)
+    → k + j + weigh_kept sound_of first ≤ weigh_kept sound_of (kept_all rows stamp first all)
+asked_up_to grows rows stamp limit all first log t left rest c es log' t' k j run split e f =
     let whole : kept_all rows stamp es (c ∷ rest) ≡ kept_all rows stamp first all =
     ap (kept_all rows stamp es) (sym split) ∙ run.same in
-    at_most _ k _ j _ _ e f (more_with sound_of grows rows stamp es c run.sorted)
+    at_most _ k _ j _ _ e f
     (subst (λ (x : Entries). weigh_kept sound_of (kept_with rows stamp es c) ≤ weigh_kept sound_of x) whole
     (more_in_all sound_of grows rows stamp (kept_with rows stamp es c) rest
     (sorted_insert es (fpr_of c.key) (kept_as rows stamp (found_for es c) c) run.sorted)))

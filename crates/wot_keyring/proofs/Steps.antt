@@ -75,7 +75,7 @@ fresh_by : (t u i k f n w v first from : ℕ) → t + first ≡ from + w → i +
     u + first ≡ from + v
 fresh_by t u i k f n w v first from h s e m = omega arith
 
-asked_by : (k f s w v : ℕ) → k + f ≡ s → v + f ≡ w + s → w + k ≡ v
+asked_by : (k f s w v : ℕ) → k + f ≡ s → v + f ≡ w + s → k + w ≡ v
 asked_by k f s w v h e = omega arith
 
 found_judged : (rows : PolicyRows) (test : Fpr → Bool) (es : Entries) → AreJudged rows es →
@@ -134,7 +134,7 @@ module _ (rows : PolicyRows) (stamp limit : ℕ) (es es' : Entries) (c : Certifi
         (h.judged (found_judged rows (is_fpr (fpr_of c.key)) es all)))
 
   -- The policy was asked for what is valid and new in this step.
-  pub asked_moved : (k : ℕ) → k + found_by sound_of (found_for es c) ≡ sound_of s.kept.cert →
-      weigh_kept sound_of es + k ≡ weigh_kept sound_of (kept_with rows stamp es c)
-  asked_moved k a = asked_by k _ _ _ _ a (by sound_of)
+  pub asked_moved : (k : ℕ) → k + found_by sound_of (found_for es c) ≡ sound_of (joined rows (found_for es c) c) →
+      k + weigh_kept sound_of es ≡ weigh_kept sound_of (kept_with rows stamp es c)
+  asked_moved k a = asked_by k _ _ _ _ (a ∙ ap (λ (x : Kept). sound_of x.cert) (sym h.kept)) (by sound_of)
       ∙ ap (λ (x : Kept). weigh_kept sound_of (insert_entry fpr_cmp es (fpr_of c.key) x)) h.kept

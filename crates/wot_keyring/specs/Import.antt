@@ -18,8 +18,9 @@ use Rattle.wot_key.specs.Key.{fpr_of}
 use Rattle.wot_packet.specs.declared.packet.PacketFault.{PacketFault}
 use Rattle.wot_packet.specs.Spelling.{Spelled}
 use Rattle.wot_packet.specs.Reading.{packets_of}
+use Rattle.wot_policy.specs.declared.policy.Policy.{Policy}
 use Rattle.wot_policy.specs.declared.rows.PolicyRows.{PolicyRows}
-use Rattle.wot_cert.specs.declared.fault.CertFault.{CertFault}
+use Rattle.wot_cert.specs.Asking.{Asks}
 use Rattle.wot_cert.specs.Certificate.{Certificate, unite}
 use Rattle.wot_cert.specs.Assembly.{certificates_of, skipped_in}
 use Rattle.wot_cert.specs.Counts.{sum_of, items_of, signatures_of}
@@ -208,12 +209,20 @@ ReturnsUnder demand result rows old octets =
 abbrev pub ImportReturns : Result Imported Refusal → PolicyRows → Keyring → List ℕ → Type 0
 ImportReturns result rows old octets = ReturnsUnder any result rows old octets
 
--- How often the policy was asked: on Ok for all that is new, on a refusal never, and if out of memory at most for all
--- that is new.
+-- How often the policy was asked about what is new, for each answer: on Ok about all of it, if out of memory at most
+-- about all, and on a refusal about nothing.
+abbrev pub IsAskedAbout : Result Imported Refusal → ℕ → ℕ → Type 0
+IsAskedAbout (Ok counts) new k = k ≡ new
+IsAskedAbout (Err Memory) new k = k ≤ new
+IsAskedAbout (Err _) new k = k ≡ 0
+
+-- So often the policy was asked in between.
+abbrev pub Asked : {F : Type 0} → Result Imported Refusal → ℕ → Policy F → Policy F → Type 0
+Asked answer new before after = Asks before after (IsAskedAbout answer new)
+
+-- So often it was asked about what these octets bring.
 abbrev pub IsAsked : Result Imported Refusal → PolicyRows → Keyring → List ℕ → ℕ → Type 0
-IsAsked (Ok counts) rows old octets k = k ≡ asked_in rows (certificates_in old) octets
-IsAsked (Err Memory) rows old octets k = k ≤ asked_in rows (certificates_in old) octets
-IsAsked (Err _) rows old octets k = k ≡ 0
+IsAsked result rows old octets k = IsAskedAbout result (asked_in rows (certificates_in old) octets) k
 
 abbrev pub AsksFor : Result Imported Refusal → PolicyRows → Keyring → List ℕ → (ℕ → Type 0) → Type 0
 AsksFor result rows old octets IsRisenBy = (k : ℕ) × IsRisenBy k × IsAsked result rows old octets k

@@ -1,12 +1,10 @@
 -- The parts of an import: reading, trying, and doing.
-use Rattle.std.specs.Prelude.{◌≡◌, ◌≤◌, ◌⊎◌, ℕ, ◌-◌, false, List, map, Option, Some, None, Result, Ok, Err}
+use Rattle.std.specs.Prelude.{◌≡◌, ◌⊎◌, ℕ, ◌-◌, false, List, map, Option, Some, None, Result, Ok, Err}
 use Rattle.std.specs.List.{AllByRecursion}
 use Rattle.wot_types.specs.declared.fpr.Fpr.{Fpr}
 use Rattle.wot_types.specs.declared.limits.Limits.{Limits}
 use Rattle.wot_types.specs.declared.limits.Limit.{Limit}
-use Rattle.wot_policy.specs.declared.policy.Policy.{Policy}
 use Rattle.wot_policy.specs.declared.rows.PolicyRows.{PolicyRows}
-use Rattle.wot_policy.specs.Kept.{asked_more, rows_of}
 use Rattle.wot_cert.specs.declared.assembling.Assembled.{Assembled}
 use Rattle.wot_cert.specs.Certificate.{Certificate}
 use Rattle.wot_cert.specs.Judged.{sound_of}
@@ -68,18 +66,6 @@ abbrev pub AnswersUnited : Result Imported Refusal → PolicyRows → Keyring �
 AnswersUnited result rows old cs skipped =
     (result ≡ answer_united rows old.limits (certificates_in old) cs skipped) ⊎ (result ≡ Err Memory)
 
--- how often the policy is asked for them
+-- how often the policy is asked about them: once for each well-formed signature that is new
 abbrev pub asked_for : PolicyRows → Keyring → List Certificate → ℕ
 asked_for rows old cs = weigh sound_of (with_certs rows (certificates_in old) cs) - weigh sound_of (certificates_in old)
-
--- How often the policy was asked, for each kind of answer.
-abbrev pub IsAskedOf : Result Imported Refusal → ℕ → ℕ → Type 0
-IsAskedOf (Ok counts) all n = n ≡ all
-IsAskedOf (Err Memory) all n = n ≤ all
-IsAskedOf (Err _) all n = n ≡ 0
-
--- The policy was asked exactly this often.
-abbrev pub AsksUniting : {F : Type 0} → Result Imported Refusal → Policy F → Policy F → Keyring
-    → List Certificate → Type 0
-AsksUniting result before after old cs =
-    (k : ℕ) × (after ≡ asked_more k before) × IsAskedOf result (asked_for (rows_of before) old cs) k

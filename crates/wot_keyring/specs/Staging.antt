@@ -1,6 +1,6 @@
 -- How an import merges certificates one after the other, and how that is undone.
-use Rattle.std.specs.Prelude.{◌≡◌, ◌≤◌, ◌⊎◌, ℕ, ◌+◌, Bool, true, false, not, ◌||◌, nat_eq, nat_lt, if◌then◌else◌}
-use Rattle.std.specs.Prelude.{List, [], ◌∷◌, Option, Some, None, is_some, Result, Ok, Err, MatchResult}
+use Rattle.std.specs.Prelude.{◌≡◌, ◌≤◌, ℕ, ◌+◌, Bool, true, false, not, ◌||◌, nat_eq, nat_lt, if◌then◌else◌}
+use Rattle.std.specs.Prelude.{List, [], ◌∷◌, Option, Some, None, is_some, Result, Ok, Err}
 use Rattle.std.specs.Option.{option_map}
 use Rattle.std.specs.Cmp.Lexicographic.{pointwise}
 use Rattle.std.specs.BTreeMap.{insert_entry}
@@ -11,13 +11,10 @@ use Rattle.wot_types.specs.declared.limits.Limit.{Limit}
 use Rattle.wot_types.specs.declared.limits.Limit.TheVariants as limits
 use Rattle.wot_types.specs.Fpr.{fpr_cmp}
 use Rattle.wot_key.specs.Key.{fpr_of}
-use Rattle.wot_policy.specs.declared.policy.Policy.{Policy}
 use Rattle.wot_policy.specs.declared.rows.PolicyRows.{PolicyRows}
-use Rattle.wot_policy.specs.Kept.{asked_more, rows_of}
 use Rattle.wot_cert.specs.Assembly.{bare}
 use Rattle.wot_cert.specs.Certificate.{Certificate}
 use Rattle.wot_cert.specs.declared.growth.Growth.{Growth}
-use Rattle.wot_cert.specs.Asking.{Asks, AsksUpTo}
 use Rattle.wot_cert.specs.Growing.{shrunk, LeadsBack as CertLeadsBack}
 use Rattle.wot_cert.specs.Counts.{sum_of, items_of, signatures_of}
 use Rattle.wot_cert.specs.Judged.{IsJudged, judged, sound_of}
@@ -137,51 +134,9 @@ abbrev pub found_by : (Certificate → ℕ) → Option Kept → ℕ
 found_by measure None = 0
 found_by measure (Some kept) = measure kept.cert
 
--- How often the policy was asked: never, or at most once for each well-formed signature that is new.
-abbrev pub AskedOnFault : Fault → ℕ → ℕ → ℕ → Type 0
-AskedOnFault fault old new k = (k ≡ 0) ⊎ (old + k ≤ new)
-
-abbrev pub AskedFor : {T : Type 0} → Result T Fault → ℕ → ℕ → ℕ → Type 0
-AskedFor (Ok done) old new k = old + k ≡ new
-AskedFor (Err fault) old new k = AskedOnFault fault old new k
-
--- how often it was asked for several certificates, for each kind of answer
-abbrev pub AskedUpTo : Fault → ℕ → ℕ → ℕ → Type 0
-AskedUpTo Clash old new k = Unit {0}
-AskedUpTo Memory old new k = old + k ≤ new
-
-abbrev pub AskedInAll : {T : Type 0} → Result T Fault → ℕ → ℕ → ℕ → Type 0
-AskedInAll (Ok done) old new k = old + k ≡ new
-AskedInAll (Err fault) old new k = AskedUpTo fault old new k
-
 -- how many well-formed signatures are kept
 abbrev pub sound_in : Entries → ℕ
 sound_in es = weigh_kept sound_of es
-
--- how many well-formed signatures of this certificate are kept
-abbrev pub sound_found : Entries → Certificate → ℕ
-sound_found es c = found_by sound_of (found_for es c)
-
--- The policy was asked for what is new in a certificate that is merged with the one found; if out of memory, for some
--- of it.
-abbrev pub AsksToJoin : {F T : Type 0} → Result T Fault → Policy F → Policy F → Option Kept → Certificate → Type 0
-AsksToJoin result before after found c =
-    AsksUpTo result before after (found_by sound_of found) (sound_of (joined (rows_of before) found c))
-
--- The policy was asked for what is new in a certificate that is merged, and in several.
-abbrev pub AsksForOne : {F T : Type 0} → Result T Fault → Policy F → Policy F → ℕ → Entries → Certificate → Type 0
-AsksForOne result before after stamp es c =
-    Asks before after (AskedFor result (sound_in es) (sound_in (kept_with (rows_of before) stamp es c)))
-
-abbrev pub AsksForAll : {F T : Type 0} → Result T Fault → Policy F → Policy F → ℕ → Entries → List Certificate → Type 0
-AsksForAll result before after stamp es cs =
-    (k : ℕ) × (after ≡ asked_more k before)
-    × AskedInAll result (sound_in es) (sound_in (kept_all (rows_of before) stamp es cs)) k
-
--- The policy was asked for what a certificate has and the first one lacks; if that is nothing, it wasn't asked.
-abbrev pub AsksToBecome : {F T : Type 0} → Result T Fault → Policy F → Policy F → ℕ → (T → Certificate) → Type 0
-AsksToBecome result before after sound became =
-    Asks before after (λ k. MatchResult result (λ done. k + sound ≡ sound_of (became done)) (λ _. k ≡ 0))
 
 -- What is new was counted.
 abbrev pub Counts : Entries → Entries → Tally → Tally → Type 0

@@ -3,6 +3,7 @@
 //! and in `Keyring::take`.
 ghost use Rattle.std.specs.Prelude.{◌≡◌, ◌<◌, ◌^◌, ◌+◌, length, IfOk, OnOk, OnErr};
 ghost use Rattle.wot_policy.specs.Kept.{IsFaithful, rows_of};
+ghost use Rattle.wot_cert.specs.Asking.{AsksUpTo};
 ghost use Rattle.wot_cert.specs.Counts.{items_of};
 ghost use Rattle.wot_keyring.specs.Import.{any_clash, is_entry, stands_under};
 ghost use Rattle.wot_keyring.specs.Entry.{TellsEntry, TellsParts};
@@ -10,7 +11,7 @@ ghost use Rattle.wot_keyring.specs.Importing.{alone, IsFirstFull, TellsRead};
 ghost use Rattle.wot_keyring.specs.Index.{stands_among, Notes, NotesNothing};
 ghost use Rattle.wot_keyring.specs.Kept.{AreSortedByFpr, AreJudged, AreNamed};
 ghost use Rattle.wot_keyring.specs.Keyring.{stripped};
-ghost use Rattle.wot_keyring.specs.Staging.{kept_all, clash_in, full_by, weigh_kept, AsksForAll, IsTally, TellsClash};
+ghost use Rattle.wot_keyring.specs.Staging.{kept_all, clash_in, full_by, sound_in, weigh_kept, IsTally, TellsClash};
 
 use crate::index::Index;
 use crate::kept::Kept;
@@ -168,7 +169,8 @@ pub(crate) fn unite_all<F: Fn(Ask) -> bool>(
     ensures fresh { IfOk result (λ tally. tally.fresh + weigh_kept items_of certs.old.entries
         ≡ weigh_kept items_of certs.new.entries) }
     ensures clash { TellsClash result (clash_in (rows_of policy.old) terms.now.stamp certs.old.entries list.now) }
-    ensures asked { AsksForAll result policy.old policy.new terms.now.stamp certs.old.entries list.now }
+    ensures asked { AsksUpTo result policy.old policy.new (sound_in certs.old.entries)
+        (sound_in (kept_all (rows_of policy.old) terms.now.stamp certs.old.entries list.now)) }
     ensures judged { OnOk result (AreJudged (rows_of policy.old) certs.old.entries
         → AreJudged (rows_of policy.old) certs.new.entries) }
     ensures faithful { IsFaithful F.Fn policy.new }

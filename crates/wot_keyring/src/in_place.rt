@@ -3,9 +3,12 @@
 //! contracts are those of the merge by a copy, so callers see no difference.
 ghost use Rattle.std.specs.Prelude.{◌≡◌, ◌<◌, vec_len, vec_capacity, IfOk, OnOk, OnErr, Some};
 ghost use Rattle.wot_policy.specs.Kept.{IsFaithful, rows_of};
+ghost use Rattle.wot_cert.specs.Asking.{AsksUpTo};
+ghost use Rattle.wot_cert.specs.Growing.{AsksForCert};
+ghost use Rattle.wot_cert.specs.Judged.{sound_of};
 ghost use Rattle.wot_keyring.specs.Kept.{AreSortedByFpr, AreJudged};
-ghost use Rattle.wot_keyring.specs.Staging.{clash_at, found_for, kept_with, AsksForOne, AsksToJoin, Counts, GrowsTo};
-ghost use Rattle.wot_keyring.specs.Staging.{IsGrownOn, IsTally, StillLeadsBack, TellsClash};
+ghost use Rattle.wot_keyring.specs.Staging.{clash_at, found_by, found_for, joined, kept_with, sound_in};
+ghost use Rattle.wot_keyring.specs.Staging.{Counts, GrowsTo, IsGrownOn, IsTally, StillLeadsBack, TellsClash};
 
 use crate::kept::Kept;
 use crate::keyring::find;
@@ -55,7 +58,7 @@ fn grow_kept<F: Fn(Ask) -> bool>(
         (GrowsTo (rows_of policy.old) terms.now.stamp terms.now.limit cert.now kept.old kept.new) }
     ensures same { OnErr result (kept.new ≡ kept.old) }
     ensures clash { TellsClash result (clash_at (Some kept.old) cert.now) }
-    ensures asked { AsksToJoin result policy.old policy.new (Some kept.old) cert.now }
+    ensures asked { AsksForCert result policy.old policy.new kept.old.cert cert.now }
     ensures faithful { IsFaithful F.Fn policy.new }
 {
     united_grows();
@@ -98,7 +101,8 @@ fn grow_at<F: Fn(Ask) -> bool>(
         (IsGrownOn (rows_of policy.old) terms.now cert.now certs.old.entries certs.new.entries) }
     ensures log { StillLeadsBack log.old.items certs.old.entries log.new.items certs.new.entries }
     ensures clash { TellsClash result (clash_at (found_for certs.old.entries cert.now) cert.now) }
-    ensures asked { AsksToJoin result policy.old policy.new (found_for certs.old.entries cert.now) cert.now }
+    ensures asked { AsksUpTo result policy.old policy.new (found_by sound_of (found_for certs.old.entries cert.now))
+        (sound_of (joined (rows_of policy.old) (found_for certs.old.entries cert.now) cert.now)) }
     ensures faithful { IsFaithful F.Fn policy.new }
 {
     let fpr = cert.fpr();
@@ -152,7 +156,8 @@ pub(crate) fn put_in_place<F: Fn(Ask) -> bool>(
     ensures tallied { OnOk result (IsTally terms.now.limit certs.new.entries tally.new.total) }
     ensures fresh { OnOk result (Counts certs.old.entries certs.new.entries tally.old tally.new) }
     ensures clash { TellsClash result (clash_at (found_for certs.old.entries cert.now) cert.now) }
-    ensures asked { AsksForOne result policy.old policy.new terms.now.stamp certs.old.entries cert.now }
+    ensures asked { AsksUpTo result policy.old policy.new (sound_in certs.old.entries)
+        (sound_in (kept_with (rows_of policy.old) terms.now.stamp certs.old.entries cert.now)) }
     ensures judged { OnOk result (AreJudged (rows_of policy.old) certs.old.entries
         → AreJudged (rows_of policy.old) certs.new.entries) }
     ensures faithful { IsFaithful F.Fn policy.new }

@@ -20,11 +20,11 @@ ghost use Rattle.wot_keyring.specs.Kept.{IsKeyring, StaysJudged};
 ghost use Rattle.wot_policy.specs.declared.rows.PolicyRows.{PolicyRows as Rows};
 ghost use Rattle.wot_policy.specs.Kept.{IsFaithful, rows_of};
 ghost use Rattle.wot_keyring.specs.Dump.{commands_of, lines_of, most_dumped, AreLines, IsRestored};
-ghost use Rattle.wot_keyring.specs.Import.{IsOneChange, with_united};
+ghost use Rattle.wot_keyring.specs.Import.{Asked, IsOneChange, with_united};
 ghost use Rattle.wot_keyring.specs.Held.{held_of, removing, verdict_set, verdict_cleared};
 ghost use Rattle.wot_keyring.specs.Later.{IsLater};
 ghost use Rattle.wot_keyring.specs.Log.{HasChangedSince};
-ghost use Rattle.wot_keyring.specs.Importing.{AnswersUnited, AsksUniting, MayUnite, TellsUnion};
+ghost use Rattle.wot_keyring.specs.Importing.{asked_for, AnswersUnited, MayUnite, TellsUnion};
 ghost use Rattle.wot_keyring.specs.Pending.{pending_in};
 ghost use Rattle.wot_keyring.specs.Staging.{IsTally};
 ghost use Rattle.wot_keyring.specs.Removal.{without_cert};
@@ -300,7 +300,7 @@ impl Keyring {
         ensures answer { AnswersUnited result (rows_of policy.old) self.old read.now.certs read.now.skipped }
         ensures united { OnOk result (self.new ≡ with_united (rows_of policy.old) self.old read.now.certs) }
         ensures kept { OnErr result (self.new ≡ self.old) }
-        ensures asked { AsksUniting result policy.old policy.new self.old read.now.certs }
+        ensures asked { Asked result (asked_for (rows_of policy.old) self.old read.now.certs) policy.old policy.new }
         ensures counted { IsOneChange self.old self.new }
         ensures later { IsLater self.old self.new }
         ensures judged { IsJudgedBy (rows_of policy.old) self.new }
@@ -374,7 +374,7 @@ impl Keyring {
         ensures answer { AnswersUnited result (rows_of policy.old) self.old list.now skipped }
         ensures united { OnOk result (self.new ≡ with_united (rows_of policy.old) self.old list.now) }
         ensures kept { OnErr result (self.new ≡ self.old) }
-        ensures asked { AsksUniting result policy.old policy.new self.old list.now }
+        ensures asked { Asked result (asked_for (rows_of policy.old) self.old list.now) policy.old policy.new }
         ensures counted { IsOneChange self.old self.new }
         ensures later { IsLater self.old self.new }
         ensures judged { IsJudgedBy (rows_of policy.old) self.new }

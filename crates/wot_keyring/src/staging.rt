@@ -9,6 +9,7 @@ ghost use Rattle.std.specs.Map.{lookup};
 ghost use Rattle.std.specs.Cmp.Lexicographic.{pointwise};
 ghost use Rattle.wot_types.specs.Fpr.{fpr_cmp};
 ghost use Rattle.wot_policy.specs.Kept.{IsFaithful, rows_of};
+ghost use Rattle.wot_cert.specs.Asking.{AsksOnOk, AsksUpTo};
 ghost use Rattle.wot_cert.specs.Certificate.{unite};
 ghost use Rattle.wot_cert.specs.Counts.{items_of};
 ghost use Rattle.wot_cert.specs.Judged.{IsJudged, judged, sound_of};
@@ -16,11 +17,10 @@ ghost use Rattle.wot_cert.specs.Whole.{IsCertificate};
 ghost use Rattle.wot_keyring.specs.Kept.{AreSortedByFpr, AreJudged};
 ghost use Rattle.wot_keyring.specs.declared.kept.Kept.{Kept as TheKept};
 ghost use Rattle.wot_keyring.specs.Keyring.{Entries, is_fpr};
-ghost use Rattle.wot_keyring.specs.Staging.{begun, found_for, sound_found, stamp_over, clash_at, kept_with, kept_all};
-ghost use Rattle.wot_keyring.specs.Staging.{clash_in};
+ghost use Rattle.wot_keyring.specs.Staging.{begun, found_by, found_for, joined, stamp_over, clash_at, clash_in};
+ghost use Rattle.wot_keyring.specs.Staging.{kept_with, kept_all, sound_in};
 ghost use Rattle.wot_keyring.specs.Staging.{IsStepOf, IsTally, IsThere, Counts, TellsClash, Weighs, IsLog, LeadsBack};
 ghost use Rattle.wot_keyring.specs.Staging.{StillLeadsBack, MayShrink, shrunk_at};
-ghost use Rattle.wot_keyring.specs.Staging.{AsksForOne, AsksForAll, AsksToBecome};
 
 use crate::in_place::{is_small_beside, put_in_place};
 use crate::kept::Kept;
@@ -206,7 +206,7 @@ fn grow<F: Fn(Ask) -> bool>(
     ensures before { IfOk result (λ grown. Weighs limit grown.before start.old) }
     ensures after { IfOk result (λ grown. Weighs limit grown.after start.new) }
     ensures items { IfOk result (λ grown. grown.items + items_of start.old ≡ items_of start.new) }
-    ensures asked { AsksToBecome result policy.old policy.new (sound_of start.old) (λ _. start.new) }
+    ensures asked { AsksOnOk result policy.old policy.new (λ k. k + sound_of start.old ≡ sound_of start.new) }
     ensures judged { IsJudged (rows_of policy.old) start.old → IsJudged (rows_of policy.old) start.new }
     ensures faithful { IsFaithful F.Fn policy.new }
 {
@@ -270,8 +270,9 @@ fn take_step<F: Fn(Ask) -> bool>(
     ensures step { IfOk result
         (IsStepOf (rows_of policy.old) terms.now.stamp terms.now.limit certs.now.entries cert.now) }
     ensures clash { TellsClash result (clash_at (found_for certs.now.entries cert.now) cert.now) }
-    ensures asked { AsksToBecome result policy.old policy.new (sound_found certs.now.entries cert.now)
-        (λ step. step.kept.cert) }
+    ensures asked { AsksOnOk result policy.old policy.new (λ k. k + found_by sound_of
+        (found_for certs.now.entries cert.now) ≡ sound_of
+        (joined (rows_of policy.old) (found_for certs.now.entries cert.now) cert.now)) }
     ensures faithful { IsFaithful F.Fn policy.new }
 {
     united_with_nothing();
@@ -337,11 +338,13 @@ fn put_one<F: Fn(Ask) -> bool>(
     ensures tallied { OnOk result (IsTally terms.now.limit certs.new.entries tally.new.total) }
     ensures fresh { OnOk result (Counts certs.old.entries certs.new.entries tally.old tally.new) }
     ensures clash { TellsClash result (clash_at (found_for certs.old.entries cert.now) cert.now) }
-    ensures asked { AsksForOne result policy.old policy.new terms.now.stamp certs.old.entries cert.now }
+    ensures asked { AsksUpTo result policy.old policy.new (sound_in certs.old.entries)
+        (sound_in (kept_with (rows_of policy.old) terms.now.stamp certs.old.entries cert.now)) }
     ensures judged { OnOk result (AreJudged (rows_of policy.old) certs.old.entries
         → AreJudged (rows_of policy.old) certs.new.entries) }
     ensures faithful { IsFaithful F.Fn policy.new }
 {
+    united_grows();
     let step = match take_step(alloc, certs, cert, terms, policy) {
         Ok(step) => step,
         Err(fault) => return Err(fault),
@@ -376,7 +379,8 @@ fn put_next<F: Fn(Ask) -> bool>(
     ensures tallied { OnOk result (IsTally terms.now.limit certs.new.entries tally.new.total) }
     ensures fresh { OnOk result (Counts certs.old.entries certs.new.entries tally.old tally.new) }
     ensures clash { TellsClash result (clash_at (found_for certs.old.entries cert.now) cert.now) }
-    ensures asked { AsksForOne result policy.old policy.new terms.now.stamp certs.old.entries cert.now }
+    ensures asked { AsksUpTo result policy.old policy.new (sound_in certs.old.entries)
+        (sound_in (kept_with (rows_of policy.old) terms.now.stamp certs.old.entries cert.now)) }
     ensures judged { OnOk result (AreJudged (rows_of policy.old) certs.old.entries
         → AreJudged (rows_of policy.old) certs.new.entries) }
     ensures faithful { IsFaithful F.Fn policy.new }
@@ -409,7 +413,8 @@ pub(crate) fn put_all<F: Fn(Ask) -> bool>(
     ensures tallied { OnOk result (IsTally terms.now.limit certs.new.entries tally.new.total) }
     ensures fresh { OnOk result (Counts certs.old.entries certs.new.entries tally.old tally.new) }
     ensures clash { TellsClash result (clash_in (rows_of policy.old) terms.now.stamp certs.old.entries list.now) }
-    ensures asked { AsksForAll result policy.old policy.new terms.now.stamp certs.old.entries list.now }
+    ensures asked { AsksUpTo result policy.old policy.new (sound_in certs.old.entries)
+        (sound_in (kept_all (rows_of policy.old) terms.now.stamp certs.old.entries list.now)) }
     ensures judged { OnOk result (AreJudged (rows_of policy.old) certs.old.entries
         → AreJudged (rows_of policy.old) certs.new.entries) }
     ensures faithful { IsFaithful F.Fn policy.new }

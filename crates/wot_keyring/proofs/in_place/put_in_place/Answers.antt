@@ -1,4 +1,4 @@
-use Rattle.std.proofs.Common.{inr, refl, sym, ap, ◌∙◌, subst}
+use Rattle.std.proofs.Common.{refl, sym, ap, ◌∙◌, subst}
 use Rattle.wot_key.specs.Key.{fpr_of}
 use Rattle.wot_policy.specs.Kept.{rows_of}
 use Rattle.wot_cert.specs.Judged.{sound_of}
@@ -16,8 +16,8 @@ returns-in-Err-clause-asked g c =
     let a = c.in-Err.ensures.asked in (
       a.0,
       a.1,
-      inr (asked_less (rows_of c.args.policy.now) c.args.terms.now.stamp c.args.certs.now.entries
-          c.args.cert.now a.0 c.requires.sorted a.2),
+      asked_less (rows_of c.args.policy.now) c.args.terms.now.stamp c.args.certs.now.entries
+          c.args.cert.now a.0 c.requires.sorted a.2,
     )
 
 pub count-requires : goal.count-requires
@@ -53,9 +53,8 @@ returns-in_default-count-clause-asked g c =
     } in (
       a.0,
       a.1,
-      inr (no_more _ _ (asked_moved (rows_of c.args.policy.now) c.args.terms.now.stamp c.args.terms.now.limit
-          c.args.certs.now.entries c.args.certs.now.entries c.args.cert.now s grown.staged c.requires.sorted a.0
-          (a.2 ∙ ap (λ (x : Kept). sound_of x.cert) (sym grown.staged.kept)))),
+      no_more _ _ (asked_moved (rows_of c.args.policy.now) c.args.terms.now.stamp c.args.terms.now.limit
+          c.args.certs.now.entries c.args.certs.now.entries c.args.cert.now s grown.staged c.requires.sorted a.0 a.2),
     )
 
 pub returns-clause-sorted : goal.returns-clause-sorted
@@ -112,8 +111,7 @@ returns-clause-asked g c =
       a.0,
       a.1,
       asked_moved (rows_of c.args.policy.now) c.args.terms.now.stamp c.args.terms.now.limit
-          c.args.certs.now.entries c.args.certs.now.entries c.args.cert.now s grown.staged c.requires.sorted a.0
-          (a.2 ∙ ap (λ (x : Kept). sound_of x.cert) (sym grown.staged.kept)),
+          c.args.certs.now.entries c.args.certs.now.entries c.args.cert.now s grown.staged c.requires.sorted a.0 a.2,
     )
 
 pub returns-clause-judged : goal.returns-clause-judged

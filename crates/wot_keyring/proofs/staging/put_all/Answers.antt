@@ -1,8 +1,8 @@
-use Rattle.std.proofs.Common.{◌≡◌, ◌+◌, ap, subst, refl}
+use Rattle.std.proofs.Common.{◌≡◌, ◌≤◌, ◌+◌, ap, subst, refl}
 use Rattle.wot_policy.specs.declared.rows.PolicyRows.{PolicyRows}
 use Rattle.wot_policy.specs.Kept.{rows_of}
 use Rattle.wot_cert.specs.Judged.{sound_of}
-use Rattle.wot_keyring.specs.Staging.{kept_with, weigh_kept, AskedOnFault}
+use Rattle.wot_keyring.specs.Staging.{kept_with, weigh_kept}
 use Rattle.wot_keyring.proofs.Running.{Put, run_on, asked_again, not_asked, none_yet, asked_on, asked_up_to, clash_told}
 use Rattle.wot_keyring.proofs.staging.put_all.Goals as goal
 
@@ -50,7 +50,7 @@ left-preserved g c =
         i.asked.0 + more.0,
         asked_again c.args.policy.now c.left.policy c.put_next.new.policy i.asked.0 more.0 i.asked.1 more.1,
         asked_on (rows_of c.args.policy.now) stamp _ i.asked.0 more.0 es c.put_next.new.certs.entries cert i.asked.2
-            (subst (λ (rows : PolicyRows). weigh_kept sound_of es + more.0 ≡ weigh_kept sound_of
+            (subst (λ (rows : PolicyRows). more.0 + weigh_kept sound_of es ≡ weigh_kept sound_of
             (kept_with rows stamp es cert)) same more.2) put.put,
       );
       faithful = c.in-Ok.ensures.faithful;
@@ -67,9 +67,9 @@ returns-in-Err-clause-asked g c =
       asked_again c.args.policy.now c.left.policy c.put_next.new.policy i.asked.0 more.0 i.asked.1 more.1,
       asked_up_to c.united_grows.ensures.sound (rows_of c.args.policy.now) stamp c.args.terms.now.limit c.args.list.now
           c.args.certs.now.entries c.args.log.now.items c.args.tally.now c.left.left.now c.in-Some.rest.now cert es
-          c.left.log.items c.left.tally i.asked.0 more.0 c.in-Err.fault i.run c.in-Some.ensures.cases.0 i.asked.2
-          (subst (λ (rows : PolicyRows). AskedOnFault c.in-Err.fault (weigh_kept sound_of es)
-          (weigh_kept sound_of (kept_with rows stamp es cert)) more.0) (ap rows_of i.asked.1) more.2),
+          c.left.log.items c.left.tally i.asked.0 more.0 i.run c.in-Some.ensures.cases.0 i.asked.2
+          (subst (λ (rows : PolicyRows). more.0 + weigh_kept sound_of es ≤ weigh_kept sound_of
+          (kept_with rows stamp es cert)) (ap rows_of i.asked.1) more.2),
     )
 
 pub returns-in-Err-clause-clash : goal.returns-in-Err-clause-clash

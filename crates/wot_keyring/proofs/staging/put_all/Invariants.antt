@@ -9,8 +9,8 @@ abbrev pub invariant-left : goal.invariant-left
 invariant-left g l = record {
   run : Run (rows_of l.initial.policy) l.terms.stamp l.terms.limit l.list l.initial.certs.entries l.initial.log.items
       l.initial.tally l.left l.certs.entries l.log.items l.tally;
-  asked : (k : ℕ) × (l.policy ≡ asked_more k l.initial.policy) × (weigh_kept sound_of
-      l.initial.certs.entries + k ≡ weigh_kept sound_of l.certs.entries);
+  asked : (k : ℕ) × (l.policy ≡ asked_more k l.initial.policy) × (k + weigh_kept sound_of
+      l.initial.certs.entries ≡ weigh_kept sound_of l.certs.entries);
   faithful : IsFaithful g.F.Fn l.policy;
 }
 

@@ -1,9 +1,10 @@
-use Rattle.std.proofs.Common.{ap, ◌∙◌, inr, refl}
+use Rattle.std.proofs.Common.{ap, ◌∙◌, refl}
 use Rattle.std.specs.BTreeMap.{insert_entry}
 use Rattle.wot_types.specs.declared.fpr.Fpr.{Fpr}
 use Rattle.wot_types.specs.Fpr.{fpr_cmp}
 use Rattle.wot_policy.specs.Kept.{rows_of}
 use Rattle.wot_keyring.proofs.InPlace.{no_more}
+use Rattle.wot_keyring.proofs.Running.{none_asked}
 use Rattle.wot_keyring.proofs.Steps.{may_move, tally_moved, fresh_moved, judged_moved, asked_moved}
 use Rattle.wot_keyring.proofs.staging.put_one.Goals as goal
 
@@ -15,14 +16,23 @@ count-requires g c =
           c.requires.sorted c.args.tally.now.total c.requires.tallied;
     }
 
+pub returns-in-Err-clause-asked : goal.returns-in-Err-clause-asked
+returns-in-Err-clause-asked g c =
+    let a = c.in-Err.ensures.asked in (
+      a.0,
+      a.1,
+      none_asked c.united_grows.ensures.sound (rows_of c.args.policy.now) c.args.terms.now.stamp
+          c.args.certs.now.entries c.args.cert.now a.0 c.requires.sorted a.2,
+    )
+
 pub returns-in_default-clause-asked : goal.returns-in_default-clause-asked
 returns-in_default-clause-asked g c =
     let a = c.in-Ok.ensures.asked in (
       a.0,
       a.1,
-      inr (no_more _ _ (asked_moved (rows_of c.args.policy.now) c.args.terms.now.stamp c.args.terms.now.limit
+      no_more _ _ (asked_moved (rows_of c.args.policy.now) c.args.terms.now.stamp c.args.terms.now.limit
           c.args.certs.now.entries c.args.certs.now.entries c.args.cert.now c.in-Ok.step c.in-Ok.ensures.step
-          c.requires.sorted a.0 a.2)),
+          c.requires.sorted a.0 a.2),
     )
 
 pub returns-in-Ok-put-clause-tallied : goal.returns-in-Ok-put-clause-tallied
@@ -63,7 +73,7 @@ returns-in-Err-put-clause-asked g c =
     let a = c.in-Ok.ensures.asked in (
       a.0,
       a.1,
-      inr (no_more _ _ (asked_moved (rows_of c.args.policy.now) c.args.terms.now.stamp c.args.terms.now.limit
+      no_more _ _ (asked_moved (rows_of c.args.policy.now) c.args.terms.now.stamp c.args.terms.now.limit
           c.args.certs.now.entries c.args.certs.now.entries c.args.cert.now c.in-Ok.step c.in-Ok.ensures.step
-          c.requires.sorted a.0 a.2)),
+          c.requires.sorted a.0 a.2),
     )

@@ -45,24 +45,6 @@ returns-in-None-clause-clash g c =
     no_clash (found_for c.args.certs.now.entries c.args.cert.now) c.args.cert.now c.in-Ok.start.cert
     c.in-Ok.ensures.cert c.in-Ok-grow.ensures.clash
 
-pub returns-in-Some-clause-asked : goal.returns-in-Some-clause-asked
-returns-in-Some-clause-asked g c =
-    let a = c.in-Ok-grow.ensures.asked in (
-      a.0,
-      a.1,
-      asked a.0 _ (found_for c.args.certs.now.entries c.args.cert.now) c.args.cert.now c.in-Ok.start.cert
-          c.in-Ok.ensures.cert a.2,
-    )
-
-pub returns-in-None-clause-asked : goal.returns-in-None-clause-asked
-returns-in-None-clause-asked g c =
-    let a = c.in-Ok-grow.ensures.asked in (
-      a.0,
-      a.1,
-      asked a.0 _ (found_for c.args.certs.now.entries c.args.cert.now) c.args.cert.now c.in-Ok.start.cert
-          c.in-Ok.ensures.cert a.2,
-    )
-
 pub returns-in-Some-clause-step : goal.returns-in-Some-clause-step
 returns-in-Some-clause-step g c =
     let grown = c.in-Ok-grow.grown in
@@ -86,3 +68,23 @@ returns-in-None-clause-step g c =
     (c.united_with_nothing.ensures.first _)
     c.in-Ok.ensures.cert (sym c.in-None.is ∙ c.in-Ok.ensures.stamp)
     (c.stamp_of-stamp.ensures ∙ ap (λ (o : Option ℕ). stamp_over c.args.terms.now.stamp o grown.items) c.in-None.is)
+
+pub returns-in-Some-clause-asked : goal.returns-in-Some-clause-asked
+returns-in-Some-clause-asked g c =
+    let a = c.in-Ok-grow.ensures.asked in (
+      a.0,
+      a.1,
+      asked a.0 _ (found_for c.args.certs.now.entries c.args.cert.now) c.args.cert.now c.in-Ok.start.cert
+          c.in-Ok.ensures.cert (a.2
+          ∙ ap (λ (x : Kept). sound_of x.cert) (returns-in-Some-clause-step g c).kept),
+    )
+
+pub returns-in-None-clause-asked : goal.returns-in-None-clause-asked
+returns-in-None-clause-asked g c =
+    let a = c.in-Ok-grow.ensures.asked in (
+      a.0,
+      a.1,
+      asked a.0 _ (found_for c.args.certs.now.entries c.args.cert.now) c.args.cert.now c.in-Ok.start.cert
+          c.in-Ok.ensures.cert (a.2
+          ∙ ap (λ (x : Kept). sound_of x.cert) (returns-in-None-clause-step g c).kept),
+    )

@@ -149,5 +149,5 @@ returns-in-Err-Memory-clause-asked g c =
         changes = c.self.inside.changes;
       })
           c.args.self.now c.self.view_is c.terms-terms.result.stamp c.terms-terms.ensures.stamp c.args.list.now
-          c.args.list.now refl c.self.invariant.0 a.0 c.in-Err-Memory.field-0 c.in-Err-Memory.field-0-is a.2,
+          c.args.list.now refl c.self.invariant.0 a.0 a.2,
     )
