@@ -7,18 +7,18 @@ use Rattle.wot_cert.specs.Certificate.{Certificate, unite}
 use Rattle.wot_cert.specs.Counts.{items_of}
 use Rattle.wot_cert.specs.Judged.{judged, sound_of}
 use Rattle.wot_cert.specs.Whole.{IsCertificate}
-use Rattle.wot_keyring.specs.declared.staging.Fault.{Fault}
-use Rattle.wot_keyring.specs.declared.staging.Fault.TheVariants.{Clash}
-use Rattle.wot_keyring.specs.declared.tally.Weight.{Weight}
-use Rattle.wot_keyring.specs.Import.{with_certs, holding, IsOneChange}
-use Rattle.wot_keyring.specs.Importing.{MayUnite, AnswersUnited, asked_for}
-use Rattle.wot_keyring.specs.Later.{IsLater}
-use Rattle.wot_keyring.specs.Keyring.{Entries, Keyring, certificates_in}
-use Rattle.wot_keyring.specs.Kept.{AreSortedByFpr, IsKeyring, AreTotals}
-use Rattle.wot_keyring.specs.Staging.{kept_all, clash_in, weigh_kept, IsTally, IsClashTold}
+use Rattle.wot_merge.specs.declared.staging.Fault.{Fault}
+use Rattle.wot_merge.specs.declared.staging.Fault.TheVariants.{Clash}
+use Rattle.wot_merge.specs.declared.tally.Weight.{Weight}
+use Rattle.wot_held.specs.Import.{with_certs, holding, IsOneChange}
+use Rattle.wot_held.specs.Importing.{MayUnite, AnswersUnited, asked_for}
+use Rattle.wot_held.specs.Later.{IsLater}
+use Rattle.wot_held.specs.Keyring.{Entries, Keyring, certificates_in}
+use Rattle.wot_held.specs.Kept.{AreSortedByFpr, IsKeyring, AreTotals}
+use Rattle.wot_merge.specs.Staging.{kept_all, clash_in, weigh_kept, IsTally, IsClashTold}
 use Rattle.wot_keyring.proofs.Accepting.{answered, held, changed_once, keyring_after, totals_after, asked_all}
 use Rattle.wot_keyring.proofs.Accepting.{asked_some}
-use Rattle.wot_keyring.proofs.Clashes.{clashes_told}
+use Rattle.wot_merge.proofs.Clashes.{clashes_told}
 
 true_false : (b : Bool) → b ≡ true → b ≡ false → ⊥
 true_false b h k = let e : true ≡ false = sym h ∙ k in cc

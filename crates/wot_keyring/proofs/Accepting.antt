@@ -1,6 +1,6 @@
 -- What an import leaves when nothing is refused.
 use Rattle.std.proofs.Common.{◌≡◌, ◌≢◌, ◌≤◌, ◌+◌, ◌-◌, inl, inr, ℕ, Bool, true, false, ◌||◌, if◌then◌else◌, nat_lt}
-use Rattle.std.proofs.Common.{List, [], ◌∷◌, length, Option, Some, None, Ok, Err, sym, ap, ◌∙◌, subst, refl, arith}
+use Rattle.std.proofs.Common.{List, [], ◌∷◌, length, Option, Some, None, Ok, sym, ap, ◌∙◌, subst, refl, arith}
 use Rattle.std.specs.List.{AllByRecursion}
 use Rattle.std.specs.Map.{lookup}
 use Rattle.std.specs.Option.{option_map}
@@ -13,26 +13,26 @@ use Rattle.wot_cert.specs.Counts.{items_of, signatures_of}
 use Rattle.wot_cert.specs.Judged.{judged, sound_of}
 use Rattle.wot_cert.specs.Text.{size_of}
 use Rattle.wot_cert.specs.Whole.{IsCertificate}
-use Rattle.wot_keyring.specs.declared.import.Imported.{Imported}
-use Rattle.wot_keyring.specs.declared.kept.Kept.{Kept}
-use Rattle.wot_keyring.specs.declared.refusal.Refusal.TheVariants.{Clash, Full}
-use Rattle.wot_keyring.specs.declared.tally.Weight.{Weight}
-use Rattle.wot_keyring.specs.Import.{◌>>◌, weigh, with_certs, fresh_in, holding, answer_united, first_full, refuse_if}
-use Rattle.wot_keyring.specs.Import.{IsOneChange, KeepsAll}
-use Rattle.wot_keyring.specs.Held.{Held, held_of}
-use Rattle.wot_keyring.specs.Importing.{MayUnite}
-use Rattle.wot_keyring.specs.Keyring.{Entries, Keyring, certificates_in, is_fpr, stripped}
-use Rattle.wot_keyring.specs.Later.{IsLater}
-use Rattle.wot_keyring.specs.Kept.{AreNamed, AreWhole, AreSortedByFpr, AreSized, AreStamped, IsKeyring, AreTotals}
-use Rattle.wot_keyring.specs.Staging.{found_for, kept_as, kept_with, kept_all, clash_at, clash_in, weigh_kept, long_of}
-use Rattle.wot_keyring.specs.Staging.{IsTally}
-use Rattle.wot_keyring.proofs.Clashes.{keys_same}
-use Rattle.wot_keyring.proofs.Inserts.{put_at, found_at}
+use Rattle.wot_held.specs.declared.imported.Imported.{Imported}
+use Rattle.wot_held.specs.declared.kept.Kept.{Kept}
+use Rattle.wot_held.specs.declared.refusal.Refusal.TheVariants.{Clash, Full}
+use Rattle.wot_merge.specs.declared.tally.Weight.{Weight}
+use Rattle.wot_held.specs.Import.{◌>>◌, weigh, with_certs, fresh_in, holding, answer_united, first_full, refuse_if}
+use Rattle.wot_held.specs.Import.{IsOneChange, KeepsAll}
+use Rattle.wot_held.specs.Held.{Held, held_of}
+use Rattle.wot_held.specs.Importing.{MayUnite}
+use Rattle.wot_held.specs.Keyring.{Entries, Keyring, certificates_in, is_fpr, stripped}
+use Rattle.wot_held.specs.Later.{IsLater}
+use Rattle.wot_held.specs.Kept.{AreNamed, AreWhole, AreSortedByFpr, AreSized, AreStamped, IsKeyring, AreTotals}
+use Rattle.wot_merge.specs.Staging.{found_for, kept_as, kept_with, kept_all, clash_at, clash_in, weigh_kept, long_of}
+use Rattle.wot_merge.specs.Staging.{IsTally}
+use Rattle.wot_merge.proofs.Clashes.{keys_same}
+use Rattle.wot_held.proofs.Inserts.{put_at, found_at}
 use Rattle.wot_keyring.proofs.Marks.{kept_present, stamped_all, stamped_after}
-use Rattle.wot_keyring.proofs.Stamps.{still_stamped}
-use Rattle.wot_keyring.proofs.Transport.{certs_all, seen_weighs, seen_length}
-use Rattle.wot_keyring.proofs.Unchanged.{all_same}
-use Rattle.wot_keyring.proofs.Within.{full_is, Fits, fits_of, all_sized}
+use Rattle.wot_held.proofs.Stamps.{still_stamped}
+use Rattle.wot_merge.proofs.Transport.{certs_all, seen_weighs, seen_length}
+use Rattle.wot_merge.proofs.Unchanged.{all_same}
+use Rattle.wot_merge.proofs.Within.{full_is, Fits, fits_of, all_sized}
 
 -- ---- names, and what is true of certificates
 

@@ -1,6 +1,6 @@
 -- Run in a fresh keyring, the commands of a dump restore what was dumped.
 use Rattle.std.proofs.Common.{◌≡◌, ℕ, ◌<◌, ◌≤◌, Bool, false, List, [], ◌∷◌, ◌++◌, length, map, Option, Some, None, Ok}
-use Rattle.std.proofs.Common.{Result, Err, refl, sym, ap, ◌∙◌, subst, arith, append_assoc, append-nil, length-append}
+use Rattle.std.proofs.Common.{Result, refl, sym, ap, ◌∙◌, subst, arith, append_assoc, append-nil, length-append}
 use Rattle.std.specs.Prelude.{◌&&◌, ◌||◌, nat_eq, nat_lt, nat_le, not, is_none, if◌then◌else◌}
 use Rattle.std.specs.declared.cmp.Ordering.TheVariants.{Less, Greater}
 use Rattle.std.specs.Cmp.{IsTotalOrder}
@@ -41,17 +41,17 @@ use Rattle.wot_cert.specs.Judged.{judged}
 use Rattle.wot_cert.specs.ReadBack.{ReadBack}
 use Rattle.wot_cert.specs.Text.{size_of, text_of}
 use Rattle.wot_cert.specs.Whole.{IsCertificate}
-use Rattle.wot_keyring.specs.declared.import.Imported.{Imported}
-use Rattle.wot_keyring.specs.declared.kept.Kept.{Kept}
-use Rattle.wot_keyring.specs.declared.refusal.Refusal.TheVariants.{Cert, Clash, Full}
-use Rattle.wot_keyring.specs.Keyring.{Keyring, Entries, Certificates, is_fpr, stripped}
-use Rattle.wot_keyring.specs.Import.{◌>>=◌, ◌>>◌, refuse_if, packets_or_refusal}
-use Rattle.wot_keyring.specs.Import.{answer_to, answer_united, any, any_clash, clash, first_full, fresh_in}
-use Rattle.wot_keyring.specs.Import.{has_greater, of_packets, merged_into, united_in, weigh}
-use Rattle.wot_keyring.specs.Import.{with_cert, with_certs}
-use Rattle.wot_keyring.specs.Verdict.{is_over}
-use Rattle.wot_keyring.specs.Kept.{AreSortedByFpr, AreNamed, IsNamed, AreSized, AreWhole, IsKeyring}
-use Rattle.wot_keyring.specs.Held.{Held, nothing, is_verdict, verdict_set}
+use Rattle.wot_held.specs.declared.imported.Imported.{Imported}
+use Rattle.wot_held.specs.declared.kept.Kept.{Kept}
+use Rattle.wot_held.specs.declared.refusal.Refusal.TheVariants.{Cert, Clash, Full}
+use Rattle.wot_held.specs.Keyring.{Keyring, Entries, Certificates, is_fpr, stripped}
+use Rattle.wot_held.specs.Import.{◌>>=◌, ◌>>◌, refuse_if, packets_or_refusal}
+use Rattle.wot_held.specs.Import.{answer_to, answer_united, any_clash, clash, first_full, fresh_in}
+use Rattle.wot_held.specs.Import.{has_greater, of_packets, merged_into, united_in, weigh}
+use Rattle.wot_held.specs.Import.{with_cert, with_certs}
+use Rattle.wot_held.specs.Verdict.{is_over}
+use Rattle.wot_held.specs.Kept.{AreSortedByFpr, AreNamed, IsNamed, AreSized, AreWhole, IsKeyring}
+use Rattle.wot_held.specs.Held.{Held, nothing, is_verdict, verdict_set}
 use Rattle.wot_keyring.specs.Dump.{after, after_all, import_of, judged_anew, setting, setting_of, text_import}
 use Rattle.wot_keyring.specs.Dump.{unless_over, unless_refused, IsRestored}
 use Rattle.wot_keyring.specs.Behind.{AreBelow, all_at, below_next, none_before, put_behind}

@@ -8,21 +8,21 @@ use Rattle.wot_key.specs.Key.{fpr_of}
 use Rattle.wot_policy.specs.declared.rows.PolicyRows.{PolicyRows}
 use Rattle.wot_types.specs.declared.limits.Limit.{Limit}
 use Rattle.wot_cert.specs.Certificate.{Certificate}
-use Rattle.wot_keyring.specs.declared.import.Imported.{Imported}
-use Rattle.wot_keyring.specs.declared.kept.Kept.{Kept}
-use Rattle.wot_keyring.specs.declared.refusal.Refusal.{Refusal}
-use Rattle.wot_keyring.specs.declared.refusal.Refusal.TheVariants.{Packet, Cert, Clash, Full, Misfiled, Memory}
-use Rattle.wot_keyring.specs.Gather.{clashes_with, taken_all, AreAllWhole, DoTheSame, ComeToNothing}
+use Rattle.wot_held.specs.declared.imported.Imported.{Imported}
+use Rattle.wot_held.specs.declared.kept.Kept.{Kept}
+use Rattle.wot_held.specs.declared.refusal.Refusal.{Refusal}
+use Rattle.wot_held.specs.declared.refusal.Refusal.TheVariants.{Packet, Cert, Clash, Full, Misfiled, Memory}
+use Rattle.wot_merge.specs.Gather.{clashes_with, taken_all, AreAllWhole, DoTheSame, ComeToNothing}
 use Rattle.wot_cert.specs.Judged.{sound_of}
-use Rattle.wot_keyring.specs.Import.{any_clash, weigh, with_cert, with_certs, first_full, fresh_in, holding}
-use Rattle.wot_keyring.specs.Import.{◌>>◌, answer_united, refuse_if}
-use Rattle.wot_keyring.specs.Importing.{alone, TellsUnion, AnswersUnited, asked_for}
-use Rattle.wot_keyring.specs.Keyring.{Entries, Certificates, Keyring, is_fpr, stripped, certificates_in}
-use Rattle.wot_keyring.specs.Kept.{AreWhole, IsKeyring}
-use Rattle.wot_keyring.specs.Staging.{found_for, kept_with, clash_at, clash_in}
-use Rattle.wot_keyring.proofs.Clashes.{clashes_told}
-use Rattle.wot_keyring.proofs.Taking.{none_stays}
-use Rattle.wot_keyring.proofs.Transport.{certs_all}
+use Rattle.wot_held.specs.Import.{any_clash, weigh, with_cert, with_certs, first_full, fresh_in, holding}
+use Rattle.wot_held.specs.Import.{◌>>◌, answer_united, refuse_if}
+use Rattle.wot_held.specs.Importing.{alone, TellsUnion, AnswersUnited, asked_for}
+use Rattle.wot_held.specs.Keyring.{Entries, Certificates, Keyring, is_fpr, stripped, certificates_in}
+use Rattle.wot_held.specs.Kept.{AreWhole, IsKeyring}
+use Rattle.wot_merge.specs.Staging.{found_for, kept_with, clash_at, clash_in}
+use Rattle.wot_merge.proofs.Clashes.{clashes_told}
+use Rattle.wot_merge.proofs.Taking.{none_stays}
+use Rattle.wot_merge.proofs.Transport.{certs_all}
 
 -- ---- the effect and the merge
 

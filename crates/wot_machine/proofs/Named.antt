@@ -13,8 +13,8 @@ use Rattle.wot_key.specs.Key.{fpr_of}
 use Rattle.wot_policy.specs.declared.rows.PolicyRows.{PolicyRows}
 use Rattle.wot_cert.specs.Certificate.{Certificate}
 use Rattle.wot_cert.specs.Judged.{judged}
-use Rattle.wot_keyring.specs.Keyring.{Certificates, is_fpr}
-use Rattle.wot_keyring.specs.Import.{spelled_in, merged_into, with_cert, with_certs}
+use Rattle.wot_held.specs.Keyring.{Certificates, is_fpr}
+use Rattle.wot_held.specs.Import.{spelled_in, merged_into, with_cert, with_certs}
 use Rattle.wot_machine.proofs.Stays.{all_without}
 
 abbrev pub AreNamed : Certificates → Type 0

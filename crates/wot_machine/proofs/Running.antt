@@ -10,7 +10,7 @@ use Rattle.wot_types.specs.declared.name.Name.{Name}
 use Rattle.wot_types.specs.declared.name.Name.TheVariants.{Cert}
 use Rattle.wot_io.specs.Counts.{Rose, last_count}
 use Rattle.wot_cert.specs.Certificate.{Certificate}
-use Rattle.wot_keyring.specs.Held.{cert_in}
+use Rattle.wot_held.specs.Held.{cert_in}
 use Rattle.wot_policy.specs.declared.rows.PolicyRows.{PolicyRows}
 use Rattle.wot_script.specs.declared.command.Command.{Command}
 use Rattle.wot_script.specs.declared.reply.Reply.{Reply}
@@ -22,7 +22,7 @@ use Rattle.wot_certd.specs.Shelf as given_as
 use Rattle.wot_certd.specs.Shelf.{Becomes}
 use Rattle.wot_certd.specs.World.{Answer, World, after_replace, called, fails_next, read_answer}
 use Rattle.wot_cache.specs.State.{Engine, State, StaysButMarks, state_of}
-use Rattle.wot_keyring.specs.Keyring.{Keyring}
+use Rattle.wot_held.specs.Keyring.{Keyring}
 use Rattle.wot_machine.specs.declared.class.Class.{Class}
 use Rattle.wot_machine.specs.declared.class.Class.TheVariants.{State as OfState}
 use Rattle.wot_machine.specs.declared.class.StateCommand.{StateCommand}
@@ -32,7 +32,7 @@ use Rattle.wot_machine.specs.declared.told.Moved.{Moved}
 use Rattle.wot_machine.specs.declared.told.Told.{Told}
 use Rattle.wot_cursor.specs.Cursors.{Cursors}
 use Rattle.wot_watch.specs.Watches.{Watches}
-use Rattle.wot_keyring.specs.Import.{IsOneChange}
+use Rattle.wot_held.specs.Import.{IsOneChange}
 use Rattle.wot_machine.specs.Watching.{AreLines, ReportsWatches, Watching, is_watching, told_all}
 use Rattle.wot_machine.specs.Session.{IsTurnedBy, Session, watched, session_of}
 use Rattle.wot_machine.specs.Entry.{IsServed, IsWorldAfter, Use, WasGiven, has_failed, is_fault, put_for, unused}

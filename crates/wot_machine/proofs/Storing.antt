@@ -8,9 +8,9 @@ use Rattle.wot_types.specs.declared.name.Name.{Name}
 use Rattle.wot_types.specs.Limits.{standard_limits}
 use Rattle.wot_cert.specs.Certificate.{Certificate, unite, unmarked}
 use Rattle.wot_cert.specs.Text.{size_of, text_of}
-use Rattle.wot_keyring.specs.declared.refusal.Refusal.{Refusal}
-use Rattle.wot_keyring.specs.declared.refusal.Refusal.TheVariants as refusals
-use Rattle.wot_keyring.specs.Entry.{TellsEntry, entry_in}
+use Rattle.wot_held.specs.declared.refusal.Refusal.{Refusal}
+use Rattle.wot_held.specs.declared.refusal.Refusal.TheVariants as refusals
+use Rattle.wot_held.specs.Entry.{TellsEntry, entry_in}
 use Rattle.wot_script.specs.declared.reply.Reply.{Reply}
 use Rattle.wot_machine.specs.declared.store.Unwritten.{Unwritten}
 use Rattle.wot_machine.specs.declared.store.Unwritten.TheVariants.{Memory}

@@ -11,7 +11,7 @@ use Rattle.wot_machine.specs.declared.class.StateCommand.TheVariants as kinds
 use Rattle.wot_machine.specs.declared.class.ShelfCall.{ShelfCall}
 use Rattle.wot_machine.specs.declared.class.ShelfCall.TheVariants as calls
 use Rattle.wot_machine.specs.Classes.{class_of}
-use Rattle.wot_keyring.specs.Held.{cert_in}
+use Rattle.wot_held.specs.Held.{cert_in}
 use Rattle.wot_certd.specs.World.{Answer, World, after_replace, called, fails_next, read_answer, with_entry}
 use Rattle.wot_cache.specs.State.{State}
 use Rattle.wot_machine.specs.Both.{Ends}

@@ -1,8 +1,8 @@
 use Rattle.std.proofs.Common.{◌∙◌, ap, map}
 use Rattle.wot_types.specs.Limits.{standard_limits}
 use Rattle.wot_types.specs.declared.fpr.Fpr.{Fpr}
-use Rattle.wot_keyring.specs.declared.kept.Kept.{Kept}
-use Rattle.wot_keyring.specs.Keyring.{Keyring}
+use Rattle.wot_held.specs.declared.kept.Kept.{Kept}
+use Rattle.wot_held.specs.Keyring.{Keyring}
 use Rattle.wot_machine.specs.Outcome.{key_line_of}
 use Rattle.wot_machine.proofs.Keeping.{sized, keys_told}
 use Rattle.wot_machine.proofs.listing.keys.Goals as goal

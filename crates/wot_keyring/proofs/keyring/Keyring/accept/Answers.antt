@@ -1,10 +1,10 @@
 use Rattle.std.proofs.Common.{sym, subst, refl}
 use Rattle.wot_policy.specs.Kept.{rows_of}
-use Rattle.wot_keyring.specs.Index.{IsIndexOf}
-use Rattle.wot_keyring.specs.Keyring.{Entries}
+use Rattle.wot_index.specs.Index.{IsIndexOf}
+use Rattle.wot_held.specs.Keyring.{Entries}
 use Rattle.wot_keyring.proofs.Accepted.{asked_now, asked_by_now, no_clash, answered_now, held_now, counted_now}
 use Rattle.wot_keyring.proofs.Accepted.{keyring_now}
-use Rattle.wot_keyring.proofs.Noted.{indexed_all}
+use Rattle.wot_keyring.proofs.UnionNoted.{indexed_all}
 use Rattle.wot_keyring.proofs.Restamping.{logged_now, united_later_now}
 use Rattle.wot_keyring.proofs.keyring.Keyring.accept.Goals as goal
 
