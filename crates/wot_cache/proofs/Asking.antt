@@ -11,7 +11,7 @@ use Rattle.wot_edge.specs.Path.{Question, use_of}
 use Rattle.wot_edge.specs.Record.{IsRecord}
 use Rattle.wot_edge.specs.Roots.{root_amount}
 use Rattle.wot_auth.specs.declared.answer.Answer.{Answer}
-use Rattle.wot_keyring.specs.Keyring.{Keyring}
+use Rattle.wot_held.specs.Keyring.{Keyring}
 use Rattle.wot_network.specs.Net.{IsRight, Net, Present}
 use Rattle.wot_network.specs.Roads.{present_of}
 use Rattle.wot_cache.specs.declared.parts.Parts.{Parts}

@@ -2,9 +2,9 @@
 use Rattle.std.proofs.Common.{◌≡◌, Result, Ok, Err, OnOk, sym, ap}
 use Rattle.std.proofs.lemmas.Map.Made.{lookup-map_values}
 use Rattle.wot_types.specs.declared.fpr.Fpr.{Fpr}
-use Rattle.wot_keyring.specs.declared.kept.Kept.{Kept}
-use Rattle.wot_keyring.specs.Held.{Held, held_of, cert_in}
-use Rattle.wot_keyring.specs.Keyring.{Keyring, cert_at, is_fpr}
+use Rattle.wot_held.specs.declared.kept.Kept.{Kept}
+use Rattle.wot_held.specs.Held.{Held, held_of, cert_in}
+use Rattle.wot_held.specs.Keyring.{Keyring, cert_at, is_fpr}
 use Rattle.wot_cache.specs.Views.{Views}
 use Rattle.wot_cache.specs.Dump.{engine_of}
 use Rattle.wot_cache.specs.State.{Engine, ViewMarks, state_of, with_held}

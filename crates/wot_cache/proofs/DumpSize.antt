@@ -8,8 +8,8 @@ use Rattle.wot_script.specs.declared.command.Command.{Command}
 use Rattle.wot_script.specs.Spelling.{most_octets, spelling}
 use Rattle.wot_keyring.specs.Dump as keyrings
 use Rattle.wot_keyring.specs.Dump.{AreLines, command_line_of, lines_of, most_dumped}
-use Rattle.wot_keyring.specs.Held.{held_of}
-use Rattle.wot_keyring.specs.Kept.{AreSmall}
+use Rattle.wot_held.specs.Held.{held_of}
+use Rattle.wot_held.specs.Kept.{AreSmall}
 use Rattle.wot_cache.specs.Views.{Views, AreWithinLimits}
 use Rattle.wot_cache.specs.State.{Engine, state_of}
 use Rattle.wot_cache.specs.Dump.{commands_of, root_of, view_commands}

@@ -15,10 +15,10 @@ use Rattle.wot_edge.specs.Answer.{IsAnswer, amount_of}
 use Rattle.wot_edge.specs.Path.{asks}
 use Rattle.wot_edge.specs.Leads.{Leads}
 use Rattle.wot_edge.specs.Record.{Has, Record}
-use Rattle.wot_keyring.specs.declared.kept.Kept.{Kept}
-use Rattle.wot_keyring.specs.Keyring.{Certificates, Keyring, certificates_in, is_fpr, kept_at, stamp_at}
-use Rattle.wot_keyring.specs.Kept.{AreStamped}
-use Rattle.wot_keyring.specs.Later.{IsLater, IsLaterAt, IsUnaltered, SaysSame}
+use Rattle.wot_held.specs.declared.kept.Kept.{Kept}
+use Rattle.wot_held.specs.Keyring.{Certificates, Keyring, certificates_in, is_fpr, kept_at, stamp_at}
+use Rattle.wot_held.specs.Kept.{AreStamped}
+use Rattle.wot_held.specs.Later.{IsLater, IsLaterAt, IsUnaltered, SaysSame}
 use Rattle.wot_search.specs.Making.{IsMaking}
 use Rattle.wot_network.specs.Local.{AgreeAt, IsLocal}
 use Rattle.wot_network.specs.Told.{record_of}

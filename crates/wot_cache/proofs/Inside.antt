@@ -22,9 +22,9 @@ use Rattle.wot_types.specs.Fpr.{fpr_cmp}
 use Rattle.wot_types.specs.FprLaws.{fpr_total}
 use Rattle.wot_types.specs.ViewName.{view_name_cmp}
 use Rattle.wot_edge.specs.Roots.{IsRoots, root_amount}
-use Rattle.wot_keyring.specs.Import.{IsOneChange}
-use Rattle.wot_keyring.specs.Keyring.{Keyring}
-use Rattle.wot_keyring.specs.Later.{IsLater}
+use Rattle.wot_held.specs.Import.{IsOneChange}
+use Rattle.wot_held.specs.Keyring.{Keyring}
+use Rattle.wot_held.specs.Later.{IsLater}
 use Rattle.wot_network.specs.Net.{Net, Fits}
 use Rattle.wot_cache.specs.declared.view.View.{View}
 use Rattle.wot_cache.specs.declared.answers.KeptAnswer.{KeptAnswer}

@@ -5,8 +5,8 @@ use Rattle.std.proofs.lemmas.Grind.{flat_map-append}
 use Rattle.std.proofs.lemmas.List.{length-map}
 use Rattle.std.specs.List.{AllByRecursion, flat_map}
 use Rattle.wot_types.specs.declared.limits.Limits.{Limits}
-use Rattle.wot_keyring.specs.Held.{held_of}
-use Rattle.wot_keyring.specs.Kept.{AreSmall}
+use Rattle.wot_held.specs.Held.{held_of}
+use Rattle.wot_held.specs.Kept.{AreSmall}
 use Rattle.wot_keyring.specs.Dump as keyrings
 use Rattle.wot_edge.specs.Roots.{IsRoots}
 use Rattle.wot_script.specs.declared.command.Command.{Command}

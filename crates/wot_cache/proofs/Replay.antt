@@ -22,7 +22,7 @@ use Rattle.wot_script.specs.declared.command.Command.{Command}
 use Rattle.wot_script.specs.declared.command.Command.TheVariants.{Import, Good, Bad, Time, Root}
 use Rattle.wot_keyring.specs.Dump as keyrings
 use Rattle.wot_keyring.specs.Dump.{after_all, judged_by}
-use Rattle.wot_keyring.specs.Held.{Held, held_of, nothing}
+use Rattle.wot_held.specs.Held.{Held, held_of, nothing}
 use Rattle.wot_edge.specs.Roots.{IsRoots, AreAmounts, root_amount}
 use Rattle.wot_cache.specs.declared.view.View.{View}
 use Rattle.wot_cache.specs.declared.view.ViewFault.{ViewFault}

@@ -14,12 +14,12 @@ use Rattle.wot_part.specs.Counts.{all_sigs}
 use Rattle.wot_auth.specs.declared.answer.Answer.{Answer}
 use Rattle.wot_edge.specs.Answer.{IsAnswer, amount_of}
 use Rattle.wot_edge.specs.Path.{Question}
-use Rattle.wot_keyring.specs.declared.kept.Kept.{Kept}
-use Rattle.wot_keyring.specs.Import.{IsOneChange, KeepsAll}
-use Rattle.wot_keyring.specs.Keyring.{Keyring, is_fpr, kept_at, stamp_at}
-use Rattle.wot_keyring.specs.Kept.{AreStamped}
-use Rattle.wot_keyring.specs.Later.{IsLater, IsLaterAt, IsUnaltered, SaysSame}
-use Rattle.wot_keyring.specs.Log.{HasChangedSince, Logged, is_listed}
+use Rattle.wot_held.specs.declared.kept.Kept.{Kept}
+use Rattle.wot_held.specs.Import.{IsOneChange, KeepsAll}
+use Rattle.wot_held.specs.Keyring.{Keyring, is_fpr, kept_at, stamp_at}
+use Rattle.wot_held.specs.Kept.{AreStamped}
+use Rattle.wot_held.specs.Later.{IsLater, IsLaterAt, IsUnaltered, SaysSame}
+use Rattle.wot_index.specs.Log.{HasChangedSince, Logged, is_listed}
 use Rattle.wot_cache.specs.declared.answers.KeptAnswer.{KeptAnswer}
 use Rattle.wot_cache.specs.declared.answers.Looked.{Looked}
 use Rattle.wot_cache.specs.declared.view.AskFault.{AskFault}

@@ -10,8 +10,8 @@ use Rattle.wot_edge.specs.Leads.{Leads}
 use Rattle.wot_edge.specs.Path.{Question, asks}
 use Rattle.wot_edge.specs.Record.{Has, Record}
 use Rattle.wot_edge.specs.Roots.{root_amount}
-use Rattle.wot_keyring.specs.Keyring.{Keyring, certificates_in, stamp_at}
-use Rattle.wot_keyring.specs.Later.{IsLater}
+use Rattle.wot_held.specs.Keyring.{Keyring, certificates_in, stamp_at}
+use Rattle.wot_held.specs.Later.{IsLater}
 use Rattle.wot_network.specs.Told.{record_of}
 use Rattle.wot_search.specs.Making.{IsMaking}
 use Rattle.wot_cache.specs.declared.answers.KeptAnswer.{KeptAnswer}

@@ -4,7 +4,7 @@ use Rattle.std.specs.Prelude.{◌≡◌, ◌≤◌, ◌+◌, ◌-◌, ◌^◌, �
 use Rattle.std.specs.Prelude.{Result, Option, None, IfSome, OnOk}
 use Rattle.std.specs.Map.{lookup}
 use Rattle.std.specs.Option.{option_map_or}
-use Rattle.wot_keyring.specs.Keyring.{Keyring}
+use Rattle.wot_held.specs.Keyring.{Keyring}
 use Rattle.wot_network.specs.Net.{Net, Marks, AreMarksOf, StayCurrent, marks_of, stale_edges, stale_signatures}
 use Rattle.wot_cache.specs.declared.present.Networked.{Networked}
 use Rattle.wot_cache.specs.declared.view.View.{View}

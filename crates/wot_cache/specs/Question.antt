@@ -5,7 +5,7 @@ use Rattle.wot_edge.specs.declared.path.Path.{Path}
 use Rattle.wot_edge.specs.Answer.{IsAnswer, amount_of}
 use Rattle.wot_edge.specs.Path.{Question, asks, use_of, IsSpent}
 use Rattle.wot_edge.specs.Roots.{root_amount}
-use Rattle.wot_keyring.specs.Keyring.{Keyring, certificates_in}
+use Rattle.wot_held.specs.Keyring.{Keyring, certificates_in}
 use Rattle.wot_network.specs.Local.{IsLocal}
 use Rattle.wot_network.specs.Net.{Present, told_of}
 use Rattle.wot_network.specs.Told.{record_of}

@@ -7,7 +7,7 @@ ghost use Rattle.std.specs.List.Sorted.{IsStrictlySortedBy};
 ghost use Rattle.std.specs.Map.{keys_of, lookup};
 ghost use Rattle.std.specs.Ordering.{nat_cmp};
 ghost use Rattle.wot_edge.specs.Answer.{IsAnswer, amount_of};
-ghost use Rattle.wot_keyring.specs.Keyring.{Keyring as Held};
+ghost use Rattle.wot_held.specs.Keyring.{Keyring as Held};
 ghost use Rattle.wot_search.specs.Making.{IsMaking};
 ghost use Rattle.wot_search.specs.Reach.{IsReach};
 ghost use Rattle.wot_network.specs.Net.{told_of};

@@ -5,12 +5,12 @@ ghost use Rattle.std.specs.Prelude.{◌≡◌, ◌≢◌, ◌<◌, ◌≤◌, �
 ghost use Rattle.std.specs.Prelude.{Some, None, Err, is_ok, is_some, IfOk, IfSome, IsSomeAnd, OnOk, OnErr};
 ghost use Rattle.std.specs.Option.{option_copied, option_map};
 ghost use Rattle.wot_policy.specs.Kept.{IsFaithful, rows_of, asked_more};
-ghost use Rattle.wot_keyring.specs.Keyring.{verdict_on};
-ghost use Rattle.wot_keyring.specs.Held.{held_of, cert_in, removing, verdict_set, verdict_cleared};
-ghost use Rattle.wot_keyring.specs.Kept.{AreSmall, IsJudgedBy, StaysJudged};
-ghost use Rattle.wot_keyring.specs.Import.{ImportReturns, AsksFor, IsOneChange, imported, importing};
-ghost use Rattle.wot_keyring.specs.Removal.{without_cert};
-ghost use Rattle.wot_keyring.specs.Verdict.{without_verdict_on, SetsVerdict, TellsFull};
+ghost use Rattle.wot_held.specs.Keyring.{verdict_on};
+ghost use Rattle.wot_held.specs.Held.{held_of, cert_in, removing, verdict_set, verdict_cleared};
+ghost use Rattle.wot_held.specs.Kept.{AreSmall, IsJudgedBy, StaysJudged};
+ghost use Rattle.wot_held.specs.Import.{ImportReturns, AsksFor, IsOneChange, imported, importing};
+ghost use Rattle.wot_held.specs.Removal.{without_cert};
+ghost use Rattle.wot_held.specs.Verdict.{without_verdict_on, SetsVerdict, TellsFull};
 ghost use Rattle.wot_edge.specs.Answer.{IsAnswer, amount_of};
 ghost use Rattle.wot_edge.specs.Capacity.{AllFit};
 ghost use Rattle.wot_edge.specs.Lawful.{AreEntries};

@@ -3,7 +3,7 @@
 ghost use Rattle.std.specs.Prelude.{◌≡◌, IfOk};
 ghost use Rattle.std.specs.Map.{remove_entry};
 ghost use Rattle.wot_edge.specs.Answer.{IsAnswer, amount_of};
-ghost use Rattle.wot_keyring.specs.Keyring.{Keyring as Held};
+ghost use Rattle.wot_held.specs.Keyring.{Keyring as Held};
 ghost use Rattle.wot_network.specs.Net.{told_of};
 ghost use Rattle.wot_cache.specs.Answers.{AllLead, AreAllRight, AreRightIn, IsFound, IsRight, KeepsFor};
 ghost use Rattle.wot_cache.specs.Marks.{IsForgotten};

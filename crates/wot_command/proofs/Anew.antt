@@ -20,13 +20,13 @@ use Rattle.wot_script.specs.Replies.{is_refusal}
 use Rattle.wot_script.specs.Spelling.{IsHeard, spelling}
 use Rattle.wot_verdict.specs.declared.verdict.Verdict.{Verdict}
 use Rattle.wot_verdict.specs.declared.verdict.Verdict.TheVariants as said
-use Rattle.wot_keyring.specs.declared.import.Imported.{Imported}
-use Rattle.wot_keyring.specs.declared.refusal.Refusal.{Refusal}
+use Rattle.wot_held.specs.declared.imported.Imported.{Imported}
+use Rattle.wot_held.specs.declared.refusal.Refusal.{Refusal}
 use Rattle.wot_keyring.specs.Dump as keyrings
 use Rattle.wot_keyring.specs.Dump.{AreLines, IsLine, after_all, lines_of, unless_over}
-use Rattle.wot_keyring.specs.Held.{Held, verdict_set}
-use Rattle.wot_keyring.specs.Import.{answer_to, importing}
-use Rattle.wot_keyring.specs.Verdict.{is_over}
+use Rattle.wot_held.specs.Held.{Held, verdict_set}
+use Rattle.wot_held.specs.Import.{answer_to, importing}
+use Rattle.wot_held.specs.Verdict.{is_over}
 use Rattle.wot_certd.specs.World.{World}
 use Rattle.wot_cache.specs.declared.view.ViewFault.{ViewFault}
 use Rattle.wot_cache.specs.Views.{root_fault, time_fault, view_at}

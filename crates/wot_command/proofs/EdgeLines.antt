@@ -4,7 +4,7 @@ use Rattle.std.proofs.Common.{OnOk, refl, sym, subst}
 use Rattle.std.specs.Prelude.{IfOk, IfSome, IsSomeAnd}
 use Rattle.wot_script.specs.declared.reply.Reply.{Reply}
 use Rattle.wot_types.specs.declared.fpr.Fpr.{Fpr}
-use Rattle.wot_keyring.specs.Keyring.{Keyring, certificates_in}
+use Rattle.wot_held.specs.Keyring.{Keyring, certificates_in}
 use Rattle.wot_script.specs.declared.command.Command.{Command}
 use Rattle.wot_script.specs.Grammar.{command_of}
 use Rattle.wot_cache.specs.declared.parts.Parts.{Parts}

@@ -7,9 +7,9 @@ use Rattle.std.proofs.lemmas.Map.Made.{lookup-map_values}
 use Rattle.wot_types.specs.declared.fpr.Fpr.{Fpr}
 use Rattle.wot_part.specs.Certificate.{Certificate}
 use Rattle.wot_part.specs.Text.{size_of}
-use Rattle.wot_keyring.specs.declared.kept.Kept.{Kept}
-use Rattle.wot_keyring.specs.Keyring.{Keyring, Entries, certificates_in, cert_at, is_fpr}
-use Rattle.wot_keyring.specs.Kept.{AreSized}
+use Rattle.wot_held.specs.declared.kept.Kept.{Kept}
+use Rattle.wot_held.specs.Keyring.{Keyring, Entries, certificates_in, cert_at, is_fpr}
+use Rattle.wot_held.specs.Kept.{AreSized}
 use Rattle.wot_script.specs.declared.reply.KeyLine.{KeyLine}
 use Rattle.wot_script.specs.declared.reply.Reply.TheVariants as replies
 use Rattle.wot_step.specs.Outcome.{key_line_of}

@@ -7,7 +7,7 @@ use Rattle.wot_types.specs.declared.fpr.Fpr.{Fpr}
 use Rattle.wot_types.specs.declared.name.Name.{Name}
 use Rattle.wot_types.specs.declared.name.Name.TheVariants.{Cert}
 use Rattle.wot_part.specs.Certificate.{Certificate}
-use Rattle.wot_keyring.specs.Held.{cert_in}
+use Rattle.wot_held.specs.Held.{cert_in}
 use Rattle.wot_certd.specs.declared.shelf.ShelfFault.TheVariants.{Memory}
 use Rattle.wot_certd.specs.Shelf.{Becomes, Replaces}
 use Rattle.wot_certd.specs.World.{Answer, World, after_replace, called, fails_next, late_next, put_by_call, read_answer}

@@ -6,10 +6,10 @@ use Rattle.wot_types.specs.declared.number.SigNumber.{SigNumber}
 use Rattle.wot_types.specs.Limits.{standard_limits}
 use Rattle.wot_policy.specs.declared.rows.PolicyRows.{PolicyRows}
 use Rattle.wot_verdict.specs.declared.verdict.Verdict.{Verdict}
-use Rattle.wot_keyring.specs.declared.refusal.Refusal.{Refusal}
-use Rattle.wot_keyring.specs.declared.refusal.Refusal.TheVariants as refusals
-use Rattle.wot_keyring.specs.Import.{ImportReturns, ReturnsUnder, Demand, answer_under, any, is_entry}
-use Rattle.wot_keyring.specs.Verdict.{TellsFull, is_over}
+use Rattle.wot_held.specs.declared.refusal.Refusal.{Refusal}
+use Rattle.wot_held.specs.declared.refusal.Refusal.TheVariants as refusals
+use Rattle.wot_held.specs.Import.{ImportReturns, ReturnsUnder, Demand, answer_under, any, is_entry}
+use Rattle.wot_held.specs.Verdict.{TellsFull, is_over}
 use Rattle.wot_script.specs.declared.reply.Reply.{Reply}
 use Rattle.wot_certd.specs.World.{Answer}
 use Rattle.wot_cache.specs.declared.view.ViewFault.{ViewFault}

@@ -7,7 +7,7 @@ ghost use Rattle.wot_types.specs.Limits.{standard_limits};
 ghost use Rattle.wot_policy.specs.declared.rows.PolicyRows.{PolicyRows};
 ghost use Rattle.wot_part.specs.Certificate.{Certificate};
 ghost use Rattle.wot_part.specs.Text.{size_of};
-ghost use Rattle.wot_keyring.specs.Held.{held_of, cert_in};
+ghost use Rattle.wot_held.specs.Held.{held_of, cert_in};
 ghost use Rattle.wot_cache.specs.State.{state_of};
 ghost use Rattle.wot_step.specs.Outcome.{key_line_of, keys as keys_of, export as export_of, dump as dump_of};
 ghost use Rattle.wot_step.specs.Fresh.{IsMadeAnew};

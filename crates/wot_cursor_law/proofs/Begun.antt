@@ -12,7 +12,7 @@ use Rattle.wot_policy.specs.declared.rows.PolicyRows.{PolicyRows}
 use Rattle.wot_verdict.specs.Verdicts.{Entries}
 use Rattle.wot_part.specs.Certificate.{Certificate}
 use Rattle.wot_edge.specs.Record.{IsRecord}
-use Rattle.wot_keyring.specs.Keyring.{Certificates}
+use Rattle.wot_held.specs.Keyring.{Certificates}
 use Rattle.wot_network.specs.Told.{record_of}
 use Rattle.wot_script.specs.Grammar.{command_of}
 use Rattle.wot_script.specs.Spelling.{HasSpelling}

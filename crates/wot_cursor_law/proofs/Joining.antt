@@ -29,7 +29,7 @@ use Rattle.wot_cursor.specs.declared.stamps.Age.{Age}
 use Rattle.wot_cursor.specs.declared.stamps.Age.TheVariants as ages
 use Rattle.wot_explain.specs.declared.bind.Bind.{Bind}
 use Rattle.wot_explain.specs.Piece.{binds_after, piece_of}
-use Rattle.wot_keyring.specs.Held.{Held}
+use Rattle.wot_held.specs.Held.{Held}
 use Rattle.wot_network.specs.Told.{record_of}
 use Rattle.wot_watch.specs.Watches.{Watches}
 use Rattle.wot_explain.specs.Listing.{IsListed, pairs_in}

@@ -27,8 +27,8 @@ use Rattle.wot_part.specs.Certificate.{Certificate, Component, Signature, on_use
 use Rattle.wot_part.specs.Certificate.{unite_part}
 use Rattle.wot_part.specs.Judged.{judged, judged_sig}
 use Rattle.wot_part.specs.Ranked.{IsBelow, IsRising, placed, put, united}
-use Rattle.wot_keyring.specs.Keyring.{Certificates, is_fpr}
-use Rattle.wot_keyring.specs.Import.{of_packets, spelled_in, merged_into, with_cert, with_certs}
+use Rattle.wot_held.specs.Keyring.{Certificates, is_fpr}
+use Rattle.wot_held.specs.Import.{of_packets, spelled_in, merged_into, with_cert, with_certs}
 use Rattle.wot_script.specs.declared.reply.Reply.{Reply}
 use Rattle.wot_certd.specs.World.{World}
 use Rattle.wot_explain.specs.declared.bind.Bind.{Bind}

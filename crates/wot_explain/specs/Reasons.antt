@@ -15,7 +15,7 @@ use Rattle.wot_cert.specs.Revoked.{is_unrevoked}
 use Rattle.wot_cert.specs.Time.{is_live, made_of}
 use Rattle.wot_edge.specs.Path.{step_of}
 use Rattle.wot_edge.specs.declared.path.Step.{Step}
-use Rattle.wot_keyring.specs.Keyring.{Certificates, Keyring, certificates_in, is_fpr}
+use Rattle.wot_held.specs.Keyring.{Certificates, Keyring, certificates_in, is_fpr}
 use Rattle.wot_live.specs.Edge.{edge_by}
 use Rattle.wot_standing.specs.Standing.{newest_certification, standing_of}
 use Rattle.wot_standing.specs.Usable.{is_after}

@@ -7,7 +7,7 @@ ghost use Rattle.wot_edge.specs.Path.{step_of as step_of_spec};
 ghost use Rattle.wot_live.specs.Edge.{edge_by, edge_facts};
 ghost use Rattle.wot_explain.specs.Explaining.{reasons_on};
 ghost use Rattle.wot_explain.specs.Reasons.{reason_of, reason_with, step_by};
-ghost use Rattle.wot_keyring.specs.Keyring.{certificates_in};
+ghost use Rattle.wot_held.specs.Keyring.{certificates_in};
 ghost use Rattle.wot_live.specs.Found.{HasFew};
 ghost use Rattle.wot_standing.specs.Certifiers.{KeepsNewest};
 

@@ -6,7 +6,7 @@ ghost use Rattle.wot_part.specs.Certificate.{sig_cmp};
 ghost use Rattle.wot_explain.specs.Reasons.{counted_words, good_words, issuer_words};
 ghost use Rattle.wot_explain.specs.Reasons.{reason_word as reason_word_spec, standing_by as standing_by_spec};
 ghost use Rattle.wot_explain.specs.Words.{first_word, is_so};
-ghost use Rattle.wot_keyring.specs.Keyring.{certificates_in};
+ghost use Rattle.wot_held.specs.Keyring.{certificates_in};
 ghost use Rattle.wot_standing.specs.Certifiers.{KeepsNewest, kept_for};
 ghost use Rattle.wot_standing.specs.Standing.{standing_of};
 

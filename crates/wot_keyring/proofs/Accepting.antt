@@ -1,8 +1,9 @@
 -- What an import leaves when nothing is refused.
 use Rattle.std.proofs.Common.{◌≡◌, ◌≢◌, ◌≤◌, ◌+◌, ◌-◌, inl, inr, ℕ, Bool, true, false, ◌||◌, if◌then◌else◌, nat_lt}
-use Rattle.std.proofs.Common.{List, [], ◌∷◌, length, Option, Some, None, Ok, Err, sym, ap, ◌∙◌, subst, refl, arith}
+use Rattle.std.proofs.Common.{List, [], ◌∷◌, length, Option, Some, None, Ok, sym, ap, ◌∙◌, subst, refl, arith}
 use Rattle.std.specs.List.{AllByRecursion}
 use Rattle.std.specs.Map.{lookup}
+use Rattle.std.specs.Option.{option_map}
 use Rattle.std.proofs.lemmas.Bool.Decides.{nat_tests}
 use Rattle.wot_key.specs.Key.{fpr_of}
 use Rattle.wot_policy.specs.declared.rows.PolicyRows.{PolicyRows}
@@ -12,26 +13,26 @@ use Rattle.wot_part.specs.Counts.{items_of, signatures_of}
 use Rattle.wot_part.specs.Judged.{judged, sound_of}
 use Rattle.wot_part.specs.Text.{size_of}
 use Rattle.wot_part.specs.Whole.{IsCertificate}
-use Rattle.wot_keyring.specs.declared.import.Imported.{Imported}
-use Rattle.wot_keyring.specs.declared.kept.Kept.{Kept}
-use Rattle.wot_keyring.specs.declared.refusal.Refusal.TheVariants.{Clash}
-use Rattle.wot_keyring.specs.declared.tally.Weight.{Weight}
-use Rattle.wot_keyring.specs.Import.{weigh, with_certs, fresh_in, holding, answer_united, unless_full, first_full}
-use Rattle.wot_keyring.specs.Import.{IsOneChange, KeepsAll}
-use Rattle.wot_keyring.specs.Held.{Held, held_of}
-use Rattle.wot_keyring.specs.Importing.{MayUnite}
-use Rattle.wot_keyring.specs.Keyring.{Entries, Keyring, certificates_in, is_fpr, stripped}
-use Rattle.wot_keyring.specs.Later.{IsLater}
-use Rattle.wot_keyring.specs.Kept.{AreNamed, AreWhole, AreSortedByFpr, AreSized, AreStamped, IsKeyring, AreTotals}
-use Rattle.wot_keyring.specs.Staging.{found_for, kept_as, kept_with, kept_all, clash_at, clash_in, weigh_kept, long_of}
-use Rattle.wot_keyring.specs.Staging.{IsTally}
-use Rattle.wot_keyring.proofs.Clashes.{keys_same}
-use Rattle.wot_keyring.proofs.Inserts.{put_at, found_at}
+use Rattle.wot_held.specs.declared.imported.Imported.{Imported}
+use Rattle.wot_held.specs.declared.kept.Kept.{Kept}
+use Rattle.wot_held.specs.declared.refusal.Refusal.TheVariants.{Clash, Full}
+use Rattle.wot_merge.specs.declared.tally.Weight.{Weight}
+use Rattle.wot_held.specs.Import.{weigh, with_certs, fresh_in, holding, answer_united, first_full, IsOneChange}
+use Rattle.wot_held.specs.Import.{KeepsAll, ◌>>◌, refuse_if}
+use Rattle.wot_held.specs.Held.{Held, held_of}
+use Rattle.wot_held.specs.Importing.{MayUnite}
+use Rattle.wot_held.specs.Keyring.{Entries, Keyring, certificates_in, is_fpr, stripped}
+use Rattle.wot_held.specs.Later.{IsLater}
+use Rattle.wot_held.specs.Kept.{AreNamed, AreWhole, AreSortedByFpr, AreSized, AreStamped, IsKeyring, AreTotals}
+use Rattle.wot_merge.specs.Staging.{found_for, kept_as, kept_with, kept_all, clash_at, clash_in, weigh_kept, long_of}
+use Rattle.wot_merge.specs.Staging.{IsTally}
+use Rattle.wot_merge.proofs.Clashes.{keys_same}
+use Rattle.wot_held.proofs.Inserts.{put_at, found_at}
 use Rattle.wot_keyring.proofs.Marks.{kept_present, stamped_all, stamped_after}
-use Rattle.wot_keyring.proofs.Stamps.{still_stamped}
-use Rattle.wot_keyring.proofs.Transport.{certs_all, seen_weighs, seen_length}
-use Rattle.wot_keyring.proofs.Unchanged.{all_same}
-use Rattle.wot_keyring.proofs.Within.{full_is, Fits, fits_of, all_sized}
+use Rattle.wot_held.proofs.Stamps.{still_stamped}
+use Rattle.wot_merge.proofs.Transport.{certs_all, seen_weighs, seen_length}
+use Rattle.wot_merge.proofs.Unchanged.{all_same}
+use Rattle.wot_merge.proofs.Within.{full_is, Fits, fits_of, all_sized}
 
 -- ---- names, and what is true of certificates
 
@@ -76,10 +77,7 @@ module _ (united : (a b : Certificate) → IsCertificate a → IsCertificate b �
 less_is : (f a b : ℕ) → f + a ≡ b → f ≡ b - a
 less_is f a b h = omega arith
 
-more_is : (f a b : ℕ) → a + f ≡ b → f ≡ b - a
-more_is f a b h = omega arith
-
-at_most_is : (f a b : ℕ) → a + f ≤ b → f ≤ b - a
+at_most_is : (f a b : ℕ) → f + a ≤ b → f ≤ b - a
 at_most_is f a b h = omega arith
 
 pub weighs_stripped : (measure : Certificate → ℕ) (es : Entries) → weigh measure (stripped es) ≡ weigh_kept measure es
@@ -113,14 +111,14 @@ tally_of k octets signatures h t = record {
 
 -- how often the policy was asked
 pub asked_all : (rows : PolicyRows) (stamp : ℕ) (es : Entries) (cs : List Certificate) (n : ℕ) →
-    weigh_kept sound_of es + n ≡ weigh_kept sound_of (kept_all rows stamp es cs) →
+    n + weigh_kept sound_of es ≡ weigh_kept sound_of (kept_all rows stamp es cs) →
     n ≡ weigh sound_of (with_certs rows (stripped es) cs) - weigh sound_of (stripped es)
 asked_all rows stamp es cs n e =
-    more_is n (weigh_kept sound_of es) _ e
+    less_is n (weigh_kept sound_of es) _ e
     ∙ (λ i. weighs_all sound_of rows stamp es cs i - sym (weighs_stripped sound_of es) i)
 
 pub asked_some : (rows : PolicyRows) (stamp : ℕ) (es : Entries) (cs : List Certificate) (n : ℕ) →
-    weigh_kept sound_of es + n ≤ weigh_kept sound_of (kept_all rows stamp es cs) →
+    n + weigh_kept sound_of es ≤ weigh_kept sound_of (kept_all rows stamp es cs) →
     n ≤ weigh sound_of (with_certs rows (stripped es) cs) - weigh sound_of (stripped es)
 asked_some rows stamp es cs n h =
     let Least : ℕ → Type 0 = λ m. n ≤ m in
@@ -172,9 +170,9 @@ module _ (rows : PolicyRows) (k : Keyring) (cs : List Certificate) (new : Entrie
   answered skipped may =
       ap (λ n. Ok (record { taken = length cs; skipped = skipped; fresh = n })) fresh_is
       ∙ sym (
-      ap (λ b. if b then Err Clash else unless_full (first_full k.limits (with_certs rows (certificates_in k) cs))
-      (counts skipped)) may.clash
-      ∙ ap (λ (o : Option Limit). unless_full o (counts skipped)) (may.full rows)
+      ap (λ b. refuse_if b Clash >> (option_map Full (first_full k.limits (with_certs rows (certificates_in k) cs))
+      >> Ok (counts skipped))) may.clash
+      ∙ ap (λ (o : Option Limit). option_map Full o >> Ok (counts skipped)) (may.full rows)
       )
 
   module _ (still : (a b : Certificate) → items_of (unite a b) ≡ items_of a → unite a b ≡ a) where

@@ -10,11 +10,11 @@ use Rattle.wot_verdict.specs.declared.verdict.Verdict.TheVariants.{Good, Bad}
 use Rattle.wot_part.specs.Certificate.{Certificate}
 use Rattle.wot_part.specs.Counts.{sum_of}
 use Rattle.wot_part.specs.Text.{size_of}
-use Rattle.wot_keyring.specs.declared.kept.Kept.{Kept}
-use Rattle.wot_keyring.specs.Keyring.{Certificates, Keyring, certificates_in}
-use Rattle.wot_keyring.specs.Held.{held_of}
-use Rattle.wot_keyring.specs.Import.{weigh}
-use Rattle.wot_keyring.specs.Kept.{IsKeyring}
+use Rattle.wot_held.specs.declared.kept.Kept.{Kept}
+use Rattle.wot_held.specs.Keyring.{Certificates, Keyring, certificates_in}
+use Rattle.wot_held.specs.Held.{held_of}
+use Rattle.wot_held.specs.Import.{weigh}
+use Rattle.wot_held.specs.Kept.{IsKeyring}
 use Rattle.wot_keyring.specs.Dump.{AreLines, command_line_of, commands_of, import_of, lines_of, most_dumped, setting}
 use Rattle.wot_keyring.specs.Dump.{setting_of}
 

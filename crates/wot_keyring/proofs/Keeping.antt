@@ -21,14 +21,14 @@ use Rattle.wot_part.specs.Certificate.{Certificate}
 use Rattle.wot_part.specs.Counts.{signatures_of}
 use Rattle.wot_part.specs.Text.{size_of}
 use Rattle.wot_part.specs.Whole.{IsCertificate}
-use Rattle.wot_keyring.specs.declared.kept.Kept.{Kept}
-use Rattle.wot_keyring.specs.Import.{weigh}
-use Rattle.wot_keyring.specs.Keyring.{Entries, Keyring, Certificates, is_fpr, stripped}
-use Rattle.wot_keyring.specs.Kept.{AreSortedByFpr, IsKeyring, AreTotals}
-use Rattle.wot_keyring.specs.Removal.{without_cert}
-use Rattle.wot_keyring.specs.Verdict.{restamped, restamped_all, counted_at, is_over}
-use Rattle.wot_keyring.proofs.Stamps.{removed_stamped, restamped_stamped}
-use Rattle.wot_keyring.proofs.Weighing.{removed_fewer, insert_weighs, found_weight, ones}
+use Rattle.wot_held.specs.declared.kept.Kept.{Kept}
+use Rattle.wot_held.specs.Import.{weigh}
+use Rattle.wot_held.specs.Keyring.{Entries, Keyring, Certificates, is_fpr, stripped}
+use Rattle.wot_held.specs.Kept.{AreSortedByFpr, IsKeyring, AreTotals}
+use Rattle.wot_held.specs.Removal.{without_cert}
+use Rattle.wot_held.specs.Verdict.{restamped, restamped_all, counted_at, is_over}
+use Rattle.wot_held.proofs.Stamps.{removed_stamped, restamped_stamped}
+use Rattle.wot_merge.proofs.Weighing.{removed_fewer, insert_weighs, found_weight, ones}
 
 -- ---- a certificate removed
 

@@ -7,10 +7,10 @@ use Rattle.wot_types.specs.declared.fpr.Fpr.{Fpr}
 use Rattle.wot_verdict.specs.Verdicts as verdicts
 use Rattle.wot_part.specs.Certificate.{Certificate}
 use Rattle.wot_part.specs.Text.{size_of}
-use Rattle.wot_keyring.specs.declared.kept.Kept.{Kept}
-use Rattle.wot_keyring.specs.Keyring.{Entries, Keyring, stripped}
-use Rattle.wot_keyring.specs.Held.{held_of}
-use Rattle.wot_keyring.specs.Kept.{AreSized}
+use Rattle.wot_held.specs.declared.kept.Kept.{Kept}
+use Rattle.wot_held.specs.Keyring.{Entries, Keyring, stripped}
+use Rattle.wot_held.specs.Held.{held_of}
+use Rattle.wot_held.specs.Kept.{AreSized}
 use Rattle.wot_keyring.specs.Dump.{AreLines, IsLine, commands_of, import_of, command_line_of, lines_of, setting_of}
 use Rattle.wot_keyring.specs.Dump.{text_import}
 

@@ -14,17 +14,17 @@ use Rattle.wot_part.specs.Certificate.{Certificate, unite}
 use Rattle.wot_part.specs.Counts.{items_of, all_sigs}
 use Rattle.wot_verdict.specs.Verdicts as verdicts
 use Rattle.wot_part.specs.Judged.{judged}
-use Rattle.wot_keyring.specs.declared.kept.Kept.{Kept}
-use Rattle.wot_keyring.specs.Keyring.{Entries, Keyring, is_fpr, kept_at}
-use Rattle.wot_keyring.specs.Kept.{IsKeyring}
-use Rattle.wot_keyring.specs.Later.{SaysSame, IsLaterAt, IsLater}
-use Rattle.wot_keyring.specs.declared.log.Log.{Log}
-use Rattle.wot_keyring.specs.Log.{is_named_in, IsLogOf, LogsAt, RestampsThese}
-use Rattle.wot_keyring.specs.Staging.{found_for, kept_as, kept_with, kept_all, weigh_kept}
-use Rattle.wot_keyring.proofs.Inserts.{lookup_insert}
-use Rattle.wot_keyring.proofs.Later.{above, stamp_by, says_same}
-use Rattle.wot_keyring.proofs.Logged.{one_on, logged_on, logged_again}
-use Rattle.wot_keyring.proofs.Unchanged.{kept_same, all_same}
+use Rattle.wot_held.specs.declared.kept.Kept.{Kept}
+use Rattle.wot_held.specs.Keyring.{Entries, Keyring, is_fpr, kept_at}
+use Rattle.wot_held.specs.Kept.{IsKeyring}
+use Rattle.wot_held.specs.Later.{SaysSame, IsLaterAt, IsLater}
+use Rattle.wot_index.specs.declared.log.Log.{Log}
+use Rattle.wot_index.specs.Log.{is_named_in, IsLogOf, LogsAt, RestampsThese}
+use Rattle.wot_merge.specs.Staging.{found_for, kept_as, kept_with, kept_all, weigh_kept}
+use Rattle.wot_held.proofs.Inserts.{lookup_insert}
+use Rattle.wot_index.proofs.Later.{above, stamp_by, says_same}
+use Rattle.wot_index.proofs.Logged.{one_on, logged_on, logged_again}
+use Rattle.wot_merge.proofs.Unchanged.{kept_same, all_same}
 
 equal_by : (a b : ℕ) → a ≤ b → nat_lt a b ≡ false → a ≡ b
 equal_by a b le none = grind (arith, nat_tests)

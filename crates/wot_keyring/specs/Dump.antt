@@ -15,12 +15,12 @@ use Rattle.wot_verdict.specs.declared.verdict.Verdict.TheVariants.{Good, Bad}
 use Rattle.wot_part.specs.Certificate.{Certificate}
 use Rattle.wot_part.specs.Judged.{judged}
 use Rattle.wot_part.specs.Text.{text_of}
-use Rattle.wot_keyring.specs.declared.import.Imported.{Imported}
-use Rattle.wot_keyring.specs.declared.refusal.Refusal.{Refusal}
-use Rattle.wot_keyring.specs.Keyring.{Keyring}
-use Rattle.wot_keyring.specs.Held.{Held, nothing, held_of, verdict_set}
-use Rattle.wot_keyring.specs.Import.{answer_to, importing}
-use Rattle.wot_keyring.specs.Verdict.{is_over}
+use Rattle.wot_held.specs.declared.imported.Imported.{Imported}
+use Rattle.wot_held.specs.declared.refusal.Refusal.{Refusal}
+use Rattle.wot_held.specs.Keyring.{Keyring}
+use Rattle.wot_held.specs.Held.{Held, nothing, held_of, verdict_set}
+use Rattle.wot_held.specs.Import.{answer_to, importing}
+use Rattle.wot_held.specs.Verdict.{is_over}
 
 -- the import of a certificate's text
 abbrev pub text_import : Certificate → Command

@@ -11,13 +11,13 @@ ghost use Rattle.wot_part.specs.Certificate.{Certificate};
 ghost use Rattle.wot_part.specs.Text.{size_of};
 ghost use Rattle.wot_keyring.specs.Dump.{AreLines, IsLine, IsRestored, command_line_of, lines_of, setting, setting_of};
 ghost use Rattle.wot_keyring.specs.Dump.{text_import};
-ghost use Rattle.wot_keyring.specs.Keyring.{Keyring as Seen};
-ghost use Rattle.wot_keyring.specs.Kept.{IsKeyring};
+ghost use Rattle.wot_held.specs.Keyring.{Keyring as Seen};
+ghost use Rattle.wot_held.specs.Kept.{IsKeyring};
 
-use crate::certs::CertsIter;
 use std::alloc::Global;
 use wot_cert::Cert;
 use wot_cert::laws::{judging, marks_weigh_nothing, read_back};
+use wot_held::CertsIter;
 use wot_script::{Command, Octets, print_command};
 use wot_types::{Memory, SigNumber};
 use wot_verdict::{Verdict, Verdicts};

@@ -11,7 +11,7 @@ use Rattle.wot_script.specs.declared.reply.Reply.TheVariants as replies
 use Rattle.wot_script.specs.Replies.{reply_text}
 use Rattle.wot_certd.specs.declared.shelf.Given.TheVariants.{Long}
 use Rattle.wot_cache.specs.State.{Engine, State, StaysButMarks, state_of}
-use Rattle.wot_keyring.specs.Keyring.{Keyring}
+use Rattle.wot_held.specs.Keyring.{Keyring}
 use Rattle.wot_step.specs.declared.class.Class.{Class}
 use Rattle.wot_step.specs.declared.class.Class.TheVariants.{State as OfState}
 use Rattle.wot_step.specs.declared.class.StateCommand.{StateCommand}
@@ -19,11 +19,10 @@ use Rattle.wot_step.specs.declared.told.Moved.{Moved}
 use Rattle.wot_step.specs.declared.told.Told.{Told}
 use Rattle.wot_cursor.specs.Cursors.{Cursors}
 use Rattle.wot_watch.specs.Watches.{Watches}
-use Rattle.wot_keyring.specs.Import.{IsOneChange}
+use Rattle.wot_held.specs.Import.{IsOneChange}
 use Rattle.wot_step.specs.Watching.{AreLines, ReportsWatches, Watching, is_watching, told_all}
 use Rattle.wot_step.specs.Session.{IsTurnedBy, Session, watched, session_of}
-use Rattle.wot_step.specs.Entry.{IsServed, Use, has_failed, put_for, unused}
-use Rattle.wot_step.specs.Entry.{use_by, use_of}
+use Rattle.wot_step.specs.Entry.{IsServed, Use, has_failed, put_for, unused, use_by, use_of}
 use Rattle.wot_step.specs.Lines.{heard, is_silent, longest}
 use Rattle.wot_step.specs.LineStep.{ReadLineStep, StateStep, LineStep, CommandStep}
 use Rattle.wot_command.specs.CommandRun.{StateRun, CommandRun, ClassRun, Seen}

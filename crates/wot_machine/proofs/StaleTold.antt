@@ -18,13 +18,13 @@ use Rattle.wot_check.specs.declared.checking.Checked.TheVariants as answers
 use Rattle.wot_part.specs.Certificate.{Certificate}
 use Rattle.wot_cert.specs.declared.fault.CertFault.{CertFault}
 use Rattle.wot_cert.specs.declared.fault.CertFault.TheVariants as certs
-use Rattle.wot_keyring.specs.declared.import.Imported.{Imported}
-use Rattle.wot_keyring.specs.declared.refusal.Refusal.{Refusal}
-use Rattle.wot_keyring.specs.declared.refusal.Refusal.TheVariants as refusals
-use Rattle.wot_keyring.specs.Held.{cert_in, removing, verdict_cleared, verdict_set}
-use Rattle.wot_keyring.specs.Import.{answer_to, answer_under, is_entry}
-use Rattle.wot_keyring.specs.Verdict.{is_over}
-use Rattle.wot_keyring.specs.Entry.{entry_in}
+use Rattle.wot_held.specs.declared.imported.Imported.{Imported}
+use Rattle.wot_held.specs.declared.refusal.Refusal.{Refusal}
+use Rattle.wot_held.specs.declared.refusal.Refusal.TheVariants as refusals
+use Rattle.wot_held.specs.Held.{cert_in, removing, verdict_cleared, verdict_set}
+use Rattle.wot_held.specs.Import.{answer_to, answer_under, is_entry}
+use Rattle.wot_held.specs.Verdict.{is_over}
+use Rattle.wot_held.specs.Entry.{entry_in}
 use Rattle.wot_watch.specs.Watches as watching
 use Rattle.wot_watch.specs.Watches.{Watches, watch_at, with_watch, without_watch}
 use Rattle.wot_script.specs.declared.reply.ClaimLine.{ClaimLine}

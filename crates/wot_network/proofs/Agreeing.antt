@@ -11,8 +11,8 @@ use Rattle.wot_edge.specs.declared.edge.EdgeFacts.{EdgeFacts}
 use Rattle.wot_edge.specs.Agree.{Agree, scoped_edge}
 use Rattle.wot_edge.specs.Path.{asks}
 use Rattle.wot_edge.specs.Record.{Has, Row, Entry, blank, entry_at, rows_into}
-use Rattle.wot_keyring.specs.Keyring.{Certificates, is_fpr}
-use Rattle.wot_keyring.specs.Later.{SaysSame}
+use Rattle.wot_held.specs.Keyring.{Certificates, is_fpr}
+use Rattle.wot_held.specs.Later.{SaysSame}
 use Rattle.wot_live.specs.Rows.{edges_of}
 use Rattle.wot_standing.specs.Standing.{standing_of}
 use Rattle.wot_standing.specs.Usable.{is_usable}

@@ -20,7 +20,7 @@ use Rattle.wot_cert.specs.Time.{is_live, newness}
 use Rattle.wot_edge.specs.declared.edge.EdgeFacts.{EdgeFacts}
 use Rattle.wot_edge.specs.Order.{edge_cmp}
 use Rattle.wot_edge.specs.Record.{Has, Row, Entry, rows_into}
-use Rattle.wot_keyring.specs.Keyring.{Certificates, is_fpr}
+use Rattle.wot_held.specs.Keyring.{Certificates, is_fpr}
 use Rattle.wot_live.specs.Edge.{edge_by, edge_facts, edge_on, signature_place}
 use Rattle.wot_live.specs.Rows.{edge_with, edges_from, edges_of, edges_on, one_of_both}
 use Rattle.wot_standing.specs.Kinds.{is_certification}

@@ -12,9 +12,9 @@ use Rattle.wot_part.specs.Certificate.{Certificate}
 use Rattle.wot_edge.specs.declared.edge.EdgeFacts.{EdgeFacts}
 use Rattle.wot_edge.specs.Order.{edge_cmp}
 use Rattle.wot_edge.specs.Record.{Has, Row, Entry, blank, entry_at, rows_into, edges_into}
-use Rattle.wot_keyring.specs.declared.kept.Kept.{Kept}
-use Rattle.wot_keyring.specs.Keyring.{Keyring, Certificates, is_fpr, cert_at, certificates_in}
-use Rattle.wot_keyring.specs.Keyring as keyrings
+use Rattle.wot_held.specs.declared.kept.Kept.{Kept}
+use Rattle.wot_held.specs.Keyring.{Keyring, Certificates, is_fpr, cert_at, certificates_in}
+use Rattle.wot_held.specs.Keyring as keyrings
 use Rattle.wot_live.specs.Rows.{edges_of, revoked_of}
 use Rattle.wot_standing.specs.Standing.{standing_of}
 use Rattle.wot_standing.specs.declared.status.Standing.{Standing}

@@ -25,7 +25,7 @@ use Rattle.wot_standing.specs.Standing.{standing_of}
 use Rattle.wot_standing.specs.Usable.{is_key_in_order, is_in_order}
 use Rattle.wot_live.specs.Edge.{edge_by, edge_on}
 use Rattle.wot_live.specs.Rows.{edge_with, edges_on, edges_from, in_edge_order, edges_of, places_where, revoked_of}
-use Rattle.wot_keyring.specs.Later.{SaysSame}
+use Rattle.wot_held.specs.Later.{SaysSame}
 use Rattle.wot_network.specs.Standings.{GiveSame}
 
 -- ---- lists

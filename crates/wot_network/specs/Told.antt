@@ -14,7 +14,7 @@ use Rattle.wot_part.specs.Certificate.{Signature, Component, Certificate}
 use Rattle.wot_edge.specs.declared.edge.EdgeFacts.{EdgeFacts}
 use Rattle.wot_edge.specs.Lawful.{AreEntries}
 use Rattle.wot_edge.specs.Record.{Row, Entry, Record}
-use Rattle.wot_keyring.specs.Keyring.{Certificates, is_fpr}
+use Rattle.wot_held.specs.Keyring.{Certificates, is_fpr}
 use Rattle.wot_scope.specs.Deciding.{scope_holds}
 use Rattle.wot_standing.specs.Standing.{standing_of}
 use Rattle.wot_standing.specs.Usable.{is_usable, is_in_order}

@@ -3,8 +3,8 @@
 ghost use Rattle.std.specs.Prelude.{◌≤◌, ℕ, List};
 ghost use Rattle.wot_verdict.specs.Verdicts.{Entries};
 ghost use Rattle.wot_edge.specs.Record.{IsRecord};
-ghost use Rattle.wot_keyring.specs.Keyring.{Certificates, Keyring};
-ghost use Rattle.wot_keyring.specs.Later.{IsLater};
+ghost use Rattle.wot_held.specs.Keyring.{Certificates, Keyring};
+ghost use Rattle.wot_held.specs.Later.{IsLater};
 ghost use Rattle.wot_network.specs.Certified.{RestsOnCertifications, RestsOnTrust};
 ghost use Rattle.wot_network.specs.Local.{IsLocal};
 ghost use Rattle.wot_network.specs.Net.{Marks, Net, Fits, signatures_in, stale_signatures};

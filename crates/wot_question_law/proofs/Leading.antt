@@ -29,7 +29,7 @@ use Rattle.wot_check.specs.Leading.{DoChecksAgree, DoPathsLead, DoTablesAgree, H
 use Rattle.wot_check.specs.Leading.{HasIntroducersOf, IsLeadingShared, ShareLeading}
 use Rattle.wot_check.specs.Table.{label_at}
 use Rattle.wot_keyring.specs.Dump.{judged_by}
-use Rattle.wot_keyring.specs.Keyring.{Certificates}
+use Rattle.wot_held.specs.Keyring.{Certificates}
 use Rattle.wot_network.specs.Certified.{HasCertifiers, HasIntroducers, LeadsTo, RestsOnCertifications, RestsOnTrust}
 use Rattle.wot_network.specs.Local.{IsLocal}
 use Rattle.wot_network.specs.Told.{AreOwn, record_of}

@@ -15,8 +15,8 @@ use Rattle.wot_cert.specs.Issuer.{good_by}
 use Rattle.wot_edge.specs.declared.path.Path.{Path}
 use Rattle.wot_edge.specs.Answer.{IsAnswer}
 use Rattle.wot_edge.specs.Record.{Has}
-use Rattle.wot_keyring.specs.Held.{Held, cert_in}
-use Rattle.wot_keyring.specs.Later.{SaysSame}
+use Rattle.wot_held.specs.Held.{Held, cert_in}
+use Rattle.wot_held.specs.Later.{SaysSame}
 use Rattle.wot_network.specs.Certified.{IsSlice}
 use Rattle.wot_cache.specs.declared.view.View.{View}
 use Rattle.wot_cache.specs.Question.{question_in}

@@ -16,7 +16,7 @@ use Rattle.wot_check.specs.declared.checking.Checked.{Checked}
 use Rattle.wot_check.specs.Absence.{IsChecked, IsLeastTable}
 use Rattle.wot_check.specs.Claim.{Claim}
 use Rattle.wot_check.specs.Table.{IsTable, Labels}
-use Rattle.wot_keyring.specs.Keyring.{Certificates}
+use Rattle.wot_held.specs.Keyring.{Certificates}
 use Rattle.wot_script.specs.declared.command.Command.{Command}
 use Rattle.wot_script.specs.Claims.{IsClaimSpelled}
 use Rattle.wot_script.specs.declared.reply.ClaimLine.{ClaimLine}

@@ -2,8 +2,8 @@
 use Rattle.std.proofs.Common.{◌≡◌, inl, inr, ℕ, ◌≤◌, List, length, true, false, Option, Some, None, Result, Ok, Err}
 use Rattle.std.proofs.Common.{OnOk, refl, sym, ap, subst}
 use Rattle.std.specs.Prelude.{IfSome, is_ok}
-use Rattle.wot_keyring.specs.Held.{held_of}
-use Rattle.wot_keyring.specs.Keyring.{Keyring}
+use Rattle.wot_held.specs.Held.{held_of}
+use Rattle.wot_held.specs.Keyring.{Keyring}
 use Rattle.wot_network.specs.Net.{Marks}
 use Rattle.wot_script.specs.declared.command.Command.{Command}
 use Rattle.wot_cache.specs.declared.view.View.{View}

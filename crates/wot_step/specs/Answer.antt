@@ -12,7 +12,7 @@ use Rattle.wot_script.specs.declared.reply.AnswerLine.TheVariants as lines
 use Rattle.wot_script.specs.declared.reply.Reply.{Reply}
 use Rattle.wot_script.specs.declared.reply.Reply.TheVariants as replies
 use Rattle.wot_cache.specs.declared.view.View.{View}
-use Rattle.wot_keyring.specs.Held.{cert_in}
+use Rattle.wot_held.specs.Held.{cert_in}
 use Rattle.wot_cache.specs.State.{State}
 use Rattle.wot_cache.specs.Question.{question_in}
 

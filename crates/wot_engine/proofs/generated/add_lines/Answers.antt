@@ -1,7 +1,7 @@
 use Rattle.std.proofs.Common.{◌≡◌, ◌∙◌, ap, refl, sym, subst, arith}
 use Rattle.wot_policy.specs.declared.rows.PolicyRows.{PolicyRows}
 use Rattle.wot_policy.specs.Kept.{rows_of}
-use Rattle.wot_keyring.specs.Kept.{IsJudgedBy}
+use Rattle.wot_held.specs.Kept.{IsJudgedBy}
 use Rattle.wot_cache.specs.State.{Engine}
 use Rattle.wot_machine.specs.Machine.{kept}
 use Rattle.wot_step.specs.Scene.{Scene}

@@ -1,5 +1,5 @@
 use Rattle.std.proofs.Common.{ap, subst, sym, ◌∙◌}
-use Rattle.wot_keyring.specs.Keyring.{Keyring}
+use Rattle.wot_held.specs.Keyring.{Keyring}
 use Rattle.wot_cache.specs.State.{Engine, StaysButMarks}
 use Rattle.wot_step.specs.Watching.{told_all}
 use Rattle.wot_step.proofs.Making.{same_state}

@@ -7,7 +7,7 @@ use Rattle.wot_io.specs.Sink.{Becomes, GainsPrefix}
 use Rattle.wot_io.specs.declared.lines.Line.TheVariants.{End, Long, Text}
 use Rattle.wot_policy.specs.declared.rows.PolicyRows.{PolicyRows}
 use Rattle.wot_policy.specs.Kept.{rows_of}
-use Rattle.wot_keyring.specs.Kept.{IsJudgedBy}
+use Rattle.wot_held.specs.Kept.{IsJudgedBy}
 use Rattle.wot_command.specs.Asked.{LineAsks}
 use Rattle.wot_step.specs.Entry.{MayPut}
 use Rattle.wot_machine.specs.Machine.{kept}

@@ -1,4 +1,4 @@
-use Rattle.wot_keyring.specs.Log.{is_named_in}
+use Rattle.wot_index.specs.Log.{is_named_in}
 use Rattle.wot_network.specs.Refreshing.{Advances, AreDoneBut, AreKept, IsProgress}
 use Rattle.wot_network.proofs.refreshing.look_at_all.Given as goal
 

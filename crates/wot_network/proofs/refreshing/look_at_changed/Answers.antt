@@ -1,5 +1,5 @@
 use Rattle.wot_types.specs.declared.fpr.Fpr.{Fpr}
-use Rattle.wot_keyring.specs.Log.{is_listed}
+use Rattle.wot_index.specs.Log.{is_listed}
 use Rattle.wot_network.proofs.Steps.{progress_on, advance_on, done_on, listed_split}
 use Rattle.wot_network.proofs.refreshing.look_at_changed.Goals as goal
 

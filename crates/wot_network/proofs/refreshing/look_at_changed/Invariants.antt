@@ -1,6 +1,6 @@
 use Rattle.std.proofs.Common.{length}
 use Rattle.wot_types.specs.declared.fpr.Fpr.{Fpr}
-use Rattle.wot_keyring.specs.Log.{is_listed}
+use Rattle.wot_index.specs.Log.{is_listed}
 use Rattle.wot_network.specs.Refreshing.{Advances, AreDoneBut, AreKept, IsProgress}
 use Rattle.wot_network.proofs.refreshing.look_at_changed.Given as goal
 

@@ -1,6 +1,6 @@
 use Rattle.std.proofs.Common.{Result, Ok, inl, ap, refl, subst, sym, ◌∙◌}
 use Rattle.wot_types.specs.declared.memory.Memory.{Memory}
-use Rattle.wot_keyring.specs.Keyring.{Keyring}
+use Rattle.wot_held.specs.Keyring.{Keyring}
 use Rattle.wot_cache.specs.State.{Engine, StaysButMarks}
 use Rattle.wot_machine.specs.Machine.{Machine, kept}
 use Rattle.wot_machine.specs.Stepped.{TellsBehind}

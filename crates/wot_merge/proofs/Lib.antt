@@ -1,0 +1,14 @@
+pub mod Logs
+pub mod Running
+pub mod Steps
+pub mod Unions
+pub mod Weighing
+pub mod Clashes
+pub mod Transport
+pub mod Unchanged
+pub mod Within
+pub mod Trying
+pub mod Puts
+pub mod Taking
+pub mod Gathering
+pub mod InPlace
