@@ -14,7 +14,7 @@ use Rattle.wot_auth.specs.declared.answer.Answer.{Answer}
 use Rattle.wot_held.specs.Keyring.{Keyring}
 use Rattle.wot_network.specs.Net.{IsRight, Net, Present}
 use Rattle.wot_network.specs.Roads.{present_of}
-use Rattle.wot_cache.specs.declared.parts.Parts.{Parts}
+use Rattle.wot_kept.specs.declared.parts.Parts.{Parts}
 use Rattle.wot_cache.specs.declared.view.View.{View}
 use Rattle.wot_cache.specs.Answers.{AllAnswers, AreAllRight}
 use Rattle.wot_cache.specs.Inside.{IsEngine, IsReady, Networks, network_at}

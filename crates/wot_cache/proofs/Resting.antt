@@ -22,8 +22,8 @@ use Rattle.wot_held.specs.Later.{IsLater, IsLaterAt, IsUnaltered, SaysSame}
 use Rattle.wot_index.specs.Log.{HasChangedSince, Logged, is_listed}
 use Rattle.wot_cache.specs.declared.answers.KeptAnswer.{KeptAnswer}
 use Rattle.wot_cache.specs.declared.answers.Looked.{Looked}
-use Rattle.wot_cache.specs.declared.view.AskFault.{AskFault}
-use Rattle.wot_cache.specs.declared.view.AskFault.TheVariants as asked
+use Rattle.wot_kept.specs.declared.fault.AskFault.{AskFault}
+use Rattle.wot_kept.specs.declared.fault.AskFault.TheVariants as asked
 use Rattle.wot_cache.specs.declared.view.View.{View}
 use Rattle.wot_cache.specs.Answers.{AllStill, Amounts, AreStill, IsOf, IsRight}
 use Rattle.wot_cache.specs.Basis.{AllIn, AreCalm, AreViewsOn, Basis, CarriesOn, HasAmount, HasGrown, Includes, IsFreeOf}

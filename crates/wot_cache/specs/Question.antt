@@ -12,7 +12,7 @@ use Rattle.wot_network.specs.Told.{record_of}
 use Rattle.wot_auth.specs.declared.answer.Answer.{Answer}
 use Rattle.wot_edge.specs.Agree.{Agree}
 use Rattle.wot_edge.specs.Capacity.{AllFit}
-use Rattle.wot_cache.specs.declared.parts.Parts.{Parts}
+use Rattle.wot_kept.specs.declared.parts.Parts.{Parts}
 use Rattle.wot_cache.specs.declared.view.View.{View}
 use Rattle.wot_cache.specs.State.{Engine, State, state_of}
 use Rattle.wot_cache.specs.Views.{view_at}

@@ -11,8 +11,8 @@ use Rattle.wot_types.specs.declared.limits.Limit.TheVariants as words
 use Rattle.wot_types.specs.Fpr.{fpr_cmp}
 use Rattle.wot_types.specs.ViewName.{view_name_cmp}
 use Rattle.wot_edge.specs.Roots.{root_amount}
-use Rattle.wot_cache.specs.declared.view.AskFault.{AskFault}
-use Rattle.wot_cache.specs.declared.view.AskFault.TheVariants as asked
+use Rattle.wot_kept.specs.declared.fault.AskFault.{AskFault}
+use Rattle.wot_kept.specs.declared.fault.AskFault.TheVariants as asked
 use Rattle.wot_cache.specs.declared.view.View.{View}
 use Rattle.wot_cache.specs.declared.view.ViewFault.{ViewFault}
 use Rattle.wot_cache.specs.declared.view.ViewFault.TheVariants as faults

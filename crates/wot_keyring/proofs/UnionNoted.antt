@@ -10,9 +10,9 @@ use Rattle.wot_types.specs.declared.number.SigNumber.{SigNumber}
 use Rattle.wot_types.specs.FprLaws.{same_fpr-true, same_fpr-sym}
 use Rattle.wot_key.specs.Key.{fpr_of}
 use Rattle.wot_policy.specs.declared.rows.PolicyRows.{PolicyRows}
-use Rattle.wot_cert.specs.Certificate.{Certificate, unite}
-use Rattle.wot_cert.specs.Judged.{judged}
-use Rattle.wot_cert.specs.Whole.{IsCertificate}
+use Rattle.wot_part.specs.Certificate.{Certificate, unite}
+use Rattle.wot_part.specs.Judged.{judged}
+use Rattle.wot_part.specs.Whole.{IsCertificate}
 use Rattle.wot_index.specs.declared.index.Index.{Index}
 use Rattle.wot_held.specs.declared.kept.Kept.{Kept}
 use Rattle.wot_index.specs.Index.{stands_at, stands_among, IsIndexOf, Notes}

@@ -3,7 +3,7 @@
 //! `Keyring::accept` calls it.
 ghost use Rattle.std.specs.Prelude.{◌≡◌, ◌+◌, IfOk, OnOk, OnErr};
 ghost use Rattle.wot_policy.specs.Kept.{IsFaithful, rows_of};
-ghost use Rattle.wot_cert.specs.Counts.{items_of};
+ghost use Rattle.wot_part.specs.Counts.{items_of};
 ghost use Rattle.wot_index.specs.Index.{stands_among, Notes, NotesNothing};
 ghost use Rattle.wot_held.specs.Kept.{AreSortedByFpr, AreJudged};
 ghost use Rattle.wot_merge.specs.Staging.{kept_all, clash_in, weigh_kept, AsksForNew, IsTally, TellsClash};

@@ -45,39 +45,39 @@ use Rattle.wot_cursor.specs.declared.stamps.Age.TheVariants as ages
 use Rattle.wot_explain.specs.declared.explained.Explained.{Explained}
 use Rattle.wot_explain.specs.Explaining.{explanation}
 use Rattle.wot_explain.specs.Piece.{piece_of}
-use Rattle.wot_machine.specs.declared.class.Class.{Class}
-use Rattle.wot_machine.specs.declared.class.Class.TheVariants.{State as OfState, Cursor as OfCursor, Watch as OfWatch}
-use Rattle.wot_machine.specs.declared.class.StateCommand.{StateCommand}
-use Rattle.wot_machine.specs.declared.class.StateCommand.TheVariants as kinds
-use Rattle.wot_machine.specs.declared.class.Change.{Change}
-use Rattle.wot_machine.specs.declared.class.Change.TheVariants as changes
-use Rattle.wot_machine.specs.declared.class.ViewChange.{ViewChange}
-use Rattle.wot_machine.specs.declared.class.ViewChange.TheVariants as turns
-use Rattle.wot_machine.specs.declared.class.ViewQuestion.{ViewQuestion}
-use Rattle.wot_machine.specs.declared.class.ViewQuestion.TheVariants as questions
-use Rattle.wot_machine.specs.declared.class.Read.{Read}
-use Rattle.wot_machine.specs.declared.class.Read.TheVariants as reads
-use Rattle.wot_machine.specs.declared.class.ShelfCall.{ShelfCall}
-use Rattle.wot_machine.specs.declared.class.ShelfCall.TheVariants as calls
-use Rattle.wot_machine.specs.Classes.{AnswersQuestion, call_of, change_of, reading, view_change_of}
-use Rattle.wot_machine.specs.Absent.{Checks, Misses, TellsAbsence, verdict_on}
-use Rattle.wot_machine.specs.Answer.{Asks}
-use Rattle.wot_machine.specs.Joined.{DoNumbersDiffer}
-use Rattle.wot_machine.specs.LineStep.{DoesTo, ComesTo, LineStep, CommandStep}
-use Rattle.wot_machine.specs.Listing.{Lists, explained, explained_from}
-use Rattle.wot_machine.specs.Outcome.{Outcome, cert_refusal, done, exported, imports, load, only, refusal, unless}
-use Rattle.wot_machine.specs.Outcome.{view_refusal}
-use Rattle.wot_machine.specs.Pacing.{Begins, Ends, GivesPiece, Goes, GoesBy, GoesFrom, Leaves, Paces, behind, is_pacing}
-use Rattle.wot_machine.specs.Pacing.{piece, stamps_in}
-use Rattle.wot_machine.specs.Served.{Served}
-use Rattle.wot_machine.specs.Storing.{stored, stored_from, text_unless, merged_entry, writing}
-use Rattle.wot_machine.specs.Watching.{LeavesWatches, Opens, TakesOff, Watching, is_watching, opened}
-use Rattle.wot_machine.specs.Session.{Session}
-use Rattle.wot_machine.specs.Worth.{amount_in}
-use Rattle.wot_machine.proofs.Hearing.{told_by}
-use Rattle.wot_machine.proofs.Joining.{Aged, aged}
-use Rattle.wot_machine.proofs.Paced.{paced_cases}
-use Rattle.wot_machine.proofs.Watched.{watched_cases}
+use Rattle.wot_step.specs.declared.class.Class.{Class}
+use Rattle.wot_step.specs.declared.class.Class.TheVariants.{State as OfState, Cursor as OfCursor, Watch as OfWatch}
+use Rattle.wot_step.specs.declared.class.StateCommand.{StateCommand}
+use Rattle.wot_step.specs.declared.class.StateCommand.TheVariants as kinds
+use Rattle.wot_step.specs.declared.class.Change.{Change}
+use Rattle.wot_step.specs.declared.class.Change.TheVariants as changes
+use Rattle.wot_step.specs.declared.class.ViewChange.{ViewChange}
+use Rattle.wot_step.specs.declared.class.ViewChange.TheVariants as turns
+use Rattle.wot_step.specs.declared.class.ViewQuestion.{ViewQuestion}
+use Rattle.wot_step.specs.declared.class.ViewQuestion.TheVariants as questions
+use Rattle.wot_step.specs.declared.class.Read.{Read}
+use Rattle.wot_step.specs.declared.class.Read.TheVariants as reads
+use Rattle.wot_step.specs.declared.class.ShelfCall.{ShelfCall}
+use Rattle.wot_step.specs.declared.class.ShelfCall.TheVariants as calls
+use Rattle.wot_step.specs.Classes.{AnswersQuestion, call_of, change_of, reading, view_change_of}
+use Rattle.wot_step.specs.Absent.{Checks, Misses, TellsAbsence, verdict_on}
+use Rattle.wot_step.specs.Answer.{Asks}
+use Rattle.wot_cursor_law.specs.Joined.{DoNumbersDiffer}
+use Rattle.wot_step.specs.LineStep.{DoesTo, ComesTo, LineStep, CommandStep}
+use Rattle.wot_step.specs.Listing.{Lists, explained, explained_from}
+use Rattle.wot_step.specs.Outcome.{Outcome, cert_refusal, done, exported, imports, load, only, refusal, unless}
+use Rattle.wot_step.specs.Outcome.{view_refusal}
+use Rattle.wot_step.specs.Pacing.{Begins, Ends, GivesPiece, Goes, GoesBy, GoesFrom, Leaves, Paces, behind, is_pacing}
+use Rattle.wot_step.specs.Pacing.{piece, stamps_in}
+use Rattle.wot_step.specs.Served.{Served}
+use Rattle.wot_step.specs.Storing.{stored, stored_from, text_unless, merged_entry, writing}
+use Rattle.wot_step.specs.Watching.{LeavesWatches, Opens, TakesOff, Watching, is_watching, opened}
+use Rattle.wot_step.specs.Session.{Session}
+use Rattle.wot_watch_law.specs.Worth.{amount_in}
+use Rattle.wot_run_law.proofs.Hearing.{told_by}
+use Rattle.wot_cursor_law.proofs.Joining.{Aged, aged}
+use Rattle.wot_step.proofs.Paced.{paced_cases}
+use Rattle.wot_step.proofs.Watched.{watched_cases}
 
 -- ---- outcomes
 

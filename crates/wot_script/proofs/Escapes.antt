@@ -14,8 +14,8 @@ use Rattle.wot_types.specs.Digits.{array_of_digits}
 use Rattle.wot_script.specs.Fields.{◌>>=◌}
 use Rattle.wot_script.specs.Turned.{Turned}
 use Rattle.wot_script.specs.Uid.{escape, escaped, turn, unescaped, unescaped_from}
-use Rattle.wot_script.specs.declared.uid.Place.{Place}
-use Rattle.wot_script.specs.declared.uid.Place.TheVariants.{Outside, High}
+use Rattle.wot_words.specs.declared.uid.Place.{Place}
+use Rattle.wot_words.specs.declared.uid.Place.TheVariants.{Outside, High}
 
 -- ---- reading
 

@@ -6,8 +6,8 @@ use Rattle.hex.specs.Hex.{encode_lower}
 use Rattle.wot_types.specs.Fpr.{digits_of}
 use Rattle.wot_types.specs.SigNumber.{number_digits}
 use Rattle.wot_script.specs.Uid.{escaped}
-use Rattle.wot_script.specs.declared.piece.Piece.{Piece}
-use Rattle.wot_script.specs.declared.piece.Piece.TheVariants.{Text, Decimal, Key, Signature, Hex, Uid}
+use Rattle.wot_words.specs.declared.piece.Piece.{Piece}
+use Rattle.wot_words.specs.declared.piece.Piece.TheVariants.{Text, Decimal, Key, Signature, Hex, Uid}
 
 -- the text of a piece
 abbrev pub piece_text : Piece → List ℕ

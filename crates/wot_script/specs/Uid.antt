@@ -5,8 +5,8 @@ use Rattle.std.specs.List.{flat_map}
 use Rattle.hex.specs.Hex.{encode_lower}
 use Rattle.wot_types.specs.Digits.{array_of_digits}
 use Rattle.wot_script.specs.Fields.{◌>>=◌}
-use Rattle.wot_script.specs.declared.uid.Place.{Place}
-use Rattle.wot_script.specs.declared.uid.Place.TheVariants.{Outside, Backslash, High, Low}
+use Rattle.wot_words.specs.declared.uid.Place.{Place}
+use Rattle.wot_words.specs.declared.uid.Place.TheVariants.{Outside, Backslash, High, Low}
 
 -- the octets that are complete after one more octet, and the state of the reading
 abbrev pub turn : Place → ℕ → Option (List ℕ × Place)

@@ -7,9 +7,9 @@ use Rattle.wot_types.specs.declared.fpr.Fpr.{Fpr}
 use Rattle.wot_edge.specs.declared.path.Step.{Step}
 use Rattle.wot_edge.specs.Record.{IsRecord}
 use Rattle.wot_edge.specs.Path.{start}
-use Rattle.wot_search.specs.declared.node.Node.{Node}
-use Rattle.wot_search.specs.declared.node.Goal.{Goal}
-use Rattle.wot_search.specs.declared.node.Goal.TheVariants.{Widest, Least}
+use Rattle.wot_layer.specs.declared.node.Node.{Node}
+use Rattle.wot_layer.specs.declared.node.Goal.{Goal}
+use Rattle.wot_layer.specs.declared.node.Goal.TheVariants.{Widest, Least}
 use Rattle.wot_search.specs.Quest.{Quest}
 use Rattle.wot_search.specs.Suffix.{Serves, Found, Kept, node_of, width}
 use Rattle.wot_search.specs.Layer.{AtMost, IsAsGood, Covered, IsGrowing, is_better, is_kept, link_cmp}

@@ -6,7 +6,7 @@ use Rattle.wot_types.specs.declared.fpr.Fpr.{Fpr}
 use Rattle.wot_edge.specs.declared.path.Step.{Step}
 use Rattle.wot_edge.specs.Record.{IsRecord}
 use Rattle.wot_edge.specs.Path.{start}
-use Rattle.wot_search.specs.declared.node.Node.{Node}
+use Rattle.wot_layer.specs.declared.node.Node.{Node}
 use Rattle.wot_search.specs.Quest.{Quest}
 use Rattle.wot_search.specs.Suffix.{Found, Kept, node_of}
 use Rattle.wot_search.proofs.Suffixes.{serves_into}

@@ -2,8 +2,8 @@
 use Rattle.std.proofs.Common.{inl, inr, ◌≤◌, List, ◌∷◌, length, refl, ◌∙◌, arith}
 use Rattle.wot_edge.specs.declared.path.Step.{Step}
 use Rattle.wot_edge.specs.Path.{Use}
-use Rattle.wot_search.specs.declared.node.Goal.{Goal}
-use Rattle.wot_search.specs.declared.node.Goal.TheVariants.{Widest, Least}
+use Rattle.wot_layer.specs.declared.node.Goal.{Goal}
+use Rattle.wot_layer.specs.declared.node.Goal.TheVariants.{Widest, Least}
 use Rattle.wot_search.specs.Layer.{IsAsGood, AtMost}
 use Rattle.wot_search.proofs.Order.{not_less_itself, not_less-trans, cons_less}
 

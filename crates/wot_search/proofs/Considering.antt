@@ -11,11 +11,11 @@ use Rattle.wot_edge.specs.declared.edge.EdgeFacts.{EdgeFacts}
 use Rattle.wot_edge.specs.declared.path.Step.{Step}
 use Rattle.wot_edge.specs.Record.{Record, Row, Has, IsRecord, rows_into, edges_into, entry_at}
 use Rattle.wot_edge.specs.Path.{Question, Reaches, start, step_of, step_left}
-use Rattle.wot_search.specs.declared.node.Node.{Node}
-use Rattle.wot_search.specs.declared.node.Demand.{Demand}
-use Rattle.wot_search.specs.declared.node.Demand.TheVariants.{On, Before}
-use Rattle.wot_search.specs.declared.node.Goal.{Goal}
-use Rattle.wot_search.specs.declared.reached.Reached.{Reached}
+use Rattle.wot_layer.specs.declared.node.Node.{Node}
+use Rattle.wot_layer.specs.declared.node.Demand.{Demand}
+use Rattle.wot_layer.specs.declared.node.Demand.TheVariants.{On, Before}
+use Rattle.wot_layer.specs.declared.node.Goal.{Goal}
+use Rattle.wot_layer.specs.declared.reached.Reached.{Reached}
 use Rattle.wot_search.specs.Quest.{Quest}
 use Rattle.wot_search.specs.Suffix.{Serves, Found, Kept, node_of, width}
 use Rattle.wot_search.specs.Layer.{AtMost, Covered, IsGrowing, is_kept}

@@ -9,7 +9,7 @@ use Rattle.wot_edge.specs.declared.edge.EdgeFacts.{EdgeFacts}
 use Rattle.wot_edge.specs.declared.path.Step.{Step}
 use Rattle.wot_edge.specs.Record.{Record, Row, Has, IsRecord, rows_into, edges_into}
 use Rattle.wot_edge.specs.Path.{Reaches, start, step_of, step_left}
-use Rattle.wot_search.specs.declared.reached.Reached.{Reached}
+use Rattle.wot_layer.specs.declared.reached.Reached.{Reached}
 use Rattle.wot_search.specs.Quest.{Quest}
 use Rattle.wot_search.specs.Suffix.{Found, Kept, width}
 use Rattle.wot_search.specs.Choice.{node_width}

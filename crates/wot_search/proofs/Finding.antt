@@ -10,8 +10,8 @@ use Rattle.wot_edge.specs.declared.path.Path.{Path}
 use Rattle.wot_edge.specs.declared.path.Step.{Step}
 use Rattle.wot_edge.specs.Record.{Has, IsRecord}
 use Rattle.wot_edge.specs.Path.{start, root_left, path_amount}
-use Rattle.wot_search.specs.declared.node.Choice.{Choice}
-use Rattle.wot_search.specs.declared.reached.Reached.{Reached}
+use Rattle.wot_layer.specs.declared.node.Choice.{Choice}
+use Rattle.wot_layer.specs.declared.reached.Reached.{Reached}
 use Rattle.wot_search.specs.Quest.{Quest}
 use Rattle.wot_search.specs.Suffix.{Found, Kept, node_of, width}
 use Rattle.wot_search.specs.Choice.{node_width, chosen}

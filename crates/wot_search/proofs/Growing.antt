@@ -8,7 +8,7 @@ use Rattle.wot_edge.specs.declared.path.Step.{Step}
 use Rattle.wot_edge.specs.Leads.{Leads, IsRoute, beginning}
 use Rattle.wot_edge.specs.Record.{Has, edges_into}
 use Rattle.wot_edge.specs.Path.{start}
-use Rattle.wot_search.specs.declared.reached.Reached.{Reached}
+use Rattle.wot_layer.specs.declared.reached.Reached.{Reached}
 use Rattle.wot_search.specs.Quest.{Quest}
 use Rattle.wot_search.specs.Suffix.{Suffix, Found, Kept, node_of}
 use Rattle.wot_search.specs.Layer.{IsLayer, IsGrowing, Onward}

@@ -20,7 +20,7 @@ use Rattle.wot_edge.specs.Order.{steps_cmp}
 use Rattle.wot_edge.specs.Record.{Has, IsRecord, entry_at}
 use Rattle.wot_edge.specs.Roots.{root_amount}
 use Rattle.wot_edge.specs.Path.{Question, Use, start, root_left, path_amount, IsOpen}
-use Rattle.wot_search.specs.declared.node.Node.{Node}
+use Rattle.wot_layer.specs.declared.node.Node.{Node}
 use Rattle.wot_search.specs.Growth.{IsResult}
 use Rattle.wot_search.specs.Layer.{AtMost, IsComplete, IsEntry}
 use Rattle.wot_search.specs.Looked.{IsLooked}

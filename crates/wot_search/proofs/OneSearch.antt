@@ -12,9 +12,9 @@ use Rattle.wot_edge.specs.declared.path.Path.{Path}
 use Rattle.wot_edge.specs.declared.path.Step.{Step}
 use Rattle.wot_edge.specs.Path.{Question, Use, start, root_left, path_amount}
 use Rattle.wot_edge.specs.Roots.{NoneOver}
-use Rattle.wot_search.specs.declared.node.Node.{Node}
-use Rattle.wot_search.specs.declared.node.Goal.TheVariants.{Least}
-use Rattle.wot_search.specs.declared.reached.Reached.{Reached}
+use Rattle.wot_layer.specs.declared.node.Node.{Node}
+use Rattle.wot_layer.specs.declared.node.Goal.TheVariants.{Least}
+use Rattle.wot_layer.specs.declared.reached.Reached.{Reached}
 use Rattle.wot_search.specs.Growth.{IsAfter, IsResult}
 use Rattle.wot_search.specs.Layer.{Covered, IsComplete, IsEntry, IsLayer}
 use Rattle.wot_search.specs.Looked.{IsLooked}

@@ -13,9 +13,9 @@ use Rattle.wot_edge.specs.declared.path.Step.{Step}
 use Rattle.wot_edge.specs.Order.{steps_cmp}
 use Rattle.wot_edge.specs.Record.{Has, IsRecord}
 use Rattle.wot_edge.specs.Path.{Use, start, root_left}
-use Rattle.wot_search.specs.declared.node.Choice.{Choice}
-use Rattle.wot_search.specs.declared.node.Goal.{Goal}
-use Rattle.wot_search.specs.declared.node.Goal.TheVariants.{Widest, Least}
+use Rattle.wot_layer.specs.declared.node.Choice.{Choice}
+use Rattle.wot_layer.specs.declared.node.Goal.{Goal}
+use Rattle.wot_layer.specs.declared.node.Goal.TheVariants.{Widest, Least}
 use Rattle.wot_search.specs.Quest.{Quest}
 use Rattle.wot_search.specs.Suffix.{Found, Kept, width}
 use Rattle.wot_search.specs.Layer.{AtMost, IsAsGood, IsComplete, IsLayer}

@@ -7,8 +7,8 @@ use Rattle.wot_edge.specs.declared.path.Step.{Step}
 use Rattle.wot_edge.specs.Record.{Has, entry_at}
 use Rattle.wot_edge.specs.Path.{Question, Use, Chain, start, issuers, Distinct, IsValid, IsOpen, IsNext, IsSpent}
 use Rattle.wot_edge.specs.Path.{Precedes, path_amount, least_left, root_left}
-use Rattle.wot_search.specs.declared.node.Goal.{Goal}
-use Rattle.wot_search.specs.declared.node.Goal.TheVariants.{Widest, Least}
+use Rattle.wot_layer.specs.declared.node.Goal.{Goal}
+use Rattle.wot_layer.specs.declared.node.Goal.TheVariants.{Widest, Least}
 use Rattle.wot_search.specs.Quest.{Quest}
 use Rattle.wot_search.specs.Suffix.{Suffix, width}
 use Rattle.wot_search.specs.Layer.{IsAsGood}

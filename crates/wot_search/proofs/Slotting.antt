@@ -2,7 +2,7 @@
 use Rattle.std.proofs.Common.{◌≡◌, ℕ, List, [], ◌∷◌, ◌++◌, sym, subst}
 use Rattle.std.proofs.lemmas.List.Elements.{All-push}
 use Rattle.wot_types.specs.declared.fpr.Fpr.{Fpr}
-use Rattle.wot_search.specs.declared.slots.Slot.{Slot}
+use Rattle.wot_reach.specs.declared.slots.Slot.{Slot}
 use Rattle.wot_search.specs.Slots.{AreSlots, HasNumber}
 
 pub tells_equal : (numbers : List (Fpr × ℕ)) (a b : Fpr) (n : ℕ) → a ≡ b → HasNumber numbers a n → HasNumber numbers b n

@@ -12,7 +12,7 @@ use Rattle.wot_edge.specs.Order.{steps_cmp}
 use Rattle.wot_edge.specs.StepLaws.{steps_total}
 use Rattle.wot_edge.specs.Record.{Row, Has, IsRecord, rows_into}
 use Rattle.wot_edge.specs.Path.{Question, Reaches, start}
-use Rattle.wot_search.specs.declared.node.Node.{Node}
+use Rattle.wot_layer.specs.declared.node.Node.{Node}
 use Rattle.wot_search.specs.Quest.{Quest}
 use Rattle.wot_search.specs.Suffix.{Serves, Suffix, Found, Kept, node_of}
 use Rattle.wot_search.specs.Layer.{link_cmp}

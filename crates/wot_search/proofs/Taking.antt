@@ -5,7 +5,7 @@ use Rattle.std.specs.Prelude.{nat_le}
 use Rattle.std.proofs.lemmas.List.{drop_more}
 use Rattle.wot_types.specs.declared.fpr.Fpr.{Fpr}
 use Rattle.wot_edge.specs.Path.{root_left}
-use Rattle.wot_search.specs.declared.node.Choice.{Choice}
+use Rattle.wot_layer.specs.declared.node.Choice.{Choice}
 use Rattle.wot_search.specs.Quest.{Quest}
 use Rattle.wot_search.specs.Suffix.{Found}
 use Rattle.wot_search.specs.Choice.{choice_at, ahead_of, taken, chosen}

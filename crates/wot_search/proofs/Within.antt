@@ -6,7 +6,7 @@ use Rattle.wot_edge.specs.Record.{Record}
 use Rattle.wot_edge.specs.Path.{Question, Use, Chain, Stands, start, step_left, least_left, root_left, asks, IsOpen}
 use Rattle.wot_search.specs.Reach.{HaveEnough, IsReach, Table, number_at}
 use Rattle.wot_search.specs.Onward.{AreOnward}
-use Rattle.wot_search.specs.declared.onward.Onward.{Onward}
+use Rattle.wot_reach.specs.declared.onward.Onward.{Onward}
 
 -- each issuer is within its reach
 abbrev pub Within : (Fpr → ℕ) → List Step → Type 0

@@ -4,10 +4,10 @@ use Rattle.std.specs.Ordering.{is_lt}
 use Rattle.wot_types.specs.declared.fpr.Fpr.{Fpr}
 use Rattle.wot_types.specs.Fpr.{fpr_cmp}
 use Rattle.wot_edge.specs.Path.{root_left}
-use Rattle.wot_search.specs.declared.node.Node.{Node}
-use Rattle.wot_search.specs.declared.node.Choice.{Choice}
-use Rattle.wot_search.specs.declared.node.Goal.{Goal}
-use Rattle.wot_search.specs.declared.node.Goal.TheVariants.{Widest, Least}
+use Rattle.wot_layer.specs.declared.node.Node.{Node}
+use Rattle.wot_layer.specs.declared.node.Choice.{Choice}
+use Rattle.wot_layer.specs.declared.node.Goal.{Goal}
+use Rattle.wot_layer.specs.declared.node.Goal.TheVariants.{Widest, Least}
 use Rattle.wot_search.specs.Quest.{Quest}
 use Rattle.wot_search.specs.Suffix.{Found}
 

@@ -9,11 +9,11 @@ use Rattle.wot_edge.specs.declared.path.Step.{Step}
 use Rattle.wot_edge.specs.Leads.{Leads}
 use Rattle.wot_edge.specs.Record.{Record, Row, Has, IsRecord, EachRow, rows_into}
 use Rattle.wot_edge.specs.Path.{Reaches, start, step_of, step_left, root_left, path_amount}
-use Rattle.wot_search.specs.declared.node.Node.{Node}
-use Rattle.wot_search.specs.declared.node.Demand.{Demand}
-use Rattle.wot_search.specs.declared.node.Goal.{Goal}
-use Rattle.wot_search.specs.declared.reached.Reached.{Reached}
-use Rattle.wot_search.specs.declared.quest.Quest.{Quest as Told}
+use Rattle.wot_layer.specs.declared.node.Node.{Node}
+use Rattle.wot_layer.specs.declared.node.Demand.{Demand}
+use Rattle.wot_layer.specs.declared.node.Goal.{Goal}
+use Rattle.wot_layer.specs.declared.reached.Reached.{Reached}
+use Rattle.wot_layer.specs.declared.quest.Quest.{Quest as Told}
 use Rattle.wot_search.specs.Quest.{Quest, quest_of}
 use Rattle.wot_search.specs.Suffix.{Serves, Found, Kept, width}
 use Rattle.wot_search.specs.Layer.{Covered, IsEntry, IsLayer, IsComplete, IsGrowing, Onward, is_kept}

@@ -4,9 +4,9 @@ use Rattle.std.specs.Borrow.{Bor}
 use Rattle.std.specs.List.{AllByRecursion}
 use Rattle.wot_types.specs.declared.fpr.Fpr.{Fpr}
 use Rattle.wot_edge.specs.Record.{Record, Has}
-use Rattle.wot_search.specs.declared.checking.Checking.{Checking}
-use Rattle.wot_search.specs.declared.making.Making.{Making}
-use Rattle.wot_search.specs.declared.making.Making.TheVariants as stages
+use Rattle.wot_reach.specs.declared.checking.Checking.{Checking}
+use Rattle.wot_reach.specs.declared.making.Making.{Making}
+use Rattle.wot_reach.specs.declared.making.Making.TheVariants as stages
 use Rattle.wot_search.specs.Onward.{AreOnward}
 use Rattle.wot_search.specs.Reach.{HasEnough, IsReach, Table, number_at}
 

@@ -5,7 +5,7 @@ use Rattle.std.specs.List.{All}
 use Rattle.wot_types.specs.declared.fpr.Fpr.{Fpr}
 use Rattle.wot_edge.specs.declared.edge.EdgeFacts.{EdgeFacts}
 use Rattle.wot_edge.specs.Record.{Record, EachRow, Has, edges_into}
-use Rattle.wot_search.specs.declared.onward.Onward.{Onward}
+use Rattle.wot_reach.specs.declared.onward.Onward.{Onward}
 
 -- An edge with n edges after it has a depth of at least n, and an issuer whose number is above n: so with one or more
 -- it has a depth of at least 1, and an issuer whose number is at least 2.

@@ -6,8 +6,8 @@ use Rattle.wot_edge.specs.Path.{Question, Use, asks}
 use Rattle.wot_edge.specs.Sums.{use_in}
 use Rattle.wot_search.specs.Onward.{AreOnward}
 use Rattle.wot_search.specs.Reach.{number_at}
-use Rattle.wot_search.specs.declared.node.Goal.{Goal}
-use Rattle.wot_search.specs.declared.quest.Quest.{Quest as Told}
+use Rattle.wot_layer.specs.declared.node.Goal.{Goal}
+use Rattle.wot_layer.specs.declared.quest.Quest.{Quest as Told}
 
 -- The paths that answer the question after what is used and have this residual amount, and which of the shortest of
 -- them. Issuers are looked for within their reach only.

@@ -9,7 +9,7 @@ use Rattle.wot_edge.specs.declared.edge.EdgeFacts.{EdgeFacts}
 use Rattle.wot_edge.specs.Record.{Record, Row, Has, rows_into}
 use Rattle.wot_edge.specs.Roots.{root_amount}
 use Rattle.wot_search.specs.Onward.{AreOnward}
-use Rattle.wot_search.specs.declared.onward.Onward.{Onward}
+use Rattle.wot_reach.specs.declared.onward.Onward.{Onward}
 
 -- the number of a fingerprint, at most 255; 255 if the table has none
 abbrev pub number_of : List (Fpr × ℕ) → Fpr → ℕ

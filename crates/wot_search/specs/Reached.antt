@@ -2,7 +2,7 @@
 use Rattle.std.specs.BTreeMap.{BTreeMap, get}
 use Rattle.wot_types.specs.declared.fpr.Fpr.{Fpr}
 use Rattle.wot_types.specs.Fpr.{fpr_cmp}
-use Rattle.wot_search.specs.declared.node.Node.{Node}
+use Rattle.wot_layer.specs.declared.node.Node.{Node}
 use Rattle.wot_search.specs.Suffix.{Found}
 
 -- what was found

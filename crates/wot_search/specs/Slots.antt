@@ -3,7 +3,7 @@ use Rattle.std.specs.Prelude.{◌≡◌, ℕ, List, Option, Some, None}
 use Rattle.std.specs.List.{All}
 use Rattle.wot_types.specs.declared.fpr.Fpr.{Fpr}
 use Rattle.wot_search.specs.Reach.{number_of}
-use Rattle.wot_search.specs.declared.slots.Slot.{Slot}
+use Rattle.wot_reach.specs.declared.slots.Slot.{Slot}
 
 -- the table has this number for the fingerprint
 abbrev pub HasNumber : List (Fpr × ℕ) → Fpr → ℕ → Type 0

@@ -3,7 +3,7 @@ use Rattle.std.specs.Prelude.{◌≡◌, ℕ, ◌<◌, ◌≤◌, List, [], ◌�
 use Rattle.wot_types.specs.declared.fpr.Fpr.{Fpr}
 use Rattle.wot_edge.specs.declared.path.Step.{Step}
 use Rattle.wot_edge.specs.Path.{Use, Stands, step_left, least_left}
-use Rattle.wot_search.specs.declared.node.Node.{Node}
+use Rattle.wot_layer.specs.declared.node.Node.{Node}
 use Rattle.wot_search.specs.Quest.{Quest}
 
 -- a step that may come before others, has the wanted residual amount, and whose issuer is within its reach

@@ -4,7 +4,7 @@
 ghost use Rattle.std.specs.Prelude.{◌≡◌, ◌<◌, ◌^◌, ◌+◌, ◌-◌, nat_lt, if◌then◌else◌, Some};
 ghost use Rattle.std.specs.Prelude.{true, Ok, OnOk, OnErr};
 ghost use Rattle.std.specs.List.{AllByRecursion};
-ghost use Rattle.wot_cert.specs.Whole.{IsCertificate};
+ghost use Rattle.wot_part.specs.Whole.{IsCertificate};
 ghost use Rattle.wot_held.specs.Keyring.{certificates_in};
 ghost use Rattle.wot_held.specs.Kept.{IsJudgedBy};
 ghost use Rattle.wot_held.specs.Kept.{IsKeyring};

@@ -3,7 +3,7 @@ use Rattle.std.specs.Prelude.{IfSome}
 use Rattle.std.specs.Borrow.{Bor}
 use Rattle.wot_types.specs.declared.fpr.Fpr.{Fpr}
 use Rattle.wot_edge.specs.Record.{Record}
-use Rattle.wot_search.specs.declared.onward.Onward.{Onward}
+use Rattle.wot_reach.specs.declared.onward.Onward.{Onward}
 use Rattle.wot_search.specs.Onward.{LeadsOnInto}
 use Rattle.wot_search.proofs.onward.onward_at.Goals as goal
 

@@ -1,4 +1,4 @@
-use Rattle.wot_search.specs.declared.slots.Slot.{Slot}
+use Rattle.wot_reach.specs.declared.slots.Slot.{Slot}
 use Rattle.wot_search.proofs.Slotting.{slot_added}
 use Rattle.wot_search.proofs.rows.put_issuer.Goals as goal
 

@@ -1,5 +1,5 @@
 use Rattle.std.proofs.Common.{None}
-use Rattle.wot_search.specs.declared.slots.Slot.{Slot}
+use Rattle.wot_reach.specs.declared.slots.Slot.{Slot}
 use Rattle.wot_search.proofs.Slotting.{slot_added}
 use Rattle.wot_search.proofs.slots.put_slot.Goals as goal
 
