@@ -14,6 +14,7 @@ pub mod laws;
 mod lines;
 mod lists;
 mod octets;
+mod one_word;
 mod piece;
 mod read;
 mod reply;
