@@ -13,6 +13,7 @@ mod fields;
 pub mod laws;
 mod lines;
 mod lists;
+mod numbered;
 mod octets;
 mod one_word;
 mod piece;
