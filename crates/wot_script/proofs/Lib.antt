@@ -9,4 +9,5 @@ pub mod Readings
 pub mod Sizes
 pub mod Wanting
 pub mod OneLine
+pub mod WordLines
 pub mod ReadAgain

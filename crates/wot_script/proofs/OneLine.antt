@@ -27,8 +27,8 @@ use Rattle.wot_script.specs.Spelling.{IsLineFor, most_octets}
 use Rattle.wot_script.specs.Texts.{joined}
 use Rattle.wot_script.specs.declared.command.Command.{Command}
 use Rattle.wot_script.specs.declared.command.Command.TheVariants.{Import, Load, Store, Remove, Good, Bad, Unjudge, Time}
-use Rattle.wot_script.specs.declared.command.Command.TheVariants.{Root, Close, Ask, Explain, Pending, Keys, Export}
-use Rattle.wot_script.specs.declared.command.Command.TheVariants.{Dump, Absence, Check, CursorOver, CursorNext}
+use Rattle.wot_script.specs.declared.command.Command.TheVariants.{Root, Close, Ask, Explain, Export}
+use Rattle.wot_script.specs.declared.command.Command.TheVariants.{Absence, Check, CursorOver, CursorNext}
 use Rattle.wot_script.specs.declared.command.Command.TheVariants.{CursorClose, WatchOn, WatchOff}
 use Rattle.wot_script.specs.Uid.{escape, escaped}
 use Rattle.wot_script.proofs.Spaceless.{Lacks, feedless_digits, lacks_from_test, lacks_decimal, lacks_test}
@@ -163,18 +163,6 @@ one_line command first prefix texts fine apart free short = record {
   heard = apart;
   short = omega (arith, length-joined ((first ∷ prefix) ∷ texts), short);
 }
-
-pub pending_line : IsLineFor Pending (codes "pending")
-unfolding lacks_test
-pending_line = one_line Pending 112 (codes "ending") [] refl (λ e. omega arith) tt (omega arith)
-
-pub keys_line : IsLineFor Keys (codes "keys")
-unfolding lacks_test
-keys_line = one_line Keys 107 (codes "eys") [] refl (λ e. omega arith) tt (omega arith)
-
-pub dump_line : IsLineFor Dump (codes "dump")
-unfolding lacks_test
-dump_line = one_line Dump 100 (codes "ump") [] refl (λ e. omega arith) tt (omega arith)
 
 pub import_line : (octets : List ℕ) → IsLineFor (Import octets) (joined (codes "import " ∷ encode_lower octets ∷ []))
 unfolding lacks_test

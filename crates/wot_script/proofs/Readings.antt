@@ -15,13 +15,13 @@ use Rattle.wot_script.specs.Decimal.{decimal_up_to, positive_up_to}
 use Rattle.wot_script.specs.Fields.{◌>>=◌, cut, octets_of_hex}
 use Rattle.wot_script.specs.Grammar.{about_of, checked_of, command_of, drop_of, entry_of, explained_of, export_of}
 use Rattle.wot_script.specs.Grammar.{import_of, judgement_of, listed_of, load_of, question_of, root_of, setting_of}
-use Rattle.wot_script.specs.Grammar.{single_of, store_of, verdict_of, view_of, over_of, paced_of, watch_of, watched_of}
+use Rattle.wot_script.specs.Grammar.{store_of, verdict_of, view_of, over_of, paced_of, watch_of, watched_of}
 use Rattle.wot_script.specs.Texts.{joined}
 use Rattle.wot_script.specs.Uid.{unescaped}
 use Rattle.wot_script.specs.declared.command.Command.{Command}
 use Rattle.wot_script.specs.declared.command.Command.TheVariants.{Import, Load, Store, Remove, Good, Bad, Unjudge, Time}
-use Rattle.wot_script.specs.declared.command.Command.TheVariants.{Root, Close, Ask, Explain, Pending, Keys, Export}
-use Rattle.wot_script.specs.declared.command.Command.TheVariants.{Dump, Absence, Check, CursorOver, CursorNext}
+use Rattle.wot_script.specs.declared.command.Command.TheVariants.{Root, Close, Ask, Explain, Export}
+use Rattle.wot_script.specs.declared.command.Command.TheVariants.{Absence, Check, CursorOver, CursorNext}
 use Rattle.wot_script.specs.declared.command.Command.TheVariants.{CursorClose, WatchOn, WatchOff}
 use Rattle.wot_script.specs.declared.read.About.{About}
 use Rattle.wot_script.specs.declared.read.About.TheVariants.{Setting, Asked, Listed, Explained, Missed, Checked, Paced}
@@ -61,18 +61,6 @@ pub export_reads : (digits : List ℕ) (fpr : Fpr) → fpr_of_digits digits ≡ 
 unfolding command_of export_of
 export_reads digits fpr e =
     ap (λ text. option_map Export (fpr_of_digits text)) (append-nil digits) ∙ ap (option_map Export) e
-
-pub pending_reads : command_of (codes "pending") ≡ Some Pending
-unfolding command_of single_of
-pending_reads = refl
-
-pub keys_reads : command_of (codes "keys") ≡ Some Keys
-unfolding command_of single_of
-keys_reads = refl
-
-pub dump_reads : command_of (codes "dump") ≡ Some Dump
-unfolding command_of single_of
-dump_reads = refl
 
 verdict_reads : (digits text : List ℕ) (number : SigNumber) (command : Command) → Spaceless digits
     → number_of_digits digits ≡ Some number → judgement_of number text ≡ Some command

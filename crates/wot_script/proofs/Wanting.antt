@@ -8,7 +8,7 @@ use Rattle.hex.specs.Hex.{decode_of, decode_pairs}
 use Rattle.hex.specs.declared.error.FromHexError.{FromHexError}
 use Rattle.hex.specs.declared.error.FromHexError.TheVariants.{OddLength}
 use Rattle.hex.proofs.HexLemmas.{decode_pairs-ok}
-use Rattle.std.specs.List.{AllByRecursion, onto_first}
+use Rattle.std.specs.List.{AllByRecursion, list_all, onto_first}
 use Rattle.std.specs.Str.{bytes_eq}
 use Rattle.std.specs.Str.Parse.{digits_value}
 use Rattle.std.proofs.lemmas.Bool.{and_parts, leb-true, ltb-true}
@@ -25,10 +25,12 @@ use Rattle.wot_script.specs.Decimal.{decimal_up_to, is_decimal, positive_up_to}
 use Rattle.wot_script.specs.Fields.{◌>>=◌, behind, cut, cut_at}
 use Rattle.wot_script.proofs.Cutting.{cut_short}
 use Rattle.wot_script.proofs.Items.{parts_of}
+use Rattle.wot_script.proofs.WordLines.{When, when}
 use Rattle.wot_script.specs.Grammar.{about_of, asked_of, checked_of, command_of, drop_of, entry_of, explained_of}
 use Rattle.wot_script.specs.Grammar.{export_of, import_of, judgement_of, listed_of, load_of, missed_of, question_of}
 use Rattle.wot_script.specs.Grammar.{read_behind, root_of, setting_of, single_of, store_of, verdict_of, view_of}
 use Rattle.wot_script.specs.Grammar.{over_of, paced_of, watch_of, watched_of}
+use Rattle.wot_script.specs.OneWord.{has_word, named_among, one_words, word_of}
 use Rattle.wot_script.specs.Spelling.{HasSpelling, FitsLine}
 use Rattle.wot_script.specs.Uid.{unescaped}
 use Rattle.wot_script.specs.declared.command.Command.{Command}
@@ -37,8 +39,8 @@ use Rattle.wot_script.specs.declared.read.About.TheVariants.{Setting, Asked, Lis
 use Rattle.wot_script.specs.declared.read.About.TheVariants.{Watched}
 use Rattle.wot_script.specs.declared.read.Question.{Question}
 use Rattle.wot_script.specs.declared.command.Command.TheVariants.{Import, Load, Store, Remove, Good, Bad, Unjudge, Time}
-use Rattle.wot_script.specs.declared.command.Command.TheVariants.{Root, Close, Ask, Explain, Pending, Keys, Export}
-use Rattle.wot_script.specs.declared.command.Command.TheVariants.{Dump, Absence, CursorOver, CursorNext, CursorClose}
+use Rattle.wot_script.specs.declared.command.Command.TheVariants.{Root, Close, Ask, Explain, Export}
+use Rattle.wot_script.specs.declared.command.Command.TheVariants.{Absence, CursorOver, CursorNext, CursorClose}
 use Rattle.wot_script.specs.declared.command.Command.TheVariants.{WatchOn, WatchOff}
 
 behind_short : (prefix text rest : List ℕ) → behind prefix text ≡ Some rest → length rest ≤ length text
@@ -202,14 +204,27 @@ module _ (size : ℕ) where
   unfolding export_of
   export_spelled text = mapped Export (fpr_of_digits text) (λ fpr e. (tt, tt))
 
+  -- a command of one word asks for no number, and has no octets
+  word_spelled : (command : Command)
+      → When (has_word command) (HasSpelling command) × When (has_word command) (FitsLine size command)
+  word_spelled (Import octets) = (tt, tt)
+  word_spelled _ = (tt, tt)
+
+  among_spelled : (commands : List Command) (line : List ℕ) → list_all has_word commands ≡ true
+      → Spelled (named_among commands line)
+  among_spelled [] line h = tt
+  among_spelled (command ∷ commands) line h =
+      let words = and_parts (has_word command) (list_all has_word commands) h in
+      let fits = word_spelled command in
+      chosen (bytes_eq line (word_of command)) command (named_among commands line) (
+        when (has_word command) (HasSpelling command) words.0 fits.0,
+        when (has_word command) (FitsLine size command) words.0 fits.1,
+      )
+      (among_spelled commands line words.1)
+
   single_spelled : (line : List ℕ) → Spelled (single_of line)
   unfolding single_of
-  single_spelled line =
-      let keys : Option Command =
-      if bytes_eq line (codes "keys") then Some Keys else if bytes_eq line (codes "dump") then Some Dump else None in
-      chosen (bytes_eq line (codes "pending")) Pending keys (tt, tt)
-      (chosen (bytes_eq line (codes "keys")) Keys (if bytes_eq line (codes "dump") then Some Dump else None) (tt, tt)
-      (chosen (bytes_eq line (codes "dump")) Dump None (tt, tt) tt))
+  single_spelled line = among_spelled one_words line refl
 
   judgement_spelled : (number : SigNumber) (text : List ℕ) → Spelled (judgement_of number text)
   unfolding judgement_of

@@ -12,6 +12,7 @@ use Rattle.wot_types.specs.declared.number.SigNumber.{SigNumber}
 use Rattle.wot_script.specs.Claims.{claims_of, labels_of}
 use Rattle.wot_script.specs.Decimal.{decimal_up_to, positive_up_to}
 use Rattle.wot_script.specs.Fields.{◌>>=◌, behind, cut, octets_of_hex}
+use Rattle.wot_script.specs.OneWord.{named_among, one_words}
 use Rattle.wot_script.specs.Uid.{unescaped}
 use Rattle.wot_script.specs.declared.command.Command.{Command}
 use Rattle.wot_script.specs.declared.read.About.{About}
@@ -19,8 +20,8 @@ use Rattle.wot_script.specs.declared.read.About.TheVariants.{Setting, Asked, Lis
 use Rattle.wot_script.specs.declared.read.About.TheVariants.{Paced, Watched}
 use Rattle.wot_script.specs.declared.read.Question.{Question}
 use Rattle.wot_script.specs.declared.command.Command.TheVariants.{Import, Load, Store, Remove, Good, Bad, Unjudge, Time}
-use Rattle.wot_script.specs.declared.command.Command.TheVariants.{Root, Close, Ask, Explain, Pending, Keys}
-use Rattle.wot_script.specs.declared.command.Command.TheVariants.{Export, Dump, Absence, Check}
+use Rattle.wot_script.specs.declared.command.Command.TheVariants.{Root, Close, Ask, Explain}
+use Rattle.wot_script.specs.declared.command.Command.TheVariants.{Export, Absence, Check}
 use Rattle.wot_script.specs.declared.command.Command.TheVariants.{CursorOver, CursorNext, CursorClose}
 use Rattle.wot_script.specs.declared.command.Command.TheVariants.{WatchOn, WatchOff}
 
@@ -178,13 +179,9 @@ view_of about text = do
 unfoldable pub export_of : List ℕ → Option Command
 export_of digits = option_map Export (fpr_of_digits digits)
 
--- a line without any of these prefixes: `pending`, `keys` or `dump`
+-- a line without any of these prefixes: a command of one word
 unfoldable pub single_of : List ℕ → Option Command
-single_of line =
-    if bytes_eq line (codes "pending") then Some Pending
-    else if bytes_eq line (codes "keys") then Some Keys
-    else if bytes_eq line (codes "dump") then Some Dump
-    else None
+single_of line = named_among one_words line
 
 -- the command that a line spells; None if it isn't a command
 unfoldable pub command_of : List ℕ → Option Command

@@ -4,6 +4,7 @@ pub mod Decimal
 pub mod Fields
 pub mod Grammar
 pub mod Laws
+pub mod OneWord
 pub mod Pieces
 pub mod Replies
 pub mod Spelling

@@ -10,13 +10,14 @@ use Rattle.wot_types.specs.declared.name.Name.{Name}
 use Rattle.wot_types.specs.declared.name.Name.TheVariants.{Cert, TrustRoot}
 use Rattle.wot_script.specs.Claims.{IsClaimSpelled, claim_text, field_text, label_text, most_paths}
 use Rattle.wot_script.specs.Grammar.{question_of}
+use Rattle.wot_script.specs.OneWord.{word_of}
 use Rattle.wot_script.specs.Texts.{joined}
 use Rattle.wot_script.specs.Uid.{escaped}
 use Rattle.wot_script.specs.declared.command.Command.{Command}
 use Rattle.wot_script.specs.declared.read.Question.{Question}
 use Rattle.wot_script.specs.declared.command.Command.TheVariants.{Import, Load, Store, Remove, Good, Bad, Unjudge, Time}
-use Rattle.wot_script.specs.declared.command.Command.TheVariants.{Root, Close, Ask, Explain, Pending, Keys}
-use Rattle.wot_script.specs.declared.command.Command.TheVariants.{Export, Dump, Absence, Check}
+use Rattle.wot_script.specs.declared.command.Command.TheVariants.{Root, Close, Ask, Explain}
+use Rattle.wot_script.specs.declared.command.Command.TheVariants.{Export, Absence, Check}
 use Rattle.wot_script.specs.declared.command.Command.TheVariants.{CursorOver, CursorNext, CursorClose}
 use Rattle.wot_script.specs.declared.command.Command.TheVariants.{WatchOn, WatchOff}
 
@@ -76,10 +77,7 @@ spelling (Absence view fpr wanted uid) = asking (codes "absence ") view fpr want
 spelling (Check view fpr claims labels uid) =
     joined (codes "check " ∷ view ∷ codes " " ∷ digits_of fpr ∷ codes " " ∷ field_text claim_text claims ∷ codes " "
     ∷ field_text label_text labels ∷ codes " " ∷ escaped uid ∷ [])
-spelling Pending = codes "pending"
-spelling Keys = codes "keys"
 spelling (Export fpr) = joined (codes "export " ∷ digits_of fpr ∷ [])
-spelling Dump = codes "dump"
 spelling (CursorOver cursor view wanted) =
     joined (codes "cursor " ∷ cursor ∷ codes " over " ∷ view ∷ codes " " ∷ decimal wanted ∷ [])
 spelling (CursorNext cursor count) = joined (codes "cursor " ∷ cursor ∷ codes " next " ∷ decimal count ∷ [])
@@ -87,6 +85,7 @@ spelling (CursorClose cursor) = joined (codes "cursor " ∷ cursor ∷ codes " c
 spelling (WatchOn watch view fpr wanted uid) =
     joined (codes "watch " ∷ watch ∷ codes " on " ∷ view ∷ codes " " ∷ question_parts fpr wanted uid)
 spelling (WatchOff watch) = joined (codes "watch " ∷ watch ∷ codes " off" ∷ [])
+spelling command = word_of command
 
 -- ---- lines
 

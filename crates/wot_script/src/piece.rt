@@ -30,7 +30,7 @@ pub enum Piece<'a> {
 
 /// Appends octets. As with every call of this file, `out` is unchanged after `Memory`, which occurs only if the
 /// capacity was too small, and the capacity never shrinks.
-fn put_text(text: &[u8], out: &mut Vec<u8>) -> Result<(), Memory>
+pub fn put_text(text: &[u8], out: &mut Vec<u8>) -> Result<(), Memory>
     ensures { Appends text.now out.old out.new result }
 {
     out.extend_from_slice(text)?;

@@ -1,7 +1,7 @@
 //! `read_line`: a line to its command.
 //!
-//! It stands on `fields`, `decimal`, `uid` and `claims`, and on `specs/Grammar.antt`, which it follows function by
-//! function. A new command is a function here and a clause there.
+//! It stands on `fields`, `decimal`, `uid`, `claims` and `one_word`, and on `specs/Grammar.antt`, which it follows
+//! function by function. A new command with fields is a function here and a clause there.
 ghost use Rattle.std.specs.Prelude.{◌≡◌, length, Some, None, IfOk, IsErrOf};
 ghost use Rattle.std.specs.Option.{option_map};
 ghost use Rattle.wot_types.specs.Fpr.{fpr_of_digits};
@@ -10,12 +10,13 @@ ghost use Rattle.wot_script.specs.Decimal.{decimal_up_to, positive_up_to};
 ghost use Rattle.wot_script.specs.Grammar.{about_of, asked_of, checked_of, command_of, drop_of, entry_of};
 ghost use Rattle.wot_script.specs.Grammar.{explained_of, export_of, import_of, judgement_of, listed_of, load_of};
 ghost use Rattle.wot_script.specs.Grammar.{missed_of, over_of, paced_of, question_of, root_of, setting_of};
-ghost use Rattle.wot_script.specs.Grammar.{single_of, store_of, verdict_of, view_of, watch_of, watched_of};
+ghost use Rattle.wot_script.specs.Grammar.{store_of, verdict_of, view_of, watch_of, watched_of};
 ghost use Rattle.wot_script.specs.Spelling.{HasSpelling, FitsLine};
 
 use crate::claims::{read_claims, read_labels};
 use crate::decimal::{read_decimal, read_positive};
 use crate::fields::{after_prefix, cut_field};
+use crate::one_word::read_single;
 use crate::uid::read_uid;
 use crate::{Command, Octets};
 use hex::FromHexError;
@@ -382,22 +383,6 @@ fn read_view(alloc: Global, about: About, text: &[u8]) -> Result<Option<Command>
         return Ok(None);
     };
     read_about(alloc, about, view, first.rest)
-}
-
-#[tactic(auto, unfolding(crate::specs::Grammar::single_of))]
-fn read_single(line: &[u8]) -> Option<Command>
-    ensures { result ≡ single_of line.now }
-{
-    if line == b"pending".as_slice() {
-        return Some(Command::Pending);
-    }
-    if line == b"keys".as_slice() {
-        return Some(Command::Keys);
-    }
-    if line == b"dump".as_slice() {
-        return Some(Command::Dump);
-    }
-    None
 }
 
 #[tactic(auto, unfolding(crate::specs::Grammar::command_of))]

@@ -1,16 +1,18 @@
 //! `print_command`: a command to its line.
 //!
-//! It stands on `piece` and on `specs/Spelling.antt`. Dumps and generated scripts are printed through it, and its
-//! contract says that `read_line` reads each line back.
-ghost use Rattle.std.specs.Prelude.{◌≡◌, ◌++◌, OnOk, OnErr};
+//! It stands on `piece` and `one_word`, and on `specs/Spelling.antt`. Dumps and generated scripts are printed through
+//! it, and its contract says that `read_line` reads each line back.
+ghost use Rattle.std.specs.Prelude.{◌≡◌, ◌++◌, true, OnOk, OnErr};
 ghost use Rattle.wot_script.specs.Appends.{Appends};
 ghost use Rattle.wot_script.specs.Grammar.{command_of};
+ghost use Rattle.wot_script.specs.OneWord.{has_word};
 ghost use Rattle.wot_script.specs.Pieces.{piece_text};
 ghost use Rattle.wot_script.specs.Spelling.{HasSpelling, IsLineFor, asking, entry_text, spelling};
 
 use crate::claims::put_claimed;
+use crate::one_word::command_word;
 use crate::piece::Piece::{Decimal, Hex, Key, Signature, Text, Uid};
-use crate::piece::{Piece, put_pieces};
+use crate::piece::{Piece, put_pieces, put_text};
 use crate::spelled::spelling_is_read;
 use crate::{ClaimLines, Command, LabelLines};
 use wot_types::{Fpr, Memory, Name, UserId, ViewName};
@@ -201,6 +203,14 @@ fn entry_piece(name: &Name) -> Piece<'_>
     }
 }
 
+/// Appends the word of a command of one word.
+fn put_word(command: &Command, out: &mut Vec<u8>) -> Result<(), Memory>
+    requires { has_word command.now ≡ true }
+    ensures { Appends (spelling command.now) out.old out.new result }
+{
+    put_text(command_word(command), out)
+}
+
 #[tactic(auto, unfolding(crate::specs::Spelling::spelling))]
 fn put_command(command: &Command, out: &mut Vec<u8>) -> Result<(), Memory>
     ensures { Appends (spelling command.now) out.old out.new result }
@@ -234,10 +244,7 @@ fn put_command(command: &Command, out: &mut Vec<u8>) -> Result<(), Memory>
         Command::Check(view, fpr, claims, labels, uid) => {
             put_check(view, fpr, claims, labels, uid, out)
         }
-        Command::Pending => put_pieces(&[Text(b"pending")], out),
-        Command::Keys => put_pieces(&[Text(b"keys")], out),
         Command::Export(fpr) => put_pieces(&[Text(b"export "), Key(fpr)], out),
-        Command::Dump => put_pieces(&[Text(b"dump")], out),
         Command::CursorOver(cursor, view, wanted) => put_cursor_over(cursor, view, *wanted, out),
         Command::CursorNext(cursor, count) => put_cursor_next(cursor, *count, out),
         Command::CursorClose(cursor) => put_pieces(
@@ -250,6 +257,7 @@ fn put_command(command: &Command, out: &mut Vec<u8>) -> Result<(), Memory>
         Command::WatchOff(watch) => {
             put_pieces(&[Text(b"watch "), Text(watch.octets()), Text(b" off")], out)
         }
+        _ => put_word(command, out),
     }
 }
 

@@ -9,6 +9,7 @@ ghost use Rattle.wot_types.specs.ViewName.{is_view_name};
 ghost use Rattle.wot_script.specs.Decimal.{decimal_up_to, positive_up_to};
 ghost use Rattle.wot_script.specs.Fields.{octets_of_hex};
 ghost use Rattle.wot_script.specs.Grammar.{command_of, entry_of};
+ghost use Rattle.wot_script.specs.OneWord.{has_word};
 ghost use Rattle.wot_script.specs.Spelling.{HasSpelling, IsLineFor, IsQuestionRead, entry_text, spelling};
 ghost use Rattle.wot_script.specs.Uid.{escaped, unescaped};
 
@@ -87,6 +88,15 @@ fn question_is_read(view: &ViewName, fpr: &Fpr, wanted: u32, uid: &UserId)
     uid_is_read(uid.octets());
 }
 
+/// A law: the word of a command of one word is read back as that command, and is one line.
+fn word_is_read(command: &Command)
+    requires { has_word command.now ≡ true }
+    ensures read { command_of (spelling command.now) ≡ Some command.now }
+    ensures line { IsLineFor command.now (spelling command.now) }
+{
+    let _command = command;
+}
+
 /// A law: the line of a command is read back as that command, is one line, is neither empty nor a comment, and is no
 /// longer than `specs/Spelling.antt` says.
 pub fn spelling_is_read(command: &Command)
@@ -130,10 +140,7 @@ pub fn spelling_is_read(command: &Command)
             labels_are_read(labels.items());
             uid_is_read(uid.octets());
         }
-        Command::Pending => {}
-        Command::Keys => {}
         Command::Export(fpr) => fpr.printed_is_read(),
-        Command::Dump => {}
         Command::CursorOver(cursor, view, wanted) => {
             let _cursor = cursor.octets();
             let _name = view.octets();
@@ -146,5 +153,6 @@ pub fn spelling_is_read(command: &Command)
             question_is_read(view, fpr, *wanted, uid);
         }
         Command::WatchOff(watch) => name_is_valid(watch),
+        _ => word_is_read(command),
     }
 }

@@ -11,12 +11,12 @@ use Rattle.wot_script.specs.declared.read.Question.{Question}
 use Rattle.wot_script.specs.Uid.{escaped}
 use Rattle.wot_script.proofs.Spaceless.{spaceless_digits}
 use Rattle.wot_script.proofs.Readings.{absence_reads, ask_reads, bad_reads, check_reads, close_reads, drop_reads}
-use Rattle.wot_script.proofs.Readings.{dump_reads, explain_reads, export_reads, good_reads, import_reads, keys_reads}
-use Rattle.wot_script.proofs.Readings.{list_reads, load_reads, none_reads, pending_reads, question, root_reads}
+use Rattle.wot_script.proofs.Readings.{explain_reads, export_reads, good_reads, import_reads}
+use Rattle.wot_script.proofs.Readings.{list_reads, load_reads, none_reads, question, root_reads}
 use Rattle.wot_script.proofs.Readings.{store_reads, time_reads, end_reads, next_reads, over_reads, off_reads, on_reads}
-use Rattle.wot_script.proofs.OneLine.{absence_line, ask_line, bad_line, check_line, close_line, dump_line, explain_line}
-use Rattle.wot_script.proofs.OneLine.{export_line, fpr_digits, good_line, import_line, keys_line, list_line, load_line}
-use Rattle.wot_script.proofs.OneLine.{name_is, number_digits_are, numeral, pending_line, remove_line, root_line}
+use Rattle.wot_script.proofs.OneLine.{absence_line, ask_line, bad_line, check_line, close_line, explain_line}
+use Rattle.wot_script.proofs.OneLine.{export_line, fpr_digits, good_line, import_line, list_line, load_line}
+use Rattle.wot_script.proofs.OneLine.{name_is, number_digits_are, numeral, remove_line, root_line}
 use Rattle.wot_script.proofs.OneLine.{store_line, time_line, unjudge_line, end_line, next_line, over_line, off_line}
 use Rattle.wot_script.proofs.OneLine.{on_line}
 use Rattle.wot_script.proofs.spelled.spelling_is_read.Goals as goal
@@ -141,33 +141,12 @@ returns-in-Explain c = rw c.in-Explain.is (record {
       (fpr_digits c.in-Explain.fpr c.printed_is_read-in-Explain.ensures.read_back);
 })
 
-pub returns-in-Pending : goal.returns-in-Pending
-unfolding spelling
-returns-in-Pending c = rw c.in-Pending.is (record {
-  read = pending_reads;
-  line = pending_line;
-})
-
-pub returns-in-Keys : goal.returns-in-Keys
-unfolding spelling
-returns-in-Keys c = rw c.in-Keys.is (record {
-  read = keys_reads;
-  line = keys_line;
-})
-
 pub returns-in-Export : goal.returns-in-Export
 unfolding spelling
 returns-in-Export c = rw c.in-Export.is (record {
   read = export_reads (digits_of c.in-Export.fpr) c.in-Export.fpr c.printed_is_read-in-Export.ensures.read_back;
   line = export_line c.in-Export.fpr (digits_of c.in-Export.fpr)
       (fpr_digits c.in-Export.fpr c.printed_is_read-in-Export.ensures.read_back);
-})
-
-pub returns-in-Dump : goal.returns-in-Dump
-unfolding spelling
-returns-in-Dump c = rw c.in-Dump.is (record {
-  read = dump_reads;
-  line = dump_line;
 })
 
 pub returns-in-Absence : goal.returns-in-Absence
