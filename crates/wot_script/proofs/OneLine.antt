@@ -24,15 +24,15 @@ use Rattle.wot_script.specs.Claims.{most_paths}
 use Rattle.wot_script.specs.declared.reply.ClaimLine.{ClaimLine}
 use Rattle.wot_script.specs.declared.reply.LabelLine.{LabelLine}
 use Rattle.wot_script.specs.Spelling.{IsLineFor, most_octets}
-use Rattle.wot_script.specs.Texts.{joined}
+use Rattle.wot_words.specs.Texts.{joined}
 use Rattle.wot_script.specs.declared.command.Command.{Command}
 use Rattle.wot_script.specs.declared.command.Command.TheVariants.{Import, Load, Store, Remove, Good, Bad, Unjudge, Time}
 use Rattle.wot_script.specs.declared.command.Command.TheVariants.{Root, Close, Ask, Explain, Export}
 use Rattle.wot_script.specs.declared.command.Command.TheVariants.{Absence, Check, CursorOver, CursorNext}
 use Rattle.wot_script.specs.declared.command.Command.TheVariants.{CursorClose, WatchOn, WatchOff}
-use Rattle.wot_script.specs.Uid.{escape, escaped}
-use Rattle.wot_script.proofs.Spaceless.{Lacks, feedless_digits, lacks_from_test, lacks_decimal, lacks_test}
-use Rattle.wot_script.proofs.Spaceless.{lacks_view_name}
+use Rattle.wot_words.specs.Uid.{escape, escaped}
+use Rattle.wot_words.proofs.Spaceless.{Lacks, feedless_digits, lacks_from_test, lacks_decimal, lacks_test}
+use Rattle.wot_words.proofs.Spaceless.{lacks_view_name}
 
 -- ---- no line feed
 

@@ -10,8 +10,8 @@ use Rattle.wot_script.specs.Grammar.{command_of}
 use Rattle.wot_script.specs.Laws.{IsOldLine, PrintsClaim}
 use Rattle.wot_script.specs.Replies.{reply_text}
 use Rattle.wot_script.specs.Spelling.{spelling}
-use Rattle.wot_script.specs.Texts.{joined_line}
-use Rattle.wot_script.specs.Uid.{escaped}
+use Rattle.wot_words.specs.Texts.{joined_line}
+use Rattle.wot_words.specs.Uid.{escaped}
 use Rattle.wot_script.specs.declared.command.Command.{Command}
 use Rattle.wot_script.specs.declared.command.Command.TheVariants.{Import, Good, Bad, Time, Root, Check}
 

@@ -11,13 +11,13 @@ use Rattle.wot_types.specs.declared.number.SigNumber.{SigNumber}
 use Rattle.wot_script.specs.Claims.{claims_of, labels_of}
 use Rattle.wot_script.specs.declared.reply.ClaimLine.{ClaimLine}
 use Rattle.wot_script.specs.declared.reply.LabelLine.{LabelLine}
-use Rattle.wot_script.specs.Decimal.{decimal_up_to, positive_up_to}
-use Rattle.wot_script.specs.Fields.{◌>>=◌, cut, octets_of_hex}
+use Rattle.wot_words.specs.Decimal.{decimal_up_to, positive_up_to}
+use Rattle.wot_words.specs.Fields.{◌>>=◌, cut, octets_of_hex}
 use Rattle.wot_script.specs.Grammar.{about_of, checked_of, command_of, drop_of, entry_of, explained_of, export_of}
 use Rattle.wot_script.specs.Grammar.{import_of, judgement_of, listed_of, load_of, question_of, root_of, setting_of}
 use Rattle.wot_script.specs.Grammar.{store_of, verdict_of, view_of, over_of, paced_of, watch_of, watched_of}
-use Rattle.wot_script.specs.Texts.{joined}
-use Rattle.wot_script.specs.Uid.{unescaped}
+use Rattle.wot_words.specs.Texts.{joined}
+use Rattle.wot_words.specs.Uid.{unescaped}
 use Rattle.wot_script.specs.declared.command.Command.{Command}
 use Rattle.wot_script.specs.declared.command.Command.TheVariants.{Import, Load, Store, Remove, Good, Bad, Unjudge, Time}
 use Rattle.wot_script.specs.declared.command.Command.TheVariants.{Root, Close, Ask, Explain, Export}
@@ -27,7 +27,7 @@ use Rattle.wot_script.specs.declared.read.About.{About}
 use Rattle.wot_script.specs.declared.read.About.TheVariants.{Setting, Asked, Listed, Explained, Missed, Checked, Paced}
 use Rattle.wot_script.specs.declared.read.About.TheVariants.{Watched}
 use Rattle.wot_script.specs.declared.read.Question.{Question}
-use Rattle.wot_script.proofs.Spaceless.{Spaceless, cut_spaceless, spaceless_view_name}
+use Rattle.wot_words.proofs.Spaceless.{Spaceless, cut_spaceless, spaceless_view_name}
 
 -- a second reading after a first one that returned `a`
 pub bound : {A B : Type 0} (o : Option A) (a : A) (f : A → Option B) → o ≡ Some a → (o >>= f) ≡ f a

@@ -21,9 +21,9 @@ use Rattle.wot_script.specs.Claims.{all_of, claim_of, claim_with, claims_of, fie
 use Rattle.wot_script.specs.Claims.{is_rising, items_of, label_of, labels_of, rising, step_of}
 use Rattle.wot_script.specs.declared.reply.ClaimStepLine.{ClaimStepLine}
 use Rattle.wot_script.specs.declared.reply.LabelLine.{LabelLine}
-use Rattle.wot_script.specs.Decimal.{decimal_up_to, is_decimal, positive_up_to}
-use Rattle.wot_script.specs.Fields.{◌>>=◌, behind, cut, cut_at}
-use Rattle.wot_script.proofs.Cutting.{cut_short}
+use Rattle.wot_words.specs.Decimal.{decimal_up_to, is_decimal, positive_up_to}
+use Rattle.wot_words.specs.Fields.{◌>>=◌, behind, cut, cut_at}
+use Rattle.wot_words.proofs.Cutting.{cut_short}
 use Rattle.wot_script.proofs.Items.{parts_of}
 use Rattle.wot_script.proofs.WordLines.{When, when}
 use Rattle.wot_script.specs.Grammar.{about_of, asked_of, checked_of, command_of, drop_of, entry_of, explained_of}
@@ -32,7 +32,7 @@ use Rattle.wot_script.specs.Grammar.{read_behind, root_of, setting_of, single_of
 use Rattle.wot_script.specs.Grammar.{over_of, paced_of, watch_of, watched_of}
 use Rattle.wot_script.specs.OneWord.{has_word, named_among, one_words, word_of}
 use Rattle.wot_script.specs.Spelling.{HasSpelling, FitsLine}
-use Rattle.wot_script.specs.Uid.{unescaped}
+use Rattle.wot_words.specs.Uid.{unescaped}
 use Rattle.wot_script.specs.declared.command.Command.{Command}
 use Rattle.wot_script.specs.declared.read.About.{About}
 use Rattle.wot_script.specs.declared.read.About.TheVariants.{Setting, Asked, Listed, Explained, Missed, Checked, Paced}

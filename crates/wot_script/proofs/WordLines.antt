@@ -8,7 +8,7 @@ use Rattle.wot_script.specs.OneWord.{has_word, word_of}
 use Rattle.wot_script.specs.Spelling.{IsLineFor, most_octets, spelling}
 use Rattle.wot_script.specs.declared.command.Command.{Command}
 use Rattle.wot_script.specs.declared.command.Command.TheVariants.{Import}
-use Rattle.wot_script.proofs.Spaceless.{lacks_from_test, lacks_test}
+use Rattle.wot_words.proofs.Spaceless.{lacks_from_test, lacks_test}
 
 -- this holds, if the test does
 abbrev pub When : Bool → Type 0 → Type 0

@@ -10,10 +10,10 @@ use Rattle.wot_types.specs.declared.name.Name.{Name}
 use Rattle.wot_types.specs.declared.name.Name.TheVariants.{Cert, TrustRoot}
 use Rattle.wot_types.specs.declared.number.SigNumber.{SigNumber}
 use Rattle.wot_script.specs.Claims.{claims_of, labels_of}
-use Rattle.wot_script.specs.Decimal.{decimal_up_to, positive_up_to}
-use Rattle.wot_script.specs.Fields.{◌>>=◌, behind, cut, octets_of_hex}
+use Rattle.wot_words.specs.Decimal.{decimal_up_to, positive_up_to}
+use Rattle.wot_words.specs.Fields.{◌>>=◌, behind, cut, octets_of_hex}
 use Rattle.wot_script.specs.OneWord.{named_among, one_words}
-use Rattle.wot_script.specs.Uid.{unescaped}
+use Rattle.wot_words.specs.Uid.{unescaped}
 use Rattle.wot_script.specs.declared.command.Command.{Command}
 use Rattle.wot_script.specs.declared.read.About.{About}
 use Rattle.wot_script.specs.declared.read.About.TheVariants.{Setting, Asked, Listed, Explained, Missed, Checked}

@@ -11,8 +11,8 @@ use Rattle.wot_types.specs.declared.name.Name.TheVariants.{Cert, TrustRoot}
 use Rattle.wot_script.specs.Claims.{IsClaimSpelled, claim_text, field_text, label_text, most_paths}
 use Rattle.wot_script.specs.Grammar.{question_of}
 use Rattle.wot_script.specs.OneWord.{word_of}
-use Rattle.wot_script.specs.Texts.{joined}
-use Rattle.wot_script.specs.Uid.{escaped}
+use Rattle.wot_words.specs.Texts.{joined}
+use Rattle.wot_words.specs.Uid.{escaped}
 use Rattle.wot_script.specs.declared.command.Command.{Command}
 use Rattle.wot_script.specs.declared.read.Question.{Question}
 use Rattle.wot_script.specs.declared.command.Command.TheVariants.{Import, Load, Store, Remove, Good, Bad, Unjudge, Time}

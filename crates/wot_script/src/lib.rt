@@ -8,22 +8,17 @@
 mod claimed;
 mod claims;
 mod command;
-mod decimal;
-mod fields;
 pub mod laws;
 mod lines;
 mod lists;
 mod numbered;
-mod octets;
 mod one_word;
-mod piece;
 mod read;
 mod reply;
 mod short;
 mod spell;
 mod spelled;
 mod tell;
-mod uid;
 mod words;
 
 pub use command::Command;
@@ -31,7 +26,7 @@ pub use lists::{
     AnswerLines, BindLines, ClaimLines, ClaimStepLines, KeyLines, LabelLines, Lines, PendingLines,
     ReasonLines,
 };
-pub use octets::Octets;
+pub use wot_words::Octets;
 pub use read::{LineFault, read_line};
 pub use reply::{
     AnswerLine, BindLine, ClaimLine, ClaimStepLine, Hint, KeyLine, LabelLine, PendingLine,

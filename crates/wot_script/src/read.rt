@@ -5,8 +5,7 @@
 ghost use Rattle.std.specs.Prelude.{◌≡◌, length, Some, None, IfOk, IsErrOf};
 ghost use Rattle.std.specs.Option.{option_map};
 ghost use Rattle.wot_types.specs.Fpr.{fpr_of_digits};
-ghost use Rattle.wot_script.specs.Fields.{octets_of_hex};
-ghost use Rattle.wot_script.specs.Decimal.{decimal_up_to, positive_up_to};
+ghost use Rattle.wot_words.specs.Decimal.{decimal_up_to, positive_up_to};
 ghost use Rattle.wot_script.specs.Grammar.{about_of, asked_of, checked_of, command_of, drop_of, entry_of};
 ghost use Rattle.wot_script.specs.Grammar.{explained_of, export_of, import_of, judgement_of, listed_of, load_of};
 ghost use Rattle.wot_script.specs.Grammar.{missed_of, over_of, paced_of, question_of, root_of, setting_of};
@@ -14,14 +13,11 @@ ghost use Rattle.wot_script.specs.Grammar.{store_of, verdict_of, view_of, watch_
 ghost use Rattle.wot_script.specs.Spelling.{HasSpelling, FitsLine};
 
 use crate::claims::{read_claims, read_labels};
-use crate::decimal::{read_decimal, read_positive};
-use crate::fields::{after_prefix, cut_field};
 use crate::one_word::read_single;
-use crate::uid::read_uid;
 use crate::{Command, Octets};
-use hex::FromHexError;
 use std::alloc::Global;
 use wot_types::{Fpr, Memory, Name, SigNumber, UserId, ViewName};
+use wot_words::{after_prefix, cut_field, read_decimal, read_hex, read_positive, read_uid};
 
 /// Why a line is no command.
 #[derive(Clone, Copy)]
@@ -30,16 +26,6 @@ pub enum LineFault {
     Line,
     /// Out of memory.
     Memory,
-}
-
-fn read_hex(alloc: Global, digits: &[u8]) -> Result<Option<Octets>, Memory>
-    ensures { IfOk result (λ octets. octets ≡ octets_of_hex digits.now) }
-{
-    match hex::decode(alloc, digits) {
-        Ok(octets) => Ok(Some(Octets::from_vec(octets))),
-        Err(FromHexError::OutOfMemory) => Err(Memory),
-        Err(_) => Ok(None),
-    }
 }
 
 #[tactic(auto, unfolding(crate::specs::Grammar::import_of))]

@@ -3,19 +3,19 @@
 //! It stands on `piece` and `one_word`, and on `specs/Spelling.antt`. Dumps and generated scripts are printed through
 //! it, and its contract says that `read_line` reads each line back.
 ghost use Rattle.std.specs.Prelude.{◌≡◌, ◌++◌, true, OnOk, OnErr};
-ghost use Rattle.wot_script.specs.Appends.{Appends};
+ghost use Rattle.wot_words.specs.Appends.{Appends};
 ghost use Rattle.wot_script.specs.Grammar.{command_of};
 ghost use Rattle.wot_script.specs.OneWord.{has_word};
-ghost use Rattle.wot_script.specs.Pieces.{piece_text};
+ghost use Rattle.wot_words.specs.Pieces.{piece_text};
 ghost use Rattle.wot_script.specs.Spelling.{HasSpelling, IsLineFor, asking, entry_text, spelling};
 
 use crate::claims::put_claimed;
 use crate::one_word::command_word;
-use crate::piece::Piece::{Decimal, Hex, Key, Signature, Text, Uid};
-use crate::piece::{Piece, put_pieces, put_text};
 use crate::spelled::spelling_is_read;
 use crate::{ClaimLines, Command, LabelLines};
 use wot_types::{Fpr, Memory, Name, UserId, ViewName};
+use wot_words::Piece::{Decimal, Hex, Key, Signature, Text, Uid};
+use wot_words::{Piece, put_pieces, put_text};
 
 #[tactic(auto, unfolding(crate::specs::Spelling::spelling))]
 fn put_time(view: &ViewName, t: u32, out: &mut Vec<u8>) -> Result<(), Memory>

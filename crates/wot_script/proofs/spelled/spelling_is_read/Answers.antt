@@ -6,10 +6,10 @@ use Rattle.hex.specs.Hex.{encode_lower}
 use Rattle.wot_script.specs.Claims.{IsClaimSpelled, claim_text, field_text, label_text}
 use Rattle.wot_script.proofs.ClaimTexts.{claims_field, labels_field}
 use Rattle.wot_script.specs.Spelling.{entry_text, question_parts, spelling}
-use Rattle.wot_script.specs.Texts.{joined}
+use Rattle.wot_words.specs.Texts.{joined}
 use Rattle.wot_script.specs.declared.read.Question.{Question}
-use Rattle.wot_script.specs.Uid.{escaped}
-use Rattle.wot_script.proofs.Spaceless.{spaceless_digits}
+use Rattle.wot_words.specs.Uid.{escaped}
+use Rattle.wot_words.proofs.Spaceless.{spaceless_digits}
 use Rattle.wot_script.proofs.Readings.{absence_reads, ask_reads, bad_reads, check_reads, close_reads, drop_reads}
 use Rattle.wot_script.proofs.Readings.{explain_reads, export_reads, good_reads, import_reads}
 use Rattle.wot_script.proofs.Readings.{list_reads, load_reads, none_reads, question, root_reads}
