@@ -1,6 +1,6 @@
 //! Claims and tables of labels in a line: `claim PATHS TABLE` in the reply to `absence`, and the fields of `check`.
 //!
-//! It reads and prints them by `specs/Claims.antt`, and stands on `fields`, `decimal` and `piece`. `read`, `spell` and
+//! It reads and prints them by `specs/Claims.antt`, and stands on `wot_words`. `read`, `spell` and
 //! `tell` use it.
 ghost use Rattle.std.specs.Prelude.{◌≡◌, ◌++◌, ◌∷◌, ℕ, List, Option, IfOk};
 ghost use Rattle.std.specs.List.{flat_map};

@@ -1,6 +1,6 @@
 //! The lines of replies that have several: paths and steps, bindings, reasons, pending signatures, keys.
 //!
-//! It prints them by `specs/Replies.antt` and stands on `piece`. `tell` puts the first line in front of them.
+//! It prints them by `specs/Replies.antt` and stands on `wot_words`. `tell` puts the first line in front of them.
 ghost use Rattle.std.specs.Prelude.{◌≡◌, ◌++◌, ℕ, List};
 ghost use Rattle.std.specs.List.{flat_map};
 ghost use Rattle.wot_words.specs.Appends.{Appends};

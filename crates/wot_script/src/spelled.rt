@@ -3,15 +3,12 @@
 ghost use Rattle.std.specs.Prelude.{◌≡◌, ◌≢◌, ◌≤◌, ◌<◌, ◌^◌, true, length};
 ghost use Rattle.std.specs.Fmt.{decimal};
 ghost use Rattle.std.specs.List.{AllByRecursion};
-ghost use Rattle.hex.specs.Hex.{encode_lower};
 ghost use Rattle.wot_types.specs.Fpr.{digits_of, fpr_of_digits};
 ghost use Rattle.wot_types.specs.ViewName.{is_view_name};
-ghost use Rattle.wot_words.specs.Decimal.{decimal_up_to, positive_up_to};
-ghost use Rattle.wot_words.specs.Fields.{octets_of_hex};
+ghost use Rattle.wot_words.specs.Decimal.{positive_up_to};
 ghost use Rattle.wot_script.specs.Grammar.{command_of, entry_of};
 ghost use Rattle.wot_script.specs.OneWord.{has_word};
 ghost use Rattle.wot_script.specs.Spelling.{HasSpelling, IsLineFor, IsQuestionRead, entry_text, spelling};
-ghost use Rattle.wot_words.specs.Uid.{escaped, unescaped};
 
 use crate::Command;
 use crate::claimed::{claims_are_read, labels_are_read};

@@ -1,7 +1,7 @@
 //! `print_reply`: a reply to its octets.
 //!
-//! It stands on `piece`, `lines`, `numbered`, `claims` and `words`, and on `specs/Replies.antt`. Whatever a client reads
-//! is printed here; `docs/PROTOCOL.md` specifies it.
+//! It stands on `wot_words`, `lines`, `numbered`, `claims` and `words`, and on `specs/Replies.antt`. Whatever a client
+//! reads is printed here; `docs/PROTOCOL.md` specifies it.
 ghost use Rattle.std.specs.Prelude.{◌≡◌, ◌<◌, ◌≤◌, ◌+◌, ◌∷◌, [], ◌++◌, codes, length, vec_len, vec_capacity, true};
 ghost use Rattle.std.specs.Prelude.{OnOk, OnErr, IsOk};
 ghost use Rattle.std.specs.Fmt.{decimal};

@@ -10,6 +10,11 @@ abbrev pub ◌>>=◌ : {A B : Type 0} → Option A → (A → Option B) → Opti
 Some x >>= f = f x
 None >>= f = None
 
+-- a text with this prefix is read so, any other text otherwise
+abbrev pub read_behind : {A : Type 0} → Option (List ℕ) → (List ℕ → Option A) → Option A → Option A
+read_behind (Some rest) read other = read rest
+read_behind None read other = other
+
 -- what follows a prefix
 abbrev pub behind : List ℕ → List ℕ → Option (List ℕ)
 behind [] text = Some text
