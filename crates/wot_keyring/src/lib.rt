@@ -1,5 +1,5 @@
 //! The keyring: certificates by fingerprint, verdicts by signature number, limits, stamps, and the dump. It stands on
-//! wot_cert, which assembles and merges certificates, on wot_verdict, and on the commands of wot_script for the dump.
+//! wot_cert, which assembles and merges certificates, on wot_verdict, and on the lines of wot_words for the dump.
 //! wot_network reads certificates and stamps, and wot_cache owns the keyring, so a changed contract of `Keyring`
 //! reaches both.
 #![tactic(auto)]
