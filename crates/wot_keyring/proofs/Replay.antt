@@ -26,8 +26,8 @@ use Rattle.wot_packet.specs.Spelling.{Spelled}
 use Rattle.wot_packet.specs.Reading.{packets_of}
 use Rattle.wot_packet.specs.declared.packet.PacketFault.{PacketFault}
 use Rattle.wot_policy.specs.declared.rows.PolicyRows.{PolicyRows}
-use Rattle.wot_script.specs.declared.command.Command.{Command}
-use Rattle.wot_script.specs.declared.command.Command.TheVariants as commands
+use Rattle.wot_words.specs.declared.state_line.StateLine.{StateLine}
+use Rattle.wot_words.specs.declared.state_line.StateLine.TheVariants as lines
 use Rattle.wot_verdict.specs.declared.verdict.Verdict.{Verdict}
 use Rattle.wot_verdict.specs.declared.verdict.Verdict.TheVariants.{Good, Bad}
 use Rattle.wot_verdict.specs.Verdicts as verdicts
@@ -138,7 +138,7 @@ import_one : (rows : PolicyRows) (l : Limits) (old : Held) (octets : List ℕ) (
     → packets_of octets ≡ Ok packets → first_fault packets ≡ None → certificates_of packets ≡ c ∷ []
     → list_any (clash c) (map (λ (e : Fpr × Certificate). e.1) old.certs) ≡ false
     → with_cert rows old.certs c ≡ certs → first_full l certs ≡ None
-    → after rows l (commands.Import octets) old ≡ Some (record old { certs = certs })
+    → after rows l (lines.Import octets) old ≡ Some (record old { certs = certs })
 import_one rows l old octets packets c certs read sound one none last fits =
     let counts : Imported = record {
       taken = 1;
@@ -326,7 +326,7 @@ settings rows l certs all order few prefix (e ∷ rest) parts =
 
 -- ---- both
 
-after_both : (rows : PolicyRows) (l : Limits) (cs ds : List Command) (o : Option Held)
+after_both : (rows : PolicyRows) (l : Limits) (cs ds : List StateLine) (o : Option Held)
     → after_all (after rows l) (cs ++ ds) o ≡ after_all (after rows l) ds (after_all (after rows l) cs o)
 after_both rows l [] ds o = refl
 after_both rows l (c ∷ cs) [] None = refl

@@ -1,6 +1,6 @@
 //! The keyring: certificates by fingerprint, verdicts by signature number, limits, stamps, and the dump. It stands on
-//! its three rooms, wot_held, wot_index and wot_merge, and on the commands of wot_script for the dump. wot_network
-//! reads certificates and stamps, and wot_cache owns the keyring, so a changed contract of `Keyring` reaches both.
+//! its three rooms, wot_held, wot_index and wot_merge, and on the lines of wot_words for the dump. wot_network reads
+//! certificates and stamps, and wot_cache owns the keyring, so a changed contract of `Keyring` reaches both.
 #![tactic(auto)]
 
 mod dump;

@@ -1,10 +1,5 @@
-pub mod Pieced
 pub mod Items
 pub mod ClaimTexts
-pub mod Cutting
-pub mod Numerals
-pub mod Escapes
-pub mod Spaceless
 pub mod Readings
 pub mod Sizes
 pub mod Wanting

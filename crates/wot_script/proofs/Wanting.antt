@@ -1,58 +1,42 @@
 -- A question that was read wants at least 1, and an import that was read is short.
-use Rattle.std.proofs.Common.{◌≡◌, ℕ, ◌+◌, ◌≤◌, ◌%◌, ◌==◌, Bool, true, false, ◌&&◌, List, [], ◌∷◌, length, Option, Some}
-use Rattle.std.proofs.Common.{None, Result, Ok, Err, refl, ap, arith}
+use Rattle.std.proofs.Common.{◌≡◌, ℕ, ◌+◌, ◌≤◌, ◌==◌, Bool, true, false, ◌&&◌, List, [], ◌∷◌, length, Option, Some}
+use Rattle.std.proofs.Common.{None, refl, arith}
 use Rattle.std.specs.Prelude.{codes, nat_lt, nat_le, IfSome, if◌then◌else◌}
 use Rattle.std.specs.Option.{option_map}
-use Rattle.std.specs.Result.{result_ok}
-use Rattle.hex.specs.Hex.{decode_of, decode_pairs}
-use Rattle.hex.specs.declared.error.FromHexError.{FromHexError}
-use Rattle.hex.specs.declared.error.FromHexError.TheVariants.{OddLength}
-use Rattle.hex.proofs.HexLemmas.{decode_pairs-ok}
 use Rattle.std.specs.List.{AllByRecursion, list_all, onto_first}
 use Rattle.std.specs.Str.{bytes_eq}
 use Rattle.std.specs.Str.Parse.{digits_value}
 use Rattle.std.proofs.lemmas.Bool.{and_parts, leb-true, ltb-true}
 use Rattle.std.proofs.lemmas.Option.{cond_some}
 use Rattle.wot_types.specs.Fpr.{fpr_of_digits}
-use Rattle.wot_types.specs.SigNumber.{number_of_digits}
 use Rattle.wot_types.specs.ViewName.{view_name_of}
-use Rattle.wot_types.specs.declared.number.SigNumber.{SigNumber}
 use Rattle.wot_script.specs.Claims.{all_of, claim_of, claim_with, claims_of, field_of, IsLabelSpelled, IsPathSpelled}
 use Rattle.wot_script.specs.Claims.{is_rising, items_of, label_of, labels_of, rising, step_of}
 use Rattle.wot_script.specs.declared.reply.ClaimStepLine.{ClaimStepLine}
 use Rattle.wot_script.specs.declared.reply.LabelLine.{LabelLine}
-use Rattle.wot_script.specs.Decimal.{decimal_up_to, is_decimal, positive_up_to}
-use Rattle.wot_script.specs.Fields.{◌>>=◌, behind, cut, cut_at}
-use Rattle.wot_script.proofs.Cutting.{cut_short}
+use Rattle.wot_words.specs.Decimal.{is_decimal, positive_up_to}
+use Rattle.wot_words.specs.Fields.{◌>>=◌, behind, cut, cut_at, read_behind}
+use Rattle.wot_words.specs.StateLine.{IsWithin, state_line_of}
+use Rattle.wot_words.specs.declared.state_line.StateLine.{StateLine}
+use Rattle.wot_words.specs.declared.state_line.StateLine.TheVariants as lines
+use Rattle.wot_words.proofs.Cutting.{cut_short}
+use Rattle.wot_words.proofs.ImportFits.{behind_short, bound_keeps, so}
 use Rattle.wot_script.proofs.Items.{parts_of}
 use Rattle.wot_script.proofs.WordLines.{When, when}
-use Rattle.wot_script.specs.Grammar.{about_of, asked_of, checked_of, command_of, drop_of, entry_of, explained_of}
-use Rattle.wot_script.specs.Grammar.{export_of, import_of, judgement_of, listed_of, load_of, missed_of, question_of}
-use Rattle.wot_script.specs.Grammar.{read_behind, root_of, setting_of, single_of, store_of, verdict_of, view_of}
-use Rattle.wot_script.specs.Grammar.{over_of, paced_of, watch_of, watched_of}
+use Rattle.wot_script.specs.Grammar.{about_of, asked_of, checked_of, command_for, command_of, drop_of, entry_of}
+use Rattle.wot_script.specs.Grammar.{explained_of, export_of, listed_of, load_of, missed_of, other_of, over_of}
+use Rattle.wot_script.specs.Grammar.{paced_of, question_of, set_or, single_of, store_of, view_of, watch_of, watched_of}
 use Rattle.wot_script.specs.OneWord.{has_word, named_among, one_words, word_of}
 use Rattle.wot_script.specs.Spelling.{HasSpelling, FitsLine}
-use Rattle.wot_script.specs.Uid.{unescaped}
+use Rattle.wot_words.specs.Uid.{unescaped}
 use Rattle.wot_script.specs.declared.command.Command.{Command}
 use Rattle.wot_script.specs.declared.read.About.{About}
-use Rattle.wot_script.specs.declared.read.About.TheVariants.{Setting, Asked, Listed, Explained, Missed, Checked, Paced}
+use Rattle.wot_script.specs.declared.read.About.TheVariants.{Asked, Listed, Explained, Missed, Checked, Paced}
 use Rattle.wot_script.specs.declared.read.About.TheVariants.{Watched}
 use Rattle.wot_script.specs.declared.read.Question.{Question}
-use Rattle.wot_script.specs.declared.command.Command.TheVariants.{Import, Load, Store, Remove, Good, Bad, Unjudge, Time}
-use Rattle.wot_script.specs.declared.command.Command.TheVariants.{Root, Close, Ask, Explain, Export}
+use Rattle.wot_script.specs.declared.command.Command.TheVariants.{Import, Load, Store, Remove, Ask, Explain, Export}
 use Rattle.wot_script.specs.declared.command.Command.TheVariants.{Absence, CursorOver, CursorNext, CursorClose}
 use Rattle.wot_script.specs.declared.command.Command.TheVariants.{WatchOn, WatchOff}
-
-behind_short : (prefix text rest : List ℕ) → behind prefix text ≡ Some rest → length rest ≤ length text
-behind_short [] text rest e = let same : text ≡ rest = cc in omega (arith, ap length same)
-behind_short (x ∷ prefix) [] rest e = absurd cc
-behind_short (x ∷ prefix) (y ∷ text) rest e =
-    let got = cond_some_of (x == y) e in
-    omega (arith, behind_short prefix text rest got)
-  where
-    cond_some_of : (b : Bool) → (if b then behind prefix text else None) ≡ Some rest → behind prefix text ≡ Some rest
-    cond_some_of true e = e
-    cond_some_of false e = absurd cc
 
 -- there is at most one part more than octets
 length-onto_first : (octet : ℕ) (parts : List (List ℕ)) → length (onto_first octet parts) ≤ 1 + length parts
@@ -69,11 +53,6 @@ length-parts_of separator (octet ∷ octets) = by (octet == separator) refl (len
     by false apart later = rw apart (omega (arith, later, length-onto_first octet (parts_of separator octets)))
 
 -- ---- what was read from each part
-
-bound_keeps : {A B : Type 0} (P : B → Type 0) (o : Option A) (f : A → Option B)
-    → ((a : A) → o ≡ Some a → IfSome (f a) P) → IfSome (o >>= f) P
-bound_keeps P None f h = tt
-bound_keeps P (Some a) f h = h a refl
 
 all_of_keeps : {A : Type 0} (P : A → Type 0) (read : List ℕ → Option A) → ((text : List ℕ) → IfSome (read text) P)
     → (texts : List (List ℕ))
@@ -101,10 +80,6 @@ field_keeps {A = A} P read h text =
     by true o h = (tt, omega arith)
     by false None h = tt
     by false (Some items) h = (h.0, omega (arith, h.1, length-parts_of 44 text))
-
--- what holds of the command that was read
-so : {A : Type 0} (P : A → Type 0) (o : Option A) (a : A) → o ≡ Some a → IfSome o P → P a
-so P o a e h = rw e at h
 
 module _ (size : ℕ) where
   abbrev pub Spelled : Option Command → Type 0
@@ -172,22 +147,6 @@ module _ (size : ℕ) where
   question_wants : (text : List ℕ) (q : Question) → question_of text ≡ Some q → 1 ≤ q.wanted
   question_wants text q e = so (λ (q : Question). 1 ≤ q.wanted) (question_of text) q e (all_want text)
 
-  import_spelled : (text : List ℕ) → length text ≤ size → Spelled (import_of text)
-  unfolding import_of
-  import_spelled text short = decoded (decode_of text) refl
-    where
-      even : (b : Bool) (r : Result (List ℕ) FromHexError) (octets : List ℕ)
-          → (if b then Err OddLength else r) ≡ Ok octets → r ≡ Ok octets
-      even true r octets e = absurd cc
-      even false r octets e = e
-
-      decoded : (r : Result (List ℕ) FromHexError) → decode_of text ≡ r → Spelled (option_map Import (result_ok r))
-      decoded (Ok octets) e =
-          let pairs : decode_pairs 0 text ≡ Ok octets = even (length text % 2 == 1) (decode_pairs 0 text) octets e in
-          let twice = (decode_pairs-ok 0 text octets pairs).1 in
-          (tt, omega (arith, twice, short))
-      decoded (Err fault) e = tt
-
   load_spelled : (text : List ℕ) → Spelled (load_of text)
   unfolding load_of
   load_spelled text = mapped Load (entry_of text) (λ name e. (tt, tt))
@@ -225,45 +184,6 @@ module _ (size : ℕ) where
   single_spelled : (line : List ℕ) → Spelled (single_of line)
   unfolding single_of
   single_spelled line = among_spelled one_words line refl
-
-  judgement_spelled : (number : SigNumber) (text : List ℕ) → Spelled (judgement_of number text)
-  unfolding judgement_of
-  judgement_spelled number text =
-      behind_either (behind (codes "good ") text) (λ digits. option_map (Good number) (fpr_of_digits digits))
-      (if bytes_eq text (codes "bad") then Some (Bad number) else if bytes_eq text (codes "none") then Some
-      (Unjudge number) else None)
-      (λ digits. mapped (Good number) (fpr_of_digits digits) (λ fpr e. (tt, tt)))
-      (chosen (bytes_eq text (codes "bad")) (Bad number)
-      (if bytes_eq text (codes "none") then Some (Unjudge number) else None) (tt, tt)
-      (chosen (bytes_eq text (codes "none")) (Unjudge number) None (tt, tt) tt))
-
-  verdict_spelled : (text : List ℕ) → Spelled (verdict_of text)
-  unfolding verdict_of
-  verdict_spelled text =
-      bound (cut text) (λ first. number_of_digits first.0 >>= (λ number. judgement_of number first.1))
-      (λ first e. bound (number_of_digits first.0) (λ number. judgement_of number first.1)
-      (λ number d. judgement_spelled number first.1))
-
-  root_spelled : (view text : List ℕ) → Spelled (root_of view text)
-  unfolding root_of
-  root_spelled view text =
-      bound (cut text)
-      (λ first. fpr_of_digits first.0 >>=
-      (λ fpr. decimal_up_to 255 first.1 >>= (λ amount. Some (Root view fpr amount))))
-      (λ first e. bound (fpr_of_digits first.0)
-      (λ fpr. decimal_up_to 255 first.1 >>= (λ amount. Some (Root view fpr amount)))
-      (λ fpr d. bound (decimal_up_to 255 first.1) (λ amount. Some (Root view fpr amount)) (λ amount a. (tt, tt))))
-
-  setting_spelled : (view text : List ℕ) → Spelled (setting_of view text)
-  unfolding setting_of
-  setting_spelled view text =
-      behind_either (behind (codes "time ") text) (λ digits. option_map (Time view) (decimal_up_to 4294967295 digits))
-      (read_behind (behind (codes "root ") text) (root_of view)
-      (if bytes_eq text (codes "close") then Some (Close view) else None))
-      (λ digits. mapped (Time view) (decimal_up_to 4294967295 digits) (λ t e. (tt, tt)))
-      (behind_either (behind (codes "root ") text) (root_of view)
-      (if bytes_eq text (codes "close") then Some (Close view) else None)
-      (root_spelled view) (chosen (bytes_eq text (codes "close")) (Close view) None (tt, tt) tt))
 
   asked_spelled : (view text : List ℕ) → Spelled (asked_of view text)
   asked_spelled view text =
@@ -406,7 +326,6 @@ module _ (size : ℕ) where
       (chosen (bytes_eq text (codes "off")) (WatchOff watch) None (tt, tt) tt)
 
   about_spelled : (about : About) (view text : List ℕ) → length text ≤ size → Spelled (about_of about view text)
-  about_spelled Setting view text short = setting_spelled view text
   about_spelled Asked view text short = asked_spelled view text
   about_spelled Listed view text short = listed_spelled view text
   about_spelled Explained view text short = explained_spelled view text
@@ -431,10 +350,9 @@ module _ (size : ℕ) where
       at None e = k
       at (Some text) e = let shorter = behind_short word line text e in h text (omega (arith, shorter, short))
 
-  -- a command that was read can be printed, and an import's octets are at most half of the line's
-  pub spelled_of : (line : List ℕ) → length line ≤ size → Spelled (command_of line)
-  unfolding command_of
-  spelled_of line short =
+  other_spelled : (line : List ℕ) → length line ≤ size → Spelled (other_of line)
+  unfolding other_of
+  other_spelled line short =
       let tail : Option Command = single_of line in
       let store : Option Command = read_behind (behind (codes "store ") line) store_of tail in
       let watch : Option Command = read_behind (behind (codes "watch ") line) (view_of Watched) store in
@@ -445,15 +363,9 @@ module _ (size : ℕ) where
       let explain : Option Command = read_behind (behind (codes "explain ") line) (view_of Explained) absence in
       let list : Option Command = read_behind (behind (codes "list ") line) (view_of Listed) explain in
       let ask : Option Command = read_behind (behind (codes "ask ") line) (view_of Asked) list in
-      let view : Option Command = read_behind (behind (codes "view ") line) (view_of Setting) ask in
-      let verdict : Option Command = read_behind (behind (codes "verdict ") line) verdict_of view in
-      let remove : Option Command = read_behind (behind (codes "drop ") line) drop_of verdict in
-      let load : Option Command = read_behind (behind (codes "load ") line) load_of remove in
-      behind_word (codes "import ") line import_of load short import_spelled (
+      let remove : Option Command = read_behind (behind (codes "drop ") line) drop_of ask in
       behind_either (behind (codes "load ") line) load_of remove load_spelled (
-      behind_either (behind (codes "drop ") line) drop_of verdict drop_spelled (
-      behind_either (behind (codes "verdict ") line) verdict_of view verdict_spelled (
-      behind_word (codes "view ") line (view_of Setting) ask short (view_spelled Setting) (
+      behind_either (behind (codes "drop ") line) drop_of ask drop_spelled (
       behind_word (codes "ask ") line (view_of Asked) list short (view_spelled Asked) (
       behind_word (codes "list ") line (view_of Listed) explain short (view_spelled Listed) (
       behind_word (codes "explain ") line (view_of Explained) absence short (view_spelled Explained) (
@@ -463,11 +375,35 @@ module _ (size : ℕ) where
       behind_word (codes "cursor ") line (view_of Paced) watch short (view_spelled Paced) (
       behind_word (codes "watch ") line (view_of Watched) store short (view_spelled Watched) (
       behind_either (behind (codes "store ") line) store_of tail store_spelled (
-      single_spelled line))))))))))))))
+      single_spelled line)))))))))))
+
+  -- the command of a line that sets a part of the state asks for no number
+  line_spelled : (line : StateLine) → IsWithin size line
+      → HasSpelling (command_for line) × FitsLine size (command_for line)
+  line_spelled (lines.Import octets) within = (tt, within)
+  line_spelled _ within = (tt, tt)
+
+  set_spelled : (o : Option StateLine) (other : Option Command) → IfSome o (IsWithin size) → Spelled other
+      → Spelled (set_or o other)
+  set_spelled None other within h = h
+  set_spelled (Some line) other within h = line_spelled line within
+
+  -- a command that was read can be printed, and an import's octets are at most half of the line's
+  spelled_of : (line : List ℕ) → length line ≤ size → IfSome (state_line_of line) (IsWithin size)
+      → Spelled (command_of line)
+  unfolding command_of
+  spelled_of line short within =
+      set_spelled (state_line_of line) (other_of line) within (other_spelled line short)
+
+if_each : {A : Type 0} (P : A → Type 0) (o : Option A) → ((a : A) → o ≡ Some a → P a) → IfSome o P
+if_each P None h = tt
+if_each P (Some a) h = h a refl
 
 -- a command that was read can be printed
-pub spelled_at : (line : List ℕ) (command : Command) → command_of line ≡ Some command
+pub spelled_at : ((text : List ℕ) (line : StateLine) → state_line_of text ≡ Some line → IsWithin (length text) line)
+    → (line : List ℕ) (command : Command) → command_of line ≡ Some command
     → HasSpelling command × FitsLine (length line) command
-spelled_at line command e =
-    let all : Spelled (length line) (command_of line) = spelled_of (length line) line (omega arith) in
+spelled_at fit line command e =
+    let within = if_each (IsWithin (length line)) (state_line_of line) (fit line) in
+    let all : Spelled (length line) (command_of line) = spelled_of (length line) line (omega arith) within in
     rw e at all

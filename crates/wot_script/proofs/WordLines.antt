@@ -3,12 +3,13 @@ use Rattle.std.proofs.Common.{◌≡◌, ℕ, ◌&&◌, Bool, true, false, List,
 use Rattle.std.proofs.Common.{◌∙◌}
 use Rattle.std.specs.Prelude.{if◌then◌else◌, nat_le}
 use Rattle.std.proofs.lemmas.Bool.{and_parts, leb-true}
-use Rattle.wot_script.specs.Grammar.{command_of, single_of}
+use Rattle.wot_words.specs.StateLine.{state_line_of}
+use Rattle.wot_script.specs.Grammar.{command_of, other_of, single_of}
 use Rattle.wot_script.specs.OneWord.{has_word, word_of}
 use Rattle.wot_script.specs.Spelling.{IsLineFor, most_octets, spelling}
 use Rattle.wot_script.specs.declared.command.Command.{Command}
 use Rattle.wot_script.specs.declared.command.Command.TheVariants.{Import}
-use Rattle.wot_script.proofs.Spaceless.{lacks_from_test, lacks_test}
+use Rattle.wot_words.proofs.Spaceless.{lacks_from_test, lacks_test}
 
 -- this holds, if the test does
 abbrev pub When : Bool → Type 0 → Type 0
@@ -34,7 +35,7 @@ spelled_by_word command h = sym (if_true (has_word command) (spelling command) [
 
 -- a word is read as its command, and no octets as none
 reading_so : (command : Command) → command_of (word_of command) ≡ (if has_word command then Some command else None)
-unfolding command_of single_of
+unfolding command_of other_of single_of state_line_of
 reading_so (Import octets) = refl
 reading_so _ = refl
 

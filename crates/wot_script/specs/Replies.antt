@@ -7,8 +7,8 @@ use Rattle.wot_types.specs.Fpr.{digits_of}
 use Rattle.wot_types.specs.Limits.{limit_word}
 use Rattle.wot_types.specs.SigNumber.{number_digits}
 use Rattle.wot_script.specs.Claims.{claim_text, field_text, label_text}
-use Rattle.wot_script.specs.Texts.{joined_line}
-use Rattle.wot_script.specs.Uid.{escaped}
+use Rattle.wot_words.specs.Texts.{joined_line}
+use Rattle.wot_words.specs.Uid.{escaped}
 use Rattle.wot_script.specs.Words.{IsWordOf, reason_words, target_words, word_at}
 use Rattle.wot_script.specs.declared.reply.AnswerLine.{AnswerLine}
 use Rattle.wot_script.specs.declared.reply.AnswerLine.TheVariants.{Path, Step}

@@ -1,24 +1,24 @@
 //! `print_reply`: a reply to its octets.
 //!
-//! It stands on `piece`, `lines`, `numbered`, `claims` and `words`, and on `specs/Replies.antt`. Whatever a client reads
-//! is printed here; `docs/PROTOCOL.md` specifies it.
+//! It stands on `wot_words`, `lines`, `numbered`, `claims` and `words`, and on `specs/Replies.antt`. Whatever a client
+//! reads is printed here; `docs/PROTOCOL.md` specifies it.
 ghost use Rattle.std.specs.Prelude.{◌≡◌, ◌<◌, ◌≤◌, ◌+◌, ◌∷◌, [], ◌++◌, codes, length, vec_len, vec_capacity, true};
 ghost use Rattle.std.specs.Prelude.{OnOk, OnErr, IsOk};
 ghost use Rattle.std.specs.Fmt.{decimal};
-ghost use Rattle.wot_script.specs.Appends.{Appends};
+ghost use Rattle.wot_words.specs.Appends.{Appends};
 ghost use Rattle.wot_script.specs.Replies.{HasWords, is_refusal, is_short, refused, reply_text, stale};
-ghost use Rattle.wot_script.specs.Texts.{joined_line};
+ghost use Rattle.wot_words.specs.Texts.{joined_line};
 
 use crate::claims::put_claimed;
 use crate::lines::put_headed;
 use crate::numbered::{reply_number, reply_words};
-use crate::piece::{Piece, put_pieces};
 use crate::short::short_replies_fit;
 use crate::words::target_word;
 use crate::{
     AnswerLines, BindLines, ClaimLines, KeyLines, LabelLines, PendingLines, ReasonLines, Reply,
 };
 use wot_types::{Memory, ViewName};
+use wot_words::{Piece, put_pieces};
 
 #[tactic(auto, unfolding(crate::specs::Replies::reply_text))]
 fn put_amount(sum: u32, paths: u64, lines: &AnswerLines, out: &mut Vec<u8>) -> Result<(), Memory>
