@@ -9,7 +9,8 @@ use Rattle.std.proofs.lemmas.Str.{IsUtf8-from_is_utf8, is_utf8-from_IsUtf8}
 use Rattle.wot_pattern.specs.Reading.{Reading}
 use Rattle.wot_pattern.specs.Grammar.{Says}
 use Rattle.wot_pattern.specs.Meaning.{Matches}
-use Rattle.wot_pattern.specs.Deciding.{pattern_of, matches_in}
+use Rattle.wot_pattern.specs.Deciding.{pattern_of}
+use Rattle.wot_pattern.specs.MeaningTest.{matches_in}
 use Rattle.wot_scope.specs.Scope.{TextMatches, OneMatches, ScopeHolds}
 use Rattle.wot_scope.specs.Deciding.{text_matches, scope_holds}
 
