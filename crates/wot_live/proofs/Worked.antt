@@ -11,7 +11,7 @@ use Rattle.wot_verdict.specs.Verdicts.{Entries}
 use Rattle.wot_cert.specs.Certificate.{Signature, Certificate}
 use Rattle.wot_cert.specs.Span.{span_of}
 use Rattle.wot_edge.specs.declared.edge.EdgeFacts.{EdgeFacts}
-use Rattle.wot_live.specs.Rows.{edges_from, in_edge_order}
+use Rattle.wot_live.specs.Found.{edges_from, in_edge_order}
 
 abbrev R : Fpr
 R = V4 (1 ∷ [])

@@ -1,12 +1,11 @@
 //! Finds the edges of all issuers into one certificate, in the order of issuer and user ID. It walks over the
-//! signatures once and asks wot_standing for each issuer's newest certification. Which edges are found is fixed by
-//! `edges_of`.
+//! signatures once and asks wot_standing for each issuer's newest certification. What is found is `found_edges`, and by
+//! the law `found_are_edges` it is `edges_of`.
 ghost use Rattle.std.specs.Prelude.{◌≡◌, ◌<◌, ◌^◌, [], length, OnOk, IfOk};
 ghost use Rattle.std.specs.List.{AllByRecursion, cons_option};
 ghost use Rattle.wot_standing.specs.Certifiers.{StandsAt};
-ghost use Rattle.wot_live.specs.Found.{Becomes, Gains, HasFew, by_place, edge_kept, with_edge};
+ghost use Rattle.wot_live.specs.Found.{Becomes, Gains, HasFew, by_place, edge_kept, edges_on, found_edges, with_edge};
 ghost use Rattle.wot_live.specs.Found.{edge_at_place as edge_at_place_spec};
-ghost use Rattle.wot_live.specs.Rows.{edges_of, edges_on};
 
 use crate::terms::terms;
 use std::alloc::Global;
@@ -106,7 +105,7 @@ pub(crate) fn find_edges(
 ) -> Result<Found, Memory>
     requires few { AllByRecursion HasFew cert.now.user_ids }
     requires count { length cert.now.user_ids < 2 ^ 32 }
-    ensures { IfOk result (λ found. found.entries ≡ by_place (edges_of verdicts.now cert.now t)) }
+    ensures { IfOk result (λ found. found.entries ≡ by_place (found_edges verdicts.now cert.now t)) }
 {
     let mut found = BTreeMap::new(alloc);
     let target = cert.fpr();

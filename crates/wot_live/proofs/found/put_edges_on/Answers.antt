@@ -9,8 +9,7 @@ use Rattle.wot_cert.specs.Issuer.{issuer_of}
 use Rattle.wot_edge.specs.declared.edge.EdgeFacts.{EdgeFacts}
 use Rattle.wot_standing.specs.Certifiers.{KeepsNewest}
 use Rattle.wot_live.specs.Edge.{edge_by}
-use Rattle.wot_live.specs.Found.{by_place, edge_kept, with_edges}
-use Rattle.wot_live.specs.Rows.{edge_with}
+use Rattle.wot_live.specs.Found.{by_place, edge_kept, with_edges, edge_with}
 use Rattle.wot_live.proofs.Places.{behind}
 use Rattle.wot_live.proofs.Putting.{with_edges-option}
 use Rattle.wot_live.proofs.found.put_edges_on.Goals as goal

@@ -2,8 +2,7 @@ use Rattle.std.proofs.Common.{◌≡◌, ◌++◌, List, length}
 use Rattle.std.specs.List.{filter_map}
 use Rattle.wot_cert.specs.Certificate.{Signature}
 use Rattle.wot_edge.specs.declared.edge.EdgeFacts.{EdgeFacts}
-use Rattle.wot_live.specs.Found.{by_place, with_edges}
-use Rattle.wot_live.specs.Rows.{edge_with}
+use Rattle.wot_live.specs.Found.{by_place, with_edges, edge_with}
 use Rattle.wot_live.proofs.found.put_edges_on.Given as goal
 
 abbrev pub invariant-back : goal.invariant-back
