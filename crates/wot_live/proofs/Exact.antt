@@ -1,6 +1,6 @@
 -- The edges that are found are those of each issuer and user ID.
 use Rattle.std.proofs.Common.{◌≡◌, ℕ, zero, suc, ◌+◌, Bool, true, false, cond, ◌&&◌, ◌||◌, List, [], ◌∷◌, ◌++◌, Option}
-use Rattle.std.proofs.Common.{Some, None, Ordering, inl, inr, ◌≤◌, refl, sym, ap, subst, ◌∙◌, arith}
+use Rattle.std.proofs.Common.{Some, None, Ordering, ◌≤◌, refl, sym, ap, subst, ◌∙◌, arith}
 use Rattle.std.specs.declared.cmp.Ordering.TheVariants.{Less, Equal, Greater}
 use Rattle.std.specs.Prelude.{◌==◌}
 use Rattle.std.specs.List.{AllByRecursion, cons_option, filter_map, list_any, slice_get}
@@ -17,14 +17,12 @@ use Rattle.wot_cert.specs.Issuer.{issuer_of, counts_by}
 use Rattle.wot_cert.specs.Ranked.{placed}
 use Rattle.wot_edge.specs.declared.edge.EdgeFacts.{EdgeFacts}
 use Rattle.wot_edge.specs.Order.{edge_cmp}
-use Rattle.wot_edge.specs.Record.{Has}
 use Rattle.wot_standing.specs.Standing.{own, newest_certification}
 use Rattle.wot_live.specs.Edge.{edge_facts, edge_by, edge_on, signature_place}
 use Rattle.wot_live.specs.Found.{with_edge, one_of_both, in_edge_order, edge_with, edges_on, edges_from, found_edges}
-use Rattle.wot_live.specs.Rows.{is_edge_of, edge_at}
-use Rattle.wot_live.specs.Rows.{AreRows, AreInto}
+use Rattle.wot_live.specs.Rows.{AreRows, edge_at, is_edge_of}
 use Rattle.wot_live.proofs.Orders.{edge_exact, edge_tied}
-use Rattle.wot_live.proofs.Putting.{all_united, sorted_united}
+use Rattle.wot_live.proofs.Putting.{sorted_united}
 
 -- ---- an edge of a list in order
 

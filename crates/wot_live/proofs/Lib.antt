@@ -1,7 +1,9 @@
 pub mod Orders
 pub mod Putting
 pub mod Exact
-pub mod Each
+pub mod OneList
+pub mod IssuersInOrder
+pub mod EdgesAreRows
 pub mod Counting
 pub mod Places
 pub mod Through

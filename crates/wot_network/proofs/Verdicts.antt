@@ -1,5 +1,5 @@
 -- What verdicts make of a certificate depends only on the verdicts on its signatures.
-use Rattle.std.proofs.Common.{◌≡◌, ℕ, zero, suc, ◌+◌, Bool, false, List, [], ◌∷◌, ◌++◌, map, Option, Some, None}
+use Rattle.std.proofs.Common.{◌≡◌, ℕ, zero, suc, ◌+◌, Bool, false, List, [], ◌∷◌, ◌++◌, map, Option}
 use Rattle.std.proofs.Common.{refl, ap, subst, ◌∙◌}
 use Rattle.std.specs.Prelude.{◌&&◌, ◌||◌, not, nat_lt, filter, is_some}
 use Rattle.std.specs.List.{AllByRecursion, list_all, list_any, filter_map, flat_map, slice_get}
@@ -17,7 +17,6 @@ use Rattle.wot_cert.specs.Ranked.{greatest}
 use Rattle.wot_cert.specs.Revoked.{has_kind, revokes_by, is_unrevoked, is_revocable}
 use Rattle.wot_cert.specs.Span.{created_of}
 use Rattle.wot_cert.specs.Time.{is_live, made_of, newness}
-use Rattle.wot_edge.specs.declared.edge.EdgeFacts.{EdgeFacts}
 use Rattle.wot_standing.specs.declared.status.Standing.{Standing}
 use Rattle.wot_standing.specs.Kinds.{is_certification, is_soft}
 use Rattle.wot_standing.specs.Own.{is_own_revoked}

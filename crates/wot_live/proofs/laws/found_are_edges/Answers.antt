@@ -1,4 +1,4 @@
-use Rattle.wot_live.proofs.Each.{found_is}
+use Rattle.wot_live.proofs.EdgesAreRows.{found_is}
 use Rattle.wot_live.proofs.laws.found_are_edges.Goals as goal
 
 pub returns : goal.returns

@@ -1,25 +1,21 @@
 -- The edges of each issuer and each user ID are all edges into a certificate, and so they are those that are found.
 use Rattle.std.proofs.Common.{◌≡◌, ℕ, zero, suc, ◌+◌, Bool, true, false, cond, ◌&&◌, ◌||◌, List, [], ◌∷◌, ◌++◌, Option}
 use Rattle.std.proofs.Common.{Some, None, Ordering, inl, inr, ◌≤◌, ◌<◌, length, refl, sym, ap, subst, ◌∙◌, arith}
-use Rattle.std.specs.declared.cmp.Ordering.TheVariants.{Less, Equal, Greater}
+use Rattle.std.specs.declared.cmp.Ordering.TheVariants.{Less}
 use Rattle.std.specs.Prelude.{◌==◌}
-use Rattle.std.specs.BTreeSet.{insert_key}
 use Rattle.std.specs.Cmp.{nat_cmp_is}
 use Rattle.std.specs.List.{AllByRecursion, cons_option, filter_map, flat_map, list_any, range_with_len, slice_get}
-use Rattle.std.specs.List.Sorted.{IsStrictlySortedBy}
-use Rattle.std.specs.Option.{option_and_then, option_map_or, option_or}
-use Rattle.std.specs.Ordering.{is_eq, match_ordering, nat_cmp, ordering_reverse, ordering_then}
-use Rattle.std.proofs.lemmas.Bool.{or_parts}
+use Rattle.std.specs.Option.{option_and_then, option_or}
+use Rattle.std.specs.Ordering.{nat_cmp, ordering_then}
 use Rattle.std.proofs.lemmas.Bool.Decides.{nat_tests}
 use Rattle.std.proofs.lemmas.Cmp.{tied_itself}
-use Rattle.std.proofs.lemmas.List.Folds.{list_any-append}
 use Rattle.std.proofs.lemmas.Map.Keys.{sorted_head, sorted_tail}
 use Rattle.std.proofs.lemmas.Option.{slice_get_within}
 use Rattle.wot_types.specs.declared.fpr.Fpr.{Fpr}
 use Rattle.wot_types.specs.Fpr.{fpr_cmp, same_fpr}
-use Rattle.wot_types.specs.FprLaws.{fpr_exact, fpr_total, same_fpr-sym, same_fpr-true}
+use Rattle.wot_types.specs.FprLaws.{fpr_total, same_fpr-sym, same_fpr-true}
 use Rattle.wot_verdict.specs.Verdicts.{Entries}
-use Rattle.wot_cert.specs.Certificate.{Signature, Component, Certificate}
+use Rattle.wot_cert.specs.Certificate.{Component, Certificate}
 use Rattle.wot_cert.specs.Counts.{sigs_on}
 use Rattle.wot_cert.specs.Issuer.{counts_by, issuer_of}
 use Rattle.wot_edge.specs.declared.edge.EdgeFacts.{EdgeFacts}
@@ -28,194 +24,14 @@ use Rattle.wot_edge.specs.Record.{Has}
 use Rattle.wot_standing.specs.Standing.{own, newest_certification}
 use Rattle.wot_live.specs.Edge.{edge_by, edge_of, edge_on}
 use Rattle.wot_live.specs.Found.{found_edges}
-use Rattle.wot_live.specs.Rows.{AreInto, AreRows, edge_at, edges_by, edges_of, fprs_in_order, is_edge_of, issuers_of}
-use Rattle.wot_live.specs.Rows.{user_id_places}
-use Rattle.wot_live.proofs.Exact.{IsEdge, OnlyCounting, all_append, all_filter_map, all_then, at_append}
-use Rattle.wot_live.proofs.Exact.{edge_by-is, equal-refl, equal-true, found_rows, none_of, tied}
-use Rattle.wot_live.proofs.Orders.{edge_exact, edge_tied, edge_total}
-use Rattle.wot_live.proofs.Putting.{IsBelow, below_below}
+use Rattle.wot_live.specs.Rows.{AreInto, AreRows, edge_at, edges_by, edges_of, is_edge_of, issuers_of, user_id_places}
+use Rattle.wot_live.proofs.Exact.{IsEdge, OnlyCounting, all_append, all_filter_map, all_then, at_append, edge_by-is}
+use Rattle.wot_live.proofs.Exact.{equal-true, found_rows, none_of}
+use Rattle.wot_live.proofs.Putting.{IsBelow}
+use Rattle.wot_live.proofs.IssuersInOrder.{IsLeast, any_in_order, any_issuer, none_on, sorted_in_order}
+use Rattle.wot_live.proofs.OneList.{Sorted, none_sorted, one_list, sorted_more}
 
-abbrev Sorted : {K : Type 0} → (K → K → Ordering) → List K → Type 0
-Sorted cmp = IsStrictlySortedBy cmp
-
-sorted_more : {K : Type 0} (cmp : K → K → Ordering) (k : K) (ks : List K) →
-    AllByRecursion (λ y. cmp k y ≡ Less) ks → IsStrictlySortedBy cmp ks → IsStrictlySortedBy cmp (k ∷ ks)
-unfolding IsStrictlySortedBy
-sorted_more cmp k ks b h = (b, h)
-
-none_sorted : {K : Type 0} (cmp : K → K → Ordering) → IsStrictlySortedBy cmp []
-unfolding IsStrictlySortedBy
-none_sorted cmp = tt
-
--- ---- one list has the edge of each issuer and user ID
-
--- the edge isn't among those above it
-none_above : (issuer : Fpr) (uid : ℕ) (e : EdgeFacts) → is_edge_of issuer uid e ≡ true → (fs : List EdgeFacts) →
-    IsBelow e fs → edge_at fs issuer uid ≡ None
-none_above issuer uid e h [] below = refl
-none_above issuer uid e h (f ∷ fs) below =
-    by (is_edge_of issuer uid f) refl (none_above issuer uid e h fs below.1)
-  where
-    by : (b : Bool) → is_edge_of issuer uid f ≡ b → edge_at fs issuer uid ≡ None →
-        cond b (Some f) (edge_at fs issuer uid) ≡ None
-    by true g rest = let t = tied issuer uid e f h g in let l : edge_cmp e f ≡ Less = below.0 in absurd (cc (t, l))
-    by false g rest = rest
-
-itself : (e : EdgeFacts) → is_edge_of e.issuer e.uid e ≡ true
-itself e =
-    ap (λ b. b && (e.uid == e.uid)) (same_itself e.issuer) ∙ equal-refl e.uid
-  where
-    same_itself : (fpr : Fpr) → same_fpr fpr fpr ≡ true
-    same_itself fpr = ap is_eq (tied_itself fpr_total fpr)
-
-first_at : (e : EdgeFacts) (es : List EdgeFacts) → edge_at (e ∷ es) e.issuer e.uid ≡ Some e
-first_at e es = ap (λ b. cond b (Some e) (edge_at es e.issuer e.uid)) (itself e)
-
-later_at : (issuer : Fpr) (uid : ℕ) (e : EdgeFacts) (es : List EdgeFacts) → is_edge_of issuer uid e ≡ false →
-    edge_at (e ∷ es) issuer uid ≡ edge_at es issuer uid
-later_at issuer uid e es h = ap (λ b. cond b (Some e) (edge_at es issuer uid)) h
-
-abbrev HaveSame : List EdgeFacts → List EdgeFacts → Type 0
-HaveSame es fs = (issuer : Fpr) (uid : ℕ) → edge_at es issuer uid ≡ edge_at fs issuer uid
-
-same_tails : (e : EdgeFacts) (es fs : List EdgeFacts) → IsBelow e es → IsBelow e fs → HaveSame (e ∷ es) (e ∷ fs) →
-    HaveSame es fs
-same_tails e es fs a b h issuer uid = by (is_edge_of issuer uid e) refl
-  where
-    by : (t : Bool) → is_edge_of issuer uid e ≡ t → edge_at es issuer uid ≡ edge_at fs issuer uid
-    by true g = none_above issuer uid e g es a ∙ sym (none_above issuer uid e g fs b)
-    by false g = sym (later_at issuer uid e es g) ∙ h issuer uid ∙ later_at issuer uid e fs g
-
--- an edge below another list's first isn't in that list
-absent : (e f : EdgeFacts) (es fs : List EdgeFacts) → edge_cmp e f ≡ Less → Sorted edge_cmp (f ∷ fs) →
-    HaveSame (e ∷ es) (f ∷ fs) → ⊥
-absent e f es fs l sorted h =
-    let none = none_above e.issuer e.uid e (itself e) (f ∷ fs)
-    (l, below_below e f fs l (sorted_head edge_cmp f fs sorted)) in
-    let some = first_at e es in
-    let same = h e.issuer e.uid in
-    absurd (cc (none, some, same))
-
-first_same : (e f : EdgeFacts) (es fs : List EdgeFacts) → edge_cmp e f ≡ Equal → HaveSame (e ∷ es) (f ∷ fs) → e ≡ f
-first_same e f es fs t h =
-    let (issuers, uids) = edge_exact e f t in
-    let at : edge_at (f ∷ fs) e.issuer e.uid ≡ edge_at (f ∷ fs) f.issuer f.uid =
-    ap (λ i. edge_at (f ∷ fs) i e.uid) issuers ∙ ap (λ u. edge_at (f ∷ fs) f.issuer u) uids in
-    let same : Some e ≡ Some f = sym (first_at e es) ∙ h e.issuer e.uid ∙ at ∙ first_at f fs in
-    cc same
-
-one_list : (es fs : List EdgeFacts) → Sorted edge_cmp es → Sorted edge_cmp fs → HaveSame es fs → es ≡ fs
-one_list [] [] a b h = refl
-one_list [] (f ∷ fs) a b h = let some = first_at f fs in let same = h f.issuer f.uid in absurd (cc (some, same))
-one_list (e ∷ es) [] a b h = let some = first_at e es in let same = h e.issuer e.uid in absurd (cc (some, same))
-one_list (e ∷ es) (f ∷ fs) a b h =
-    by (edge_cmp e f) refl (one_list es fs (sorted_tail edge_cmp e es a) (sorted_tail edge_cmp f fs b))
-  where
-    by : (o : Ordering) → edge_cmp e f ≡ o → (HaveSame es fs → es ≡ fs) → (e ∷ es) ≡ (f ∷ fs)
-    by Less l rest = absurd (absent e f es fs l b h)
-    by Greater l rest =
-        absurd (absent f e fs es (edge_total.antisymm f e ∙ ap ordering_reverse l) a (λ issuer uid. sym (h issuer uid)))
-    by Equal t rest =
-        let same = first_same e f es fs t h in
-        let below = subst (λ x. IsBelow x fs) (sym same) (sorted_head edge_cmp f fs b) in
-        let tails = same_tails e es fs (sorted_head edge_cmp e es a) below
-        (subst (λ x. HaveSame (e ∷ es) (x ∷ fs)) (sym same) h) in
-        ap (λ (x : EdgeFacts). x ∷ es) same ∙ ap (λ (xs : List EdgeFacts). f ∷ xs) (rest tails)
-
--- ---- fingerprints in order
-
-abbrev IsLeast : Fpr → List Fpr → Type 0
-IsLeast fpr fprs = AllByRecursion (λ y. fpr_cmp fpr y ≡ Less) fprs
-
-least_least : (x y : Fpr) (zs : List Fpr) → fpr_cmp x y ≡ Less → IsLeast y zs → IsLeast x zs
-least_least x y [] l h = tt
-least_least x y (z ∷ zs) l h = (fpr_total.trans x y z l h.0, least_least x y zs l h.1)
-
-all_insert : (P : Fpr → Type 0) (ks : List Fpr) (k : Fpr) → P k → AllByRecursion P ks →
-    AllByRecursion P (insert_key fpr_cmp ks k)
-all_insert P [] k p h = (p, tt)
-all_insert P (x ∷ xs) k p h = by (fpr_cmp k x) (all_insert P xs k p h.1)
-  where
-    by : (o : Ordering) → AllByRecursion P (insert_key fpr_cmp xs k) →
-        AllByRecursion P (match_ordering o (k ∷ x ∷ xs) (x ∷ xs) (x ∷ insert_key fpr_cmp xs k))
-    by Less r = (p, h)
-    by Equal r = h
-    by Greater r = (h.0, r)
-
-sorted_insert : (ks : List Fpr) (k : Fpr) → Sorted fpr_cmp ks → Sorted fpr_cmp (insert_key fpr_cmp ks k)
-sorted_insert [] k h = sorted_more fpr_cmp k [] tt h
-sorted_insert (x ∷ xs) k h = by (fpr_cmp k x) refl (sorted_insert xs k (sorted_tail fpr_cmp x xs h))
-  where
-    by : (o : Ordering) → fpr_cmp k x ≡ o → Sorted fpr_cmp (insert_key fpr_cmp xs k) →
-        Sorted fpr_cmp (match_ordering o (k ∷ x ∷ xs) (x ∷ xs) (x ∷ insert_key fpr_cmp xs k))
-    by Less f r = sorted_more fpr_cmp k (x ∷ xs) (f, least_least k x xs f (sorted_head fpr_cmp x xs h)) h
-    by Equal f r = h
-    by Greater f r =
-        sorted_more fpr_cmp x (insert_key fpr_cmp xs k) (all_insert (λ y. fpr_cmp x y ≡ Less) xs k
-        (fpr_total.antisymm x k ∙ ap ordering_reverse f) (sorted_head fpr_cmp x xs h)) r
-
-sorted_in_order : (fprs : List Fpr) → Sorted fpr_cmp (fprs_in_order fprs)
-sorted_in_order [] = none_sorted fpr_cmp
-sorted_in_order (fpr ∷ fprs) = sorted_insert (fprs_in_order fprs) fpr (sorted_in_order fprs)
-
-or_twice : (a b : Bool) → (a || b) ≡ (a || (a || b))
-or_twice true b = refl
-or_twice false b = refl
-
-or_swapped : (a b c : Bool) → (a || (b || c)) ≡ (b || (a || c))
-or_swapped true true c = refl
-or_swapped true false c = refl
-or_swapped false b c = refl
-
-any_insert : (issuer : Fpr) (ks : List Fpr) (k : Fpr) → list_any (same_fpr issuer) (insert_key fpr_cmp ks k) ≡
-    (same_fpr issuer k || list_any (same_fpr issuer) ks)
-any_insert issuer [] k = refl
-any_insert issuer (x ∷ xs) k = by (fpr_cmp k x) refl (any_insert issuer xs k)
-  where
-    by : (o : Ordering) → fpr_cmp k x ≡ o →
-        list_any (same_fpr issuer) (insert_key fpr_cmp xs k) ≡ (same_fpr issuer k || list_any (same_fpr issuer) xs) →
-        list_any (same_fpr issuer) (match_ordering o (k ∷ x ∷ xs) (x ∷ xs) (x ∷ insert_key fpr_cmp xs k)) ≡
-        (same_fpr issuer k || (same_fpr issuer x || list_any (same_fpr issuer) xs))
-    by Less f r = refl
-    by Equal f r =
-        or_twice (same_fpr issuer x) (list_any (same_fpr issuer) xs)
-        ∙ ap (λ y. same_fpr issuer y || (same_fpr issuer x || list_any (same_fpr issuer) xs)) (sym (fpr_exact k x f))
-    by Greater f r =
-        ap (λ b. same_fpr issuer x || b) r
-        ∙ or_swapped (same_fpr issuer x) (same_fpr issuer k) (list_any (same_fpr issuer) xs)
-
-any_in_order : (issuer : Fpr) (fprs : List Fpr) → list_any (same_fpr issuer) (fprs_in_order fprs) ≡
-    list_any (same_fpr issuer) fprs
-any_in_order issuer [] = refl
-any_in_order issuer (fpr ∷ fprs) =
-    any_insert issuer (fprs_in_order fprs) fpr ∙ ap (λ b. same_fpr issuer fpr || b) (any_in_order issuer fprs)
-
--- ---- who is an issuer
-
-any_issuer : (verdicts : Entries) (issuer : Fpr) (ss : List Signature) →
-    list_any (same_fpr issuer) (filter_map (issuer_of verdicts) ss) ≡ list_any (counts_by verdicts issuer) ss
-any_issuer verdicts issuer [] = refl
-any_issuer verdicts issuer (s ∷ ss) = by (issuer_of verdicts s) (any_issuer verdicts issuer ss)
-  where
-    by : (o : Option Fpr) →
-        list_any (same_fpr issuer) (filter_map (issuer_of verdicts) ss) ≡ list_any (counts_by verdicts issuer) ss →
-        list_any (same_fpr issuer) (cons_option o (filter_map (issuer_of verdicts) ss)) ≡
-        (option_map_or (same_fpr issuer) o false || list_any (counts_by verdicts issuer) ss)
-    by None r = r
-    by (Some x) r = ap (λ b. same_fpr issuer x || b) r
-
-none_on : (test : Signature → Bool) (uids : List Component) (k : ℕ) (p : Component) → slice_get uids k ≡ Some p →
-    list_any test (sigs_on uids) ≡ false → list_any test p.sigs ≡ false
-none_on test [] k p e h = absurd cc
-none_on test (x ∷ xs) zero p e h =
-    let same : x ≡ p = cc e in
-    subst (λ (y : Component). list_any test y.sigs ≡ false) same
-    (or_parts (list_any test x.sigs) (list_any test (sigs_on xs))
-    (sym (list_any-append test x.sigs (sigs_on xs)) ∙ h)).0
-none_on test (x ∷ xs) (suc k) p e h =
-    none_on test xs k p e
-    (or_parts (list_any test x.sigs) (list_any test (sigs_on xs))
-    (sym (list_any-append test x.sigs (sigs_on xs)) ∙ h)).1
+-- ---- cases
 
 step_none : (at same any : Bool) (g r : Option EdgeFacts) → r ≡ cond (any && same) g None →
     (at ≡ true → same ≡ true → g ≡ None) → r ≡ cond ((at || any) && same) g None
