@@ -10,7 +10,8 @@ invariant-back l = record {
   seen : List Signature;
   all : l.part.sigs ≡ l.rest ++ seen;
   found : (edges : List EdgeFacts) → l.fn.found.entries ≡ by_place edges →
-      l.found.entries ≡ by_place (with_edges edges (filter_map (edge_with l.verdicts l.target l.t l.uid l.part) seen));
+      l.found.entries ≡ by_place (with_edges edges
+      (filter_map (edge_with l.to.verdicts.now l.to.fpr l.to.t l.uid l.part) seen));
 }
 
 abbrev pub decreases-back : goal.decreases-back
