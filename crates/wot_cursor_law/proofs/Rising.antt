@@ -2,7 +2,7 @@
 -- and bindings are sorted by both.
 use Rattle.std.proofs.Common.{◌≡◌, ℕ, Bool, true, false, cond, List, [], ◌∷◌, map, Some, Result, Ok, Err, refl, sym, ap}
 use Rattle.std.proofs.Common.{subst, ◌∙◌}
-use Rattle.std.specs.Prelude.{◌==◌, filter, nat_le}
+use Rattle.std.specs.Prelude.{◌==◌, filter}
 use Rattle.std.specs.declared.cmp.Ordering.{Ordering}
 use Rattle.std.specs.declared.cmp.Ordering.TheVariants.{Less, Equal, Greater}
 use Rattle.std.specs.Cmp.{IsTotalOrder}
@@ -19,7 +19,6 @@ use Rattle.wot_packet.specs.Spelling.{Spelled}
 use Rattle.wot_packet.specs.Reading.{packets_of}
 use Rattle.wot_packet.specs.declared.packet.PacketFault.{PacketFault}
 use Rattle.wot_policy.specs.declared.rows.PolicyRows.{PolicyRows}
-use Rattle.wot_edge.specs.Answer.{amount_of}
 use Rattle.wot_edge.specs.Record.{Record}
 use Rattle.wot_cert.specs.Assembly.{Section, certificate_of, cut_at, part_of, parts_of}
 use Rattle.wot_cert.specs.Packets.{begins_component}
@@ -32,7 +31,7 @@ use Rattle.wot_held.specs.Import.{of_packets, spelled_in, merged_into, with_cert
 use Rattle.wot_script.specs.declared.reply.Reply.{Reply}
 use Rattle.wot_certd.specs.World.{World}
 use Rattle.wot_explain.specs.declared.bind.Bind.{Bind}
-use Rattle.wot_explain.specs.Listing.{IsListed, Pair, pair_of, pairs_in}
+use Rattle.wot_explain.specs.Listing.{IsListed, Pair, pair_of, pairs_in, is_authenticated_to, pair_in}
 use Rattle.wot_step.specs.Scene.{Scene, opening}
 use Rattle.wot_step.specs.Transcript.{Run}
 use Rattle.wot_step.proofs.Entries.{AreInOrder, all_put, all_without, below_all, below_append, rising_append}
@@ -214,46 +213,43 @@ ordered_pairs (e ∷ certs) fprs all =
 
 -- ---- bindings
 
-abbrev pub bind_pair : Bind → Pair
-bind_pair bind = (bind.fpr, bind.uid)
-
 abbrev pub bind_cmp : Bind → Bind → Ordering
-bind_cmp a b = pair_cmp (bind_pair a) (bind_pair b)
+bind_cmp a b = pair_cmp (pair_in a) (pair_in b)
 
 pub bind_total : IsTotalOrder bind_cmp
-bind_total = on_total bind_pair pair_total
+bind_total = on_total pair_in pair_total
 
 -- this pair is below each of the bindings
 abbrev IsPairBelow : Pair → List Bind → Type 0
-IsPairBelow a binds = AllByRecursion (λ (b : Bind). pair_cmp a (bind_pair b) ≡ Less) binds
+IsPairBelow a binds = AllByRecursion (λ (b : Bind). pair_cmp a (pair_in b) ≡ Less) binds
 
-module _ (told : List ℕ → Record) (roots : List (Fpr × ℕ)) (wanted : ℕ) where
-  below_listed : (a : Pair) (pairs : List Pair) (binds : List Bind) → IsBelow pair_cmp a pairs
-      → IsListed told roots wanted pairs binds → IsPairBelow a binds
-  below_listed a [] binds all l = subst (IsPairBelow a) (sym l) tt
-  below_listed a (p ∷ pairs) binds all l =
-      subst (IsPairBelow a) (sym l.whole) (by (nat_le wanted (amount_of l.paths))
-      (below_listed a pairs l.others all.1 l.listed))
-    where
-      by : (b : Bool) → IsPairBelow a l.others
-          → IsPairBelow a (cond b (record { sum = amount_of l.paths; fpr = p.0; uid = p.1 } ∷ l.others) l.others)
-      by true rest = (all.0, rest)
-      by false rest = rest
+below_chosen : (wanted : ℕ) (a : Pair) (sums : List Bind) → IsBelow pair_cmp a (map pair_in sums)
+    → IsPairBelow a (filter (is_authenticated_to wanted) sums)
+below_chosen wanted a [] all = tt
+below_chosen wanted a (bind ∷ sums) all = by (is_authenticated_to wanted bind) (below_chosen wanted a sums all.1)
+  where
+    by : (b : Bool) → IsPairBelow a (filter (is_authenticated_to wanted) sums)
+        → IsPairBelow a (cond b (bind ∷ filter (is_authenticated_to wanted) sums)
+        (filter (is_authenticated_to wanted) sums))
+    by true rest = (all.0, rest)
+    by false rest = rest
 
-  rising_listed : (pairs : List Pair) (binds : List Bind) → IsRising pair_cmp pairs
-      → IsListed told roots wanted pairs binds → IsRising bind_cmp binds
-  rising_listed [] binds r l = subst (IsRising bind_cmp) (sym l) tt
-  rising_listed (p ∷ pairs) binds r l =
-      subst (IsRising bind_cmp) (sym l.whole)
-      (by (nat_le wanted (amount_of l.paths)) (below_listed p pairs l.others r.0 l.listed)
-      (rising_listed pairs l.others r.1 l.listed))
-    where
-      by : (b : Bool) → IsPairBelow p l.others → IsRising bind_cmp l.others
-          → IsRising bind_cmp (cond b (record { sum = amount_of l.paths; fpr = p.0; uid = p.1 } ∷ l.others) l.others)
-      by true below rest = (below, rest)
-      by false below rest = rest
+rising_chosen : (wanted : ℕ) (sums : List Bind) → IsRising pair_cmp (map pair_in sums)
+    → IsRising bind_cmp (filter (is_authenticated_to wanted) sums)
+rising_chosen wanted [] r = tt
+rising_chosen wanted (bind ∷ sums) r =
+    by (is_authenticated_to wanted bind) (below_chosen wanted (pair_in bind) sums r.0) (rising_chosen wanted sums r.1)
+  where
+    by : (b : Bool) → IsPairBelow (pair_in bind) (filter (is_authenticated_to wanted) sums)
+        → IsRising bind_cmp (filter (is_authenticated_to wanted) sums)
+        → IsRising bind_cmp (cond b (bind ∷ filter (is_authenticated_to wanted) sums)
+        (filter (is_authenticated_to wanted) sums))
+    by true below rest = (below, rest)
+    by false below rest = rest
 
-  -- the list of all bindings is sorted if the certificates are
-  pub ordered_binds : (certs : Certificates) (binds : List Bind) → AreOrdered certs
-      → IsListed told roots wanted (pairs_in certs) binds → IsRising bind_cmp binds
-  ordered_binds certs binds o l = rising_listed (pairs_in certs) binds (ordered_pairs certs o.fprs o.user_ids) l
+-- the list of all bindings is sorted if the certificates are
+pub ordered_binds : (told : List ℕ → Record) (roots : List (Fpr × ℕ)) (wanted : ℕ) (certs : Certificates)
+    (binds : List Bind) → AreOrdered certs → IsListed told roots wanted (pairs_in certs) binds → IsRising bind_cmp binds
+ordered_binds told roots wanted certs binds o l =
+    subst (IsRising bind_cmp) (sym l.chosen) (rising_chosen wanted l.sums (subst (IsRising pair_cmp) (sym l.each)
+    (ordered_pairs certs o.fprs o.user_ids)))

@@ -11,8 +11,7 @@ use Rattle.wot_part.specs.Text.{sigs_text, part_text, parts_text, size_of}
 use Rattle.wot_edge.specs.declared.edge.EdgeFacts.{EdgeFacts}
 use Rattle.wot_standing.specs.Standing.{own}
 use Rattle.wot_live.specs.declared.found.EdgePlace.{EdgePlace}
-use Rattle.wot_live.specs.Found.{HasFew, by_place}
-use Rattle.wot_live.specs.Rows.{edge_with, edges_on, edges_from, edges_of}
+use Rattle.wot_live.specs.Found.{HasFew, by_place, edge_with, edges_on, edges_from, found_edges}
 use Rattle.wot_live.proofs.Putting.{length_united}
 
 -- ---- edges
@@ -41,7 +40,7 @@ length_from verdicts target t uid (p ∷ ps) =
     omega (arith, all, here, later, ones)
 
 -- There are at most as many edges as signatures.
-pub few_edges : (verdicts : Entries) (c : Certificate) (t : ℕ) → length (edges_of verdicts c t) ≤ signatures_of c
+pub few_edges : (verdicts : Entries) (c : Certificate) (t : ℕ) → length (found_edges verdicts c t) ≤ signatures_of c
 few_edges verdicts c t =
     let ordered = length_united (edges_from verdicts (own c) t 0 c.user_ids) in
     let all = length_from verdicts (own c) t 0 c.user_ids in
@@ -93,9 +92,9 @@ length_by_place (e ∷ es) = let more = length_by_place es in omega (arith, more
 
 -- At most one edge is made for each signature.
 pub made_within : (verdicts : Entries) (c : Certificate) (t old new : ℕ) (entries : List (EdgePlace × EdgeFacts)) →
-    entries ≡ by_place (edges_of verdicts c t) → new ≤ old + length entries → new ≤ old + signatures_of c
+    entries ≡ by_place (found_edges verdicts c t) → new ≤ old + length entries → new ≤ old + signatures_of c
 made_within verdicts c t old new entries e h =
     let few = few_edges verdicts c t in
-    let same : length entries ≡ length (edges_of verdicts c t) =
-    ap length e ∙ length_by_place (edges_of verdicts c t) in
+    let same : length entries ≡ length (found_edges verdicts c t) =
+    ap length e ∙ length_by_place (found_edges verdicts c t) in
     omega (arith, few, same, h)

@@ -1,6 +1,9 @@
 pub mod Orders
 pub mod Putting
 pub mod Exact
+pub mod OneList
+pub mod IssuersInOrder
+pub mod EdgesAreRows
 pub mod Counting
 pub mod Places
 pub mod Through

@@ -16,7 +16,7 @@ use Rattle.wot_edge.specs.declared.edge.EdgeFacts.{EdgeFacts}
 use Rattle.wot_edge.specs.Order.{edge_cmp}
 use Rattle.wot_live.specs.declared.found.EdgePlace.{EdgePlace}
 use Rattle.wot_live.specs.Found.{place_cmp, edge_place, by_place, with_edge, with_edges}
-use Rattle.wot_live.specs.Rows.{one_of_both, in_edge_order, edges_on, edges_from}
+use Rattle.wot_live.specs.Found.{one_of_both, in_edge_order, edges_on, edges_from}
 use Rattle.wot_live.proofs.Orders.{edge_total, same_place}
 
 -- ---- by place
@@ -71,10 +71,10 @@ all_united P (f ∷ fs) h = all_put P f (in_edge_order fs) h.0 (all_united P fs 
 
 -- ---- in order
 
-abbrev IsBelow : EdgeFacts → List EdgeFacts → Type 0
+abbrev pub IsBelow : EdgeFacts → List EdgeFacts → Type 0
 IsBelow e es = AllByRecursion (λ y. edge_cmp e y ≡ Less) es
 
-below_below : (e y : EdgeFacts) (ys : List EdgeFacts) → edge_cmp e y ≡ Less → IsBelow y ys → IsBelow e ys
+pub below_below : (e y : EdgeFacts) (ys : List EdgeFacts) → edge_cmp e y ≡ Less → IsBelow y ys → IsBelow e ys
 below_below e y [] l h = tt
 below_below e y (z ∷ zs) l h = (edge_total.trans e y z l h.0, below_below e y zs l h.1)
 

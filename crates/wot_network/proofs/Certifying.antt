@@ -1,9 +1,9 @@
 -- An edge comes from a certification that its issuer made, with at least the depth of the edge.
-use Rattle.std.proofs.Common.{◌≡◌, ◌⊎◌, inl, inr, ℕ, ◌≤◌, ◌+◌, Bool, true, false, cond, List, [], ◌∷◌, ◌++◌, map}
+use Rattle.std.proofs.Common.{◌≡◌, ◌⊎◌, inl, inr, ℕ, zero, suc, ◌≤◌, Bool, true, false, cond, List, [], ◌∷◌, ◌++◌, map}
 use Rattle.std.proofs.Common.{Option, Some, None, Ordering, refl, sym, ap, subst, ◌∙◌, arith}
 use Rattle.std.specs.Prelude.{◌&&◌, filter, if◌then◌else◌}
 use Rattle.std.specs.declared.cmp.Ordering.TheVariants.{Less, Equal, Greater}
-use Rattle.std.specs.List.{cons_option, filter_map}
+use Rattle.std.specs.List.{cons_option, filter_map, flat_map, slice_get}
 use Rattle.std.specs.Map.{lookup}
 use Rattle.std.specs.Option.{option_map, option_map_or, option_and_then}
 use Rattle.std.proofs.lemmas.Bool.{and_parts}
@@ -14,15 +14,14 @@ use Rattle.wot_signature.specs.declared.facts.SigFacts.{SigFacts}
 use Rattle.wot_verdict.specs.Verdicts.{Entries, verdict_at}
 use Rattle.wot_part.specs.Certificate.{Certificate, Component, Signature, said_by}
 use Rattle.wot_cert.specs.Issuer.{allows, counts_by, good_by, issuer_of, issuer_with}
-use Rattle.wot_part.specs.Ranked.{greatest, higher, higher_of, placed, put, united}
+use Rattle.wot_part.specs.Ranked.{greatest, higher, higher_of}
 use Rattle.wot_cert.specs.Revoked.{is_unrevoked}
 use Rattle.wot_cert.specs.Time.{is_live, newness}
 use Rattle.wot_edge.specs.declared.edge.EdgeFacts.{EdgeFacts}
-use Rattle.wot_edge.specs.Order.{edge_cmp}
 use Rattle.wot_edge.specs.Record.{Has, Row, Entry, rows_into}
 use Rattle.wot_held.specs.Keyring.{Certificates, is_fpr}
-use Rattle.wot_live.specs.Edge.{edge_by, edge_facts, edge_on, signature_place}
-use Rattle.wot_live.specs.Rows.{edge_with, edges_from, edges_of, edges_on, one_of_both}
+use Rattle.wot_live.specs.Edge.{edge_by, edge_facts, edge_on, signature_place, edge_of}
+use Rattle.wot_live.specs.Rows.{edges_of, edges_by, issuers_of, user_id_places}
 use Rattle.wot_standing.specs.Kinds.{is_certification}
 use Rattle.wot_standing.specs.Standing.{newest_certification, own}
 use Rattle.wot_network.specs.Certified.{IsCertified, IsTrusted, RestsOnCertifications, RestsOnTrust}
@@ -30,29 +29,6 @@ use Rattle.wot_network.specs.Told.{record_of, row_of}
 use Rattle.wot_network.proofs.Looking.{entry_some, row_told}
 
 -- ---- members of lists
-
-put_has : (x : EdgeFacts) (ys : List EdgeFacts) (z : EdgeFacts) → Has (put edge_cmp one_of_both x ys) z →
-    (z ≡ x) ⊎ Has ys z
-put_has x [] z (inl e) = inl e
-put_has x [] z (inr h) = absurd h
-put_has x (y ∷ ys) z h = by (put_has x ys z) (edge_cmp x y) h
-  where
-    by : (Has (put edge_cmp one_of_both x ys) z → (z ≡ x) ⊎ Has ys z) → (o : Ordering) →
-        Has (placed o one_of_both x y ys (put edge_cmp one_of_both x ys)) z → (z ≡ x) ⊎ Has (y ∷ ys) z
-    by later Less (inl e) = inl e
-    by later Less (inr k) = inr k
-    by later Equal (inl e) = inl e
-    by later Equal (inr k) = inr (inr k)
-    by later Greater (inl e) = inr (inl e)
-    by later Greater (inr k) = elim (later k) [ inl e ↦ inl e | inr j ↦ inr (inr j) ]
-
-united_has : (ys : List EdgeFacts) (z : EdgeFacts) → Has (united edge_cmp one_of_both [] ys) z → Has ys z
-united_has [] z h = absurd h
-united_has (y ∷ ys) z h = elim (put_has y (united edge_cmp one_of_both [] ys) z h) [
-  | inl e ↦ inl e
-  | inr k ↦
-      inr (united_has ys z k)
-]
 
 append_has : (xs ys : List EdgeFacts) (z : EdgeFacts) → Has (xs ++ ys) z → Has xs z ⊎ Has ys z
 append_has [] ys z h = inr h
@@ -70,16 +46,29 @@ filter_has test (x ∷ xs) s h = by (filter_has test xs s) (test x) refl h
     by later true e (inr k) = let r = later k in (inr r.0, r.1)
     by later false e k = let r = later k in (inr r.0, r.1)
 
-filter_map_has : (h : Signature → Option EdgeFacts) (xs : List Signature) (e : EdgeFacts) → Has (filter_map h xs) e →
-    (s : Signature) × (h s ≡ Some e)
+filter_map_has : {A : Type 0} (h : A → Option EdgeFacts) (xs : List A) (e : EdgeFacts) → Has (filter_map h xs) e →
+    (x : A) × (h x ≡ Some e)
 filter_map_has h [] e k = absurd k
 filter_map_has h (x ∷ xs) e k = by (filter_map_has h xs e) (h x) refl k
   where
-    by : (Has (filter_map h xs) e → (s : Signature) × (h s ≡ Some e)) → (o : Option EdgeFacts) → h x ≡ o →
-        Has (cons_option o (filter_map h xs)) e → (s : Signature) × (h s ≡ Some e)
+    by : (Has (filter_map h xs) e → (y : _) × (h y ≡ Some e)) → (o : Option EdgeFacts) → h x ≡ o →
+        Has (cons_option o (filter_map h xs)) e → (y : _) × (h y ≡ Some e)
     by later None f j = later j
     by later (Some y) f (inl g) = (x, f ∙ ap (λ (z : EdgeFacts). Some z) (sym g))
     by later (Some y) f (inr j) = later j
+
+flat_map_has : (h : Fpr → List EdgeFacts) (xs : List Fpr) (e : EdgeFacts) → Has (flat_map h xs) e →
+    (x : Fpr) × Has (h x) e
+flat_map_has h [] e k = absurd k
+flat_map_has h (x ∷ xs) e k = elim (append_has (h x) (flat_map h xs) e k) [
+  | inl j ↦ (x, j)
+  | inr j ↦ flat_map_has h xs e j
+]
+
+slice_has : (ps : List Component) (k : ℕ) (p : Component) → slice_get ps k ≡ Some p → Has ps p
+slice_has [] k p e = absurd cc
+slice_has (x ∷ xs) zero p e = inl cc
+slice_has (x ∷ xs) (suc k) p e = inr (slice_has xs k p e)
 
 greatest_has : (xs : List Signature) (s : Signature) → greatest newness xs ≡ Some s → Has xs s
 greatest_has [] s e = absurd cc
@@ -186,29 +175,20 @@ module _ (verdicts : Entries) (c : Certificate) (t : ℕ) where
       newest None f g = absurd cc
       newest (Some s) f g = says s f (said_by s) refl g
 
-  with_made : (uid : ℕ) (p : Component) (edge : EdgeFacts) (s : Signature) → Has c.user_ids p →
-      edge_with verdicts (own c) t uid p s ≡ Some edge → IsMadeBy verdicts c edge
-  with_made uid p edge s on e = by (issuer_of verdicts s) refl e
+  of_made : (issuer : Fpr) (uid : ℕ) (edge : EdgeFacts) → edge_of verdicts c t issuer uid ≡ Some edge →
+      IsMadeBy verdicts c edge
+  of_made issuer uid edge e = by (slice_get c.user_ids uid) refl e
     where
-      by : (o : Option Fpr) → issuer_of verdicts s ≡ o →
-          option_and_then (λ issuer. edge_on verdicts (own c) t issuer uid p) o ≡ Some edge →
-          IsMadeBy verdicts c edge
+      by : (o : Option Component) → slice_get c.user_ids uid ≡ o →
+          option_and_then (edge_on verdicts (own c) t issuer uid) o ≡ Some edge → IsMadeBy verdicts c edge
       by None f g = absurd cc
-      by (Some issuer) f g = on_made issuer uid p edge on g
-
-  from_made : (uid : ℕ) (ps : List Component) → ((p : Component) → Has ps p → Has c.user_ids p) →
-      (edge : EdgeFacts) → Has (edges_from verdicts (own c) t uid ps) edge → IsMadeBy verdicts c edge
-  from_made uid [] all edge h = absurd h
-  from_made uid (p ∷ ps) all edge h =
-      elim (append_has (edges_on verdicts (own c) t uid p) (edges_from verdicts (own c) t (uid + 1) ps) edge h) [
-        | inl k ↦ let (s, e) = filter_map_has (edge_with verdicts (own c) t uid p) p.sigs edge k in
-            with_made uid p edge s (all p (inl refl)) e
-        | inr k ↦ from_made (uid + 1) ps (λ x j. all x (inr j)) edge k
-      ]
+      by (Some p) f g = on_made issuer uid p edge (slice_has c.user_ids uid p f) g
 
   edge_made : (edge : EdgeFacts) → Has (edges_of verdicts c t) edge → IsMadeBy verdicts c edge
-  edge_made edge h = from_made 0 c.user_ids (λ p k. k) edge
-      (united_has (edges_from verdicts (own c) t 0 c.user_ids) edge h)
+  edge_made edge h =
+      let (issuer, among) = flat_map_has (edges_by verdicts c t) (issuers_of verdicts c) edge h in
+      let (uid, e) = filter_map_has (edge_of verdicts c t issuer) (user_id_places c) edge among in
+      of_made issuer uid edge e
 
 trusted_with : (verdicts : Entries) (c : Certificate) (edge : EdgeFacts) → IsMadeBy verdicts c edge → 1 ≤ edge.depth →
     IsTrusted verdicts edge.issuer c

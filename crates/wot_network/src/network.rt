@@ -11,7 +11,7 @@ ghost use Rattle.wot_network.specs.Net.{line_at, marks_of, stale_edges, stale_si
 
 use crate::laws::{record_is_lawful, records_agree};
 use crate::line::NetLine;
-use crate::refreshing::{look_at_stale, ordered, settle};
+use crate::refreshing::{Moment, look_at_stale, ordered, settle};
 use crate::roads::NetRoads;
 use crate::table::{Table, find};
 use std::alloc::Global;
@@ -97,8 +97,7 @@ impl Network {
             &mut self.lines,
             &mut self.window,
             self.count,
-            keyring,
-            t,
+            &Moment { keyring, t },
             steps,
         )?;
         settle(&mut self.lines, keyring, t);

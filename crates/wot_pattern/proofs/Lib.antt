@@ -6,7 +6,7 @@ pub mod Law
 pub mod Loops
 pub mod Lists
 pub mod Marking
+pub mod MatchesMeaning
 pub mod Sound
-pub mod Telling
 pub mod Tests
 pub mod Walk

@@ -5,7 +5,8 @@ use Rattle.wot_pattern.specs.declared.flow.Flow.{Flow}
 use Rattle.wot_pattern.specs.Reading.{Reading, nothing, single, sequence, either, star, plus, optional}
 use Rattle.wot_pattern.specs.Tokens as t
 use Rattle.wot_pattern.specs.Tokens.{Token, tokens}
-use Rattle.wot_pattern.specs.Passes.{flow, takes, holds_empty, settled_one, settled, advanced_one, advanced, behind}
+use Rattle.wot_pattern.specs.MeaningTest.{takes}
+use Rattle.wot_pattern.specs.Passes.{flow, holds_empty, settled_one, settled, advanced_one, advanced, behind}
 use Rattle.wot_pattern.proofs.Flows.{Ended, After, Right, right_nothing, right_single, right_sequence, right_either}
 use Rattle.wot_pattern.proofs.Flows.{right_star, right_plus, right_optional, second_begins, loop_begins, taken_ended}
 use Rattle.wot_pattern.proofs.Tests.{IsTestOf}

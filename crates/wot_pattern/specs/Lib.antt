@@ -2,6 +2,7 @@ pub mod Deciding
 pub mod Grammar
 pub mod Marks
 pub mod Meaning
+pub mod MeaningTest
 pub mod Nodes
 pub mod Passes
 pub mod Reading

@@ -3,13 +3,14 @@ use Rattle.std.specs.Prelude.{◌≡◌, ◌↔◌, ℕ, true, false, List, [], 
 use Rattle.std.proofs.Common.{refl, ap, ◌∙◌, inl, inr}
 use Rattle.std.specs.List.{list_any}
 use Rattle.std.specs.Option.{option_map_or}
-use Rattle.std.specs.Str.{IsUtf8, is_utf8, chars}
+use Rattle.std.specs.Str.{is_utf8, chars}
 use Rattle.std.proofs.lemmas.Bool.{and_parts, and_from, or_cases, or_left, or_right, false≢true}
 use Rattle.std.proofs.lemmas.Str.{IsUtf8-from_is_utf8, is_utf8-from_IsUtf8}
 use Rattle.wot_pattern.specs.Reading.{Reading}
 use Rattle.wot_pattern.specs.Grammar.{Says}
 use Rattle.wot_pattern.specs.Meaning.{Matches}
-use Rattle.wot_pattern.specs.Deciding.{pattern_of, matches_in}
+use Rattle.wot_pattern.specs.Deciding.{pattern_of}
+use Rattle.wot_pattern.specs.MeaningTest.{matches_in}
 use Rattle.wot_scope.specs.Scope.{TextMatches, OneMatches, ScopeHolds}
 use Rattle.wot_scope.specs.Deciding.{text_matches, scope_holds}
 
