@@ -11,10 +11,10 @@ use Rattle.wot_edge.specs.Path.{start}
 use Rattle.wot_search.specs.declared.reached.Reached.{Reached}
 use Rattle.wot_search.specs.Quest.{Quest}
 use Rattle.wot_search.specs.Suffix.{Suffix, Found, Kept, node_of}
-use Rattle.wot_search.specs.Layer.{IsLayer, IsGrowing, Onward}
+use Rattle.wot_search.specs.Layer.{Begins, IsLayer, IsGrowing, Onward}
 use Rattle.wot_search.specs.Looked.{IsSeen, IsNearOne, Widens}
 use Rattle.wot_search.specs.Reached.{look}
-use Rattle.wot_search.specs.Growth.{AreTaken, AreNoted, IsAfter, IsUnrooted}
+use Rattle.wot_search.specs.Growth.{Advances, AreTaken, AreNoted, Considers, IsAfter, IsReady, IsUnrooted, Only}
 use Rattle.wot_search.proofs.Considering.{row_edge}
 use Rattle.wot_search.proofs.Layers.{onward_refl, onward_trans, complete_more, looked_grows, looked_more, seen_grows}
 use Rattle.wot_search.proofs.Suffixes.{kept_suffix}
@@ -78,6 +78,22 @@ module _ (quest : Quest) (size : ℕ) where
     | inr s ↦ s
   ]
 
+  -- a fingerprint of the layer is ready as long as the layer grows
+  pub ready_at : (old now : Reached) (layer : List Fpr) (at : Fpr) → IsReady quest size (Has layer) old
+      → Advances quest size old now → Has layer at → IsReady quest size (Only at) now
+  ready_at old now layer at ready a has =
+      let b = ready.begins at has in
+      let l = b.long in
+      record {
+        growing = a.growing;
+        begins = λ fpr e. record {
+          steps = b.steps;
+          kept = a.onward.keeps b.steps (omega (arith, l)) b.kept;
+          long = b.long;
+          there = b.there ∙ sym e;
+        };
+      }
+
   -- ---- a layer begins, and ends
 
   pub growing_start : (reached : Reached) (set : Fpr → Type 0) → IsAfter quest size reached set
@@ -97,21 +113,43 @@ module _ (quest : Quest) (size : ℕ) where
           (let f : length (x ∷ xs) ≤ size = (a.entries x.issuer (node_of quest.used x xs) k.0).few in
           omega (arith, l, f))
 
-  pub after_more : (old new : Reached) (before after : Fpr → Type 0) → IsAfter quest size old before
-      → IsGrowing quest size (look new.nodes) new.layer.items → Onward quest size (look old.nodes) (look new.nodes)
-      → ((rest : List Step) → Kept quest (look new.nodes) rest → length rest ≡ size
-      → AreTaken quest (look new.nodes) rest) → AreNoted (look new.nodes) after
-      → ((rest : List Step) → length rest ≡ size → Has old.layer.items (start quest.question.target rest)
-      → IsSeen quest after rest) → Widens before after → IsAfter quest (suc size) new after
-  after_more old new before after a growing on taken noted seen grows = record {
-    entries = growing.entries;
-    complete = complete_more quest (look new.nodes) size growing.complete (λ rest k l step s. taken rest k l step s);
-    layer = growing.layer;
-    noted = noted;
-    looked = looked_more quest (look new.nodes) size after growing.complete
-        (looked_grows quest size before after grows a.looked)
-        (λ rest k l. seen rest l (a.layer.all rest (on.kept rest (omega (arith, l)) k) l));
+  -- before the edges into the last layer are considered, when the next layer is still empty
+  pub ready_start : (reached emptied : Reached) (layer : List Fpr) (set : Fpr → Type 0) → IsAfter quest size reached set
+      → look emptied.nodes ≡ look reached.nodes → emptied.layer.items ≡ [] → layer ≡ reached.layer.items
+      → IsReady quest size (Has layer) emptied
+  ready_start reached emptied layer set a same empty last = record {
+    growing = subst (λ (f : Found). IsGrowing quest size f emptied.layer.items) (sym same)
+        (subst (λ (xs : List Fpr). IsGrowing quest size (look reached.nodes) xs) (sym empty)
+        (growing_start reached set a));
+    begins = λ fpr h. subst (λ (f : Found). Begins quest f size fpr) (sym same)
+        (a.layer.each fpr (subst (λ (xs : List Fpr). Has xs fpr) last h));
   }
+
+  -- after they were considered
+  pub after_more : (old emptied new : Reached) (layer : List Fpr) (before after : Fpr → Type 0)
+      → Considers quest size (Has layer) emptied new before after → IsAfter quest size old before
+      → look emptied.nodes ≡ look old.nodes → emptied.layer.items ≡ [] → layer ≡ old.layer.items → Widens before after
+      → IsAfter quest (suc size) new after
+  after_more old emptied new layer before after all a same empty last widens =
+      let ready = ready_start old emptied layer before a same empty last in
+      let grown = all.grows ready in
+      let noted = subst (λ (f : Found). AreNoted f before) (sym same) a.noted in
+      let in_layer : (rest : List Step) → Kept quest (look emptied.nodes) rest → length rest ≡ size
+      → Has layer (start quest.question.target rest) = (λ rest k l.
+      subst (λ (xs : List Fpr). Has xs (start quest.question.target rest)) (sym last)
+      (a.layer.all rest (subst (λ (f : Found). Kept quest f rest) same k) l)) in
+      record {
+        entries = grown.growing.entries;
+        complete = complete_more quest (look new.nodes) size grown.growing.complete (λ rest k l step s.
+            let k' = grown.onward.kept rest (omega (arith, l)) k in
+            all.taken ready rest (record { long = l; there = in_layer rest k' l }) k' step s);
+        layer = grown.growing.layer;
+        noted = all.noted noted;
+        looked = looked_more quest (look new.nodes) size after grown.growing.complete
+            (looked_grows quest size before after widens a.looked)
+            (λ rest k l. all.seen noted rest
+            (record { long = l; there = in_layer rest (grown.onward.kept rest (omega (arith, l)) k) l }));
+      }
 
   pub unrooted_more : (old new : Found) → Onward quest size old new → IsUnrooted quest old (suc size)
       → IsUnrooted quest new (suc size)

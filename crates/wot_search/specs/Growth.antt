@@ -1,4 +1,4 @@
--- How a layer grows, edge by edge.
+-- How a layer grows: by one edge, by the edges into one fingerprint, and by those into each of a layer.
 use Rattle.std.specs.Prelude.{◌≡◌, ℕ, ◌<◌, ◌≤◌, nat_eq, ◌&&◌, ◌||◌, ◌++◌, suc, Bool, true}
 use Rattle.std.specs.Prelude.{false, is_some, List, [], ◌∷◌, length, Option, Some, None, IfSome, cond, if◌then◌else◌}
 use Rattle.wot_types.specs.declared.fpr.Fpr.{Fpr}
@@ -16,7 +16,7 @@ use Rattle.wot_search.specs.declared.reached.Reached.{Reached}
 use Rattle.wot_search.specs.declared.quest.Quest.{Quest as Told}
 use Rattle.wot_search.specs.Quest.{Quest, quest_of}
 use Rattle.wot_search.specs.Suffix.{Serves, Found, Kept, width}
-use Rattle.wot_search.specs.Layer.{Covered, IsEntry, IsLayer, IsComplete, IsGrowing, Onward, is_kept}
+use Rattle.wot_search.specs.Layer.{Begins, Covered, IsEntry, IsLayer, IsComplete, IsGrowing, Onward, is_kept}
 use Rattle.wot_search.specs.Choice.{node_width}
 use Rattle.wot_search.specs.Demand.{candidate_of}
 use Rattle.wot_search.specs.Looked.{Gains, IsLooked, IsSeen}
@@ -84,35 +84,24 @@ IsNoted quest set edge rest =
 abbrev pub AreNoted : Found → (Fpr → Type 0) → Type 0
 AreNoted found set = (fpr : Fpr) (node : Node) → found fpr ≡ Some node → set fpr
 
--- they still are
-abbrev pub KeepsNoted : Reached → Reached → (Fpr → Type 0) → (Fpr → Type 0) → Type 0
-KeepsNoted old new before after = AreNoted (look old.nodes) before → AreNoted (look new.nodes) after
-
 -- it is kept if it may come there by each row of the edge
 abbrev pub PutsIfStands : Record → ℕ → EdgeFacts → Reached → Reached → Node → Type 0
 PutsIfStands told size edge old new node = EachRow told edge (λ row. IsPutIf (may_stand_of size row) old new node)
 
--- After an edge is considered in front of a suffix with this number of edges and this width that begins at its target:
--- the layer grew, the edge is taken, and its issuer is noted.
-abbrev pub GrowsByEdge : Quest → ℕ → ℕ → EdgeFacts → Reached → Reached → Type 0
-GrowsByEdge quest size wide edge old new =
-    (rest : List Step) → IsRest quest (look old.nodes) size edge.target wide rest
-    → IsGrowing quest size (look old.nodes) old.layer.items → Advances quest size old new
+-- An edge was considered in front of the suffixes of this many edges and this width that begin at its target.
+pub record ConsidersEdge (quest : Quest) (size wide : ℕ) (edge : EdgeFacts) (old new : Reached)
+    (before after : Fpr → Type 0) : Type 0 where
+  -- if such a suffix was found, the layer grew, and the edge is taken before each of them
+  pub grows : (rest : List Step) → IsRest quest (look old.nodes) size edge.target wide rest
+      → IsGrowing quest size (look old.nodes) old.layer.items → Advances quest size old new
+  pub taken : (rest : List Step) → IsRest quest (look old.nodes) size edge.target wide rest
+      → IsGrowing quest size (look old.nodes) old.layer.items → IsTaken quest (look new.nodes) edge rest
+  -- if all that was found was noted, it still is, and so is the edge's issuer
+  pub noted : AreNoted (look old.nodes) before → AreNoted (look new.nodes) after
+  pub seen : AreNoted (look old.nodes) before → (rest : List Step) → length rest ≡ size
+      → IsNoted quest after edge rest
 
-abbrev pub TakesEdge : Quest → ℕ → ℕ → EdgeFacts → Reached → Reached → Type 0
-TakesEdge quest size wide edge old new =
-    (rest : List Step) → IsRest quest (look old.nodes) size edge.target wide rest
-    → IsGrowing quest size (look old.nodes) old.layer.items → IsTaken quest (look new.nodes) edge rest
-
-abbrev pub NotesEdge : Quest → ℕ → EdgeFacts → Reached → (Fpr → Type 0) → (Fpr → Type 0) → Type 0
-NotesEdge quest size edge old before after =
-    (rest : List Step) → length rest ≡ size → AreNoted (look old.nodes) before → IsNoted quest after edge rest
-
--- `NotesEdge` for the program's quest, given what the network says
-abbrev pub SeesEdge : (List ℕ → Record) → Told → ℕ → EdgeFacts → Reached → (Fpr → Type 0) → (Fpr → Type 0) → Type 0
-SeesEdge told quest size edge old before after = NotesEdge (quest_of told quest) size edge old before after
-
--- ---- one fingerprint of the layer before
+-- ---- all edges into some fingerprints
 
 -- the width of what was found with this many edges; the empty suffix has the greatest
 abbrev pub wide_of : ℕ → Option Node → ℕ
@@ -122,40 +111,33 @@ wide_of size node = cond (nat_eq size 0) 255 (node_width node)
 abbrev pub AreTaken : Quest → Found → List Step → Type 0
 AreTaken quest found rest = (step : Step) → Serves quest step rest → Covered quest found (step ∷ rest)
 
--- After the edges into a fingerprint are considered in front of any suffix of this many edges that begins there.
-abbrev pub GrowsInto : Quest → ℕ → Fpr → Reached → Reached → Type 0
-GrowsInto quest size at old new =
-    (rest : List Step) → Kept quest (look old.nodes) rest → length rest ≡ size → start quest.question.target rest ≡ at
-    → IsGrowing quest size (look old.nodes) old.layer.items → Advances quest size old new
+-- this fingerprint and no other
+abbrev pub Only : Fpr → Fpr → Type 0
+Only at fpr = fpr ≡ at
 
-abbrev pub TakesInto : Quest → ℕ → Fpr → Reached → Reached → Type 0
-TakesInto quest size at old new =
-    (rest : List Step) → Kept quest (look old.nodes) rest → length rest ≡ size → start quest.question.target rest ≡ at
-    → IsGrowing quest size (look old.nodes) old.layer.items → AreTaken quest (look new.nodes) rest
+-- a suffix of this many edges that begins at one of these fingerprints
+pub record BeginsIn (quest : Quest) (size : ℕ) (from : Fpr → Type 0) (rest : List Step) : Type 0 where
+  pub long : length rest ≡ size
+  pub there : from (start quest.question.target rest)
 
-abbrev pub SeesInto : (List ℕ → Record) → Told → ℕ → Fpr → Reached → (Fpr → Type 0) → (Fpr → Type 0) → Type 0
-SeesInto told quest size at old before after =
-    (rest : List Step) → length rest ≡ size → start quest.target.now rest ≡ at
-    → AreNoted (look old.nodes) before → IsSeen (quest_of told quest) after rest
+-- The layer after this many edges grows, and a suffix of this many edges was found from each of these fingerprints.
+pub record IsReady (quest : Quest) (size : ℕ) (from : Fpr → Type 0) (reached : Reached) : Type 0 where
+  pub growing : IsGrowing quest size (look reached.nodes) reached.layer.items
+  pub begins : (fpr : Fpr) → from fpr → Begins quest (look reached.nodes) size fpr
+
+-- All edges into these fingerprints were considered, in front of all suffixes of this many edges that begin there.
+pub record Considers (quest : Quest) (size : ℕ) (from : Fpr → Type 0) (old new : Reached)
+    (before after : Fpr → Type 0) : Type 0 where
+  -- if such a suffix was found from each, the layer grew, and each edge is taken before each of the suffixes found
+  pub grows : IsReady quest size from old → Advances quest size old new
+  pub taken : IsReady quest size from old → (rest : List Step) → BeginsIn quest size from rest
+      → Kept quest (look old.nodes) rest → AreTaken quest (look new.nodes) rest
+  -- if all that was found was noted, it still is, and all that matters before any such suffix was looked at
+  pub noted : AreNoted (look old.nodes) before → AreNoted (look new.nodes) after
+  pub seen : AreNoted (look old.nodes) before → (rest : List Step) → BeginsIn quest size from rest
+      → IsSeen quest after rest
 
 -- ---- one layer
-
--- After the edges into each fingerprint of the layer of this many edges are considered.
-abbrev pub GrowsByLayer : Quest → ℕ → List Fpr → Reached → Reached → Type 0
-GrowsByLayer quest size layer old new =
-    IsLayer quest (look old.nodes) size layer → IsGrowing quest size (look old.nodes) old.layer.items
-    → Advances quest size old new
-
-abbrev pub TakesLayer : Quest → ℕ → List Fpr → Reached → Reached → Type 0
-TakesLayer quest size layer old new =
-    IsLayer quest (look old.nodes) size layer → IsGrowing quest size (look old.nodes) old.layer.items
-    → (rest : List Step) → Kept quest (look new.nodes) rest → length rest ≡ size → AreTaken quest (look new.nodes) rest
-
-abbrev pub SeesLayer : (List ℕ → Record) → Told → ℕ → List Fpr → Reached → (Fpr → Type 0) → (Fpr → Type 0) → Type 0
-SeesLayer told quest size layer old before after =
-    AreNoted (look old.nodes) before
-    → (rest : List Step) → length rest ≡ size → Has layer (start quest.target.now rest)
-    → IsSeen (quest_of told quest) after rest
 
 -- what is known after a layer
 pub record IsAfter (quest : Quest) (size : ℕ) (reached : Reached) (set : Fpr → Type 0) : Type 0 where

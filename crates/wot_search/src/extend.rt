@@ -7,7 +7,7 @@ ghost use Rattle.wot_search.specs.Onward.{AreAllUsableIf, AreUsableIf, LeadsOnIn
 ghost use Rattle.wot_search.specs.Quest.{LeadsOn, quest_of};
 ghost use Rattle.wot_search.specs.Reach.{number_at};
 ghost use Rattle.wot_search.specs.Looked.{Gains, IsNear, Widens};
-ghost use Rattle.wot_search.specs.Growth.{KeepsNoted, GrowsInto, TakesInto, SeesInto};
+ghost use Rattle.wot_search.specs.Growth.{Considers, Only};
 
 use crate::consider::consider;
 use crate::demand::demand;
@@ -55,13 +55,8 @@ pub fn extend<R: Roads, N: Notes>(
     requires size { size < 255 }
     requires lawful { (id : List ℕ) → IsRecord (R.told roads.now id) }
     requires onward { LeadsOn (R.told roads.now) quest.now }
-    ensures grown { OnOk result (GrowsInto (quest_of (R.told roads.now) quest.now) size at.now
-        reached.old reached.new) }
-    ensures taken { OnOk result (TakesInto (quest_of (R.told roads.now) quest.now) size at.now
-        reached.old reached.new) }
-    ensures noted { OnOk result (KeepsNoted reached.old reached.new (N.noted notes.old) (N.noted notes.new)) }
-    ensures seen { OnOk result (SeesInto (R.told roads.now) quest.now size at.now reached.old
-        (N.noted notes.old) (N.noted notes.new)) }
+    ensures considered { OnOk result (Considers (quest_of (R.told roads.now) quest.now) size (Only at.now)
+        reached.old reached.new (N.noted notes.old) (N.noted notes.new)) }
     ensures grows { Widens (N.noted notes.old) (N.noted notes.new) }
     ensures gains { Gains (IsNear (R.told roads.now quest.now.uid.now) at.now) (N.noted notes.old) (N.noted notes.new) }
 {
@@ -95,13 +90,8 @@ fn extend_onward<R: Roads, N: Notes>(
     requires size { size < 255 }
     requires lawful { (id : List ℕ) → IsRecord (R.told roads.now id) }
     requires leads { LeadsOnInto (R.told roads.now) (number_at quest.now.reach.now) at.now onward.now }
-    ensures grown { OnOk result (GrowsInto (quest_of (R.told roads.now) quest.now) size at.now
-        reached.old reached.new) }
-    ensures taken { OnOk result (TakesInto (quest_of (R.told roads.now) quest.now) size at.now
-        reached.old reached.new) }
-    ensures noted { OnOk result (KeepsNoted reached.old reached.new (N.noted notes.old) (N.noted notes.new)) }
-    ensures seen { OnOk result (SeesInto (R.told roads.now) quest.now size at.now reached.old
-        (N.noted notes.old) (N.noted notes.new)) }
+    ensures considered { OnOk result (Considers (quest_of (R.told roads.now) quest.now) size (Only at.now)
+        reached.old reached.new (N.noted notes.old) (N.noted notes.new)) }
     ensures grows { Widens (N.noted notes.old) (N.noted notes.new) }
     ensures gains { Gains (IsNear (R.told roads.now quest.now.uid.now) at.now) (N.noted notes.old) (N.noted notes.new) }
 {
@@ -129,13 +119,8 @@ fn extend_all<R: Roads, N: Notes>(
 ) -> Result<(), Memory>
     requires size { size < 255 }
     requires usable { AreAllUsableIf (R.told roads.now) usable at.now }
-    ensures grown { OnOk result (GrowsInto (quest_of (R.told roads.now) quest.now) size at.now
-        reached.old reached.new) }
-    ensures taken { OnOk result (TakesInto (quest_of (R.told roads.now) quest.now) size at.now
-        reached.old reached.new) }
-    ensures noted { OnOk result (KeepsNoted reached.old reached.new (N.noted notes.old) (N.noted notes.new)) }
-    ensures seen { OnOk result (SeesInto (R.told roads.now) quest.now size at.now reached.old
-        (N.noted notes.old) (N.noted notes.new)) }
+    ensures considered { OnOk result (Considers (quest_of (R.told roads.now) quest.now) size (Only at.now)
+        reached.old reached.new (N.noted notes.old) (N.noted notes.new)) }
     ensures grows { Widens (N.noted notes.old) (N.noted notes.new) }
     ensures gains { Gains (IsNear (R.told roads.now quest.now.uid.now) at.now) (N.noted notes.old) (N.noted notes.new) }
 {
@@ -163,13 +148,8 @@ fn extend_by<R: Roads, N: Notes>(
     requires lawful { (id : List ℕ) → IsRecord (R.told roads.now id) }
     requires matter { MatterBefore (R.told roads.now) (number_at quest.now.reach.now) size at.now edges.now }
     requires usable { AreUsableIf (R.told roads.now) hints.usable edges.now }
-    ensures grown { OnOk result (GrowsInto (quest_of (R.told roads.now) quest.now) size at.now
-        reached.old reached.new) }
-    ensures taken { OnOk result (TakesInto (quest_of (R.told roads.now) quest.now) size at.now
-        reached.old reached.new) }
-    ensures noted { OnOk result (KeepsNoted reached.old reached.new (N.noted notes.old) (N.noted notes.new)) }
-    ensures seen { OnOk result (SeesInto (R.told roads.now) quest.now size at.now reached.old
-        (N.noted notes.old) (N.noted notes.new)) }
+    ensures considered { OnOk result (Considers (quest_of (R.told roads.now) quest.now) size (Only at.now)
+        reached.old reached.new (N.noted notes.old) (N.noted notes.new)) }
     ensures grows { Widens (N.noted notes.old) (N.noted notes.new) }
     ensures gains { Gains (IsNear (R.told roads.now quest.now.uid.now) at.now) (N.noted notes.old) (N.noted notes.new) }
 {

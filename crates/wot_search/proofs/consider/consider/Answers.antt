@@ -3,53 +3,44 @@ use Rattle.wot_types.specs.declared.fpr.Fpr.{Fpr}
 use Rattle.wot_search.specs.Quest.{quest_of}
 use Rattle.wot_search.specs.Reached.{look}
 use Rattle.wot_search.proofs.Considering.{taken_none, noted_none, wanted_issuer, advances_if, taken_if, noted_if}
+use Rattle.wot_search.proofs.Extending.{advances_refl}
 use Rattle.wot_search.proofs.consider.consider.Goals as goal
 
-pub returns-in-None-clause-taken : goal.returns-in-None-clause-taken
-returns-in-None-clause-taken g c rest r growing =
+pub returns-in-None-clause-considered : goal.returns-in-None-clause-considered
+returns-in-None-clause-considered g c =
     let quest = quest_of (g.R.Roads.told c.args.roads.now) c.args.quest.now in
     let w = rw (c.facts.ensures.facts, c.requires.demand) at
     (sym (c.wanted.ensures (g.R.Roads.told c.args.roads.now)) ∙ c.in-None.is) in
-    taken_none quest c.args.size c.args.width c.args.edge.now (c.requires.lawful c.args.quest.now.uid.now)
-    (look c.args.reached.now.nodes) c.args.reached.now.layer.items w rest r growing
+    record {
+      grows = λ rest r growing. advances_refl quest c.args.size c.args.reached.now growing;
+      taken = taken_none quest c.args.size c.args.width c.args.edge.now (c.requires.lawful c.args.quest.now.uid.now)
+          (look c.args.reached.now.nodes) c.args.reached.now.layer.items w;
+      noted = λ noted. noted;
+      seen = λ noted rest long. noted_none quest c.args.size c.args.width c.args.edge.now
+          (look c.args.reached.now.nodes) (g.N.Notes.noted c.args.notes.now) w rest long noted;
+    }
 
-pub returns-in-None-clause-seen : goal.returns-in-None-clause-seen
-returns-in-None-clause-seen g c rest long noted =
+pub returns-in_ok-keep-in-Some-clause-considered : goal.returns-in_ok-keep-in-Some-clause-considered
+returns-in_ok-keep-in-Some-clause-considered g c =
     let quest = quest_of (g.R.Roads.told c.args.roads.now) c.args.quest.now in
-    let w = rw (c.facts.ensures.facts, c.requires.demand) at
-    (sym (c.wanted.ensures (g.R.Roads.told c.args.roads.now)) ∙ c.in-None.is) in
-    noted_none quest c.args.size c.args.width c.args.edge.now (look c.args.reached.now.nodes)
-    (g.N.Notes.noted c.args.notes.now) w rest long noted
-
-pub returns-in_ok-keep-in-Some-clause-grown : goal.returns-in_ok-keep-in-Some-clause-grown
-returns-in_ok-keep-in-Some-clause-grown g c rest r growing =
-    let quest = quest_of (g.R.Roads.told c.args.roads.now) c.args.quest.now in
-    let w = rw (c.facts.ensures.facts, c.requires.demand) at
-    (sym (c.wanted.ensures (g.R.Roads.told c.args.roads.now)) ∙ c.in-Some.is) in
-    advances_if quest c.args.size c.args.width c.args.edge.now (c.requires.lawful c.args.quest.now.uid.now)
-    c.args.reached.now c.keep.new.reached c.in-Some.node w c.in_ok-keep-in-Some.ensures.put
-    (c.requires.row c.args.quest.now.uid.now) rest r growing
-
-pub returns-in_ok-keep-in-Some-clause-taken : goal.returns-in_ok-keep-in-Some-clause-taken
-returns-in_ok-keep-in-Some-clause-taken g c rest r growing =
-    let quest = quest_of (g.R.Roads.told c.args.roads.now) c.args.quest.now in
+    let size = c.args.size in
+    let width = c.args.width in
+    let edge = c.args.edge.now in
+    let good = c.requires.lawful c.args.quest.now.uid.now in
+    let has = c.requires.row c.args.quest.now.uid.now in
     let w = rw (c.facts.ensures.facts, c.requires.demand) at
     (sym (c.wanted.ensures (g.R.Roads.told c.args.roads.now)) ∙ c.in-Some.is) in
-    taken_if quest c.args.size c.args.width c.args.edge.now (c.requires.lawful c.args.quest.now.uid.now)
-    c.args.reached.now c.keep.new.reached c.in-Some.node w c.in_ok-keep-in-Some.ensures.put rest r growing
-
-pub returns-in_ok-keep-in-Some-clause-noted : goal.returns-in_ok-keep-in-Some-clause-noted
-returns-in_ok-keep-in-Some-clause-noted g c noted =
-    let quest = quest_of (g.R.Roads.told c.args.roads.now) c.args.quest.now in
-    let w = rw (c.facts.ensures.facts, c.requires.demand) at
-    (sym (c.wanted.ensures (g.R.Roads.told c.args.roads.now)) ∙ c.in-Some.is) in
-    let has = subst (λ (f : Fpr). g.N.Notes.noted c.keep.new.notes f)
-    (wanted_issuer quest c.args.size c.args.width c.args.edge.now (look c.args.reached.now.nodes) c.in-Some.node w)
-    c.in_ok-keep-in-Some.ensures.has in
-    noted_if quest c.args.size c.args.width c.args.edge.now (c.requires.lawful c.args.quest.now.uid.now)
-    c.args.reached.now c.keep.new.reached c.in-Some.node w c.in_ok-keep-in-Some.ensures.put
-    (c.requires.row c.args.quest.now.uid.now) (g.N.Notes.noted c.keep.new.notes)
-    (λ fpr node e. c.in_ok-keep-in-Some.ensures.grows fpr (noted fpr node e)) has
+    let kept = c.in_ok-keep-in-Some.ensures in
+    let set = g.N.Notes.noted c.keep.new.notes in
+    let it : set edge.issuer = subst (λ (f : Fpr). set f)
+    (wanted_issuer quest size width edge (look c.args.reached.now.nodes) c.in-Some.node w) kept.has in
+    record {
+      grows = advances_if quest size width edge good c.args.reached.now c.keep.new.reached c.in-Some.node w kept.put has;
+      taken = taken_if quest size width edge good c.args.reached.now c.keep.new.reached c.in-Some.node w kept.put;
+      noted = λ noted. noted_if quest size width edge good c.args.reached.now c.keep.new.reached c.in-Some.node w
+          kept.put has set (λ fpr node e. kept.grows fpr (noted fpr node e)) it;
+      seen = λ noted rest long row h e reaches le far. it;
+    }
 
 pub returns-in_err-keep-in-Some-clause-gains : goal.returns-in_err-keep-in-Some-clause-gains
 returns-in_err-keep-in-Some-clause-gains g c fpr h =
@@ -76,12 +67,3 @@ returns-in_ok-keep-in-Some-clause-gains g c fpr h =
           c.in-Some.node
           w)
     ]
-
-pub returns-in_ok-keep-in-Some-clause-seen : goal.returns-in_ok-keep-in-Some-clause-seen
-returns-in_ok-keep-in-Some-clause-seen g c rest long noted row h e reaches le far =
-    let quest = quest_of (g.R.Roads.told c.args.roads.now) c.args.quest.now in
-    let w = rw (c.facts.ensures.facts, c.requires.demand) at
-    (sym (c.wanted.ensures (g.R.Roads.told c.args.roads.now)) ∙ c.in-Some.is) in
-    subst (λ (f : Fpr). g.N.Notes.noted c.keep.new.notes f)
-    (wanted_issuer quest c.args.size c.args.width c.args.edge.now (look c.args.reached.now.nodes) c.in-Some.node w)
-    c.in_ok-keep-in-Some.ensures.has

@@ -1,4 +1,4 @@
-use Rattle.std.proofs.Common.{inl, inr, sym, subst, ◌∙◌}
+use Rattle.std.proofs.Common.{inl, inr, refl, sym, subst, ◌∙◌}
 use Rattle.wot_types.specs.declared.fpr.Fpr.{Fpr}
 use Rattle.wot_edge.specs.declared.edge.EdgeFacts.{EdgeFacts}
 use Rattle.wot_edge.specs.Record.{Has}
@@ -45,6 +45,7 @@ pub edges-preserved : goal.edges-preserved
 edges-preserved g c =
     let told = g.R.Roads.told c.args.roads.now c.args.quest.now.uid.now in
     let quest = quest_of (g.R.Roads.told c.args.roads.now) c.args.quest.now in
+    let size = c.args.size in
     let edges = c.args.edges.now in
     let x = c.edge-item.result in
     let i = c.edges.edge-index in
@@ -53,44 +54,50 @@ edges-preserved g c =
     let t = (edge_into told (c.requires.lawful c.args.quest.now.uid.now) c.args.at.now x into).1 in
     let inv = c.edges.invariant in
     let ok = c.in_ok-consider.ensures in
+    let one = ok.considered in
     record {
-      grown = λ rest k l there growing.
-          let a = inv.grown rest k l there growing in
-          let r = rest_now quest c.args.size c.args.reached.now c.edges.reached c.args.at.now c.width_at-width.result x
-          rest k l there c.width_at-width.ensures t a in
-          advances_trans quest c.args.size c.args.reached.now c.edges.reached c.consider.new.reached a
-          (ok.grown rest r a.growing);
-      taken = λ rest k l there growing.
-          let a = inv.grown rest k l there growing in
-          let r = rest_now quest c.args.size c.args.reached.now c.edges.reached c.args.at.now c.width_at-width.result x
-          rest k l there c.width_at-width.ensures t a in
-          taken_more quest c.args.size (look c.edges.reached.nodes) (look c.consider.new.reached.nodes) edges i x rest
-          c.edges-test.true c.edge-item.is (inv.taken rest k l there growing) (ok.grown rest r a.growing).onward
-          (ok.taken rest r a.growing);
-      noted = λ n. ok.noted (inv.noted n);
-      seen = λ rest l there n. noted_more quest (g.N.Notes.noted c.edges.notes) (g.N.Notes.noted c.consider.new.notes)
-          edges i x rest c.edges-test.true c.edge-item.is (inv.seen rest l there n) ok.grows
-          (ok.seen rest l (inv.noted n));
+      grows = λ ready.
+          let a = inv.grows ready in
+          let b = ready.begins c.args.at.now refl in
+          let r = rest_now quest size c.args.reached.now c.edges.reached c.args.at.now c.width_at-width.result x b.steps
+          b.kept b.long b.there c.width_at-width.ensures t a in
+          advances_trans quest size c.args.reached.now c.edges.reached c.consider.new.reached a
+          (one.grows b.steps r a.growing);
+      taken = λ ready rest begins k.
+          let a = inv.grows ready in
+          let r = rest_now quest size c.args.reached.now c.edges.reached c.args.at.now c.width_at-width.result x rest k
+          begins.long begins.there c.width_at-width.ensures t a in
+          taken_more quest size (look c.edges.reached.nodes) (look c.consider.new.reached.nodes) edges i x rest
+          c.edges-test.true c.edge-item.is (inv.taken ready rest begins k) (one.grows rest r a.growing).onward
+          (one.taken rest r a.growing);
+      noted = λ n. one.noted (inv.noted n);
+      seen = λ n rest begins. noted_more quest (g.N.Notes.noted c.edges.notes) (g.N.Notes.noted c.consider.new.notes)
+          edges i x rest c.edges-test.true c.edge-item.is (inv.seen n rest begins) ok.grows
+          (one.seen (inv.noted n) rest begins.long);
       it = ok.grows c.args.at.now inv.it;
-      grows = λ f h. ok.grows f (inv.grows f h);
+      widens = λ f h. ok.grows f (inv.widens f h);
       gains = λ fpr h. elim (ok.gains fpr h) [
         | inl k ↦ inv.gains fpr k
         | inr e ↦ inr (subst (λ (f : Fpr). IsNear told c.args.at.now f) (sym e) (near_issuer told c.args.at.now x into))
       ];
     }
 
-pub returns-clause-taken : goal.returns-clause-taken
-returns-clause-taken g c rest k l there growing =
+pub returns-clause-considered : goal.returns-clause-considered
+returns-clause-considered g c =
     let quest = quest_of (g.R.Roads.told c.args.roads.now) c.args.quest.now in
-    taken_all quest c.args.size (look c.edges.reached.nodes) c.args.edges.now c.args.at.now rest
-    (c.requires.matter.all c.args.quest.now.uid.now) l there
-    (taken_end quest c.args.size (look c.edges.reached.nodes) c.args.edges.now c.edges.edge-index rest
-    c.edges-test.false (c.edges.invariant.taken rest k l there growing))
-
-pub returns-clause-seen : goal.returns-clause-seen
-returns-clause-seen g c rest l there n =
-    let quest = quest_of (g.R.Roads.told c.args.roads.now) c.args.quest.now in
-    noted_all quest c.args.size (g.N.Notes.noted c.edges.notes) c.args.edges.now c.args.at.now rest
-    (c.requires.matter.all c.args.quest.now.uid.now) l there c.edges.invariant.it
-    (noted_end quest (g.N.Notes.noted c.edges.notes) c.args.edges.now c.edges.edge-index rest c.edges-test.false
-    (c.edges.invariant.seen rest l there n))
+    let inv = c.edges.invariant in
+    let all = c.requires.matter.all c.args.quest.now.uid.now in
+    record {
+      grows = inv.grows;
+      taken = λ ready rest begins k.
+          taken_all quest c.args.size (look c.edges.reached.nodes) c.args.edges.now c.args.at.now rest all begins.long
+          begins.there
+          (taken_end quest c.args.size (look c.edges.reached.nodes) c.args.edges.now c.edges.edge-index rest
+          c.edges-test.false (inv.taken ready rest begins k));
+      noted = inv.noted;
+      seen = λ n rest begins.
+          noted_all quest c.args.size (g.N.Notes.noted c.edges.notes) c.args.edges.now c.args.at.now rest all
+          begins.long begins.there inv.it
+          (noted_end quest (g.N.Notes.noted c.edges.notes) c.args.edges.now c.edges.edge-index rest
+          c.edges-test.false (inv.seen n rest begins));
+    }

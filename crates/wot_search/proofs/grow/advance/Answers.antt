@@ -1,14 +1,11 @@
-use Rattle.std.proofs.Common.{inl, inr, sym, ap, subst, ◌∙◌, List}
+use Rattle.std.proofs.Common.{inl, inr, refl, ap, subst, ◌∙◌, List}
 use Rattle.std.specs.Prelude.{Vec}
 use Rattle.std.specs.declared.alloc.Global.{Global}
 use Rattle.wot_types.specs.declared.fpr.Fpr.{Fpr}
-use Rattle.wot_edge.specs.Record.{Has}
-use Rattle.wot_edge.specs.Path.{start}
 use Rattle.wot_search.specs.Quest.{quest_of}
-use Rattle.wot_search.specs.Layer.{IsLayer, IsGrowing}
 use Rattle.wot_search.specs.Looked.{IsNearOne}
 use Rattle.wot_search.specs.Reached.{look}
-use Rattle.wot_search.proofs.Growing.{growing_start, after_more, unrooted_more, near_leads}
+use Rattle.wot_search.proofs.Growing.{ready_start, after_more, unrooted_more, near_leads}
 use Rattle.wot_search.proofs.grow.advance.Goals as goal
 
 pub returns-in_err-grow-clause-leads : goal.returns-in_err-grow-clause-leads
@@ -36,19 +33,10 @@ returns-clause-leads g c a fpr h =
 pub returns-clause-after : goal.returns-clause-after
 returns-clause-after g c a =
     let quest = quest_of (g.R.Roads.told c.args.roads.now) c.args.quest.now in
-    let found = look c.args.reached.now.nodes in
     let layer = c.deref.ensures.value ∙ ap (λ (v : Vec Fpr Global). v.items) c.replace-layer.ensures.value in
     let empty = ap (λ (v : Vec Fpr Global). v.items) c.replace-layer.ensures.after ∙ c.new.ensures.items in
-    let is = subst (λ (xs : List Fpr). IsLayer quest found c.args.size xs) (sym layer) a.layer in
-    let growing =
-    subst (λ (xs : List Fpr). IsGrowing quest c.args.size found xs) (sym empty)
-    (growing_start quest c.args.size c.args.reached.now (g.N.Notes.noted c.args.notes.now) a) in
-    let adv = c.in_ok-grow.ensures.grown is growing in
-    after_more quest c.args.size c.args.reached.now c.grow.new.reached (g.N.Notes.noted c.args.notes.now)
-    (g.N.Notes.noted c.grow.new.notes) a adv.growing adv.onward (c.in_ok-grow.ensures.taken is growing)
-    (c.in_ok-grow.ensures.noted a.noted)
-    (λ rest l h. c.in_ok-grow.ensures.seen a.noted rest l
-    (subst (λ (xs : List Fpr). Has xs (start quest.question.target rest)) (sym layer) h)) c.in_ok-grow.ensures.grows
+    after_more quest c.args.size c.args.reached.now _ c.grow.new.reached _ (g.N.Notes.noted c.args.notes.now)
+    (g.N.Notes.noted c.grow.new.notes) c.in_ok-grow.ensures.considered a refl empty layer c.in_ok-grow.ensures.grows
 
 pub returns-clause-unrooted : goal.returns-clause-unrooted
 returns-clause-unrooted g c a u =
@@ -56,9 +44,7 @@ returns-clause-unrooted g c a u =
     let found = look c.args.reached.now.nodes in
     let layer = c.deref.ensures.value ∙ ap (λ (v : Vec Fpr Global). v.items) c.replace-layer.ensures.value in
     let empty = ap (λ (v : Vec Fpr Global). v.items) c.replace-layer.ensures.after ∙ c.new.ensures.items in
-    let is = subst (λ (xs : List Fpr). IsLayer quest found c.args.size xs) (sym layer) a.layer in
-    let growing =
-    subst (λ (xs : List Fpr). IsGrowing quest c.args.size found xs) (sym empty)
-    (growing_start quest c.args.size c.args.reached.now (g.N.Notes.noted c.args.notes.now) a) in
-    let adv = c.in_ok-grow.ensures.grown is growing in
-    unrooted_more quest c.args.size found (look c.grow.new.reached.nodes) adv.onward u
+    let all = c.in_ok-grow.ensures.considered in
+    unrooted_more quest c.args.size found (look c.grow.new.reached.nodes)
+    (all.grows (ready_start quest c.args.size c.args.reached.now _ _ (g.N.Notes.noted c.args.notes.now) a refl empty
+    layer)).onward u

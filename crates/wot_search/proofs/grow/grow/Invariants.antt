@@ -1,8 +1,8 @@
+use Rattle.wot_edge.specs.Record.{Has}
 use Rattle.wot_search.specs.Quest.{quest_of}
 use Rattle.wot_search.specs.Reached.{look}
-use Rattle.wot_search.specs.Layer.{IsGrowing, IsLayer}
 use Rattle.wot_search.specs.Looked.{Gains, IsNearOne, Widens}
-use Rattle.wot_search.specs.Growth.{AreNoted, GrowsByLayer}
+use Rattle.wot_search.specs.Growth.{Advances, AreNoted, IsReady}
 use Rattle.wot_search.proofs.Growing.{LayerFrom, SeenFrom}
 use Rattle.wot_search.proofs.grow.grow.Given as goal
 
@@ -11,14 +11,13 @@ invariant-layer g l =
     let told = g.R.Roads.told l.roads in
     let quest = quest_of told l.quest in
     record {
-      grown : GrowsByLayer quest l.size l.layer l.fn.reached l.reached;
-      taken : IsLayer quest (look l.fn.reached.nodes) l.size l.layer
-          → IsGrowing quest l.size (look l.fn.reached.nodes) l.fn.reached.layer.items
+      grows : IsReady quest l.size (Has l.layer) l.fn.reached → Advances quest l.size l.fn.reached l.reached;
+      taken : IsReady quest l.size (Has l.layer) l.fn.reached
           → LayerFrom quest l.size (look l.reached.nodes) l.layer l.at-index;
       noted : AreNoted (look l.fn.reached.nodes) (g.N.Notes.noted l.fn.notes)
           → AreNoted (look l.reached.nodes) (g.N.Notes.noted l.notes);
       seen : AreNoted (look l.fn.reached.nodes) (g.N.Notes.noted l.fn.notes)
           → SeenFrom quest l.size (g.N.Notes.noted l.notes) l.layer l.at-index;
-      grows : Widens (g.N.Notes.noted l.fn.notes) (g.N.Notes.noted l.notes);
+      widens : Widens (g.N.Notes.noted l.fn.notes) (g.N.Notes.noted l.notes);
       gains : Gains (IsNearOne (told l.quest.uid.now) l.layer) (g.N.Notes.noted l.fn.notes) (g.N.Notes.noted l.notes);
     }
