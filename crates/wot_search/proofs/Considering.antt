@@ -7,45 +7,28 @@ use Rattle.std.proofs.lemmas.Bool.{eqb-true, eq-eqb, lt-ltb, ltb-true, not-true,
 use Rattle.wot_types.specs.declared.fpr.Fpr.{Fpr}
 use Rattle.wot_types.specs.Fpr.{same_fpr}
 use Rattle.wot_types.specs.FprLaws.{same_fpr-true, same_fpr-refl}
+use Rattle.wot_edge.specs.declared.demand.Demand.{Demand}
 use Rattle.wot_edge.specs.declared.edge.EdgeFacts.{EdgeFacts}
 use Rattle.wot_edge.specs.declared.path.Step.{Step}
+use Rattle.wot_edge.specs.Demand.{is_met, demand_of}
+use Rattle.wot_edge.specs.DemandLaws.{apart-false, demand_some, place-true, suc-zero, true-place}
 use Rattle.wot_edge.specs.Record.{Record, Row, Has, IsRecord, rows_into, edges_into, entry_at}
 use Rattle.wot_edge.specs.Path.{Question, Reaches, start, step_of, step_left}
 use Rattle.wot_search.specs.declared.node.Node.{Node}
-use Rattle.wot_search.specs.declared.node.Demand.{Demand}
-use Rattle.wot_search.specs.declared.node.Demand.TheVariants.{On, Before}
 use Rattle.wot_search.specs.declared.node.Goal.{Goal}
 use Rattle.wot_search.specs.declared.reached.Reached.{Reached}
 use Rattle.wot_search.specs.Quest.{Quest}
 use Rattle.wot_search.specs.Suffix.{Serves, Found, Kept, node_of, width}
 use Rattle.wot_search.specs.Layer.{AtMost, Covered, IsGrowing, is_kept}
-use Rattle.wot_search.specs.Demand.{is_place, is_met, is_enough, demand_of, candidate_of}
+use Rattle.wot_search.specs.Demand.{is_enough, candidate_of}
 use Rattle.wot_search.specs.Reached.{look}
 use Rattle.wot_search.specs.Growth.{if_kept, wanted_of, may_stand_of, IsPut, IsPutIf, IsRest, Advances, IsTaken}
 use Rattle.wot_search.specs.Growth.{IsNoted, AreNoted}
-use Rattle.wot_search.proofs.Order.{apart-false}
 use Rattle.wot_search.proofs.Keeping.{put_onward, put_covered, put_growing}
 use Rattle.wot_search.proofs.Choosing.{kept_free, kept_worse, unkept_covered}
 use Rattle.wot_search.proofs.Layers.{onward_refl}
 
 -- ---- the demand
-
-place-true : (p : Option ℕ) (uid : ℕ) → is_place p uid ≡ true → p ≡ Some uid
-place-true None uid e = absurd cc
-place-true (Some place) uid e = ap Some (eqb-true place uid e)
-
-true-place : (p : Option ℕ) (uid : ℕ) → p ≡ Some uid → is_place p uid ≡ true
-true-place p uid e = subst (λ (x : Option ℕ). is_place x uid ≡ true) (sym e) (eq-eqb uid uid refl)
-
-pub suc-zero : (n : ℕ) → nat_eq (suc n) 0 ≡ false
-suc-zero n = by (nat_eq (suc n) 0) refl
-  where
-    by : (b : Bool) → nat_eq (suc n) 0 ≡ b → b ≡ false
-    by true e = absurd (let f = eqb-true (suc n) 0 e in omega (arith, f))
-    by false e = refl
-
-demand_some : (q : Question) (n : ℕ) → demand_of q (suc n) ≡ Before (suc n)
-demand_some q n = ap (λ (b : Bool). cond b (On (entry_at q.told q.target).place) (Before (suc n))) (suc-zero n)
 
 reaches_met : (q : Question) (row : Row) (rest : List Step) → Reaches q row rest
     → is_met q.target (demand_of q (length rest)) row.edge ≡ true
@@ -77,26 +60,6 @@ scope_stands q row (next ∷ rest) r = by (nat_eq (length (next ∷ rest)) 0) ro
     by : (a b : Bool) → b ≡ true → (a || b) ≡ true
     by true b e = refl
     by false b e = e
-
--- ---- the rows of an edge
-
-pub row_there : (told : Record) (fpr : Fpr) (edge : EdgeFacts) → Has (edges_into told fpr) edge
-    → (row : Row) × Has (rows_into told fpr) row × (row.edge ≡ edge)
-row_there told fpr edge h = by (rows_into told fpr) h
-  where
-    by : (rows : List Row) → Has (map (λ row. row.edge) rows) edge → (row : Row) × Has rows row × (row.edge ≡ edge)
-    by [] h = absurd h
-    by (x ∷ rows) (inl e) = (x, inl refl, sym e)
-    by (x ∷ rows) (inr h) = let r = by rows h in (r.0, inr r.1, r.2)
-
-pub row_edge : (told : Record) (fpr : Fpr) (row : Row) → Has (rows_into told fpr) row
-    → Has (edges_into told fpr) row.edge
-row_edge told fpr row h = by (rows_into told fpr) h
-  where
-    by : (rows : List Row) → Has rows row → Has (map (λ r. r.edge) rows) row.edge
-    by [] h = absurd h
-    by (x ∷ rows) (inl e) = inl (ap (λ (r : Row). r.edge) e)
-    by (x ∷ rows) (inr h) = inr (by rows h)
 
 -- ---- the candidate
 

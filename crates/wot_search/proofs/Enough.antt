@@ -11,7 +11,7 @@ use Rattle.wot_edge.specs.declared.edge.EdgeFacts.{EdgeFacts}
 use Rattle.wot_edge.specs.Record.{Record, Has, IsRecord, rows_into, edges_into}
 use Rattle.wot_edge.specs.Roots.{root_amount}
 use Rattle.wot_search.specs.Reach.{Allows, HasEnough, number_of}
-use Rattle.wot_search.proofs.Considering.{row_edge}
+use Rattle.wot_edge.specs.RowLaws.{row_edge}
 
 -- ---- the edges into one fingerprint
 

@@ -7,6 +7,7 @@ use Rattle.std.proofs.lemmas.List.{drop_more, drop_all}
 use Rattle.wot_types.specs.declared.fpr.Fpr.{Fpr}
 use Rattle.wot_edge.specs.declared.edge.EdgeFacts.{EdgeFacts}
 use Rattle.wot_edge.specs.declared.path.Step.{Step}
+use Rattle.wot_edge.specs.DemandLaws.{suc-zero}
 use Rattle.wot_edge.specs.Record.{Record, Row, Has, IsRecord, rows_into, edges_into}
 use Rattle.wot_edge.specs.Path.{Reaches, start, step_of, step_left}
 use Rattle.wot_search.specs.declared.reached.Reached.{Reached}
@@ -18,29 +19,8 @@ use Rattle.wot_search.specs.Looked.{IsSeen, IsNear, Widens}
 use Rattle.wot_search.specs.Onward.{leads_on}
 use Rattle.wot_search.specs.Reached.{look}
 use Rattle.wot_search.specs.Growth.{IsRest, Advances, IsTaken, IsNoted, AreTaken, wide_of}
-use Rattle.wot_search.proofs.Considering.{suc-zero, row_there, row_edge}
+use Rattle.wot_edge.specs.RowLaws.{row_there, row_edge}
 use Rattle.wot_search.proofs.Layers.{onward_refl, onward_trans}
-
--- ---- items of lists
-
-pub has_at : {X : Type 0} (xs : List X) (i : ℕ) (d : X) → i < length xs → Has xs (get_or xs i d)
-has_at [] i d lt = absurd (omega (arith, lt))
-has_at (x ∷ xs) zero d lt = inl refl
-has_at (x ∷ xs) (suc i) d lt = inr (has_at xs i d (omega (arith, lt)))
-
--- an edge into a fingerprint is one of those into its target
-pub edge_into : (told : Record) → IsRecord told → (at : Fpr) (edge : EdgeFacts) → Has (edges_into told at) edge
-    → Has (edges_into told edge.target) edge × (edge.target ≡ at)
-edge_into told good at edge h =
-    let r = row_there told at edge h in
-    let t : edge.target ≡ at = ap (λ (x : EdgeFacts). x.target) (sym r.2) ∙ good.into at r.0 r.1 in
-    (subst (λ (f : Fpr). Has (edges_into told f) edge) (sym t) h, t)
-
-pub edge_known : (told : List ℕ → Record) → ((id : List ℕ) → IsRecord (told id)) → (at : Fpr) (edges : List EdgeFacts)
-    → ((id : List ℕ) → edges ≡ edges_into (told id) at) → (edge : EdgeFacts) → Has edges edge → (id : List ℕ)
-    → Has (edges_into (told id) edge.target) edge × (edge.target ≡ at)
-edge_known told good at edges e edge h id =
-    edge_into (told id) (good id) at edge (subst (λ (xs : List EdgeFacts). Has xs edge) (e id) h)
 
 -- an edge that may come before others leads on
 leads : (quest : Quest) (row : Row) (rest : List Step) → 0 < length rest → Reaches quest.question row rest

@@ -15,7 +15,7 @@ use Rattle.wot_search.specs.Layer.{Begins, IsLayer, IsGrowing, Onward}
 use Rattle.wot_search.specs.Looked.{IsSeen, IsNearOne, Widens}
 use Rattle.wot_search.specs.Reached.{look}
 use Rattle.wot_search.specs.Growth.{Advances, AreTaken, AreNoted, Considers, IsAfter, IsReady, IsUnrooted, Only}
-use Rattle.wot_search.proofs.Considering.{row_edge}
+use Rattle.wot_edge.specs.RowLaws.{row_edge}
 use Rattle.wot_search.proofs.Layers.{onward_refl, onward_trans, complete_more, looked_grows, looked_more, seen_grows}
 use Rattle.wot_search.proofs.Suffixes.{kept_suffix}
 

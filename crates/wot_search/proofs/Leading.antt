@@ -6,7 +6,7 @@ use Rattle.std.proofs.lemmas.List.Elements.{All-push}
 use Rattle.wot_types.specs.declared.fpr.Fpr.{Fpr}
 use Rattle.wot_edge.specs.declared.edge.EdgeFacts.{EdgeFacts}
 use Rattle.wot_edge.specs.Record.{Record, Has, edges_into}
-use Rattle.wot_search.proofs.Extending.{has_at}
+use Rattle.wot_edge.specs.RowLaws.{has_at}
 use Rattle.wot_search.specs.declared.onward.Onward.{Onward}
 use Rattle.wot_search.specs.Onward.{AddsLead, AreOnward, AreUsableIf, IsUsable, IsUsableIf, LeadsOnInto, leads_on}
 

@@ -19,13 +19,6 @@ fpr_cases a b = by (same_fpr a b) refl
     by false e = inr
         (λ f. let g : same_fpr a b ≡ true = subst (λ (x : Fpr). same_fpr a x ≡ true) f (same_fpr-refl a) in cc)
 
-pub apart-false : (a b : Fpr) → a ≢ b → same_fpr a b ≡ false
-apart-false a b n = by (same_fpr a b) refl
-  where
-    by : (t : Bool) → same_fpr a b ≡ t → t ≡ false
-    by true e = absurd (n (same_fpr-true a b e))
-    by false e = refl
-
 -- ---- not less
 
 apart : (o : Ordering) → o ≡ ordering_reverse o → o ≡ Less → ⊥

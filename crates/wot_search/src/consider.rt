@@ -3,8 +3,8 @@
 //! It stands on `demand` and `reached`, and on `specs/Growth.antt`. `extend` calls it for each edge, so most of a
 //! search's time is spent here.
 ghost use Rattle.std.specs.Prelude.{◌≡◌, ◌<◌, ℕ, List, true, IfOk, OnOk};
+ghost use Rattle.wot_edge.specs.Demand.{demand_of};
 ghost use Rattle.wot_edge.specs.Record.{Record, Has, IsRecord, EachRow, edges_into};
-ghost use Rattle.wot_search.specs.Demand.{demand_of};
 ghost use Rattle.wot_search.specs.Quest.{quest_of};
 ghost use Rattle.wot_search.specs.Reached.{look};
 ghost use Rattle.wot_search.specs.Growth.{wanted_of, may_stand_of, ConsidersEdge, PutsIfStands};
@@ -12,11 +12,11 @@ ghost use Rattle.wot_search.specs.Looked.{Gains, Widens};
 ghost use Rattle.wot_search.specs.Onward.{IsUsable};
 
 use crate::demand::{candidate, keeps};
-use crate::node::{Demand, Hint, Node};
+use crate::node::{Hint, Node};
 use crate::notes::Notes;
 use crate::quest::Quest;
 use crate::reached::{Reached, node_at, put};
-use wot_edge::{Edge, EdgeFacts, Roads};
+use wot_edge::{Demand, Edge, EdgeFacts, Roads};
 use wot_types::Memory;
 
 /// The node to keep for an edge, if the edge may come there.

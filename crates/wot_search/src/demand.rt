@@ -1,54 +1,25 @@
 //! What the search demands of an edge, and which of two suffixes it keeps.
 //!
-//! It stands on `left` and `reach`, and on `specs/Demand.antt`. The rules of depth and user ID are here; usability and
-//! scopes are in `consider`.
+//! It stands on `wot_edge`, where the rules of depth and user ID are, on `reach`, and on `specs/Demand.antt`. Usability
+//! and scopes are in `consider`.
 ghost use Rattle.std.specs.Prelude.{◌≡◌, ◌<◌, ℕ, List, nat_le, nat_lt};
-ghost use Rattle.wot_types.specs.Fpr.{same_fpr};
-ghost use Rattle.wot_search.specs.Demand.{is_place, is_met, demand_of, candidate_of};
+ghost use Rattle.wot_edge.specs.Demand.{demand_of};
+ghost use Rattle.wot_search.specs.Demand.{candidate_of};
 ghost use Rattle.wot_search.specs.Quest.{quest_of};
 ghost use Rattle.wot_search.specs.Layer.{is_better, is_kept, link_cmp};
 ghost use Rattle.wot_edge.specs.Record.{Record};
 
-use crate::left::{left_of_step, step_from};
-use crate::node::{Demand, Goal, Node};
+use crate::node::{Goal, Node};
 use crate::quest::Quest;
 use std::cmp::Ordering;
-use wot_edge::{EdgeFacts, Roads, Step};
+use wot_edge::{Demand, EdgeFacts, Roads, Step, demand_at, left_of_step, meets, step_from};
 use wot_types::{Fpr, compare_fprs};
-
-fn is_same(a: &Fpr, b: &Fpr) -> bool
-    ensures { result ≡ same_fpr a.now b.now }
-{
-    compare_fprs(a, b).is_eq()
-}
 
 /// What the search demands of edges with `size` edges after them.
 pub fn demand<R: Roads>(roads: &R, quest: &Quest, size: u8) -> Demand
     ensures { result ≡ demand_of (quest_of (R.told roads.now) quest.now).question size }
 {
-    if size == 0 {
-        Demand::On(roads.place(quest.target, quest.uid))
-    } else {
-        Demand::Before(size)
-    }
-}
-
-fn is_at(place: Option<u32>, uid: u32) -> bool
-    ensures { result ≡ is_place place uid }
-{
-    match place {
-        Some(place) => place == uid,
-        None => false,
-    }
-}
-
-fn meets(demand: Demand, target: &Fpr, edge: &EdgeFacts) -> bool
-    ensures { result ≡ is_met target.now demand edge.now }
-{
-    match demand {
-        Demand::On(place) => is_at(place, edge.uid),
-        Demand::Before(size) => size <= edge.depth && !is_same(&edge.issuer, target),
-    }
+    demand_at(roads, quest.target, quest.uid, size)
 }
 
 /// Whether the issuer of an edge may come this far before the target.
@@ -80,7 +51,7 @@ pub fn candidate(
     ensures { (told : List ℕ → Record) → result ≡ candidate_of (quest_of told quest.now) demand size width edge.now }
 {
     // Few edges meet the demand, and the test looks at the edge only.
-    if !meets(demand, quest.target, edge) {
+    if !meets(quest.target, demand, edge) {
         return None;
     }
     if !reaches(quest, size, place, edge) {

@@ -1,4 +1,4 @@
-//! The values of a search: its goal, nodes, choices, hints and demands. They have no invariants; `specs/Layer.antt`
+//! The values of a search: its goal, nodes, choices and hints. They have no invariants; `specs/Layer.antt`
 //! says what a search knows by its nodes.
 use wot_edge::Step;
 use wot_types::Fpr;
@@ -34,12 +34,4 @@ pub struct Choice {
 pub struct Hint {
     pub place: usize,
     pub usable: bool,
-}
-
-/// What is demanded of an edge: to be on the wanted user ID, by its place among the target's; or to have at least this
-/// depth, and an issuer other than the target.
-#[derive(Clone, Copy, PartialEq, Eq)]
-pub enum Demand {
-    On(Option<u32>),
-    Before(u8),
 }

@@ -12,11 +12,10 @@ ghost use Rattle.wot_search.specs.Offers.{AreOffersFor, IsOpenOffer, KeepsOffers
 ghost use Rattle.wot_search.specs.Offers.{first_path, is_first_spent, is_left, left_at};
 
 use crate::asked::Asked;
-use crate::left::{left_of_step, remaining};
 use crate::notes::Notes;
 use crate::offers::next_paths_within;
 use std::alloc::Global;
-use wot_edge::{Path, Roads, Roots, Step, Used};
+use wot_edge::{Path, Roads, Roots, Step, Used, left_of_step, remaining};
 use wot_types::{Fpr, Memory};
 
 /// The residual amount of a root.

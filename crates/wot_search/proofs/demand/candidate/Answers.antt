@@ -1,6 +1,7 @@
 use Rattle.std.proofs.Common.{◌≡◌, sym, ap, ◌∙◌, min, ◌+◌, nat_le, nat_lt, ◌&&◌}
 use Rattle.wot_edge.specs.Path.{step_of, step_left}
-use Rattle.wot_search.specs.Demand.{is_met, is_enough}
+use Rattle.wot_edge.specs.Demand.{is_met}
+use Rattle.wot_search.specs.Demand.{is_enough}
 use Rattle.wot_search.specs.Quest.{quest_of}
 use Rattle.std.proofs.lemmas.Bool.{and_from}
 use Rattle.wot_search.proofs.Considering.{and_not, none_if, some_if}

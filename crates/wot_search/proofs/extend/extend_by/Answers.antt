@@ -5,7 +5,8 @@ use Rattle.wot_edge.specs.Record.{Has}
 use Rattle.wot_search.specs.Quest.{quest_of}
 use Rattle.wot_search.specs.Looked.{IsNear}
 use Rattle.wot_search.specs.Reached.{look}
-use Rattle.wot_search.proofs.Extending.{has_at, edge_into, taken_more, taken_end, taken_all, rest_now, advances_trans}
+use Rattle.wot_edge.specs.RowLaws.{has_at, edge_into}
+use Rattle.wot_search.proofs.Extending.{taken_more, taken_end, taken_all, rest_now, advances_trans}
 use Rattle.wot_search.proofs.Extending.{noted_more, noted_end, noted_all, near_issuer}
 use Rattle.wot_search.proofs.extend.extend_by.Goals as goal
 

@@ -1,7 +1,8 @@
 use Rattle.std.proofs.Common.{inl, inr, arith}
 use Rattle.wot_search.specs.Quest.{quest_of}
 use Rattle.wot_search.specs.Reached.{look}
-use Rattle.wot_search.proofs.Extending.{has_at, advances_trans}
+use Rattle.wot_edge.specs.RowLaws.{has_at}
+use Rattle.wot_search.proofs.Extending.{advances_trans}
 use Rattle.wot_search.proofs.Growing.{layer_more, layer_end, ready_at, seen_more, seen_end}
 use Rattle.wot_search.proofs.grow.grow.Goals as goal
 

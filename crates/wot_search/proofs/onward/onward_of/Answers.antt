@@ -2,7 +2,7 @@ use Rattle.std.proofs.Common.{sym, subst, arith}
 use Rattle.wot_edge.specs.declared.edge.EdgeFacts.{EdgeFacts}
 use Rattle.wot_edge.specs.Record.{Has}
 use Rattle.wot_search.specs.Reach.{number_of}
-use Rattle.wot_search.proofs.Extending.{has_at, edge_known}
+use Rattle.wot_edge.specs.RowLaws.{has_at, edge_known}
 use Rattle.wot_search.proofs.Leading.{lead_start, lead_more, lead_end}
 use Rattle.wot_search.proofs.onward.onward_of.Goals as goal
 

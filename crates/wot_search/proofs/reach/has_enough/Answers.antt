@@ -3,7 +3,7 @@ use Rattle.wot_edge.specs.declared.edge.EdgeFacts.{EdgeFacts}
 use Rattle.wot_edge.specs.Record.{Has}
 use Rattle.wot_search.specs.Reach.{number_at}
 use Rattle.wot_search.proofs.Enough.{allowed_more, allowed_end, all_allowed}
-use Rattle.wot_search.proofs.Extending.{has_at, edge_known}
+use Rattle.wot_edge.specs.RowLaws.{has_at, edge_known}
 use Rattle.wot_search.proofs.reach.has_enough.Goals as goal
 
 pub allows-requires : goal.allows-requires

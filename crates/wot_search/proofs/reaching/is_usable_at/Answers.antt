@@ -1,7 +1,7 @@
 use Rattle.std.proofs.Common.{sym, subst}
 use Rattle.wot_edge.specs.declared.edge.EdgeFacts.{EdgeFacts}
 use Rattle.wot_edge.specs.Record.{Has}
-use Rattle.wot_search.proofs.Extending.{has_at, edge_known}
+use Rattle.wot_edge.specs.RowLaws.{has_at, edge_known}
 use Rattle.wot_search.proofs.reaching.is_usable_at.Goals as goal
 
 pub usable-requires : goal.usable-requires

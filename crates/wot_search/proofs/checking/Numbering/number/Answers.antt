@@ -2,7 +2,7 @@ use Rattle.std.proofs.Common.{◌<◌, length, sym, subst, arith}
 use Rattle.wot_types.specs.Fpr.{fpr_cmp}
 use Rattle.wot_edge.specs.Record.{Has}
 use Rattle.wot_search.proofs.Checked.{keys_inserted}
-use Rattle.wot_search.proofs.Extending.{has_at}
+use Rattle.wot_edge.specs.RowLaws.{has_at}
 use Rattle.wot_search.proofs.checking.Numbering.number.Goals as goal
 
 pub returns : goal.returns
