@@ -5,7 +5,7 @@ ghost use Rattle.std.specs.Prelude.{◌≡◌, ◌≤◌, ◌∷◌, [], length,
 ghost use Rattle.std.specs.Option.{option_copied};
 ghost use Rattle.wot_explain.specs.Listing.{IsSought, pair_of, pairs_of, pairs_of_all};
 ghost use Rattle.wot_explain.specs.Piece.{GoesOn, IsPieceHere, IsPieceThen, comes_after as comes_after_spec, fpr_at};
-ghost use Rattle.wot_search.specs.Reach.{IsReach};
+ghost use Rattle.wot_reach.specs.Reach.{IsReach};
 
 use crate::Bind;
 use crate::listing::list_pair;

@@ -16,7 +16,7 @@ use Rattle.wot_search.specs.Suffix.{Found, Kept, width}
 use Rattle.wot_search.specs.Choice.{node_width}
 use Rattle.wot_search.specs.Layer.{Covered, IsGrowing, Onward}
 use Rattle.wot_search.specs.Looked.{IsSeen, IsNear, Widens}
-use Rattle.wot_search.specs.Onward.{leads_on}
+use Rattle.wot_reach.specs.Onward.{leads_on}
 use Rattle.wot_search.specs.Reached.{look}
 use Rattle.wot_search.specs.Growth.{IsRest, Advances, IsTaken, IsNoted, AreTaken, wide_of}
 use Rattle.wot_edge.specs.RowLaws.{row_there, row_edge}

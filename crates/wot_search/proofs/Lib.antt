@@ -4,14 +4,12 @@ pub mod Suffixes
 pub mod Keeping
 pub mod Choosing
 pub mod Layers
-pub mod Within
 pub mod Rooted
 pub mod Ahead
 pub mod Picking
 pub mod Local
 pub mod Considering
 pub mod Extending
-pub mod Leading
 pub mod Growing
 pub mod Finding
 pub mod Nexting
@@ -21,7 +19,4 @@ pub mod Opening
 pub mod Members
 pub mod Taking
 pub mod Collecting
-pub mod Enough
-pub mod Slotting
-pub mod Checked
 pub mod OneSearch

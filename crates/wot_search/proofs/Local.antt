@@ -13,7 +13,7 @@ use Rattle.wot_edge.specs.Path.{IsOpen, IsNext, IsNextPath, IsSpent, Precedes}
 use Rattle.wot_search.specs.Suffix.{Suffix}
 use Rattle.wot_search.specs.Looked.{IsLooked}
 use Rattle.wot_search.proofs.Rooted.{widest_quest, valid_suffix, suffix_valid}
-use Rattle.wot_search.proofs.Within.{open_within}
+use Rattle.wot_reach.proofs.Within.{open_within}
 
 -- the row of that edge and scope
 twin : (xs ys : List Row) (y : Row) → map scoped_edge xs ≡ map scoped_edge ys → Has ys y

@@ -19,7 +19,7 @@ use Rattle.wot_search.proofs.Finding.{looked_fewer}
 use Rattle.wot_search.proofs.Local.{next_path_there, spent_there, disordered_there}
 use Rattle.wot_search.proofs.Rooted.{widest_quest, least_quest, rooted_wide, first_next, first_le, none_spent}
 use Rattle.wot_search.proofs.Rooted.{disordered_spent}
-use Rattle.wot_search.proofs.Within.{Holds}
+use Rattle.wot_reach.proofs.Within.{Holds}
 
 pub amounts_small : (roots : List (Fpr × ℕ)) → AreAmounts roots → (fpr : Fpr) → root_amount roots fpr ≤ 255
 amounts_small [] a fpr = omega arith

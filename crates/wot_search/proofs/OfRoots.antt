@@ -32,7 +32,7 @@ use Rattle.wot_search.specs.Suffix.{Found, Kept, node_of}
 use Rattle.wot_search.proofs.Comparing.{AtMost-le}
 use Rattle.wot_search.proofs.Keeping.{entry_is}
 use Rattle.wot_search.proofs.Suffixes.{kept_suffix}
-use Rattle.wot_search.proofs.Within.{Holds}
+use Rattle.wot_reach.proofs.Within.{Holds}
 use Rattle.wot_search.proofs.Rooted.{widest_quest, least_quest, rooted_wide, rooted_fewer, rooted_amount, valid_rooted}
 use Rattle.wot_search.proofs.Rooted.{first_le, IsShortest, shortest_distinct, suffix_chain}
 use Rattle.wot_search.proofs.Offering.{IsOne, Ascend, AreFirst, first_offers, first_there, roots_there}

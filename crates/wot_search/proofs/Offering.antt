@@ -19,7 +19,7 @@ use Rattle.wot_edge.specs.Path.{Precedes}
 use Rattle.wot_search.specs.Looked.{IsLooked}
 use Rattle.wot_search.specs.Offers.{IsLater, left_at, is_left, AreOffers, AreNext}
 use Rattle.wot_search.proofs.Rooted.{widest_quest, valid_suffix}
-use Rattle.wot_search.proofs.Within.{open_within}
+use Rattle.wot_reach.proofs.Within.{open_within}
 use Rattle.wot_search.proofs.Local.{root_same, open_there, open_here, open_amount, start_there}
 use Rattle.wot_search.proofs.Picking.{then_Greater}
 

@@ -13,7 +13,7 @@ use Rattle.wot_search.specs.Quest.{Quest}
 use Rattle.wot_search.specs.Suffix.{Suffix, width}
 use Rattle.wot_search.specs.Layer.{IsAsGood}
 use Rattle.wot_search.specs.Rooted.{Rooted, IsGood, IsFirst}
-use Rattle.wot_search.proofs.Within.{Within, Holds}
+use Rattle.wot_reach.proofs.Within.{Within, Holds}
 use Rattle.wot_search.proofs.Order.{not_less-trans}
 use Rattle.wot_search.proofs.Suffixes.{serves_shorter}
 

@@ -1,11 +1,7 @@
-pub mod Slots
-pub mod Onward
-pub mod Reach
 pub mod Quest
 pub mod Suffix
 pub mod Layer
 pub mod Looked
-pub mod Making
 pub mod Choice
 pub mod Rooted
 pub mod Nexting

@@ -4,8 +4,8 @@ use Rattle.wot_types.specs.declared.fpr.Fpr.{Fpr}
 use Rattle.wot_edge.specs.Record.{Record}
 use Rattle.wot_edge.specs.Path.{Question, Use, asks}
 use Rattle.wot_edge.specs.Sums.{use_in}
-use Rattle.wot_search.specs.Onward.{AreOnward}
-use Rattle.wot_search.specs.Reach.{number_at}
+use Rattle.wot_reach.specs.Onward.{AreOnward}
+use Rattle.wot_reach.specs.Reach.{number_at}
 use Rattle.wot_search.specs.declared.node.Goal.{Goal}
 use Rattle.wot_search.specs.declared.quest.Quest.{Quest as Told}
 

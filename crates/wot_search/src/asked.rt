@@ -1,7 +1,7 @@
 //! A question to a search: roots, target, user ID, and the table of reach.
 //!
 //! `specs/Asked.antt` relates it to the question of `wot_edge`. Searches turn it into a `Quest`.
-use crate::reach::Reach;
+use wot_reach::Reach;
 use wot_edge::Roots;
 use wot_types::Fpr;
 

@@ -9,7 +9,7 @@ ghost use Rattle.wot_search.specs.Quest.{quest_of};
 ghost use Rattle.wot_search.specs.Reached.{look};
 ghost use Rattle.wot_search.specs.Growth.{wanted_of, may_stand_of, ConsidersEdge, PutsIfStands};
 ghost use Rattle.wot_search.specs.Looked.{Gains, Widens};
-ghost use Rattle.wot_search.specs.Onward.{IsUsable};
+ghost use Rattle.wot_reach.specs.Onward.{IsUsable};
 
 use crate::demand::{candidate, keeps};
 use crate::node::{Hint, Node};

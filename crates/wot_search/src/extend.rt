@@ -3,9 +3,9 @@
 //! It stands on `consider`, and on `reach` for the edges that lead on. `grow` calls it for each fingerprint.
 ghost use Rattle.std.specs.Prelude.{◌≡◌, ◌<◌, ℕ, List, OnOk};
 ghost use Rattle.wot_edge.specs.Record.{IsRecord};
-ghost use Rattle.wot_search.specs.Onward.{AreAllUsableIf, AreUsableIf, LeadsOnInto, MatterBefore};
+ghost use Rattle.wot_reach.specs.Onward.{AreAllUsableIf, AreUsableIf, LeadsOnInto, MatterBefore};
 ghost use Rattle.wot_search.specs.Quest.{LeadsOn, quest_of};
-ghost use Rattle.wot_search.specs.Reach.{number_at};
+ghost use Rattle.wot_reach.specs.Reach.{number_at};
 ghost use Rattle.wot_search.specs.Looked.{Gains, IsNear, Widens};
 ghost use Rattle.wot_search.specs.Growth.{Considers, Only};
 
@@ -13,7 +13,7 @@ use crate::consider::consider;
 use crate::demand::demand;
 use crate::node::Hint;
 use crate::notes::Notes;
-use crate::onward::Onward;
+use wot_reach::Onward;
 use crate::quest::Quest;
 use crate::reached::{Reached, width_at};
 use wot_edge::{Edge, Roads};

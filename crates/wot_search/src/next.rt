@@ -20,7 +20,7 @@ use crate::first::first;
 use crate::node::Goal;
 use crate::notes::Notes;
 use crate::quest::Quest;
-use crate::reach::Reach;
+use wot_reach::Reach;
 use std::alloc::Global;
 use wot_edge::{Path, Roads, Roots, Used};
 use wot_types::{Fpr, Memory};

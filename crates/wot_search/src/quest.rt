@@ -2,7 +2,7 @@
 //!
 //! `specs/Quest.antt` gives it its meaning. `next` and `offers` make quests; everything below reads them.
 use crate::node::Goal;
-use crate::reach::Reach;
+use wot_reach::Reach;
 use wot_edge::{Roots, Used};
 use wot_types::Fpr;
 

@@ -8,7 +8,7 @@ use Rattle.wot_edge.specs.Agree.{Agree}
 use Rattle.wot_edge.specs.Leads.{Leads}
 use Rattle.wot_search.specs.Looked.{Gains, Widens}
 use Rattle.wot_search.specs.Offers.{AreOffers}
-use Rattle.wot_search.specs.Reach.{number_at}
+use Rattle.wot_reach.specs.Reach.{number_at}
 use Rattle.wot_auth.proofs.take.take.Given as goal
 
 abbrev pub invariant-paths : goal.invariant-paths

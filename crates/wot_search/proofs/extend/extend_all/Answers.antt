@@ -1,7 +1,7 @@
 use Rattle.std.proofs.Common.{List, sym, subst}
 use Rattle.wot_edge.specs.declared.edge.EdgeFacts.{EdgeFacts}
 use Rattle.wot_edge.specs.Record.{Has}
-use Rattle.wot_search.specs.Onward.{AreUsableIf}
+use Rattle.wot_reach.specs.Onward.{AreUsableIf}
 use Rattle.wot_search.proofs.extend.extend_all.Goals as goal
 
 pub extend_by-requires-clause-usable : goal.extend_by-requires-clause-usable
