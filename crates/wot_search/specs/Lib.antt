@@ -1,14 +1,4 @@
-pub mod Quest
-pub mod Suffix
-pub mod Layer
-pub mod Looked
-pub mod Choice
-pub mod Rooted
 pub mod Nexting
-pub mod Demand
-pub mod Reached
-pub mod Growth
 pub mod Offers
 pub mod Below
 pub mod Asked
-pub mod Metered

@@ -8,15 +8,12 @@ ghost use Rattle.wot_search.specs.Below.{IsNextBelow};
 ghost use Rattle.wot_search.specs.Offers.{AreOffersFor};
 
 use crate::asked::Asked;
-use crate::first::first;
 use crate::next::bound_amounts;
-use crate::node::Goal;
-use crate::notes::Unnoted;
 use crate::offered::{drop_spent, first_of, open_offer};
 use crate::offers::offers_by;
-use crate::quest::Quest;
 use std::alloc::Global;
 use wot_edge::{Path, Roads, Used};
+use wot_layer::{Goal, Quest, Unnoted, first};
 use wot_types::Memory;
 
 /// What comes next.

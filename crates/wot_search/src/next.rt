@@ -10,19 +10,15 @@ ghost use Rattle.wot_edge.specs.Path.{asks};
 ghost use Rattle.wot_edge.specs.Record.{IsRecord};
 ghost use Rattle.wot_edge.specs.Roots.{root_amount};
 ghost use Rattle.wot_edge.specs.Sums.{use_in};
-ghost use Rattle.wot_search.specs.Looked.{Gains, Widens};
+ghost use Rattle.wot_layer.specs.Looked.{Gains, Widens};
 ghost use Rattle.wot_search.specs.Asked.{IsNextLocally, HasItsReach, LeadsToAsked, question_of};
 ghost use Rattle.wot_search.specs.Nexting.{IsNextOfAgreeing};
 
 use crate::asked::Asked;
-use crate::consulted::Consulted;
-use crate::first::first;
-use crate::node::Goal;
-use crate::notes::Notes;
-use crate::quest::Quest;
 use wot_reach::Reach;
 use std::alloc::Global;
 use wot_edge::{Path, Roads, Roots, Used};
+use wot_layer::{Consulted, Goal, Notes, Quest, first};
 use wot_types::{Fpr, Memory};
 
 /// A law: no root has more than 255.
