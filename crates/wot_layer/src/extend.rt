@@ -13,10 +13,10 @@ use crate::consider::consider;
 use crate::demand::demand;
 use crate::node::Hint;
 use crate::notes::Notes;
-use wot_reach::Onward;
 use crate::quest::Quest;
 use crate::reached::{Reached, width_at};
 use wot_edge::{Edge, Roads};
+use wot_reach::Onward;
 use wot_types::{Fpr, Memory};
 
 /// What a table of reach says about edges into a fingerprint.

@@ -2,8 +2,8 @@
 //!
 //! `specs/Quest.antt` gives it its meaning. `next` and `offers` make quests; everything below reads them.
 use crate::node::Goal;
-use wot_reach::Reach;
 use wot_edge::{Roots, Used};
+use wot_reach::Reach;
 use wot_types::Fpr;
 
 /// What a search looks for: paths from a root to a user ID of the target whose root and edges all have at least this

@@ -15,10 +15,10 @@ ghost use Rattle.wot_search.specs.Asked.{IsNextLocally, HasItsReach, LeadsToAske
 ghost use Rattle.wot_search.specs.Nexting.{IsNextOfAgreeing};
 
 use crate::asked::Asked;
-use wot_reach::Reach;
 use std::alloc::Global;
 use wot_edge::{Path, Roads, Roots, Used};
 use wot_layer::{Consulted, Goal, Notes, Quest, first};
+use wot_reach::Reach;
 use wot_types::{Fpr, Memory};
 
 /// A law: no root has more than 255.

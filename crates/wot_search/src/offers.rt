@@ -20,7 +20,10 @@ use crate::next::bound_amounts;
 use std::alloc::Global;
 use std::collections::BTreeMap;
 use wot_edge::{Path, Roads, Roots, Used};
-use wot_layer::{Choice, Goal, Node, Notes, Quest, Reached, Unnoted, advance, begin, first, first_from, left_of_root, node_at, path_from};
+use wot_layer::{
+    Choice, Goal, Node, Notes, Quest, Reached, Unnoted, advance, begin, first, first_from,
+    left_of_root, node_at, path_from,
+};
 use wot_types::{Fpr, Memory};
 
 /// What a search finds in this many layers. What it looks at isn't noted.
