@@ -1,6 +1,6 @@
 //! The steps of a suffix, collected from one node to the next.
 //!
-//! It stands on `reached`. `turn` and `offers` turn what a search found into paths with it.
+//! It stands on `reached`. `turn` turns what a search found into paths with it.
 ghost use Rattle.std.specs.Prelude.{IfOk};
 ghost use Rattle.wot_layer.specs.Growth.{IsFoundFrom};
 ghost use Rattle.wot_layer.specs.Reached.{look};

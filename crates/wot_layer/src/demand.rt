@@ -1,7 +1,7 @@
 //! What the search demands of an edge, and which of two suffixes it keeps.
 //!
-//! It stands on `wot_edge`, where the rules of depth and user ID are, on `reach`, and on `specs/Demand.antt`. Usability
-//! and scopes are in `consider`.
+//! It stands on `wot_edge`, where the rules of depth and user ID are, on `wot_reach`, and on `specs/Demand.antt`.
+//! Usability and scopes are in `consider`.
 ghost use Rattle.std.specs.Prelude.{◌≡◌, ◌<◌, ℕ, List, nat_le, nat_lt};
 ghost use Rattle.wot_edge.specs.Demand.{demand_of};
 ghost use Rattle.wot_layer.specs.Demand.{candidate_of};

@@ -1,7 +1,7 @@
 //! The first path: layer after layer from the target, up to the first layer with a root.
 //!
-//! It stands on `grow` and `turn`, and on `specs/Growth.antt`. `next` runs it twice, first for the greatest amount and
-//! then for the least list.
+//! It stands on `grow` and `turn`, and on `specs/Growth.antt`. `wot_search` runs it twice, first for the greatest
+//! amount and then for the least list.
 ghost use Rattle.std.specs.Prelude.{◌≡◌, ℕ, List, [], ◌∷◌, IfOk};
 ghost use Rattle.wot_edge.specs.Leads.{Leads};
 ghost use Rattle.wot_edge.specs.Record.{IsRecord};

@@ -1,6 +1,7 @@
 //! One layer more: the edges into every fingerprint of the last layer.
 //!
-//! It stands on `extend` and on `specs/Growth.antt`. `first` and `offers` call it until they find a root.
+//! It stands on `extend` and on `specs/Growth.antt`. `first` calls it until it finds a root, and
+//! `wot_search` for a number of layers.
 ghost use Rattle.std.specs.Prelude.{◌<◌, ℕ, List, OnOk};
 ghost use Rattle.wot_edge.specs.Record.{Has, IsRecord};
 ghost use Rattle.wot_layer.specs.Quest.{LeadsOn, quest_of};

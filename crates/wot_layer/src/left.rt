@@ -1,4 +1,5 @@
-//! The residual amount of a root, by the definitions of `wot_edge`. `choose` and `offers` compare with it.
+//! The residual amount of a root, by the definitions of `wot_edge`. `choose` compares with it, and so do the
+//! offers of `wot_search`.
 ghost use Rattle.std.specs.Prelude.{◌≡◌, ℕ, List};
 ghost use Rattle.wot_edge.specs.Record.{Record};
 ghost use Rattle.wot_edge.specs.Path.{root_left};

@@ -1,5 +1,5 @@
-//! The values of a search: its goal, nodes, choices and hints. They have no invariants; `specs/Layer.antt`
-//! says what a search knows by its nodes.
+//! The values of a search: its goal, nodes, choices and hints. They have no invariants; `specs/Layer.antt` says
+//! what a search knows by its nodes.
 use wot_edge::Step;
 use wot_types::Fpr;
 

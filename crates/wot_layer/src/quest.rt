@@ -1,6 +1,6 @@
 //! What one search looks for: the question, what earlier paths use, and the amount that every edge must have left.
 //!
-//! `specs/Quest.antt` gives it its meaning. `next` and `offers` make quests; everything below reads them.
+//! `specs/Quest.antt` gives it its meaning. `wot_search` makes quests; everything here reads them.
 use crate::node::Goal;
 use wot_edge::{Roots, Used};
 use wot_reach::Reach;

@@ -1,7 +1,7 @@
 //! Offers: the next paths of several roots, found by one search.
 //!
-//! It stands on `grow` and `collect`, and on `specs/Offers.antt`. `offered` takes paths from them while their amounts
-//! last.
+//! It stands on the searches of `wot_layer`, and on `specs/Offers.antt`. `offered` takes paths from them while their
+//! amounts last.
 ghost use Rattle.std.specs.Prelude.{◌≡◌, ℕ, List, nat_le, true, IfOk, OnOk};
 ghost use Rattle.std.specs.List.{list_all};
 ghost use Rattle.std.specs.Map.{values_of};
