@@ -1,18 +1,17 @@
 -- What is demanded of an edge, as its parts.
-use Rattle.std.proofs.Common.{◌≡◌, ◌≢◌, ◌⊎◌, inl, inr, ℕ, suc, zero, ◌+◌, ◌<◌, ◌≤◌, Bool, true, false, cond, List, []}
+use Rattle.std.proofs.Common.{◌≡◌, ◌≢◌, ◌⊎◌, inl, inr, ℕ, suc, zero, ◌+◌, ◌<◌, ◌≤◌, Bool, true, false, List, []}
 use Rattle.std.proofs.Common.{◌∷◌, length, Option, Some, None, refl, sym, ap, subst, ◌∙◌, arith, leb-true, le-leb, not}
-use Rattle.std.specs.Prelude.{◌&&◌, ◌||◌, nat_le, nat_lt, nat_eq}
-use Rattle.std.proofs.lemmas.Bool.{eqb-true, eq-eqb, not-true, ltb-true, lt-ltb, and_parts, and_from, or_cases}
+use Rattle.std.specs.Prelude.{◌&&◌, ◌||◌, nat_le, nat_lt}
+use Rattle.std.proofs.lemmas.Bool.{not-true, ltb-true, lt-ltb, and_parts, and_from, or_cases}
 use Rattle.wot_types.specs.declared.fpr.Fpr.{Fpr}
 use Rattle.wot_types.specs.Fpr.{same_fpr}
-use Rattle.wot_types.specs.FprLaws.{same_fpr-true, same_fpr-refl}
 use Rattle.wot_edge.specs.declared.path.Step.{Step}
 use Rattle.wot_edge.specs.DemandLaws.{apart-false, demand_some, false-apart, place-true, true-place}
 use Rattle.wot_edge.specs.Record.{Row, entry_at}
 use Rattle.wot_edge.specs.Path.{Question, Use, Reaches, step_of, step_left}
 use Rattle.wot_edge.specs.declared.demand.Demand.{Demand}
 use Rattle.wot_edge.specs.declared.demand.Demand.TheVariants.{On, Before}
-use Rattle.wot_edge.specs.Demand.{is_place, is_met, demand_of}
+use Rattle.wot_edge.specs.Demand.{is_met, demand_of}
 use Rattle.wot_check.specs.Demand.{is_in_scope, promises, may_stand, is_within, is_covered}
 use Rattle.wot_check.specs.Demand.{Covers}
 use Rattle.wot_check.specs.Table.{Labels, label_at, IsAtMost}

@@ -1,4 +1,5 @@
-//! What is demanded of an edge by its place on a path: the wanted user ID, or a depth and an issuer other than the target.
+//! What is demanded of an edge by its place on a path: the wanted user ID, or a depth and another issuer than the
+//! target.
 //!
 //! It stands on `roads` and on `specs/Demand.antt`. Usability and scopes are asked for in `wot_search` and `wot_check`,
 //! which both use these tests.

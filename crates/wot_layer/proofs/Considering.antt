@@ -1,9 +1,9 @@
 -- One edge is considered.
 use Rattle.std.proofs.Common.{◌≡◌, ◌≢◌, ◌⊎◌, inl, inr, ℕ, suc, ◌+◌, ◌<◌, ◌≤◌, min, Bool, true, false, cond, List, []}
-use Rattle.std.proofs.Common.{◌∷◌, ◌++◌, length, map, Option, Some, None, refl, sym, ap, subst, ◌∙◌, arith, leb-true}
+use Rattle.std.proofs.Common.{◌∷◌, ◌++◌, length, Option, Some, None, refl, sym, ap, subst, ◌∙◌, arith, leb-true}
 use Rattle.std.proofs.Common.{le-leb, not}
 use Rattle.std.specs.Prelude.{◌&&◌, ◌||◌, nat_le, nat_lt, nat_eq, is_some}
-use Rattle.std.proofs.lemmas.Bool.{eqb-true, eq-eqb, lt-ltb, ltb-true, not-true, and_parts, and_from}
+use Rattle.std.proofs.lemmas.Bool.{lt-ltb, ltb-true, not-true, and_parts, and_from}
 use Rattle.wot_types.specs.declared.fpr.Fpr.{Fpr}
 use Rattle.wot_types.specs.Fpr.{same_fpr}
 use Rattle.wot_types.specs.FprLaws.{same_fpr-true, same_fpr-refl}
@@ -12,7 +12,7 @@ use Rattle.wot_edge.specs.declared.edge.EdgeFacts.{EdgeFacts}
 use Rattle.wot_edge.specs.declared.path.Step.{Step}
 use Rattle.wot_edge.specs.Demand.{is_met, demand_of}
 use Rattle.wot_edge.specs.DemandLaws.{apart-false, demand_some, place-true, suc-zero, true-place}
-use Rattle.wot_edge.specs.Record.{Record, Row, Has, IsRecord, rows_into, edges_into, entry_at}
+use Rattle.wot_edge.specs.Record.{Row, Has, IsRecord, rows_into, edges_into, entry_at}
 use Rattle.wot_edge.specs.Path.{Question, Reaches, start, step_of, step_left}
 use Rattle.wot_layer.specs.declared.node.Node.{Node}
 use Rattle.wot_layer.specs.declared.node.Goal.{Goal}

@@ -8,7 +8,7 @@ use Rattle.wot_types.specs.declared.fpr.Fpr.{Fpr}
 use Rattle.wot_edge.specs.declared.edge.EdgeFacts.{EdgeFacts}
 use Rattle.wot_edge.specs.declared.path.Step.{Step}
 use Rattle.wot_edge.specs.DemandLaws.{suc-zero}
-use Rattle.wot_edge.specs.Record.{Record, Row, Has, IsRecord, rows_into, edges_into}
+use Rattle.wot_edge.specs.Record.{Record, Row, Has, rows_into, edges_into}
 use Rattle.wot_edge.specs.Path.{Reaches, start, step_of, step_left}
 use Rattle.wot_layer.specs.declared.reached.Reached.{Reached}
 use Rattle.wot_layer.specs.Quest.{Quest}

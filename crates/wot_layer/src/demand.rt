@@ -13,7 +13,7 @@ use crate::node::{Goal, Node};
 use crate::quest::Quest;
 use std::cmp::Ordering;
 use wot_edge::{Demand, EdgeFacts, Roads, Step, demand_at, left_of_step, meets, step_from};
-use wot_types::{Fpr, compare_fprs};
+use wot_types::compare_fprs;
 
 /// What the search demands of edges with `size` edges after them.
 pub fn demand<R: Roads>(roads: &R, quest: &Quest, size: u8) -> Demand

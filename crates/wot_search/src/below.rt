@@ -1,6 +1,7 @@
 //! The next path, or only its amount if that is enough: then the least path of this amount isn't looked for.
 //!
-//! It stands on `offered` and `offers`, and on the searches of `wot_layer`. `wot_auth` uses it when only the sum of an answer is wanted.
+//! It stands on `offered` and `offers`, and on the searches of `wot_layer`. `wot_auth` uses it when only the sum of an
+//! answer is wanted.
 ghost use Rattle.std.specs.Prelude.{IfOk, OnOk};
 ghost use Rattle.wot_edge.specs.Sums.{use_in};
 ghost use Rattle.wot_search.specs.Asked.{HasItsReach, question_of};

@@ -1,7 +1,7 @@
 //! `next_path`: the next path after what earlier paths use.
 //!
-//! It stands on the searches of `wot_layer`, and its contract is the definition in `wot_edge/specs/Path.antt`. `wot_auth` makes answers of
-//! it; a faster search has to keep these clauses.
+//! It stands on the searches of `wot_layer`, and its contract is the definition in `wot_edge/specs/Path.antt`.
+//! `wot_auth` makes answers of it; a faster search has to keep these clauses.
 ghost use Rattle.std.specs.Prelude.{◌≤◌, IfOk};
 ghost use Rattle.wot_types.specs.declared.fpr.Fpr.{Fpr as Print};
 ghost use Rattle.wot_edge.specs.Answer.{IsNextOrSpent};
