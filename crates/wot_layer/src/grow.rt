@@ -1,7 +1,7 @@
 //! One layer more: the edges into every fingerprint of the last layer.
 //!
-//! It stands on `extend` and on `specs/Growth.antt`. `first` calls it until it finds a root, and
-//! `wot_search` for a number of layers.
+//! It stands on `extend` and on `specs/Growth.antt`. `first_path` calls it until it finds a root,
+//! and `wot_search` for a number of layers.
 ghost use Rattle.std.specs.Prelude.{◌<◌, ℕ, List, OnOk};
 ghost use Rattle.wot_edge.specs.Record.{IsRecord};
 ghost use Rattle.wot_layer.specs.Quest.{LeadsOn};

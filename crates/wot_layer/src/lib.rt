@@ -10,7 +10,7 @@ mod consider;
 mod consulted;
 mod demand;
 mod extend;
-mod first;
+mod first_path;
 mod grow;
 mod left;
 mod metered;
@@ -21,7 +21,7 @@ mod reached;
 mod turn;
 
 pub use consulted::{Consulted, ConsultedIter};
-pub use first::{begin, first, first_from};
+pub use first_path::{begin, first, first_from};
 pub use grow::advance;
 pub use left::left_of_root;
 pub use metered::{LookFault, Metered};

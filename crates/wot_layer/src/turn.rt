@@ -1,6 +1,6 @@
 //! The end of a search: the path from the chosen root of a layer.
 //!
-//! It stands on `choose` and `collect`. `first` calls it after each layer.
+//! It stands on `choose` and `collect`. `first_path` calls it after each layer.
 ghost use Rattle.std.specs.Prelude.{◌≡◌, ◌≤◌, IfOk};
 ghost use Rattle.wot_layer.specs.Growth.{IsFoundFrom, TurnsTo};
 ghost use Rattle.wot_layer.specs.Quest.{WhateverTold};

@@ -4,7 +4,7 @@ use Rattle.wot_layer.specs.Looked.{Gains, Widens}
 use Rattle.wot_layer.specs.Quest.{quest_of}
 use Rattle.wot_layer.specs.Reached.{look}
 use Rattle.wot_layer.specs.Growth.{IsAfter, IsUnrooted}
-use Rattle.wot_layer.proofs.first.first_from.Given as goal
+use Rattle.wot_layer.proofs.first_path.first_from.Given as goal
 
 abbrev pub invariant-layers : goal.invariant-layers
 invariant-layers g l =
