@@ -137,6 +137,24 @@ pub record Considers (quest : Quest) (size : ℕ) (from : Fpr → Type 0) (old n
   pub seen : AreNoted (look old.nodes) before → (rest : List Step) → BeginsIn quest size from rest
       → IsSeen quest after rest
 
+-- ---- the program's forms of both, for its quest, given what the network says, and for what its states have noted
+
+abbrev pub TriesEdge :
+    {S : Type 0} → (S → Fpr → Type 0) → (List ℕ → Record) → Told → ℕ → ℕ → EdgeFacts → Reached → Reached → S → S
+    → Type 0
+TriesEdge {S} noted told quest size wide edge old new before after =
+    ConsidersEdge (quest_of told quest) size wide edge old new (noted before) (noted after)
+
+abbrev pub ConsidersInto :
+    {S : Type 0} → (S → Fpr → Type 0) → (List ℕ → Record) → Told → ℕ → Fpr → Reached → Reached → S → S → Type 0
+ConsidersInto {S} noted told quest size at old new before after =
+    Considers (quest_of told quest) size (Only at) old new (noted before) (noted after)
+
+abbrev pub ConsidersLayer :
+    {S : Type 0} → (S → Fpr → Type 0) → (List ℕ → Record) → Told → ℕ → List Fpr → Reached → Reached → S → S → Type 0
+ConsidersLayer {S} noted told quest size layer old new before after =
+    Considers (quest_of told quest) size (Has layer) old new (noted before) (noted after)
+
 -- ---- one layer
 
 -- what is known after a layer

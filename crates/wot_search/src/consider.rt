@@ -7,7 +7,7 @@ ghost use Rattle.wot_edge.specs.Record.{Record, Has, IsRecord, EachRow, edges_in
 ghost use Rattle.wot_search.specs.Demand.{demand_of};
 ghost use Rattle.wot_search.specs.Quest.{quest_of};
 ghost use Rattle.wot_search.specs.Reached.{look};
-ghost use Rattle.wot_search.specs.Growth.{wanted_of, may_stand_of, ConsidersEdge, PutsIfStands};
+ghost use Rattle.wot_search.specs.Growth.{wanted_of, may_stand_of, PutsIfStands, TriesEdge};
 ghost use Rattle.wot_search.specs.Looked.{Gains, Widens};
 ghost use Rattle.wot_search.specs.Onward.{IsUsable};
 
@@ -127,8 +127,8 @@ pub fn consider<R: Roads, N: Notes>(
     requires lawful { (id : List ℕ) → IsRecord (R.told roads.now id) }
     requires demand { demand ≡ demand_of (quest_of (R.told roads.now) quest.now).question size }
     requires size { size < 255 }
-    ensures considered { OnOk result (ConsidersEdge (quest_of (R.told roads.now) quest.now) size width edge.now
-        reached.old reached.new (N.noted notes.old) (N.noted notes.new)) }
+    ensures all { OnOk result (TriesEdge N.noted (R.told roads.now) quest.now size width edge.now
+        reached.old reached.new notes.old notes.new) }
     ensures grows { Widens (N.noted notes.old) (N.noted notes.new) }
     ensures gains { Gains (λ fpr. fpr ≡ edge.now.issuer) (N.noted notes.old) (N.noted notes.new) }
 {

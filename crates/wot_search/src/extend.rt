@@ -4,10 +4,10 @@
 ghost use Rattle.std.specs.Prelude.{◌≡◌, ◌<◌, ℕ, List, OnOk};
 ghost use Rattle.wot_edge.specs.Record.{IsRecord};
 ghost use Rattle.wot_search.specs.Onward.{AreAllUsableIf, AreUsableIf, LeadsOnInto, MatterBefore};
-ghost use Rattle.wot_search.specs.Quest.{LeadsOn, quest_of};
+ghost use Rattle.wot_search.specs.Quest.{LeadsOn};
 ghost use Rattle.wot_search.specs.Reach.{number_at};
 ghost use Rattle.wot_search.specs.Looked.{Gains, IsNear, Widens};
-ghost use Rattle.wot_search.specs.Growth.{Considers, Only};
+ghost use Rattle.wot_search.specs.Growth.{ConsidersInto};
 
 use crate::consider::consider;
 use crate::demand::demand;
@@ -55,8 +55,8 @@ pub fn extend<R: Roads, N: Notes>(
     requires size { size < 255 }
     requires lawful { (id : List ℕ) → IsRecord (R.told roads.now id) }
     requires onward { LeadsOn (R.told roads.now) quest.now }
-    ensures considered { OnOk result (Considers (quest_of (R.told roads.now) quest.now) size (Only at.now)
-        reached.old reached.new (N.noted notes.old) (N.noted notes.new)) }
+    ensures all { OnOk result (ConsidersInto N.noted (R.told roads.now) quest.now size at.now
+        reached.old reached.new notes.old notes.new) }
     ensures grows { Widens (N.noted notes.old) (N.noted notes.new) }
     ensures gains { Gains (IsNear (R.told roads.now quest.now.uid.now) at.now) (N.noted notes.old) (N.noted notes.new) }
 {
@@ -90,8 +90,8 @@ fn extend_onward<R: Roads, N: Notes>(
     requires size { size < 255 }
     requires lawful { (id : List ℕ) → IsRecord (R.told roads.now id) }
     requires leads { LeadsOnInto (R.told roads.now) (number_at quest.now.reach.now) at.now onward.now }
-    ensures considered { OnOk result (Considers (quest_of (R.told roads.now) quest.now) size (Only at.now)
-        reached.old reached.new (N.noted notes.old) (N.noted notes.new)) }
+    ensures all { OnOk result (ConsidersInto N.noted (R.told roads.now) quest.now size at.now
+        reached.old reached.new notes.old notes.new) }
     ensures grows { Widens (N.noted notes.old) (N.noted notes.new) }
     ensures gains { Gains (IsNear (R.told roads.now quest.now.uid.now) at.now) (N.noted notes.old) (N.noted notes.new) }
 {
@@ -119,8 +119,8 @@ fn extend_all<R: Roads, N: Notes>(
 ) -> Result<(), Memory>
     requires size { size < 255 }
     requires usable { AreAllUsableIf (R.told roads.now) usable at.now }
-    ensures considered { OnOk result (Considers (quest_of (R.told roads.now) quest.now) size (Only at.now)
-        reached.old reached.new (N.noted notes.old) (N.noted notes.new)) }
+    ensures all { OnOk result (ConsidersInto N.noted (R.told roads.now) quest.now size at.now
+        reached.old reached.new notes.old notes.new) }
     ensures grows { Widens (N.noted notes.old) (N.noted notes.new) }
     ensures gains { Gains (IsNear (R.told roads.now quest.now.uid.now) at.now) (N.noted notes.old) (N.noted notes.new) }
 {
@@ -148,8 +148,8 @@ fn extend_by<R: Roads, N: Notes>(
     requires lawful { (id : List ℕ) → IsRecord (R.told roads.now id) }
     requires matter { MatterBefore (R.told roads.now) (number_at quest.now.reach.now) size at.now edges.now }
     requires usable { AreUsableIf (R.told roads.now) hints.usable edges.now }
-    ensures considered { OnOk result (Considers (quest_of (R.told roads.now) quest.now) size (Only at.now)
-        reached.old reached.new (N.noted notes.old) (N.noted notes.new)) }
+    ensures all { OnOk result (ConsidersInto N.noted (R.told roads.now) quest.now size at.now
+        reached.old reached.new notes.old notes.new) }
     ensures grows { Widens (N.noted notes.old) (N.noted notes.new) }
     ensures gains { Gains (IsNear (R.told roads.now quest.now.uid.now) at.now) (N.noted notes.old) (N.noted notes.new) }
 {

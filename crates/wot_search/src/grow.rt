@@ -2,10 +2,10 @@
 //!
 //! It stands on `extend` and on `specs/Growth.antt`. `first` and `offers` call it until they find a root.
 ghost use Rattle.std.specs.Prelude.{◌<◌, ℕ, List, OnOk};
-ghost use Rattle.wot_edge.specs.Record.{Has, IsRecord};
-ghost use Rattle.wot_search.specs.Quest.{LeadsOn, quest_of};
+ghost use Rattle.wot_edge.specs.Record.{IsRecord};
+ghost use Rattle.wot_search.specs.Quest.{LeadsOn};
 ghost use Rattle.wot_search.specs.Looked.{Gains, IsNearOne, Widens};
-ghost use Rattle.wot_search.specs.Growth.{Considers, GoesOn, StaysUnrooted, GainsAfter};
+ghost use Rattle.wot_search.specs.Growth.{ConsidersLayer, GoesOn, StaysUnrooted, GainsAfter};
 
 use crate::extend::extend;
 use crate::notes::Notes;
@@ -29,8 +29,8 @@ fn grow<R: Roads, N: Notes>(
     requires size { size < 255 }
     requires lawful { (id : List ℕ) → IsRecord (R.told roads.now id) }
     requires onward { LeadsOn (R.told roads.now) quest.now }
-    ensures considered { OnOk result (Considers (quest_of (R.told roads.now) quest.now) size (Has layer.now)
-        reached.old reached.new (N.noted notes.old) (N.noted notes.new)) }
+    ensures all { OnOk result (ConsidersLayer N.noted (R.told roads.now) quest.now size layer.now
+        reached.old reached.new notes.old notes.new) }
     ensures grows { Widens (N.noted notes.old) (N.noted notes.new) }
     ensures gains { Gains (IsNearOne (R.told roads.now quest.now.uid.now) layer.now)
         (N.noted notes.old) (N.noted notes.new) }

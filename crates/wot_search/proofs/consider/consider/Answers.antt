@@ -6,8 +6,8 @@ use Rattle.wot_search.proofs.Considering.{taken_none, noted_none, wanted_issuer,
 use Rattle.wot_search.proofs.Extending.{advances_refl}
 use Rattle.wot_search.proofs.consider.consider.Goals as goal
 
-pub returns-in-None-clause-considered : goal.returns-in-None-clause-considered
-returns-in-None-clause-considered g c =
+pub returns-in-None-clause-all : goal.returns-in-None-clause-all
+returns-in-None-clause-all g c =
     let quest = quest_of (g.R.Roads.told c.args.roads.now) c.args.quest.now in
     let w = rw (c.facts.ensures.facts, c.requires.demand) at
     (sym (c.wanted.ensures (g.R.Roads.told c.args.roads.now)) ∙ c.in-None.is) in
@@ -20,8 +20,8 @@ returns-in-None-clause-considered g c =
           (look c.args.reached.now.nodes) (g.N.Notes.noted c.args.notes.now) w rest long noted;
     }
 
-pub returns-in_ok-keep-in-Some-clause-considered : goal.returns-in_ok-keep-in-Some-clause-considered
-returns-in_ok-keep-in-Some-clause-considered g c =
+pub returns-in_ok-keep-in-Some-clause-all : goal.returns-in_ok-keep-in-Some-clause-all
+returns-in_ok-keep-in-Some-clause-all g c =
     let quest = quest_of (g.R.Roads.told c.args.roads.now) c.args.quest.now in
     let size = c.args.size in
     let width = c.args.width in

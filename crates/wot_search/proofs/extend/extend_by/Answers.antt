@@ -54,7 +54,7 @@ edges-preserved g c =
     let t = (edge_into told (c.requires.lawful c.args.quest.now.uid.now) c.args.at.now x into).1 in
     let inv = c.edges.invariant in
     let ok = c.in_ok-consider.ensures in
-    let one = ok.considered in
+    let one = ok.all in
     record {
       grows = λ ready.
           let a = inv.grows ready in
@@ -82,8 +82,8 @@ edges-preserved g c =
       ];
     }
 
-pub returns-clause-considered : goal.returns-clause-considered
-returns-clause-considered g c =
+pub returns-clause-all : goal.returns-clause-all
+returns-clause-all g c =
     let quest = quest_of (g.R.Roads.told c.args.roads.now) c.args.quest.now in
     let inv = c.edges.invariant in
     let all = c.requires.matter.all c.args.quest.now.uid.now in

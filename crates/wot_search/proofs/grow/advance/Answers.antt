@@ -36,7 +36,7 @@ returns-clause-after g c a =
     let layer = c.deref.ensures.value ∙ ap (λ (v : Vec Fpr Global). v.items) c.replace-layer.ensures.value in
     let empty = ap (λ (v : Vec Fpr Global). v.items) c.replace-layer.ensures.after ∙ c.new.ensures.items in
     after_more quest c.args.size c.args.reached.now _ c.grow.new.reached _ (g.N.Notes.noted c.args.notes.now)
-    (g.N.Notes.noted c.grow.new.notes) c.in_ok-grow.ensures.considered a refl empty layer c.in_ok-grow.ensures.grows
+    (g.N.Notes.noted c.grow.new.notes) c.in_ok-grow.ensures.all a refl empty layer c.in_ok-grow.ensures.grows
 
 pub returns-clause-unrooted : goal.returns-clause-unrooted
 returns-clause-unrooted g c a u =
@@ -44,7 +44,7 @@ returns-clause-unrooted g c a u =
     let found = look c.args.reached.now.nodes in
     let layer = c.deref.ensures.value ∙ ap (λ (v : Vec Fpr Global). v.items) c.replace-layer.ensures.value in
     let empty = ap (λ (v : Vec Fpr Global). v.items) c.replace-layer.ensures.after ∙ c.new.ensures.items in
-    let all = c.in_ok-grow.ensures.considered in
+    let all = c.in_ok-grow.ensures.all in
     unrooted_more quest c.args.size found (look c.grow.new.reached.nodes)
     (all.grows (ready_start quest c.args.size c.args.reached.now _ _ (g.N.Notes.noted c.args.notes.now) a refl empty
     layer)).onward u

@@ -13,7 +13,7 @@ layer-preserved g c =
     let has = has_at layer i _ c.layer-test.true in
     let inv = c.layer.invariant in
     let ok = c.in_ok-extend.ensures in
-    let one = ok.considered in
+    let one = ok.all in
     record {
       grows = λ ready. advances_trans quest c.args.size c.args.reached.now c.layer.reached c.extend.new.reached
           (inv.grows ready)
@@ -39,8 +39,8 @@ returns-in_err-extend-clause-gains g c fpr h =
           (_, has_at c.args.layer.now c.layer.at-index _ c.layer-test.true, near)
     ]
 
-pub returns-clause-considered : goal.returns-clause-considered
-returns-clause-considered g c =
+pub returns-clause-all : goal.returns-clause-all
+returns-clause-all g c =
     let quest = quest_of (g.R.Roads.told c.args.roads.now) c.args.quest.now in
     let inv = c.layer.invariant in
     record {
