@@ -19,7 +19,7 @@ use Rattle.wot_held.specs.declared.kept.Kept.{Kept}
 use Rattle.wot_held.specs.Keyring.{Certificates, Keyring, certificates_in, is_fpr, kept_at, stamp_at}
 use Rattle.wot_held.specs.Kept.{AreStamped}
 use Rattle.wot_held.specs.Later.{IsLater, IsLaterAt, IsUnaltered, SaysSame}
-use Rattle.wot_search.specs.Making.{IsMaking}
+use Rattle.wot_reach.specs.Making.{IsMaking}
 use Rattle.wot_network.specs.Local.{AgreeAt, IsLocal}
 use Rattle.wot_network.specs.Told.{record_of}
 use Rattle.wot_cache.specs.declared.answers.KeptAnswer.{KeptAnswer}

@@ -13,7 +13,7 @@ use Rattle.wot_edge.specs.Roots.{root_amount}
 use Rattle.wot_held.specs.Keyring.{Keyring, certificates_in, stamp_at}
 use Rattle.wot_held.specs.Later.{IsLater}
 use Rattle.wot_network.specs.Told.{record_of}
-use Rattle.wot_search.specs.Making.{IsMaking}
+use Rattle.wot_reach.specs.Making.{IsMaking}
 use Rattle.wot_cache.specs.declared.answers.KeptAnswer.{KeptAnswer}
 use Rattle.wot_cache.specs.declared.answers.KeptReach.{KeptReach}
 use Rattle.wot_cache.specs.declared.answers.Looked.{Looked}

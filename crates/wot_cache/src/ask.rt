@@ -6,7 +6,7 @@ ghost use Rattle.wot_edge.specs.Answer.{IsAnswer, amount_of};
 ghost use Rattle.wot_edge.specs.Record.{IsRecord};
 ghost use Rattle.wot_network.specs.Net.{told_of};
 ghost use Rattle.wot_network.specs.Roads.{present_of};
-ghost use Rattle.wot_search.specs.Reach.{IsReach};
+ghost use Rattle.wot_reach.specs.Reach.{IsReach};
 ghost use Rattle.wot_cache.specs.Answers.{AreAllRight, AreRightIn, KeepsFor};
 ghost use Rattle.wot_cache.specs.Question.{asked_of, present_in, IsTold};
 

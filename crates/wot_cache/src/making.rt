@@ -3,7 +3,7 @@
 ghost use Rattle.std.specs.Prelude.{◌≡◌, IfOk, IfSome};
 ghost use Rattle.wot_network.specs.Net.{told_of};
 ghost use Rattle.wot_network.specs.Roads.{present_of};
-ghost use Rattle.wot_search.specs.Making.{IsMaking};
+ghost use Rattle.wot_reach.specs.Making.{IsMaking};
 ghost use Rattle.wot_cache.specs.Answers.{AreRightIn};
 ghost use Rattle.wot_cache.specs.Question.{present_in};
 

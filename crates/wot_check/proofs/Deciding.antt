@@ -14,7 +14,8 @@ use Rattle.wot_check.specs.declared.checking.Checked.TheVariants.{Yes, BadPaths,
 use Rattle.wot_check.specs.declared.claimed.ClaimedStep.{ClaimedStep}
 use Rattle.wot_check.specs.Absence.{Accepts, Excludes, Rejects, RootsSpent, IsAbsence, IsChecked, is_in_order}
 use Rattle.wot_check.specs.Claim.{AreGood, Claim, claimed_step, EachShows, Shows}
-use Rattle.wot_check.specs.Demand.{Covers, demand_of, is_covered, may_stand}
+use Rattle.wot_edge.specs.Demand.{demand_of}
+use Rattle.wot_check.specs.Demand.{Covers, is_covered, may_stand}
 use Rattle.wot_check.specs.Table.{IsTable, Labels}
 use Rattle.wot_check.specs.Trace.{begin_of, Follows, Traces, has_name}
 use Rattle.wot_check.proofs.Entries.{has_lookup, lookup_has}

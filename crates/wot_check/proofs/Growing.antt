@@ -10,13 +10,15 @@ use Rattle.wot_edge.specs.declared.path.Step.{Step}
 use Rattle.wot_edge.specs.Record.{EachRow, Row, Has, rows_into, edges_into}
 use Rattle.wot_edge.specs.Path.{Question, Use, Stands, start, step_of}
 use Rattle.wot_check.specs.declared.growth.Growth.{Growth}
-use Rattle.wot_check.specs.declared.demand.Demand.{Demand}
+use Rattle.wot_edge.specs.declared.demand.Demand.{Demand}
 use Rattle.wot_check.specs.Table.{Labels, label_at, IsAtMost}
-use Rattle.wot_check.specs.Demand.{Covers, demand_of, is_covered, may_stand}
+use Rattle.wot_edge.specs.Demand.{demand_of}
+use Rattle.wot_check.specs.Demand.{Covers, is_covered, may_stand}
 use Rattle.wot_check.specs.Growth.{IsGiven, GivesIf, is_new, Labelled, Leads, IsLayered, Extends, Advances, GrowsInto}
 use Rattle.wot_check.specs.Growth.{CoversLayer, LeadsFromLayer}
 use Rattle.wot_check.proofs.Demands.{stands_reaches, within_some, some_within, covered_within, within_covered}
-use Rattle.wot_check.proofs.Rows.{row_edge, row_there, first_or_later, none_left}
+use Rattle.wot_edge.specs.RowLaws.{row_edge, row_there}
+use Rattle.wot_check.proofs.Rows.{first_or_later, none_left}
 
 -- ---- lists
 

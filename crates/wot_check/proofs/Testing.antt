@@ -6,11 +6,13 @@ use Rattle.wot_edge.specs.Record.{EachRow, Row, Has, rows_into, edges_into}
 use Rattle.wot_edge.specs.Path.{Question, Use}
 use Rattle.wot_check.specs.Table.{Labels, IsTable}
 use Rattle.wot_check.specs.Absence.{Excludes, OthersLabelled, RootsSpent}
-use Rattle.wot_check.specs.Demand.{Covers, demand_of, is_covered}
+use Rattle.wot_edge.specs.Demand.{demand_of}
+use Rattle.wot_check.specs.Demand.{Covers, is_covered}
 use Rattle.wot_check.specs.Growth.{IsRooted}
 use Rattle.wot_check.proofs.Demands.{covers_at, at_covers, covers_last, last_covers}
 use Rattle.wot_check.proofs.Entries.{has_lookup, lookup_has, label_small}
-use Rattle.wot_check.proofs.Rows.{row_there, first_or_later, none_left}
+use Rattle.wot_edge.specs.RowLaws.{row_there}
+use Rattle.wot_check.proofs.Rows.{first_or_later, none_left}
 
 -- each edge into a fingerprint is covered, or is still to be gone through
 abbrev pub CoveredSoFar : Question → Use → ℕ → Labels → Fpr → List EdgeFacts → Type 0

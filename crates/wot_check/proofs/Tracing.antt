@@ -13,10 +13,11 @@ use Rattle.wot_edge.specs.Record.{Row, Has, IsRecord, rows_into, edges_into}
 use Rattle.wot_edge.specs.Path.{Question, Use, Stands, start, step_of, step_left}
 use Rattle.wot_check.specs.declared.claimed.ClaimedStep.{ClaimedStep}
 use Rattle.wot_check.specs.Claim.{claimed_step}
-use Rattle.wot_check.specs.Demand.{demand_of, may_stand}
+use Rattle.wot_edge.specs.Demand.{demand_of}
+use Rattle.wot_check.specs.Demand.{may_stand}
 use Rattle.wot_check.specs.Trace.{begin_of, Follows, Traces, IsNamed, IsFollower, has_name}
 use Rattle.wot_check.proofs.Demands.{stands_reaches, reaches_stands}
-use Rattle.wot_check.proofs.Rows.{row_edge}
+use Rattle.wot_edge.specs.RowLaws.{row_edge}
 use Rattle.wot_check.proofs.Trails.{Trail}
 
 -- ---- names

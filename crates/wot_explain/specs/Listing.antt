@@ -10,7 +10,7 @@ use Rattle.wot_edge.specs.Record.{IsRecord, Record}
 use Rattle.wot_edge.specs.declared.path.Path.{Path}
 use Rattle.wot_held.specs.Keyring.{Certificates, Keyring, certificates_in}
 use Rattle.wot_network.specs.Told.{record_of}
-use Rattle.wot_search.specs.Reach.{IsReach}
+use Rattle.wot_reach.specs.Reach.{IsReach}
 use Rattle.wot_standing.specs.Standing.{own}
 use Rattle.wot_explain.specs.declared.bind.Bind.{Bind}
 use Rattle.wot_explain.specs.declared.sought.Sought.{Sought}

@@ -1,7 +1,7 @@
 use Rattle.std.specs.Prelude.{IfOk, IfSome}
 use Rattle.std.proofs.Common.{Option, sym, subst}
 use Rattle.wot_reach.specs.declared.making.Making.{Making}
-use Rattle.wot_search.specs.Making.{IsMaking}
+use Rattle.wot_reach.specs.Making.{IsMaking}
 use Rattle.wot_network.specs.Net.{Present, told_of}
 use Rattle.wot_cache.specs.Question.{present_in}
 use Rattle.wot_cache.proofs.making.advanced.Goals as goal

@@ -1,6 +1,6 @@
 use Rattle.std.proofs.Common.{◌+◌, List, ℕ, subst}
 use Rattle.wot_edge.specs.Record.{EachRow, Has, Row, edges_into}
-use Rattle.wot_check.specs.declared.demand.Demand.{Demand}
+use Rattle.wot_edge.specs.declared.demand.Demand.{Demand}
 use Rattle.wot_check.specs.Asked.{question_of, used_in}
 use Rattle.wot_check.specs.Growth.{GivesIf, is_new}
 use Rattle.wot_check.proofs.Rows.{all_into, into_own, into_target, within_first, within_later}

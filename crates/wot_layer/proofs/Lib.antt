@@ -1,0 +1,16 @@
+pub mod Order
+pub mod Comparing
+pub mod Suffixes
+pub mod Keeping
+pub mod Choosing
+pub mod Layers
+pub mod Rooted
+pub mod Picking
+pub mod Local
+pub mod Considering
+pub mod Extending
+pub mod Growing
+pub mod Finding
+pub mod Members
+pub mod Taking
+pub mod Collecting

@@ -1,0 +1,5 @@
+pub mod Within
+pub mod Leading
+pub mod Enough
+pub mod Slotting
+pub mod Checked
