@@ -1,7 +1,7 @@
 -- Marks of views. Networks are kept for open views only, and their marks are what contracts see of them.
 use Rattle.std.proofs.Common.{◌≡◌, ℕ, Bool, true, false, cond, List, [], ◌∷◌, Option, Some, None, Result, Ok, Err, OnOk}
 use Rattle.std.proofs.Common.{OnErr, refl, sym, ap, subst, ◌∙◌}
-use Rattle.std.specs.Prelude.{IfOk, IfSome, IsSomeAnd, is_ok}
+use Rattle.std.specs.Prelude.{IfOk, IsSomeAnd, is_ok}
 use Rattle.std.specs.declared.cmp.Ordering.{Ordering}
 use Rattle.std.specs.declared.cmp.Ordering.TheVariants.{Less, Equal, Greater}
 use Rattle.std.specs.BTreeMap.{insert_entry}
@@ -18,8 +18,8 @@ use Rattle.wot_network.specs.Net.{Net, Marks, marks_of}
 use Rattle.wot_cache.specs.declared.view.View.{View}
 use Rattle.wot_cache.specs.Answers.{AllAnswers, KeepsFor, OfView}
 use Rattle.wot_cache.specs.Inside.{AllFit, AreOfOpen, IsEngine, Networks, network_at}
-use Rattle.wot_cache.specs.Marks.{IsForgotten, IsMadeFor, IsRefreshed, OthersStay, marks_by, marks_in, marks_shown}
-use Rattle.wot_cache.specs.Marks.{shown}
+use Rattle.wot_cache.specs.Marks.{End, IsForgotten, IsMadeFor, IsRefreshed, OthersStay, end_at, end_in, marks_by}
+use Rattle.wot_cache.specs.Marks.{marks_in, marks_shown, shown}
 use Rattle.wot_cache.specs.State.{Engine, OtherMarksStay, marks_at}
 use Rattle.wot_cache.specs.Turns.{Turns}
 use Rattle.wot_cache.specs.Views.{MovesTime, SetsAmount, Views, is_name, view_at, with_amount}
@@ -246,12 +246,10 @@ pub if_err : {T E : Type 0} (s : Result T E) (P : T → Type 0) (e : E) → s �
 if_err {T} {E} s P e is = subst (λ (r : Result T E). IfOk r P) (sym is) tt
 
 -- the bounds of a refresh hold whatever the question answers
-pub made_as : {A B T E : Type 0} (o : Option View) (r : Result A B) (s : Result T E) (k : Keyring) (old new : Marks)
-    (before after : ℕ)
-    → (is_ok s ≡ true → is_ok r ≡ true) → IfSome o (λ (v : View). IsMadeFor r k v.time old new before after)
-    → IfSome o (λ (v : View). IsMadeFor s k v.time old new before after)
-made_as None r s k old new before after less m = tt
-made_as (Some v) r s k old new before after less m = record {
+pub made_as : {A B T E : Type 0} (o : Option View) (r : Result A B) (s : Result T E) (k : Keyring) (old new : End)
+    → (is_ok s ≡ true → is_ok r ≡ true) → IsMadeFor r o k old new → IsMadeFor s o k old new
+made_as None r s k old new less m = tt
+made_as (Some v) r s k old new less m = record {
   marks = on_less r s _ less m.marks;
   stay = m.stay;
   least = on_less r s _ less m.least;
@@ -262,18 +260,16 @@ made_as (Some v) r s k old new before after less m = record {
 pub left : {T E : Type 0} {turns : Turns} (s : Result T E) (engine : Engine) (k new : Keyring) (views more : Views)
     (old rest : Networks) (name : List ℕ) (before after : ℕ)
     → shown k views old turns ≡ engine → new ≡ k → more ≡ views
-    → IfSome (view_at views name) (λ (v : View). IsMadeFor s k v.time (marks_in old name) (marks_in rest name) before
-    after)
+    → IsMadeFor s (view_at views name) k (end_in old name before) (end_in rest name after)
     → OthersStay name old rest → (view_at views name ≡ None → (rest ≡ old) × (after ≡ before)) →
     IsRefreshed s name engine (shown new more rest turns) before after
 left {turns = turns} s engine k new views more old rest name before after seen same equal made others closed =
     subst (λ (e : Engine). IsRefreshed s name e (shown new more rest turns) before after) seen (record {
       stays = record { keyring = same; views = equal; turns = refl };
-      made = subst (λ (m : Marks). IfSome (view_at views name) (λ (v : View). IsMadeFor s k v.time m
-          (marks_at (shown new more rest turns) name) before after))
-          (sym (shown_at old name))
-          (subst (λ (m : Marks). IfSome (view_at views name) (λ (v : View). IsMadeFor s k v.time (marks_in old name) m
-          before after)) (sym (shown_at rest name)) made);
+      made = subst (λ (m : Marks). IsMadeFor s (view_at views name) k (record { marks = m; made = before })
+          (end_at (shown new more rest turns) name after)) (sym (shown_at old name))
+          (subst (λ (m : Marks). IsMadeFor s (view_at views name) k (end_in old name before)
+          (record { marks = m; made = after })) (sym (shown_at rest name)) made);
       others = others_marked turns (shown k views old turns) k new views more old rest name refl others;
       closed = λ none. (
         shown_at rest name ∙ ap (λ (ns : Networks). marks_in ns name) (closed none).0

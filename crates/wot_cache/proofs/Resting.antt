@@ -30,9 +30,9 @@ use Rattle.wot_cache.specs.Basis.{AllIn, AreCalm, AreViewsOn, Basis, CarriesOn, 
 use Rattle.wot_cache.specs.Basis.{IsKeptAt, IsKeptOn, IsKeyringOn, IsPresent, IsSameOrClosed, IsUndisturbed, RestsAt}
 use Rattle.wot_cache.specs.Basis.{RestsOn, is_in, question_on}
 use Rattle.wot_cache.specs.Inside.{Networks}
-use Rattle.wot_cache.specs.Marks.{IsRefreshed, shown}
+use Rattle.wot_cache.specs.Marks.{IsRefreshed, end_at, shown}
 use Rattle.wot_cache.specs.Question.{OfQuestion, question_in}
-use Rattle.wot_cache.specs.State.{Engine, StaysButMarks, marks_at, state_of}
+use Rattle.wot_cache.specs.State.{Engine, StaysButMarks, state_of}
 use Rattle.wot_cache.specs.Turns.{Turns}
 use Rattle.wot_cache.specs.Views.{TellsOpen, Views, view_at}
 use Rattle.wot_cache.proofs.Asking.{if_some}
@@ -455,7 +455,7 @@ pub refreshed_as : {A B T E : Type 0} (r : Result A B) (s : Result T E) (name : 
     → IsRefreshed r name old new before after → IsRefreshed s name old new before after
 refreshed_as r s name old new before after less is = record {
   stays = is.stays;
-  made = made_as (view_at old.views name) r s old.keyring (marks_at old name) (marks_at new name) before after less
+  made = made_as (view_at old.views name) r s old.keyring (end_at old name before) (end_at new name after) less
       is.made;
   others = is.others;
   closed = is.closed;

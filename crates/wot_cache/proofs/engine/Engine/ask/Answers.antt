@@ -1,6 +1,6 @@
 use Rattle.std.proofs.Common.{Ok, refl}
 use Rattle.std.proofs.lemmas.Result.{err_from_is_err_and}
-use Rattle.wot_cache.specs.Marks.{marks_in}
+use Rattle.wot_cache.specs.Marks.{end_in}
 use Rattle.wot_cache.specs.Views.{view_at}
 use Rattle.wot_cache.proofs.Asking.{few_seen, if_ok, if_some, present_seen, right_kept, right_seen, seen_after}
 use Rattle.wot_cache.proofs.Asking.{told_seen}
@@ -81,8 +81,8 @@ returns-clause-refreshed c =
     let name = c.args.view.now in
     let made = made_as (view_at c.self.inside.networked.views.entries name) (Ok tt) c.answer.result
     c.self.inside.networked.keyring
-    (marks_in c.self.inside.networked.networks.entries name) (marks_in c.refresh.new.self.networks.entries name)
-    c.args.steps.now.made c.refresh.new.steps.made
+    (end_in c.self.inside.networked.networks.entries name c.args.steps.now.made)
+    (end_in c.refresh.new.self.networks.entries name c.refresh.new.steps.made)
     (λ ok. refl) c.in_ok-refresh.ensures.made in
     left c.answer.result c.args.self.now c.self.inside.networked.keyring c.refresh.new.self.keyring
     c.self.inside.networked.views.entries
@@ -96,8 +96,9 @@ returns-in_err-refresh-clause-refreshed c =
     let p = err_from_is_err_and c.from_residual.result c.from_residual.ensures.1 in
     let made = made_as (view_at c.self.inside.networked.views.entries c.args.view.now) c.refresh.result
     c.from_residual.result
-    c.self.inside.networked.keyring (marks_in c.self.inside.networked.networks.entries c.args.view.now)
-    (marks_in c.refresh.new.self.networks.entries c.args.view.now) c.args.steps.now.made c.refresh.new.steps.made
+    c.self.inside.networked.keyring
+    (end_in c.self.inside.networked.networks.entries c.args.view.now c.args.steps.now.made)
+    (end_in c.refresh.new.self.networks.entries c.args.view.now c.refresh.new.steps.made)
     (err_less c.refresh.result c.from_residual.result p.0 p.1) c.refresh.ensures.made in
     left c.from_residual.result c.args.self.now c.self.inside.networked.keyring c.refresh.new.self.keyring
     c.self.inside.networked.views.entries
