@@ -31,8 +31,8 @@ if_ok (Ok a) P Q step p = step a p
 if_ok (Err e) P Q step p = tt
 
 -- an engine with only its networks replaced keeps its keyring and views
-pub same_engine : {marks : ViewMarks} {turns : Turns} (engine : Engine) (k new : Keyring) (views more : Views) →
-    record { keyring = k; views = views; marks = marks; turns = turns } ≡ engine
+pub same_engine : {marks : ViewMarks} {turns : Turns} {answers : AllAnswers} (engine : Engine) (k new : Keyring)
+    (views more : Views) → record { keyring = k; views = views; marks = marks; turns = turns; answers = answers } ≡ engine
     → new ≡ k → more ≡ views → engine_of new more ≡ engine_of engine.keyring engine.views
 same_engine engine k new views more seen same equal =
     ap (λ (k : Keyring). engine_of k more) same ∙ ap (λ (vs : Views). engine_of k vs) equal
@@ -59,9 +59,10 @@ as_asked P engine name p target uid seen holds =
     (subst (λ (roots : List (Fpr × ℕ)). P (asked_over (present_of p.roads) roots target uid)) are.roots holds)) seen
 
 -- the parts are still those of the view after the engine's networks are replaced
-pub seen_after : {marks : ViewMarks} {turns : Turns} (engine : Engine) (k new : Keyring) (views more : Views)
-    (name : List ℕ) (p : Parts)
-    → record { keyring = k; views = views; marks = marks; turns = turns } ≡ engine → new ≡ k → more ≡ views →
+pub seen_after : {marks : ViewMarks} {turns : Turns} {answers : AllAnswers} (engine : Engine) (k new : Keyring)
+    (views more : Views) (name : List ℕ) (p : Parts)
+    → record { keyring = k; views = views; marks = marks; turns = turns; answers = answers } ≡ engine → new ≡ k
+    → more ≡ views →
     IsSomeAnd (view_at more name) (λ (v : View). ArePartsOf new v p) → AreSeen engine name p
 seen_after engine k new views more name p is same equal seen =
     subst (λ (e : Engine). AreSeen e name p) (same_engine engine k new views more is same equal) seen
@@ -82,7 +83,7 @@ few_of limits k views name p within small seen = by (view_at views name) refl se
 -- the parts have no more roots than the limit allows
 pub few_seen : {marks : ViewMarks} {turns : Turns} (engine : Engine) (k : Keyring) (views : Views) (networks : Networks)
     (answers : AllAnswers) (name : List ℕ) (p : Parts)
-    → record { keyring = k; views = views; marks = marks; turns = turns } ≡ engine →
+    → record { keyring = k; views = views; marks = marks; turns = turns; answers = answers } ≡ engine →
     IsEngine k views networks answers turns → AreSeen engine name p → length p.roots.now ≤ 64
 few_seen engine k views networks answers name p same inside seen =
     few_of k.limits engine.keyring engine.views name p (subst (λ (e : Engine). AreWithinLimits k.limits e.views) same
@@ -134,7 +135,8 @@ present_seen engine name p = by (view_at engine.views name)
 
 -- kept answers that are right in the engine's keyring are right in the keyring of the parts
 pub right_seen : {marks : ViewMarks} {turns : Turns} (engine : Engine) (k : Keyring) (views : Views) (name : List ℕ)
-    (p : Parts) (answers : AllAnswers) → record { keyring = k; views = views; marks = marks; turns = turns } ≡ engine
+    (p : Parts) (answers : AllAnswers)
+    → record { keyring = k; views = views; marks = marks; turns = turns; answers = answers } ≡ engine
     → AreSeen engine name p → AreAllRight k answers → AreAllRight p.keyring.now answers
 right_seen engine k views name p answers same seen right = by (view_at engine.views name) seen
   where
@@ -145,8 +147,9 @@ right_seen engine k views name p answers same seen right = by (view_at engine.vi
         ∙ sym are.keyring) right
 
 -- the converse
-pub right_kept : {marks : ViewMarks} {turns : Turns} (engine : Engine) (k new : Keyring) (views : Views) (name : List ℕ)
-    (p : Parts) (answers : AllAnswers) → record { keyring = k; views = views; marks = marks; turns = turns } ≡ engine
+pub right_kept : {marks : ViewMarks} {turns : Turns} {before : AllAnswers} (engine : Engine) (k new : Keyring)
+    (views : Views) (name : List ℕ) (p : Parts) (answers : AllAnswers)
+    → record { keyring = k; views = views; marks = marks; turns = turns; answers = before } ≡ engine
     → new ≡ k → AreSeen engine name p → AreAllRight p.keyring.now answers → AreAllRight new answers
 right_kept engine k new views name p answers same equal seen right = by (view_at engine.views name) seen
   where

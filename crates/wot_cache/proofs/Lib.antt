@@ -2,6 +2,7 @@ mod Changes
 mod Inside
 mod Asking
 mod Marking
+mod ConsultsLeads
 pub mod Turning
 pub mod Lines
 pub mod DumpSize

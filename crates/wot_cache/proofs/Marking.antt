@@ -201,18 +201,19 @@ shown_at networks name =
     by (Some n) = refl
 
 -- a closed view has no marks, and still none right after it is opened
-pub unmarked : {turns : Turns} (next : Turns) (engine : Engine) (k : Keyring) (views new : Views) (networks : Networks)
-    (name : List ℕ) → shown k views networks turns ≡ engine
-    → AreOfOpen views networks → view_at engine.views name ≡ None → marks_at (shown k new networks next) name ≡ []
-unmarked {turns} next engine k views new networks name seen all =
-    subst (λ (e : Engine). view_at e.views name ≡ None → marks_at (shown k new networks next) name ≡ []) seen
+pub unmarked : {turns : Turns} {answers : AllAnswers} (next : Turns) (engine : Engine) (k : Keyring)
+    (views new : Views) (networks : Networks) (name : List ℕ) → shown k views networks turns answers ≡ engine
+    → AreOfOpen views networks → view_at engine.views name ≡ None
+    → marks_at (shown k new networks next answers) name ≡ []
+unmarked {turns} {answers} next engine k views new networks name seen all =
+    subst (λ (e : Engine). view_at e.views name ≡ None → marks_at (shown k new networks next answers) name ≡ []) seen
     (λ none. shown_at networks name ∙ ap marks_by (all name none))
 
-pub others_marked : {turns : Turns} (next : Turns) (engine : Engine) (k new : Keyring) (views more : Views)
-    (old rest : Networks) (name : List ℕ) → shown k views old turns ≡ engine
-    → OthersStay name old rest → OtherMarksStay name engine (shown new more rest next)
-others_marked {turns} next engine k new views more old rest name seen others =
-    subst (λ (e : Engine). OtherMarksStay name e (shown new more rest next)) seen
+pub others_marked : {turns : Turns} {answers : AllAnswers} (next : Turns) (engine : Engine) (k new : Keyring)
+    (views more : Views) (old rest : Networks) (name : List ℕ) → shown k views old turns answers ≡ engine
+    → OthersStay name old rest → OtherMarksStay name engine (shown new more rest next answers)
+others_marked {turns} {answers} next engine k new views more old rest name seen others =
+    subst (λ (e : Engine). OtherMarksStay name e (shown new more rest next answers)) seen
     (λ other e. shown_at rest other ∙ ap marks_by (others other e) ∙ sym (shown_at old other))
 
 -- forgetting a network leaves the others
@@ -226,7 +227,7 @@ gone_itself name old rest forgotten =
     (tied_itself nat_list_cmp_total name)
 
 pub none_shown : (turns : Turns) (k : Keyring) (views : Views) (rest : Networks) (name : List ℕ) →
-    network_at rest name ≡ None → marks_at (shown k views rest turns) name ≡ []
+    network_at rest name ≡ None → marks_at (shown k views rest turns []) name ≡ []
 none_shown turns k views rest name none = shown_at rest name ∙ ap marks_by none
 
 -- ---- questions
@@ -257,20 +258,21 @@ made_as (Some v) r s k old new less m = record {
   never_less = m.never_less;
 }
 
-pub left : {T E : Type 0} {turns : Turns} (s : Result T E) (engine : Engine) (k new : Keyring) (views more : Views)
-    (old rest : Networks) (name : List ℕ) (before after : ℕ)
-    → shown k views old turns ≡ engine → new ≡ k → more ≡ views
+pub left : {T E : Type 0} {turns : Turns} {answers later : AllAnswers} (s : Result T E) (engine : Engine)
+    (k new : Keyring) (views more : Views) (old rest : Networks) (name : List ℕ) (before after : ℕ)
+    → shown k views old turns answers ≡ engine → new ≡ k → more ≡ views
     → IsMadeFor s (view_at views name) k (end_in old name before) (end_in rest name after)
     → OthersStay name old rest → (view_at views name ≡ None → (rest ≡ old) × (after ≡ before)) →
-    IsRefreshed s name engine (shown new more rest turns) before after
-left {turns = turns} s engine k new views more old rest name before after seen same equal made others closed =
-    subst (λ (e : Engine). IsRefreshed s name e (shown new more rest turns) before after) seen (record {
+    IsRefreshed s name engine (shown new more rest turns later) before after
+left {turns = turns} {answers = answers} {later = later} s engine k new views more old rest name before after seen same
+    equal made others closed =
+    subst (λ (e : Engine). IsRefreshed s name e (shown new more rest turns later) before after) seen (record {
       stays = record { keyring = same; views = equal; turns = refl };
       made = subst (λ (m : Marks). IsMadeFor s (view_at views name) k (record { marks = m; made = before })
-          (end_at (shown new more rest turns) name after)) (sym (shown_at old name))
+          (end_at (shown new more rest turns later) name after)) (sym (shown_at old name))
           (subst (λ (m : Marks). IsMadeFor s (view_at views name) k (end_in old name before)
           (record { marks = m; made = after })) (sym (shown_at rest name)) made);
-      others = others_marked turns (shown k views old turns) k new views more old rest name refl others;
+      others = others_marked turns (shown k views old turns answers) k new views more old rest name refl others;
       closed = λ none. (
         shown_at rest name ∙ ap (λ (ns : Networks). marks_in ns name) (closed none).0
             ∙ sym (shown_at old name),

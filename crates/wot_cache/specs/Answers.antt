@@ -1,9 +1,11 @@
 -- Kept answers: what each depends on, and that it is right for as long as that is unchanged.
-use Rattle.std.specs.Prelude.{◌≡◌, ℕ, ◌≤◌, false, List, length, sum_by, Option, None, IfSome, IsSomeAnd, Vec}
+use Rattle.std.specs.Prelude.{◌≡◌, ℕ, ◌≤◌, false, List, length, sum_by, Option, Some, None, IfSome, IsSomeAnd, Vec}
 use Rattle.std.specs.declared.alloc.Global.{Global}
+use Rattle.std.specs.BTreeMap.{is_at}
 use Rattle.std.specs.List.{AllByRecursion}
 use Rattle.std.specs.Map.{lookup, values_of}
 use Rattle.std.specs.Option.{option_map_or}
+use Rattle.std.specs.Ordering.{nat_cmp}
 use Rattle.wot_types.specs.declared.fpr.Fpr.{Fpr}
 use Rattle.wot_edge.specs.Answer.{IsAnswer, amount_of}
 use Rattle.wot_edge.specs.Leads.{Leads}
@@ -105,6 +107,10 @@ IsSameBut old new = new ≡ record old { count = new.count; turn = new.turn }
 
 abbrev pub Entries : Type 0
 Entries = List (ℕ × KeptAnswer)
+
+-- this answer is kept under some key
+abbrev pub IsAmong : Entries → KeptAnswer → Type 0
+IsAmong entries kept = (key : ℕ) × (lookup (is_at (nat_cmp key)) entries ≡ Some kept)
 
 -- Every kept answer is right, and valid if it was last found so at this turn of the roots.
 abbrev pub AreRight : Keyring → Amounts → ℕ → Entries → Type 0

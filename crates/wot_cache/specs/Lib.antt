@@ -8,4 +8,5 @@ pub mod State
 pub mod Lent
 pub mod Parts
 pub mod Question
+pub mod Consulted
 pub mod Dump

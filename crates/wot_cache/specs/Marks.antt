@@ -8,6 +8,7 @@ use Rattle.wot_keyring.specs.Keyring.{Keyring}
 use Rattle.wot_network.specs.Net.{Net, Marks, AreMarksOf, StayCurrent, marks_of, stale_edges, stale_signatures}
 use Rattle.wot_cache.specs.declared.present.Networked.{Networked}
 use Rattle.wot_cache.specs.declared.view.View.{View}
+use Rattle.wot_cache.specs.Answers.{AllAnswers}
 use Rattle.wot_cache.specs.Inside.{Networks, network_at}
 use Rattle.wot_cache.specs.State.{Engine, StaysButMarks, OtherMarksStay, ViewMarks, marks_at}
 use Rattle.wot_cache.specs.Turns.{Turns}
@@ -25,8 +26,9 @@ abbrev pub marks_shown : Networks → ViewMarks
 marks_shown networks = map (λ (e : List ℕ × Net). (e.0, marks_of e.1.lines)) networks
 
 -- what contracts see of an engine that keeps these
-abbrev pub shown : Keyring → Views → Networks → Turns → Engine
-shown k views networks turns = record { keyring = k; views = views; marks = marks_shown networks; turns = turns }
+abbrev pub shown : Keyring → Views → Networks → Turns → AllAnswers → Engine
+shown k views networks turns answers =
+    record { keyring = k; views = views; marks = marks_shown networks; turns = turns; answers = answers }
 
 -- the entry of this name is gone, and the others are unchanged
 abbrev pub IsForgotten : {X : Type 0} → List ℕ → List (List ℕ × X) → List (List ℕ × X) → Type 0

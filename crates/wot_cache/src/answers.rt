@@ -12,7 +12,7 @@ ghost use Rattle.wot_search.specs.Making.{IsMaking};
 ghost use Rattle.wot_search.specs.Reach.{IsReach};
 ghost use Rattle.wot_network.specs.Net.{told_of};
 ghost use Rattle.wot_cache.specs.Answers.{AllStill, AreFew, AreRight, AreRightIn, AreStill, StayRight, StayRightWith};
-ghost use Rattle.wot_cache.specs.Answers.{IsTheAnswer, IsFound, IsGood, IsOf, IsReaching, IsRight};
+ghost use Rattle.wot_cache.specs.Answers.{IsAmong, IsTheAnswer, IsFound, IsGood, IsOf, IsReaching, IsRight};
 ghost use Rattle.wot_cache.specs.Answers.{look, looked_by, looked_in, IsSameBut};
 ghost use Rattle.wot_cache.specs.Question.{asked_of, present_in};
 
@@ -383,6 +383,7 @@ impl Answers {
     /// The answer under a question's key, which may be another question's.
     pub fn kept(&self, target: &Fpr, wanted: u32, uid: &[u8]) -> Option<&KeptAnswer>
         ensures right { (k : Held) → AreRightIn k self.now → IfSome result (λ kept. IsRight k kept.now) }
+        ensures found { IfSome result (λ kept. IsAmong self.now.entries kept.now) }
     {
         match self.table.get(&key_of(target, wanted, uid)) {
             Some(kept) => Some(kept),

@@ -20,6 +20,7 @@ ghost use Rattle.wot_network.specs.Net.{signatures_in, told_of};
 ghost use Rattle.wot_network.specs.Roads.{present_of};
 ghost use Rattle.wot_keyring.specs.Dump.{lines_of, AreLines};
 ghost use Rattle.wot_policy.specs.declared.rows.PolicyRows.{PolicyRows as Rows};
+ghost use Rattle.wot_cache.specs.Consulted.{ConsultsLeads};
 ghost use Rattle.wot_cache.specs.Dump.{commands_of, IsRestored};
 ghost use Rattle.wot_cache.specs.Marks.{IsRefreshed};
 ghost use Rattle.wot_cache.specs.Parts.{ArePartsOf};
@@ -70,7 +71,8 @@ impl Model for Engine {
 
     ghost Value = { TheEngine };
 
-    ghost view = { λ a. shown a.networked.keyring a.networked.views.entries a.networked.networks.entries a.turns };
+    ghost view = { λ a. shown a.networked.keyring a.networked.views.entries a.networked.networks.entries a.turns
+        a.answers.entries };
 
     ghost invariant = { λ a. IsEngine a.networked.keyring a.networked.views.entries a.networked.networks.entries
         a.answers.entries a.turns };
@@ -362,7 +364,7 @@ impl Engine {
 
     /// How confident one can be that a user ID belongs to a target, from an open view: the next paths until their sum
     /// reaches `wanted`, or until no valid path of positive amount is left. Before that the view's network is refreshed
-    /// for stale certificates, and each edge made is counted in `steps`. Only the view's marks change.
+    /// for stale certificates, and each edge made is counted in `steps`. Only the view's marks and kept answers change.
     pub fn ask(
         &mut self,
         view: &ViewName,
@@ -387,6 +389,8 @@ impl Engine {
             (λ v. AreWithinRoots v.roots a.paths)) }
         ensures open { TellsOpen result (view_at self.old.views view.now) }
         ensures refreshed { IsRefreshed result view.now self.old self.new steps.old.made steps.new.made }
+        // The search notes no more than what leads to the target.
+        ensures consulted { ConsultsLeads view.now self.old self.new }
         ensures made_most { steps.new.made ≤ steps.old.made + signatures_in self.old.keyring }
         ensures never_less { steps.old.made ≤ steps.new.made }
     {
