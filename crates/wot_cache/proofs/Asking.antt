@@ -14,9 +14,11 @@ use Rattle.wot_auth.specs.declared.answer.Answer.{Answer}
 use Rattle.wot_keyring.specs.Keyring.{Keyring}
 use Rattle.wot_network.specs.Net.{IsRight, Net, Present}
 use Rattle.wot_network.specs.Roads.{present_of}
+use Rattle.wot_cache.specs.declared.asked.Asked.{Asked}
 use Rattle.wot_cache.specs.declared.parts.Parts.{Parts}
 use Rattle.wot_cache.specs.declared.view.View.{View}
 use Rattle.wot_cache.specs.Answers.{AllAnswers, AreAllRight}
+use Rattle.wot_cache.specs.Asked.{IsAnswered}
 use Rattle.wot_cache.specs.Inside.{IsEngine, IsReady, Networks, network_at}
 use Rattle.wot_cache.specs.Parts.{ArePartsOf}
 use Rattle.wot_cache.specs.Question.{IsLocalTo, IsTold, TellsSpent, asked_of, asked_over, present_in, question_in}
@@ -172,10 +174,25 @@ pub if_some : {A : Type 0} (o : Option A) (P Q : A → Type 0) → ((a : A) → 
 if_some None P Q step p = tt
 if_some (Some a) P Q step p = step a p
 
+pub both_some : {A : Type 0} (o : Option A) (P Q R : A → Type 0) → ((a : A) → P a → Q a → R a) → IfSome o P → IfSome o Q
+    → IfSome o R
+both_some None P Q R step p q = tt
+both_some (Some a) P Q R step p q = step a p q
+
 pub both_ok : {A E : Type 0} (r : Result A E) (P Q R : A → Type 0) → ((a : A) → P a → Q a → R a) → IfOk r P → IfOk r Q →
     IfOk r R
 both_ok (Ok a) P Q R step p q = step a p q
 both_ok (Err e) P Q R step p q = tt
+
+-- an answer over the roads is one over the parts
+pub answered_over : (p : Parts) (asked : Asked) (a : Answer) → present_of p.roads ≡ present_in p
+    → IsAnswer (asked_over (present_of p.roads) p.roots.now asked.target.now asked.uid.now) asked.wanted a.paths
+    → a.sum ≡ amount_of a.paths → IsAnswered p asked a
+answered_over p asked a present is sum = record {
+  answer = subst (λ (present : Present).
+      IsAnswer (asked_over present p.roots.now asked.target.now asked.uid.now) asked.wanted a.paths) present is;
+  sum = sum;
+}
 
 -- ---- the laws of answers, as premises
 

@@ -8,5 +8,6 @@ pub mod State
 pub mod Lent
 pub mod Parts
 pub mod Question
+pub mod Asked
 pub mod Consulted
 pub mod Dump

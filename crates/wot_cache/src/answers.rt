@@ -6,16 +6,17 @@ ghost use Rattle.std.specs.BTreeMap.{insert_entry, is_at};
 ghost use Rattle.std.specs.List.Sorted.{IsStrictlySortedBy};
 ghost use Rattle.std.specs.Map.{keys_of, lookup};
 ghost use Rattle.std.specs.Ordering.{nat_cmp};
-ghost use Rattle.wot_edge.specs.Answer.{IsAnswer, amount_of};
 ghost use Rattle.wot_keyring.specs.Keyring.{Keyring as Held};
 ghost use Rattle.wot_search.specs.Making.{IsMaking};
 ghost use Rattle.wot_search.specs.Reach.{IsReach};
 ghost use Rattle.wot_network.specs.Net.{told_of};
 ghost use Rattle.wot_cache.specs.Answers.{AllStill, AreFew, AreRight, AreRightIn, AreStill, StayRight, StayRightWith};
-ghost use Rattle.wot_cache.specs.Answers.{IsAmong, IsTheAnswer, IsFound, IsGood, IsOf, IsReaching, IsRight};
+ghost use Rattle.wot_cache.specs.Answers.{IsAmong, IsTheAnswer, IsFound, IsGood, IsReaching, IsRight};
 ghost use Rattle.wot_cache.specs.Answers.{look, looked_by, looked_in, IsSameBut};
-ghost use Rattle.wot_cache.specs.Question.{asked_of, present_in};
+ghost use Rattle.wot_cache.specs.Asked.{AreSettled, IsAnswered, IsAskedIn};
+ghost use Rattle.wot_cache.specs.Question.{present_in};
 
+use crate::asked::Asked;
 use crate::budget::Budget;
 use crate::key::key_of;
 use crate::parts::Parts;
@@ -63,13 +64,13 @@ pub struct KeptAnswer {
 
 impl KeptAnswer {
     /// Whether this is its question.
-    pub fn is_of(&self, target: &Fpr, wanted: u32, uid: &[u8], time: u32) -> bool
-        ensures same { result ≡ true → IsOf self.now target.now wanted uid.now time }
+    pub(crate) fn is_of(&self, asked: &Asked<'_>, time: u32) -> bool
+        ensures same { result ≡ true → IsAskedIn asked.now self.now time }
     {
         self.time == time
-            && self.wanted == wanted
-            && self.target == *target
-            && self.uid.octets() == uid
+            && self.wanted == asked.wanted
+            && self.target == *asked.target
+            && self.uid.octets() == asked.uid
     }
 
     /// Whether the answer still holds: no stamp and no root amount changed. Nothing is compared if neither the count of
@@ -96,22 +97,14 @@ impl KeptAnswer {
 
     /// The answer, if it is for this question and everything that it depends on is unchanged. None also when out of
     /// memory.
-    fn give(
-        &mut self,
-        parts: &Parts<'_>,
-        turn: u64,
-        target: &Fpr,
-        wanted: u32,
-        uid: &[u8],
-    ) -> Option<Answer>
+    fn give(&mut self, parts: &Parts<'_>, turn: u64, asked: &Asked<'_>) -> Option<Answer>
         requires right { IsRight parts.now.keyring.now self.old }
         requires good { IsGood parts.now.keyring.now parts.now.roots.now turn self.old }
         ensures same { IsSameBut self.old self.new }
         ensures good { IsGood parts.now.keyring.now parts.now.roots.now turn self.new }
-        ensures answer { IfSome result (λ a. IsAnswer (asked_of parts.now target.now uid.now) wanted a.paths) }
-        ensures sum { IfSome result (λ a. a.sum ≡ amount_of a.paths) }
+        ensures answered { IfSome result (IsAnswered parts.now asked.now) }
     {
-        if !self.is_of(target, wanted, uid, parts.t) {
+        if !self.is_of(asked, parts.t) {
             return None;
         }
         if !self.is_good(parts.keyring, parts.roots, turn) {
@@ -226,22 +219,14 @@ fn add(table: &mut Table, looked: usize, answer: KeptAnswer) -> usize
 }
 
 /// The answer that is kept for a question.
-fn give(
-    table: &mut Table,
-    parts: &Parts<'_>,
-    turn: u64,
-    target: &Fpr,
-    wanted: u32,
-    uid: &[u8],
-) -> Option<Answer>
+fn give(table: &mut Table, parts: &Parts<'_>, turn: u64, asked: &Asked<'_>) -> Option<Answer>
     requires right { AreRight parts.now.keyring.now parts.now.roots.now turn table.old.entries }
     ensures right { AreRight parts.now.keyring.now parts.now.roots.now turn table.new.entries }
     ensures few { (looked : ℕ) → AreFew table.old.entries looked → AreFew table.new.entries looked }
-    ensures answer { IfSome result (λ a. IsAnswer (asked_of parts.now target.now uid.now) wanted a.paths) }
-    ensures sum { IfSome result (λ a. a.sum ≡ amount_of a.paths) }
+    ensures answered { IfSome result (IsAnswered parts.now asked.now) }
 {
-    match table.get_mut(&key_of(target, wanted, uid)) {
-        Some(kept) => kept.give(parts, turn, target, wanted, uid),
+    match table.get_mut(&key_of(asked)) {
+        Some(kept) => kept.give(parts, turn, asked),
         None => None,
     }
 }
@@ -355,21 +340,12 @@ impl Answers {
 
     /// The answer that is kept for a question, if everything that it depends on is unchanged. None also when out of
     /// memory.
-    pub fn give(
-        &mut self,
-        parts: &Parts<'_>,
-        target: &Fpr,
-        wanted: u32,
-        uid: &[u8],
-    ) -> Option<Answer>
-        requires right { AreRightIn parts.now.keyring.now self.old }
-        requires settled { self.old.roots ≡ parts.now.roots.now }
-        ensures right { AreRightIn parts.now.keyring.now self.new }
-        ensures settled { self.new.roots ≡ self.old.roots }
-        ensures answer { IfSome result (λ a. IsAnswer (asked_of parts.now target.now uid.now) wanted a.paths) }
-        ensures sum { IfSome result (λ a. a.sum ≡ amount_of a.paths) }
+    pub fn give(&mut self, parts: &Parts<'_>, asked: &Asked<'_>) -> Option<Answer>
+        requires settled { AreSettled parts.now self.old }
+        ensures settled { AreSettled parts.now self.new }
+        ensures answered { IfSome result (IsAnswered parts.now asked.now) }
     {
-        give(&mut self.table, parts, self.turn, target, wanted, uid)
+        give(&mut self.table, parts, self.turn, asked)
     }
 
     /// The number of kept answers.
@@ -381,11 +357,11 @@ impl Answers {
     }
 
     /// The answer under a question's key, which may be another question's.
-    pub fn kept(&self, target: &Fpr, wanted: u32, uid: &[u8]) -> Option<&KeptAnswer>
+    pub fn kept(&self, asked: &Asked<'_>) -> Option<&KeptAnswer>
         ensures right { (k : Held) → AreRightIn k self.now → IfSome result (λ kept. IsRight k kept.now) }
         ensures found { IfSome result (λ kept. IsAmong self.now.entries kept.now) }
     {
-        match self.table.get(&key_of(target, wanted, uid)) {
+        match self.table.get(&key_of(asked)) {
             Some(kept) => Some(kept),
             None => None,
         }
@@ -395,7 +371,7 @@ impl Answers {
     pub fn keep(&mut self, answer: KeptAnswer)
         ensures right { (k : Held) → AreRightIn k self.old → IsRight k answer → IsFound k self.old.roots answer →
             AreRightIn k self.new }
-        ensures settled { self.new.roots ≡ self.old.roots }
+        ensures roots { self.new.roots ≡ self.old.roots }
     {
         let count = count_looked(&answer);
         if MOST_LOOKED < count {
@@ -408,8 +384,7 @@ impl Answers {
 
     /// The table of reach, if it is for the current keyring, these roots and this time.
     pub fn reach(&self, parts: &Parts<'_>) -> Option<&Reach>
-        requires right { AreRightIn parts.now.keyring.now self.now }
-        requires settled { self.now.roots ≡ parts.now.roots.now }
+        requires settled { AreSettled parts.now self.now }
         ensures reach { IfSome result (λ r. IsReach (told_of (present_in parts.now)) parts.now.roots.now r.now) }
     {
         match &self.reach {
@@ -421,10 +396,8 @@ impl Answers {
     /// Keeps the making of a table of reach, in place of an earlier one.
     pub fn keep_making(&mut self, parts: &Parts<'_>, making: Making)
         requires making { IsMaking (told_of (present_in parts.now)) parts.now.roots.now making }
-        requires right { AreRightIn parts.now.keyring.now self.old }
-        requires settled { self.old.roots ≡ parts.now.roots.now }
-        ensures right { AreRightIn parts.now.keyring.now self.new }
-        ensures settled { self.new.roots ≡ self.old.roots }
+        requires settled { AreSettled parts.now self.old }
+        ensures settled { AreSettled parts.now self.new }
     {
         self.budget.learn(&making);
         self.reach = Some(KeptReach::new(parts, self.turn, making));
@@ -433,10 +406,8 @@ impl Answers {
     /// Takes out the making of a table of reach, if it is for the current keyring, these roots and this time. Otherwise
     /// it is dropped.
     pub fn take_making(&mut self, parts: &Parts<'_>) -> Option<Making>
-        requires right { AreRightIn parts.now.keyring.now self.old }
-        requires settled { self.old.roots ≡ parts.now.roots.now }
-        ensures right { AreRightIn parts.now.keyring.now self.new }
-        ensures settled { self.new.roots ≡ self.old.roots }
+        requires settled { AreSettled parts.now self.old }
+        ensures settled { AreSettled parts.now self.new }
         ensures making { IfSome result (IsMaking (told_of (present_in parts.now)) parts.now.roots.now) }
     {
         match self.reach.take() {

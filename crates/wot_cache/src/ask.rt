@@ -1,16 +1,17 @@
-//! The answer to a question: a kept one, or a new search. Searches first look only at what leads to the target; when
-//! that costs more than a table of reach, the table is made and used. `Engine::ask` is the caller, and wot_search and
-//! wot_auth do the searching.
-ghost use Rattle.std.specs.Prelude.{◌≡◌, ◌≤◌, ℕ, List, length, IfOk, IfSome, OnErr};
-ghost use Rattle.wot_edge.specs.Answer.{IsAnswer, amount_of};
+//! The answer to a question: a kept one, or by a new search. Searches first look only at what leads to the target; when
+//! that costs more than a table of reach, the table is made and used. `Engine::ask` is the caller: it calls `answer`,
+//! which calls `find`, which calls `search`. wot_search and wot_auth do the searching.
+ghost use Rattle.std.specs.Prelude.{◌≡◌, ℕ, List, IfOk, IfSome, OnErr};
 ghost use Rattle.wot_edge.specs.Record.{IsRecord};
 ghost use Rattle.wot_network.specs.Net.{told_of};
 ghost use Rattle.wot_network.specs.Roads.{present_of};
 ghost use Rattle.wot_search.specs.Reach.{IsReach};
 ghost use Rattle.wot_cache.specs.Answers.{AreAllRight, AreRightIn, KeepsFor};
-ghost use Rattle.wot_cache.specs.Question.{asked_of, present_in, IsTold};
+ghost use Rattle.wot_cache.specs.Asked.{question_of, AreSettled, IsAnswered, IsAskable};
+ghost use Rattle.wot_cache.specs.Question.{present_in, IsTold};
 
 use crate::answers::Answers;
+use crate::asked::Asked;
 use crate::making::{fprs_of, spend};
 use crate::parts::Parts;
 use crate::recall::{AllAnswers, begin, remember, remember_now};
@@ -19,7 +20,7 @@ use std::alloc::Global;
 use wot_auth::{Answer, authenticate_metered, authenticate_within};
 use wot_edge::laws::{answer_is_one, paths_fit, zero_is_no_path};
 use wot_search::{LookFault, Making, Metered, Reach, make_reach};
-use wot_types::{Fpr, Memory, ViewName};
+use wot_types::{Memory, ViewName};
 
 /// The reach of issuers over these parts.
 fn made_reach(alloc: Global, parts: &Parts<'_>) -> Result<Reach, Memory>
@@ -35,19 +36,21 @@ fn search_within(
     alloc: Global,
     parts: &Parts<'_>,
     reach: &Reach,
-    target: &Fpr,
-    wanted: u32,
-    uid: &[u8],
+    asked: &Asked<'_>,
 ) -> Result<Answer, Memory>
-    requires wanted { 1 ≤ wanted }
-    requires few { length parts.now.roots.now ≤ 64 }
-    requires present { present_of parts.now.roads ≡ present_in parts.now }
+    requires askable { IsAskable parts.now asked.now }
     requires reach { IsReach (told_of (present_in parts.now)) parts.now.roots.now reach.now }
-    ensures answer { IfOk result (λ a. IsAnswer (asked_of parts.now target.now uid.now) wanted a.paths) }
-    ensures sum { IfOk result (λ a. a.sum ≡ amount_of a.paths) }
+    ensures answered { IfOk result (IsAnswered parts.now asked.now) }
 {
-    let answer = authenticate_within(alloc, &parts.roads, parts.roots, reach, target, uid, wanted)?;
-    Ok(answer)
+    authenticate_within(
+        alloc,
+        &parts.roads,
+        parts.roots,
+        reach,
+        asked.target,
+        asked.uid,
+        asked.wanted,
+    )
 }
 
 /// The answer, by a search within the table that is kept for the view. None if no current table is kept, or when out of
@@ -56,22 +59,16 @@ fn search_kept(
     alloc: Global,
     of_view: &Answers,
     parts: &Parts<'_>,
-    target: &Fpr,
-    wanted: u32,
-    uid: &[u8],
+    asked: &Asked<'_>,
 ) -> Option<Answer>
-    requires wanted { 1 ≤ wanted }
-    requires few { length parts.now.roots.now ≤ 64 }
-    requires present { present_of parts.now.roads ≡ present_in parts.now }
-    requires right { AreRightIn parts.now.keyring.now of_view.now }
-    requires settled { of_view.now.roots ≡ parts.now.roots.now }
-    ensures answer { IfSome result (λ a. IsAnswer (asked_of parts.now target.now uid.now) wanted a.paths) }
-    ensures sum { IfSome result (λ a. a.sum ≡ amount_of a.paths) }
+    requires askable { IsAskable parts.now asked.now }
+    requires settled { AreSettled parts.now of_view.now }
+    ensures answered { IfSome result (IsAnswered parts.now asked.now) }
 {
     let Some(reach) = of_view.reach(parts) else {
         return None;
     };
-    match search_within(alloc, parts, reach, target, wanted, uid) {
+    match search_within(alloc, parts, reach, asked) {
         Ok(answer) => Some(answer),
         Err(Memory) => None,
     }
@@ -82,28 +79,22 @@ fn search_far(
     alloc: Global,
     of_view: &mut Answers,
     parts: &Parts<'_>,
-    target: &Fpr,
-    wanted: u32,
-    uid: &[u8],
+    asked: &Asked<'_>,
 ) -> Result<Answer, AskFault>
-    requires wanted { 1 ≤ wanted }
-    requires few { length parts.now.roots.now ≤ 64 }
-    requires present { present_of parts.now.roads ≡ present_in parts.now }
-    requires right { AreRightIn parts.now.keyring.now of_view.old }
-    requires settled { of_view.old.roots ≡ parts.now.roots.now }
-    ensures answer { IfOk result (λ a. IsAnswer (asked_of parts.now target.now uid.now) wanted a.paths) }
-    ensures sum { IfOk result (λ a. a.sum ≡ amount_of a.paths) }
+    requires askable { IsAskable parts.now asked.now }
+    requires settled { AreSettled parts.now of_view.old }
+    ensures answered { IfOk result (IsAnswered parts.now asked.now) }
     ensures memory { OnErr result (result ≡ Err AskFault.Memory) }
     ensures right { AreRightIn parts.now.keyring.now of_view.new }
 {
     let Ok(reach) = made_reach(alloc, parts) else {
         return Err(AskFault::Memory);
     };
-    let Ok(answer) = search_within(alloc, parts, &reach, target, wanted, uid) else {
+    let Ok(answer) = search_within(alloc, parts, &reach, asked) else {
         return Err(AskFault::Memory);
     };
     of_view.keep_making(parts, Making::Made(reach));
-    remember_now(alloc, of_view, parts, target, wanted, uid, &answer);
+    remember_now(alloc, of_view, parts, asked, &answer);
     Ok(answer)
 }
 
@@ -111,22 +102,16 @@ fn search_far(
 /// that search would look at more than making a table takes. The answer is kept for the view. Looks and made edges are
 /// counted, and once a table pays off, each search makes a part of it. The edges don't count against this search:
 /// otherwise a view's first question, which makes all edges, would make a table that no later question may need.
-fn search(
+fn search_near(
     alloc: Global,
     of_view: &mut Answers,
     parts: &Parts<'_>,
-    target: &Fpr,
-    wanted: u32,
-    uid: &[u8],
+    asked: &Asked<'_>,
     made: u64,
 ) -> Result<Answer, AskFault>
-    requires wanted { 1 ≤ wanted }
-    requires few { length parts.now.roots.now ≤ 64 }
-    requires present { present_of parts.now.roads ≡ present_in parts.now }
-    requires right { AreRightIn parts.now.keyring.now of_view.old }
-    requires settled { of_view.old.roots ≡ parts.now.roots.now }
-    ensures answer { IfOk result (λ a. IsAnswer (asked_of parts.now target.now uid.now) wanted a.paths) }
-    ensures sum { IfOk result (λ a. a.sum ≡ amount_of a.paths) }
+    requires askable { IsAskable parts.now asked.now }
+    requires settled { AreSettled parts.now of_view.old }
+    ensures answered { IfOk result (IsAnswered parts.now asked.now) }
     ensures memory { OnErr result (result ≡ Err AskFault.Memory) }
     ensures right { AreRightIn parts.now.keyring.now of_view.new }
 {
@@ -136,58 +121,43 @@ fn search(
         alloc,
         &parts.roads,
         parts.roots,
-        target,
-        uid,
-        wanted,
+        asked.target,
+        asked.uid,
+        asked.wanted,
         &mut metered,
     ) {
         Ok(answer) => {
-            remember(
-                alloc,
-                of_view,
-                parts,
-                target,
-                wanted,
-                uid,
-                &metered.consulted,
-                &answer,
-            );
+            remember(alloc, of_view, parts, asked, &metered.consulted, &answer);
             let left = metered.left.unwrap_or(0);
             let looked = most.saturating_sub(left).saturating_add(made);
             spend(alloc, of_view, parts, looked);
             Ok(answer)
         }
         Err(LookFault::Memory) => Err(AskFault::Memory),
-        Err(LookFault::Spent) => search_far(alloc, of_view, parts, target, wanted, uid),
+        Err(LookFault::Spent) => search_far(alloc, of_view, parts, asked),
     }
 }
 
 /// The answer, by a new search: within the view's table if it has a current one.
-fn find_new(
+fn search(
     alloc: Global,
     of_view: &mut Answers,
     parts: &Parts<'_>,
-    target: &Fpr,
-    wanted: u32,
-    uid: &[u8],
+    asked: &Asked<'_>,
     made: u64,
 ) -> Result<Answer, AskFault>
-    requires wanted { 1 ≤ wanted }
-    requires few { length parts.now.roots.now ≤ 64 }
-    requires present { present_of parts.now.roads ≡ present_in parts.now }
-    requires right { AreRightIn parts.now.keyring.now of_view.old }
-    requires settled { of_view.old.roots ≡ parts.now.roots.now }
-    ensures answer { IfOk result (λ a. IsAnswer (asked_of parts.now target.now uid.now) wanted a.paths) }
-    ensures sum { IfOk result (λ a. a.sum ≡ amount_of a.paths) }
+    requires askable { IsAskable parts.now asked.now }
+    requires settled { AreSettled parts.now of_view.old }
+    ensures answered { IfOk result (IsAnswered parts.now asked.now) }
     ensures memory { OnErr result (result ≡ Err AskFault.Memory) }
     ensures right { AreRightIn parts.now.keyring.now of_view.new }
 {
-    match search_kept(alloc, of_view, parts, target, wanted, uid) {
+    match search_kept(alloc, of_view, parts, asked) {
         Some(answer) => {
-            remember_now(alloc, of_view, parts, target, wanted, uid, &answer);
+            remember_now(alloc, of_view, parts, asked, &answer);
             Ok(answer)
         }
-        None => search(alloc, of_view, parts, target, wanted, uid, made),
+        None => search_near(alloc, of_view, parts, asked, made),
     }
 }
 
@@ -196,100 +166,38 @@ fn find(
     alloc: Global,
     of_view: &mut Answers,
     parts: &Parts<'_>,
-    target: &Fpr,
-    wanted: u32,
-    uid: &[u8],
+    asked: &Asked<'_>,
     made: u64,
 ) -> Result<Answer, AskFault>
-    requires wanted { 1 ≤ wanted }
-    requires few { length parts.now.roots.now ≤ 64 }
-    requires present { present_of parts.now.roads ≡ present_in parts.now }
+    requires askable { IsAskable parts.now asked.now }
     requires right { AreRightIn parts.now.keyring.now of_view.old }
-    ensures answer { IfOk result (λ a. IsAnswer (asked_of parts.now target.now uid.now) wanted a.paths) }
-    ensures sum { IfOk result (λ a. a.sum ≡ amount_of a.paths) }
+    ensures answered { IfOk result (IsAnswered parts.now asked.now) }
     ensures memory { OnErr result (result ≡ Err AskFault.Memory) }
     ensures right { AreRightIn parts.now.keyring.now of_view.new }
 {
     if !of_view.settle(alloc, parts.roots) {
         return Err(AskFault::Memory);
     }
-    match of_view.give(parts, target, wanted, uid) {
+    match of_view.give(parts, asked) {
         Some(answer) => Ok(answer),
-        None => find_new(alloc, of_view, parts, target, wanted, uid, made),
+        None => search(alloc, of_view, parts, asked, made),
     }
 }
 
-/// The first answer from a view. From now on the view's answers are kept, unless memory runs out.
-fn find_first(
-    alloc: Global,
-    answers: &mut AllAnswers,
-    parts: &Parts<'_>,
-    view: &ViewName,
-    target: &Fpr,
-    wanted: u32,
-    uid: &[u8],
-    made: u64,
-) -> Result<Answer, AskFault>
-    requires wanted { 1 ≤ wanted }
-    requires few { length parts.now.roots.now ≤ 64 }
-    requires present { present_of parts.now.roads ≡ present_in parts.now }
-    requires right { AreAllRight parts.now.keyring.now answers.old.entries }
-    ensures answer { IfOk result (λ a. IsAnswer (asked_of parts.now target.now uid.now) wanted a.paths) }
-    ensures sum { IfOk result (λ a. a.sum ≡ amount_of a.paths) }
-    ensures memory { OnErr result (result ≡ Err AskFault.Memory) }
-    ensures right { AreAllRight parts.now.keyring.now answers.new.entries }
-    ensures others { KeepsFor view.now answers.old.entries answers.new.entries }
-{
-    let mut of_view = Answers::new(alloc);
-    let found = find(alloc, &mut of_view, parts, target, wanted, uid, made);
-    begin(alloc, answers, view, of_view);
-    found
-}
-
-/// The answer from a view, whether or not it keeps answers yet.
-fn find_any(
-    alloc: Global,
-    answers: &mut AllAnswers,
-    parts: &Parts<'_>,
-    view: &ViewName,
-    target: &Fpr,
-    wanted: u32,
-    uid: &[u8],
-    made: u64,
-) -> Result<Answer, AskFault>
-    requires wanted { 1 ≤ wanted }
-    requires few { length parts.now.roots.now ≤ 64 }
-    requires present { present_of parts.now.roads ≡ present_in parts.now }
-    requires right { AreAllRight parts.now.keyring.now answers.old.entries }
-    ensures answer { IfOk result (λ a. IsAnswer (asked_of parts.now target.now uid.now) wanted a.paths) }
-    ensures sum { IfOk result (λ a. a.sum ≡ amount_of a.paths) }
-    ensures memory { OnErr result (result ≡ Err AskFault.Memory) }
-    ensures right { AreAllRight parts.now.keyring.now answers.new.entries }
-    ensures others { KeepsFor view.now answers.old.entries answers.new.entries }
-{
-    match answers.get_mut(view) {
-        Some(of_view) => find(alloc, of_view, parts, target, wanted, uid, made),
-        None => find_first(alloc, answers, parts, view, target, wanted, uid, made),
-    }
-}
-
-/// The answer from a view, over the parts that it shows. `made` edges were made for this question.
+/// The answer from a view, over the parts that it shows. `made` edges were made for this question. From the first
+/// question on, the view's answers are kept, unless memory runs out.
 pub fn answer(
     alloc: Global,
     answers: &mut AllAnswers,
     parts: &Parts<'_>,
     view: &ViewName,
-    target: &Fpr,
-    wanted: u32,
-    uid: &[u8],
+    asked: &Asked<'_>,
     made: u64,
 ) -> Result<Answer, AskFault>
-    requires wanted { 1 ≤ wanted }
-    requires few { length parts.now.roots.now ≤ 64 }
-    requires present { present_of parts.now.roads ≡ present_in parts.now }
+    requires askable { IsAskable parts.now asked.now }
     requires lawful { (u : List ℕ) → IsRecord (told_of (present_of parts.now.roads) u) }
     requires right { AreAllRight parts.now.keyring.now answers.old.entries }
-    ensures told { IfOk result (λ a. IsTold (asked_of parts.now target.now uid.now) wanted a) }
+    ensures told { IfOk result (IsTold (question_of parts.now asked.now) asked.now.wanted) }
     ensures memory { OnErr result (result ≡ Err AskFault.Memory) }
     ensures right { AreAllRight parts.now.keyring.now answers.new.entries }
     ensures others { KeepsFor view.now answers.old.entries answers.new.entries }
@@ -297,5 +205,13 @@ pub fn answer(
     answer_is_one();
     zero_is_no_path();
     paths_fit();
-    find_any(alloc, answers, parts, view, target, wanted, uid, made)
+    match answers.get_mut(view) {
+        Some(of_view) => find(alloc, of_view, parts, asked, made),
+        None => {
+            let mut of_view = Answers::new(alloc);
+            let found = find(alloc, &mut of_view, parts, asked, made);
+            begin(alloc, answers, view, of_view);
+            found
+        }
+    }
 }

@@ -35,6 +35,7 @@ mod load;
 mod resting;
 
 use crate::ask::answer;
+use crate::asked::Asked;
 use crate::dump::put_engine;
 use crate::parts::Parts;
 use crate::present::Networked;
@@ -398,16 +399,12 @@ impl Engine {
         self.networked.refresh(self.alloc, view, steps)?;
         let made = steps.made.saturating_sub(before);
         let parts = self.networked.parts(view);
-        answer(
-            self.alloc,
-            &mut self.answers,
-            &parts,
-            view,
+        let asked = Asked {
             target,
             wanted,
             uid,
-            made,
-        )
+        };
+        answer(self.alloc, &mut self.answers, &parts, view, &asked, made)
     }
 
     /// The roads that a question from an open view is asked over: those of the current keyring at the view's time. The

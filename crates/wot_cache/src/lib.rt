@@ -5,6 +5,7 @@
 
 mod answers;
 mod ask;
+mod asked;
 mod basis;
 mod budget;
 mod dump;

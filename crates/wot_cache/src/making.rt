@@ -5,6 +5,7 @@ ghost use Rattle.wot_network.specs.Net.{told_of};
 ghost use Rattle.wot_network.specs.Roads.{present_of};
 ghost use Rattle.wot_search.specs.Making.{IsMaking};
 ghost use Rattle.wot_cache.specs.Answers.{AreRightIn};
+ghost use Rattle.wot_cache.specs.Asked.{AreSettled};
 ghost use Rattle.wot_cache.specs.Question.{present_in};
 
 use crate::answers::Answers;
@@ -49,8 +50,7 @@ fn advanced(
 /// Continues the making of the view's table of reach by `looks` looks, unless memory runs out.
 fn make_more(alloc: Global, of_view: &mut Answers, parts: &Parts<'_>, looks: u64)
     requires present { present_of parts.now.roads ≡ present_in parts.now }
-    requires right { AreRightIn parts.now.keyring.now of_view.old }
-    requires settled { of_view.old.roots ≡ parts.now.roots.now }
+    requires settled { AreSettled parts.now of_view.old }
     ensures right { AreRightIn parts.now.keyring.now of_view.new }
 {
     let taken = of_view.take_making(parts);
@@ -65,8 +65,7 @@ fn make_more(alloc: Global, of_view: &mut Answers, parts: &Parts<'_>, looks: u64
 /// to it.
 pub fn spend(alloc: Global, of_view: &mut Answers, parts: &Parts<'_>, looked: u64)
     requires present { present_of parts.now.roads ≡ present_in parts.now }
-    requires right { AreRightIn parts.now.keyring.now of_view.old }
-    requires settled { of_view.old.roots ≡ parts.now.roots.now }
+    requires settled { AreSettled parts.now of_view.old }
     ensures right { AreRightIn parts.now.keyring.now of_view.new }
 {
     let left = of_view.looks(parts);

@@ -2,15 +2,14 @@
 //! an answer isn't kept.
 ghost use Rattle.std.specs.Prelude.{◌≡◌, IfOk};
 ghost use Rattle.std.specs.Map.{remove_entry};
-ghost use Rattle.wot_edge.specs.Answer.{IsAnswer, amount_of};
 ghost use Rattle.wot_keyring.specs.Keyring.{Keyring as Held};
-ghost use Rattle.wot_network.specs.Net.{told_of};
-ghost use Rattle.wot_cache.specs.Answers.{AllLead, AreAllRight, AreRightIn, IsFound, IsRight, KeepsFor};
+ghost use Rattle.wot_cache.specs.Answers.{AreAllRight, AreRightIn, IsFound, IsRight, KeepsFor};
+ghost use Rattle.wot_cache.specs.Asked.{AreSettled, IsAnswered, IsConsulted};
 ghost use Rattle.wot_cache.specs.Marks.{IsForgotten};
-ghost use Rattle.wot_cache.specs.Question.{asked_of, present_in, IsAnswerAround};
 ghost use Rattle.wot_cache.specs.Views.{is_name};
 
 use crate::answers::{Answers, KeptAnswer, look_at};
+use crate::asked::Asked;
 use crate::key::key_of;
 use crate::parts::Parts;
 use std::alloc::Global;
@@ -19,7 +18,7 @@ use wot_auth::Answer;
 use wot_keyring::laws::later_is_order;
 use wot_network::laws::records_agree;
 use wot_search::Consulted;
-use wot_types::{Fpr, Memory, UserId, ViewName};
+use wot_types::{Memory, UserId, ViewName};
 
 pub type AllAnswers = BTreeMap<ViewName, Answers, Global>;
 
@@ -27,16 +26,12 @@ pub type AllAnswers = BTreeMap<ViewName, Answers, Global>;
 fn with_grounds(
     alloc: Global,
     parts: &Parts<'_>,
-    target: &Fpr,
-    wanted: u32,
-    uid: &[u8],
+    asked: &Asked<'_>,
     consulted: &Consulted,
     answer: &Answer,
 ) -> Result<KeptAnswer, Memory>
-    requires sum { answer.now.sum ≡ amount_of answer.now.paths }
-    requires answer { IsAnswer (asked_of parts.now target.now uid.now) wanted answer.now.paths }
-    requires local { IsAnswerAround (asked_of parts.now target.now uid.now) wanted answer.now.paths consulted.now }
-    requires leads { AllLead (told_of (present_in parts.now) uid.now) target.now consulted.now }
+    requires answered { IsAnswered parts.now asked.now answer.now }
+    requires consulted { IsConsulted parts.now asked.now answer.now consulted.now }
     ensures right { IfOk result (λ kept. IsRight parts.now.keyring.now kept) }
     ensures found { IfOk result (λ kept. IsFound parts.now.keyring.now parts.now.roots.now kept) }
 {
@@ -45,13 +40,13 @@ fn with_grounds(
     // Its contract says that stamps are at most the count of changes.
     let _count = parts.keyring.len();
     let looked = look_at(alloc, consulted, parts.keyring, parts.roots)?;
-    let key = key_of(target, wanted, uid);
-    let uid = UserId::new(alloc, uid)?;
+    let key = key_of(asked);
+    let uid = UserId::new(alloc, asked.uid)?;
     let answer = answer.duplicate()?;
     Ok(KeptAnswer {
         key,
-        target: *target,
-        wanted,
+        target: *asked.target,
+        wanted: asked.wanted,
         uid,
         time: parts.t,
         looked: Some(looked),
@@ -65,23 +60,20 @@ fn with_grounds(
 fn without_grounds(
     alloc: Global,
     parts: &Parts<'_>,
-    target: &Fpr,
-    wanted: u32,
-    uid: &[u8],
+    asked: &Asked<'_>,
     answer: &Answer,
 ) -> Result<KeptAnswer, Memory>
-    requires sum { answer.now.sum ≡ amount_of answer.now.paths }
-    requires answer { IsAnswer (asked_of parts.now target.now uid.now) wanted answer.now.paths }
+    requires answered { IsAnswered parts.now asked.now answer.now }
     ensures right { IfOk result (λ kept. IsRight parts.now.keyring.now kept) }
     ensures found { IfOk result (λ kept. IsFound parts.now.keyring.now parts.now.roots.now kept) }
 {
-    let key = key_of(target, wanted, uid);
-    let uid = UserId::new(alloc, uid)?;
+    let key = key_of(asked);
+    let uid = UserId::new(alloc, asked.uid)?;
     let answer = answer.duplicate()?;
     Ok(KeptAnswer {
         key,
-        target: *target,
-        wanted,
+        target: *asked.target,
+        wanted: asked.wanted,
         uid,
         time: parts.t,
         looked: None,
@@ -96,22 +88,16 @@ pub fn remember(
     alloc: Global,
     of_view: &mut Answers,
     parts: &Parts<'_>,
-    target: &Fpr,
-    wanted: u32,
-    uid: &[u8],
+    asked: &Asked<'_>,
     consulted: &Consulted,
     answer: &Answer,
 )
-    requires sum { answer.now.sum ≡ amount_of answer.now.paths }
-    requires answer { IsAnswer (asked_of parts.now target.now uid.now) wanted answer.now.paths }
-    requires local { IsAnswerAround (asked_of parts.now target.now uid.now) wanted answer.now.paths consulted.now }
-    requires leads { AllLead (told_of (present_in parts.now) uid.now) target.now consulted.now }
-    requires right { AreRightIn parts.now.keyring.now of_view.old }
-    requires settled { of_view.old.roots ≡ parts.now.roots.now }
-    ensures right { AreRightIn parts.now.keyring.now of_view.new }
-    ensures settled { of_view.new.roots ≡ of_view.old.roots }
+    requires answered { IsAnswered parts.now asked.now answer.now }
+    requires consulted { IsConsulted parts.now asked.now answer.now consulted.now }
+    requires settled { AreSettled parts.now of_view.old }
+    ensures settled { AreSettled parts.now of_view.new }
 {
-    match with_grounds(alloc, parts, target, wanted, uid, consulted, answer) {
+    match with_grounds(alloc, parts, asked, consulted, answer) {
         Ok(kept) => of_view.keep(kept),
         Err(Memory) => {}
     }
@@ -122,19 +108,14 @@ pub fn remember_now(
     alloc: Global,
     of_view: &mut Answers,
     parts: &Parts<'_>,
-    target: &Fpr,
-    wanted: u32,
-    uid: &[u8],
+    asked: &Asked<'_>,
     answer: &Answer,
 )
-    requires sum { answer.now.sum ≡ amount_of answer.now.paths }
-    requires answer { IsAnswer (asked_of parts.now target.now uid.now) wanted answer.now.paths }
-    requires right { AreRightIn parts.now.keyring.now of_view.old }
-    requires settled { of_view.old.roots ≡ parts.now.roots.now }
-    ensures right { AreRightIn parts.now.keyring.now of_view.new }
-    ensures settled { of_view.new.roots ≡ of_view.old.roots }
+    requires answered { IsAnswered parts.now asked.now answer.now }
+    requires settled { AreSettled parts.now of_view.old }
+    ensures settled { AreSettled parts.now of_view.new }
 {
-    match without_grounds(alloc, parts, target, wanted, uid, answer) {
+    match without_grounds(alloc, parts, asked, answer) {
         Ok(kept) => of_view.keep(kept),
         Err(Memory) => {}
     }

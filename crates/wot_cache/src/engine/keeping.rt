@@ -7,6 +7,7 @@ ghost use Rattle.wot_cache.specs.Views.{view_at};
 
 use crate::Engine;
 use crate::answers::KeptAnswer;
+use crate::asked::Asked;
 use wot_types::{Fpr, ViewName};
 
 impl Engine {
@@ -35,7 +36,11 @@ impl Engine {
         ensures kept { IfSome result (λ kept. IsKeptFor self.now view.now kept.now) }
     {
         match self.answers.get(view) {
-            Some(of_view) => of_view.kept(target, wanted, uid),
+            Some(of_view) => of_view.kept(&Asked {
+                target,
+                wanted,
+                uid,
+            }),
             None => None,
         }
     }

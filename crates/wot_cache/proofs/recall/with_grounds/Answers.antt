@@ -11,11 +11,12 @@ use Rattle.wot_cache.proofs.recall.with_grounds.Goals as goal
 pub returns : goal.returns
 returns c =
     let p = c.args.parts.now in
+    let asked = c.args.asked.now in
     let set = c.args.consulted.now in
     let kept : KeptAnswer = record {
       key = c.key_of-key.result;
-      target = c.args.target.now;
-      wanted = c.args.wanted;
+      target = asked.target.now;
+      wanted = asked.wanted;
       uid = c.in_ok-uid.uid;
       time = p.t;
       looked = Some c.in_ok-looked.looked;
@@ -23,20 +24,20 @@ returns c =
       count = c.changes.result;
       turn = 0;
     } in
-    let around = subst (λ (a : Answer). IsAnswerAround (asked_of p c.args.target.now c.in_ok-uid.uid) c.args.wanted
+    let around = subst (λ (a : Answer). IsAnswerAround (asked_of p asked.target.now c.in_ok-uid.uid) asked.wanted
     a.paths set) (sym c.in_ok-answer.ensures.same)
-    (subst (λ (u : List ℕ). IsAnswerAround (asked_of p c.args.target.now u) c.args.wanted c.args.answer.now.paths set)
-    (sym c.in_ok-uid.ensures.copied) c.requires.local) in
-    let here = subst (λ (a : Answer). IsAnswer (asked_of p c.args.target.now c.in_ok-uid.uid) c.args.wanted a.paths)
+    (subst (λ (u : List ℕ). IsAnswerAround (asked_of p asked.target.now u) asked.wanted c.args.answer.now.paths set)
+    (sym c.in_ok-uid.ensures.copied) c.requires.consulted.local) in
+    let here = subst (λ (a : Answer). IsAnswer (asked_of p asked.target.now c.in_ok-uid.uid) asked.wanted a.paths)
     (sym c.in_ok-answer.ensures.same)
-    (subst (λ (u : List ℕ). IsAnswer (asked_of p c.args.target.now u) c.args.wanted c.args.answer.now.paths)
-    (sym c.in_ok-uid.ensures.copied) c.requires.answer) in
-    let sum = subst (λ (a : Answer). a.sum ≡ amount_of a.paths) (sym c.in_ok-answer.ensures.same) c.requires.sum in
+    (subst (λ (u : List ℕ). IsAnswer (asked_of p asked.target.now u) asked.wanted c.args.answer.now.paths)
+    (sym c.in_ok-uid.ensures.copied) c.requires.answered.answer) in
+    let sum = subst (λ (a : Answer). a.sum ≡ amount_of a.paths) (sym c.in_ok-answer.ensures.same) c.requires.answered.sum in
     record {
       right = right_made c.records_agree.ensures.local p.keyring.now p.roots.now kept set c.len-count.ensures.stamped
           c.in_ok-looked.looked refl c.in_ok-looked.ensures.looked sum around
           (c.later_is_order.ensures.itself p.keyring.now)
-          (subst (λ (u : List ℕ). AllLead (told_of (present_in p) u) c.args.target.now set)
-          (sym c.in_ok-uid.ensures.copied) c.requires.leads);
+          (subst (λ (u : List ℕ). AllLead (told_of (present_in p) u) asked.target.now set)
+          (sym c.in_ok-uid.ensures.copied) c.requires.consulted.leads);
       found = found_made p.keyring.now p.roots.now kept c.changes.ensures.changes here;
     }

@@ -20,10 +20,12 @@ answer-requires c =
     c.self.view_is c.refresh.ensures.keyring
     c.refresh.ensures.views c.parts-parts.ensures.parts in
     record {
-      wanted = c.requires.wanted;
-      few = few_seen c.args.self.now k views c.self.inside.networked.networks.entries c.self.inside.answers.entries name
-          p c.self.view_is c.self.invariant seen;
-      present = present_seen c.args.self.now name p seen;
+      askable = record {
+        wanted = c.requires.wanted;
+        few = few_seen c.args.self.now k views c.self.inside.networked.networks.entries c.self.inside.answers.entries
+            name p c.self.view_is c.self.invariant seen;
+        present = present_seen c.args.self.now name p seen;
+      };
       lawful = c.parts-parts.ensures.lawful;
       right = right_seen c.args.self.now k views name p c.self.inside.answers.entries c.self.view_is seen
           c.self.invariant.right;
