@@ -23,7 +23,7 @@ use Rattle.wot_search.specs.Making.{IsMaking}
 use Rattle.wot_network.specs.Local.{AgreeAt, IsLocal}
 use Rattle.wot_network.specs.Told.{record_of}
 use Rattle.wot_cache.specs.declared.answers.KeptAnswer.{KeptAnswer}
-use Rattle.wot_cache.specs.declared.answers.KeptReach.{KeptReach}
+use Rattle.wot_cache.specs.declared.reach.KeptReach.{KeptReach}
 use Rattle.wot_cache.specs.declared.answers.Looked.{Looked}
 use Rattle.wot_cache.specs.Answers.{AllLead, AllLed, AllStill, Amounts, IsTheAnswer, AreRight, AreStill, Entries, IsFound}
 use Rattle.wot_cache.specs.Answers.{IsGood, IsOf, IsReaching, IsRight, IsSameBut, IsStill, look, question_at}

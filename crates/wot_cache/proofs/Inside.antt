@@ -28,7 +28,7 @@ use Rattle.wot_keyring.specs.Later.{IsLater}
 use Rattle.wot_network.specs.Net.{Net, Fits}
 use Rattle.wot_cache.specs.declared.view.View.{View}
 use Rattle.wot_cache.specs.declared.answers.KeptAnswer.{KeptAnswer}
-use Rattle.wot_cache.specs.declared.answers.KeptReach.{KeptReach}
+use Rattle.wot_cache.specs.declared.reach.KeptReach.{KeptReach}
 use Rattle.wot_cache.specs.declared.answers.Looked.{Looked}
 use Rattle.wot_cache.specs.Answers.{AllAnswers, AllLed, Amounts, AreAllRight, AreRight, AreRightIn, Entries, IsGood}
 use Rattle.wot_cache.specs.Answers.{IsReaching, IsRight, OfView}

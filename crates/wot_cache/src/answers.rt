@@ -11,7 +11,7 @@ ghost use Rattle.wot_search.specs.Making.{IsMaking};
 ghost use Rattle.wot_search.specs.Reach.{IsReach};
 ghost use Rattle.wot_network.specs.Net.{told_of};
 ghost use Rattle.wot_cache.specs.Answers.{AllStill, AreFew, AreRight, AreRightIn, AreStill, StayRight, StayRightWith};
-ghost use Rattle.wot_cache.specs.Answers.{IsAmong, IsTheAnswer, IsFound, IsGood, IsReaching, IsRight};
+ghost use Rattle.wot_cache.specs.Answers.{IsAmong, IsTheAnswer, IsFound, IsGood, IsRight};
 ghost use Rattle.wot_cache.specs.Answers.{look, looked_by, looked_in, IsSameBut};
 ghost use Rattle.wot_cache.specs.Asked.{AreSettled, IsAnswered, IsAskedIn};
 ghost use Rattle.wot_cache.specs.Question.{present_in};
@@ -20,6 +20,7 @@ use crate::asked::Asked;
 use crate::budget::Budget;
 use crate::key::key_of;
 use crate::parts::Parts;
+use crate::reach::KeptReach;
 use crate::roots::{are_same, listed};
 use std::alloc::Global;
 use std::collections::BTreeMap;
@@ -228,53 +229,6 @@ fn give(table: &mut Table, parts: &Parts<'_>, turn: u64, asked: &Asked<'_>) -> O
     match table.get_mut(&key_of(asked)) {
         Some(kept) => kept.give(parts, turn, asked),
         None => None,
-    }
-}
-
-/// A table of reach, or its making as far as it has come, and the count, turn and time for which it was begun.
-#[derive(Drop)]
-pub struct KeptReach {
-    pub count: u64,
-    pub turn: u64,
-    pub time: u32,
-    pub making: Making,
-}
-
-impl KeptReach {
-    /// A making for the current keyring and time, and for the roots of this turn.
-    fn new(parts: &Parts<'_>, turn: u64, making: Making) -> KeptReach
-        requires making { IsMaking (told_of (present_in parts.now)) parts.now.roots.now making }
-        ensures reaching { IsReaching parts.now.keyring.now parts.now.roots.now turn result }
-    {
-        KeptReach {
-            count: parts.keyring.changes(),
-            turn,
-            time: parts.t,
-            making,
-        }
-    }
-
-    /// Whether it is for the current keyring and time, and for the roots of this turn.
-    fn is_now(&self, parts: &Parts<'_>, turn: u64) -> bool
-        requires reaching { IsReaching parts.now.keyring.now parts.now.roots.now turn self.now }
-        ensures now { result ≡ true → IsMaking (told_of (present_in parts.now)) parts.now.roots.now self.now.making }
-    {
-        if self.count != parts.keyring.changes() || self.turn != turn {
-            return false;
-        }
-        self.time == parts.t
-    }
-
-    /// The table, if it is finished, current, and for the roots of this turn.
-    fn give(&self, parts: &Parts<'_>, turn: u64) -> Option<&Reach>
-        requires reaching { IsReaching parts.now.keyring.now parts.now.roots.now turn self.now }
-        ensures reach { IfSome result (λ r. IsReach (told_of (present_in parts.now)) parts.now.roots.now r.now) }
-    {
-        if self.is_now(parts, turn) {
-            self.making.reach()
-        } else {
-            None
-        }
     }
 }
 

@@ -16,6 +16,7 @@ mod making;
 mod networks;
 mod parts;
 mod present;
+mod reach;
 mod recall;
 mod roots;
 mod turns;

@@ -2,7 +2,7 @@ use Rattle.std.specs.Prelude.{IfSome}
 use Rattle.std.proofs.Common.{Option, rules, sym, subst}
 use Rattle.wot_edge.specs.Record.{IsRecord}
 use Rattle.wot_network.specs.Net.{Present, told_of}
-use Rattle.wot_cache.specs.declared.answers.KeptReach.{KeptReach}
+use Rattle.wot_cache.specs.declared.reach.KeptReach.{KeptReach}
 use Rattle.wot_cache.specs.Answers.{AreAllRight, AreRight, Entries, IsReaching}
 use Rattle.wot_cache.specs.Asked.{question_of}
 use Rattle.wot_cache.proofs.Asking.{if_ok, told_from}

@@ -1,6 +1,6 @@
 use Rattle.std.specs.Prelude.{IfSome}
 use Rattle.std.proofs.Common.{Option, sym, ap, subst, ◌∙◌}
-use Rattle.wot_cache.specs.declared.answers.KeptReach.{KeptReach}
+use Rattle.wot_cache.specs.declared.reach.KeptReach.{KeptReach}
 use Rattle.wot_cache.specs.Answers.{Amounts, AreRightIn, IsReaching, OfView}
 use Rattle.wot_cache.proofs.answers.Answers.reach.Goals as goal
 
