@@ -5,7 +5,7 @@ use Rattle.wot_types.specs.declared.fpr.Fpr.{Fpr}
 use Rattle.wot_keyring.specs.declared.kept.Kept.{Kept}
 use Rattle.wot_keyring.specs.Held.{Held, held_of, cert_in}
 use Rattle.wot_keyring.specs.Keyring.{Keyring, cert_at, is_fpr}
-use Rattle.wot_cache.specs.Answers.{AllAnswers}
+use Rattle.wot_kept.specs.Answers.{AllAnswers}
 use Rattle.wot_cache.specs.Views.{Views}
 use Rattle.wot_cache.specs.Dump.{engine_of}
 use Rattle.wot_cache.specs.State.{Engine, ViewMarks, state_of, with_held}

@@ -4,15 +4,15 @@ use Rattle.std.specs.List.{AllByRecursion}
 use Rattle.std.specs.Map.{lookup}
 use Rattle.std.specs.Option.{option_map_or}
 use Rattle.wot_keyring.specs.Keyring.{Keyring}
-use Rattle.wot_cache.specs.declared.answers.KeptAnswer.{KeptAnswer}
-use Rattle.wot_cache.specs.Answers.{AllAnswers, Amounts, AreAllRight, AreRight, Entries, KeepsFor, OfView, RestsOnLeads}
+use Rattle.wot_kept.specs.declared.answers.KeptAnswer.{KeptAnswer}
+use Rattle.wot_kept.specs.Answers.{AllAnswers, Amounts, AreAllRight, AreRight, Entries, KeepsFor, OfView, RestsOnLeads}
 use Rattle.wot_cache.specs.Consulted.{ConsultsLeads}
 use Rattle.wot_cache.specs.Inside.{Networks}
 use Rattle.wot_cache.specs.Marks.{shown}
 use Rattle.wot_cache.specs.State.{Engine}
 use Rattle.wot_cache.specs.Turns.{Turns}
 use Rattle.wot_cache.specs.Views.{Views, is_name}
-use Rattle.wot_cache.proofs.Inside.{right_found}
+use Rattle.wot_kept.specs.RightLaws.{right_found}
 
 abbrev RestOnLeads : Keyring → Entries → Type 0
 RestOnLeads k entries = AllByRecursion (λ (e : ℕ × KeptAnswer). RestsOnLeads k e.1) entries

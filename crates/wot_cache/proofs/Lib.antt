@@ -7,7 +7,5 @@ pub mod Turning
 pub mod Lines
 pub mod DumpSize
 pub mod Replay
-pub mod Counting
-pub mod Grounds
 pub mod Resting
 pub mod Onward

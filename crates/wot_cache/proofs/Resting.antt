@@ -20,12 +20,12 @@ use Rattle.wot_keyring.specs.Keyring.{Keyring, is_fpr, kept_at, stamp_at}
 use Rattle.wot_keyring.specs.Kept.{AreStamped}
 use Rattle.wot_keyring.specs.Later.{IsLater, IsLaterAt, IsUnaltered, SaysSame}
 use Rattle.wot_keyring.specs.Log.{HasChangedSince, Logged, is_listed}
-use Rattle.wot_cache.specs.declared.answers.KeptAnswer.{KeptAnswer}
-use Rattle.wot_cache.specs.declared.answers.Looked.{Looked}
-use Rattle.wot_cache.specs.declared.view.AskFault.{AskFault}
-use Rattle.wot_cache.specs.declared.view.AskFault.TheVariants as asked
+use Rattle.wot_kept.specs.declared.answers.KeptAnswer.{KeptAnswer}
+use Rattle.wot_kept.specs.declared.answers.Looked.{Looked}
+use Rattle.wot_kept.specs.declared.fault.AskFault.{AskFault}
+use Rattle.wot_kept.specs.declared.fault.AskFault.TheVariants as asked
 use Rattle.wot_cache.specs.declared.view.View.{View}
-use Rattle.wot_cache.specs.Answers.{AllAnswers, AllStill, Amounts, AreStill, IsOf, IsRight}
+use Rattle.wot_kept.specs.Answers.{AllAnswers, AllStill, Amounts, AreStill, IsOf, IsRight}
 use Rattle.wot_cache.specs.Basis.{AllIn, AreCalm, AreViewsOn, Basis, CarriesOn, HasAmount, HasGrown, Includes, IsFreeOf}
 use Rattle.wot_cache.specs.Basis.{IsKeptAt, IsKeptOn, IsKeyringOn, IsPresent, IsSameOrClosed, IsUndisturbed, RestsAt}
 use Rattle.wot_cache.specs.Basis.{RestsOn, is_in, question_on}
@@ -35,8 +35,8 @@ use Rattle.wot_cache.specs.Question.{OfQuestion, question_in}
 use Rattle.wot_cache.specs.State.{Engine, StaysButMarks, state_of}
 use Rattle.wot_cache.specs.Turns.{Turns}
 use Rattle.wot_cache.specs.Views.{TellsOpen, Views, view_at}
-use Rattle.wot_cache.proofs.Asking.{if_some}
-use Rattle.wot_cache.proofs.Grounds.{of_question, stamp_past}
+use Rattle.wot_kept.specs.CaseLaws.{if_some}
+use Rattle.wot_kept.specs.RightLaws.{of_question, stamp_past}
 use Rattle.wot_cache.proofs.Marking.{made_as}
 
 itself : (n : ℕ) → n ≤ n

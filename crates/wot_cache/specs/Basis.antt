@@ -10,8 +10,8 @@ use Rattle.wot_keyring.specs.Keyring.{Keyring, certificates_in, is_fpr, stamp_at
 use Rattle.wot_keyring.specs.Later.{IsUnaltered}
 use Rattle.wot_keyring.specs.Log.{Logged, is_listed}
 use Rattle.wot_network.specs.Told.{record_of}
-use Rattle.wot_cache.specs.declared.answers.Looked.{Looked}
-use Rattle.wot_cache.specs.declared.asked.Asked.{Asked}
+use Rattle.wot_kept.specs.declared.answers.Looked.{Looked}
+use Rattle.wot_kept.specs.declared.asked.Asked.{Asked}
 use Rattle.wot_cache.specs.declared.view.View.{View}
 use Rattle.wot_cache.specs.Question.{OfQuestion}
 use Rattle.wot_cache.specs.State.{Engine}

@@ -3,8 +3,8 @@ use Rattle.std.specs.Prelude.{ℕ, List, []}
 use Rattle.std.specs.List.{AllByRecursion}
 use Rattle.std.specs.Map.{lookup}
 use Rattle.std.specs.Option.{option_map_or}
-use Rattle.wot_cache.specs.declared.answers.KeptAnswer.{KeptAnswer}
-use Rattle.wot_cache.specs.Answers.{Entries, IsAmong, KeepsFor, OfView, RestsOnLeads}
+use Rattle.wot_kept.specs.declared.answers.KeptAnswer.{KeptAnswer}
+use Rattle.wot_kept.specs.Answers.{Entries, IsAmong, KeepsFor, OfView, RestsOnLeads}
 use Rattle.wot_cache.specs.State.{Engine}
 use Rattle.wot_cache.specs.Views.{is_name}
 

@@ -1,18 +1,18 @@
 -- Marks: which certificates have records in a view's network, and until when these are valid. No answer depends on
 -- them.
-use Rattle.std.specs.Prelude.{◌≡◌, ◌≤◌, ◌+◌, ◌-◌, ◌^◌, ℕ, false, cond, min, List, [], map}
+use Rattle.std.specs.Prelude.{◌≡◌, ◌≤◌, ◌+◌, ◌-◌, ◌^◌, ℕ, false, min, List, [], map}
 use Rattle.std.specs.Prelude.{Result, Option, None, IfSome, OnOk}
-use Rattle.std.specs.Map.{lookup}
 use Rattle.std.specs.Option.{option_map_or}
 use Rattle.wot_keyring.specs.Keyring.{Keyring}
 use Rattle.wot_network.specs.Net.{Net, Marks, AreMarksOf, StayCurrent, marks_of, stale_edges, stale_signatures}
 use Rattle.wot_cache.specs.declared.present.Networked.{Networked}
 use Rattle.wot_cache.specs.declared.view.View.{View}
-use Rattle.wot_cache.specs.Answers.{AllAnswers}
+use Rattle.wot_kept.specs.Answers.{AllAnswers}
 use Rattle.wot_cache.specs.Inside.{Networks, network_at}
 use Rattle.wot_cache.specs.State.{Engine, StaysButMarks, OtherMarksStay, ViewMarks, marks_at}
 use Rattle.wot_cache.specs.Turns.{Turns}
 use Rattle.wot_cache.specs.Views.{Views, is_name, view_at}
+pub use Rattle.wot_kept.specs.Names.{IsForgotten}
 
 abbrev pub marks_by : Option Net → Marks
 marks_by found = option_map_or (λ (n : Net). marks_of n.lines) found []
@@ -29,11 +29,6 @@ marks_shown networks = map (λ (e : List ℕ × Net). (e.0, marks_of e.1.lines))
 abbrev pub shown : Keyring → Views → Networks → Turns → AllAnswers → Engine
 shown k views networks turns answers =
     record { keyring = k; views = views; marks = marks_shown networks; turns = turns; answers = answers }
-
--- the entry of this name is gone, and the others are unchanged
-abbrev pub IsForgotten : {X : Type 0} → List ℕ → List (List ℕ × X) → List (List ℕ × X) → Type 0
-IsForgotten name old new =
-    (other : List ℕ) → lookup (is_name other) new ≡ cond (is_name name other) None (lookup (is_name other) old)
 
 -- the networks of other views are unchanged
 abbrev pub OthersStay : List ℕ → Networks → Networks → Type 0

@@ -11,7 +11,7 @@ use Rattle.wot_keyring.specs.Held.{Held, nothing, held_of}
 use Rattle.wot_keyring.specs.Keyring.{Keyring}
 use Rattle.wot_keyring.specs.Keyring as keyrings
 use Rattle.wot_network.specs.Net.{Marks}
-use Rattle.wot_cache.specs.Answers.{AllAnswers}
+use Rattle.wot_kept.specs.Answers.{AllAnswers}
 use Rattle.wot_cache.specs.Turns.{Turns, no_turns}
 use Rattle.wot_cache.specs.Views.{Views, is_name, with_time, with_root, without_view}
 

@@ -1,17 +1,15 @@
 //! What the answers to a set of questions depend on, so that it is known without asking again that none has changed.
 //! wot_machine keeps one for its watches. It stands on the keyring's log of changes and on the kept answers.
 ghost use Rattle.std.specs.Prelude.{◌≡◌, false, true, IfSome};
-ghost use Rattle.wot_cache.specs.Answers.{AreAllRight, IsRight};
+ghost use Rattle.wot_kept.specs.Answers.{AreAllRight, IsRight};
 ghost use Rattle.wot_cache.specs.Basis.{empty_at, is_in, AllIn, AreCalm, HasGrown, Includes, IsFreeOf, IsKeptSum};
 
-use crate::answers::{KeptAnswer, Looked, are_still};
-use crate::asked::Asked;
 use crate::engine::Engine;
-use crate::recall::AllAnswers;
 use crate::view::View;
 use std::alloc::Global;
 use std::collections::BTreeSet;
 use std::marker::Model;
+use wot_kept::{AllAnswers, Asked, KeptAnswer, Looked, are_still};
 use wot_keyring::Keyring;
 use wot_types::{Fpr, ViewName};
 

@@ -12,10 +12,9 @@ ghost use Rattle.wot_cache.specs.Parts.{ArePartsOf};
 ghost use Rattle.wot_cache.specs.Views.{view_at, TellsOpen};
 
 use crate::networks::{self, Networks};
-use crate::parts::Parts;
-use crate::view::AskFault;
 use crate::views::{self, Views};
 use std::alloc::Global;
+use wot_kept::{AskFault, Parts};
 use wot_keyring::Keyring;
 use wot_network::laws::stale_are_some;
 use wot_types::{Memory, Steps, ViewName};

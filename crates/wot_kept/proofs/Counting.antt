@@ -10,10 +10,10 @@ use Rattle.std.proofs.lemmas.Map.Entries.{sum_by-insert_entry, sum_by-set_value}
 use Rattle.std.specs.Ordering.{nat_cmp}
 use Rattle.std.proofs.lemmas.Cmp.{nat_cmp_total}
 use Rattle.wot_keyring.specs.Keyring.{Keyring}
-use Rattle.wot_cache.specs.declared.answers.KeptAnswer.{KeptAnswer}
-use Rattle.wot_cache.specs.Answers.{Amounts, AreFew, AreRight, Entries, IsGood, IsRight, IsSameBut, looked_by}
-use Rattle.wot_cache.specs.Answers.{looked_in}
-use Rattle.wot_cache.proofs.Inside.{each_inserted, length_inserted}
+use Rattle.wot_kept.specs.declared.answers.KeptAnswer.{KeptAnswer}
+use Rattle.wot_kept.specs.Answers.{Amounts, AreFew, AreRight, Entries, IsGood, IsRight, IsSameBut, looked_by}
+use Rattle.wot_kept.specs.Answers.{looked_in}
+use Rattle.wot_kept.specs.EntryLaws.{each_inserted, length_inserted}
 
 pub right_put : (k : Keyring) (roots : Amounts) (turn : ℕ) (entries : Entries) (a : KeptAnswer) →
     AreRight k roots turn entries → IsRight k a

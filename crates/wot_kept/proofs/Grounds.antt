@@ -11,8 +11,7 @@ use Rattle.wot_types.specs.declared.fpr.Fpr.{Fpr}
 use Rattle.wot_verdict.specs.Verdicts as verdicts
 use Rattle.wot_cert.specs.Certificate.{Certificate}
 use Rattle.wot_cert.specs.Counts.{all_sigs}
-use Rattle.wot_edge.specs.Answer.{IsAnswer, amount_of}
-use Rattle.wot_edge.specs.Path.{asks}
+use Rattle.wot_edge.specs.Answer.{amount_of}
 use Rattle.wot_edge.specs.Leads.{Leads}
 use Rattle.wot_edge.specs.Record.{Has, Record}
 use Rattle.wot_keyring.specs.declared.kept.Kept.{Kept}
@@ -22,34 +21,19 @@ use Rattle.wot_keyring.specs.Later.{IsLater, IsLaterAt, IsUnaltered, SaysSame}
 use Rattle.wot_search.specs.Making.{IsMaking}
 use Rattle.wot_network.specs.Local.{AgreeAt, IsLocal}
 use Rattle.wot_network.specs.Told.{record_of}
-use Rattle.wot_cache.specs.declared.answers.KeptAnswer.{KeptAnswer}
-use Rattle.wot_cache.specs.declared.reach.KeptReach.{KeptReach}
-use Rattle.wot_cache.specs.declared.answers.Looked.{Looked}
-use Rattle.wot_cache.specs.Answers.{AllLead, AllLed, AllStill, Amounts, IsTheAnswer, AreRight, AreStill, Entries, IsFound}
-use Rattle.wot_cache.specs.Answers.{IsGood, IsOf, IsReaching, IsRight, IsSameBut, IsStill, look, question_at}
-use Rattle.wot_cache.specs.Question.{IsAnswerAround}
-use Rattle.wot_cache.proofs.Inside.{each_found}
+use Rattle.wot_kept.specs.declared.answers.KeptAnswer.{KeptAnswer}
+use Rattle.wot_kept.specs.declared.reach.KeptReach.{KeptReach}
+use Rattle.wot_kept.specs.declared.answers.Looked.{Looked}
+use Rattle.wot_kept.specs.Answers.{AllLead, AllLed, AllStill, Amounts, IsTheAnswer, AreRight, AreStill, Entries, IsFound}
+use Rattle.wot_kept.specs.Answers.{IsGood, IsReaching, IsRight, IsSameBut, IsStill, look, question_at}
+use Rattle.wot_kept.specs.Question.{IsAnswerAround}
+use Rattle.wot_kept.specs.RightLaws.{stamped_there, stamp_past}
 
 -- ---- one fingerprint
 
 stripped_at : (k : Keyring) (fpr : Fpr) → lookup (is_fpr fpr) (certificates_in k) ≡ option_map
     (λ (x : Kept). x.cert) (kept_at k fpr)
 stripped_at k fpr = lookup-map_values (λ (x : Kept). x.cert) (is_fpr fpr) k.certs
-
-abbrev StampedBy : ℕ → Kept → Type 0
-StampedBy changes x = (0 < x.stamp) × (x.stamp ≤ changes)
-
-stamped_there : (k : Keyring) (fpr : Fpr) (x : Kept) → AreStamped k.changes k.certs → kept_at k fpr ≡ Some x
-    → StampedBy k.changes x
-stamped_there k fpr x stamped e = each_found (StampedBy k.changes) (is_fpr fpr) k.certs x stamped e
-
--- a stamp is at most the current count of changes
-pub stamp_past : (k : Keyring) (fpr : Fpr) → AreStamped k.changes k.certs → stamp_at k fpr ≤ k.changes
-stamp_past k fpr stamped = by (kept_at k fpr) refl
-  where
-    by : (o : Option Kept) → kept_at k fpr ≡ o → option_map_or (λ (x : Kept). x.stamp) o 0 ≤ k.changes
-    by None e = omega arith
-    by (Some x) e = (stamped_there k fpr x stamped e).1
 
 -- a fingerprint with stamp 0 has no certificate in the keyring
 none_kept : (k : Keyring) (fpr : Fpr) → AreStamped k.changes k.certs → stamp_at k fpr ≡ 0 → kept_at k fpr ≡ None
@@ -168,20 +152,6 @@ right_of_all k a none sum = record {
 pub right_now : ((k : Keyring) → IsLater k k) → (k : Keyring) (roots : Amounts) (a : KeptAnswer) → IsRight k a
     → AllStill k roots a.looked → IsTheAnswer k roots a
 right_now itself k roots a right still = right.answer k roots (itself k) still
-
-pub of_question : (k : Keyring) (roots : List (Fpr × ℕ)) (a : KeptAnswer) (target : Fpr) (wanted : ℕ) (uid : List ℕ)
-    (t : ℕ) → IsOf a target wanted uid t
-    → IsTheAnswer k roots a → IsAnswer (asks (record_of (certificates_in k) k.verdicts t uid) roots target) wanted
-    a.answer.paths
-of_question k roots a target wanted uid t is here =
-    subst (λ (w : ℕ). IsAnswer (asks (record_of (certificates_in k) k.verdicts t uid) roots target) w a.answer.paths)
-    is.wanted
-    (subst (λ (f : Fpr). IsAnswer (asks (record_of (certificates_in k) k.verdicts t uid) roots f) a.wanted
-    a.answer.paths) is.target
-    (subst (λ (u : List ℕ). IsAnswer (asks (record_of (certificates_in k) k.verdicts t u) roots a.target) a.wanted
-    a.answer.paths) is.uid
-    (subst (λ (s : ℕ). IsAnswer (asks (record_of (certificates_in k) k.verdicts s a.uid) roots a.target) a.wanted
-    a.answer.paths) is.time here)))
 
 -- ---- when an answer was last found valid
 

@@ -16,10 +16,10 @@ use Rattle.wot_keyring.specs.Keyring.{Keyring, certificates_in, stamp_at}
 use Rattle.wot_keyring.specs.Later.{IsLater}
 use Rattle.wot_network.specs.Told.{record_of}
 use Rattle.wot_search.specs.Making.{IsMaking}
-use Rattle.wot_cache.specs.declared.answers.KeptAnswer.{KeptAnswer}
-use Rattle.wot_cache.specs.declared.reach.KeptReach.{KeptReach}
-use Rattle.wot_cache.specs.declared.answers.Looked.{Looked}
-use Rattle.wot_cache.specs.Views.{is_name}
+use Rattle.wot_kept.specs.declared.answers.KeptAnswer.{KeptAnswer}
+use Rattle.wot_kept.specs.declared.reach.KeptReach.{KeptReach}
+use Rattle.wot_kept.specs.declared.answers.Looked.{Looked}
+use Rattle.wot_kept.specs.Names.{is_name}
 
 -- ---- what an answer depends on
 

@@ -7,11 +7,11 @@ use Rattle.wot_edge.specs.Record.{Record}
 use Rattle.wot_auth.specs.declared.answer.Answer.{Answer}
 use Rattle.wot_network.specs.Net.{told_of}
 use Rattle.wot_network.specs.Roads.{present_of}
-use Rattle.wot_cache.specs.declared.asked.Asked.{Asked}
-use Rattle.wot_cache.specs.declared.parts.Parts.{Parts}
-use Rattle.wot_cache.specs.Answers.{AllLead, AreRightIn, IsOf, OfView}
-use Rattle.wot_cache.specs.declared.answers.KeptAnswer.{KeptAnswer}
-use Rattle.wot_cache.specs.Question.{IsAnswerAround, asked_of, present_in}
+use Rattle.wot_kept.specs.declared.asked.Asked.{Asked}
+use Rattle.wot_kept.specs.declared.parts.Parts.{Parts}
+use Rattle.wot_kept.specs.Answers.{AllLead, AreRightIn, IsOf, OfView}
+use Rattle.wot_kept.specs.declared.answers.KeptAnswer.{KeptAnswer}
+use Rattle.wot_kept.specs.Question.{IsAnswerAround, asked_of, present_in}
 
 -- the question that is asked over the parts
 abbrev pub question_of : Parts → Asked → Question

@@ -1,31 +1,15 @@
--- The question from a view, and what is claimed of its answer.
-use Rattle.std.specs.Prelude.{◌≡◌, ◌≤◌, ◌↔◌, ℕ, List, [], IfSome}
+-- The question over the parts of a view, and what is claimed of its answer.
+use Rattle.std.specs.Prelude.{◌≡◌, ◌≤◌, ◌↔◌, ℕ, List, []}
 use Rattle.wot_types.specs.declared.fpr.Fpr.{Fpr}
 use Rattle.wot_edge.specs.declared.path.Path.{Path}
 use Rattle.wot_edge.specs.Answer.{IsAnswer, amount_of}
 use Rattle.wot_edge.specs.Path.{Question, asks, use_of, IsSpent}
 use Rattle.wot_edge.specs.Roots.{root_amount}
-use Rattle.wot_keyring.specs.Keyring.{Keyring, certificates_in}
-use Rattle.wot_network.specs.Local.{IsLocal}
 use Rattle.wot_network.specs.Net.{Present, told_of}
-use Rattle.wot_network.specs.Told.{record_of}
 use Rattle.wot_auth.specs.declared.answer.Answer.{Answer}
 use Rattle.wot_edge.specs.Agree.{Agree}
 use Rattle.wot_edge.specs.Capacity.{AllFit}
-use Rattle.wot_cache.specs.declared.parts.Parts.{Parts}
-use Rattle.wot_cache.specs.declared.view.View.{View}
-use Rattle.wot_cache.specs.State.{Engine, State, state_of}
-use Rattle.wot_cache.specs.Views.{view_at}
-
--- The question with which confidence a user ID belongs to the target, from a view: over the certification network of
--- the current certificates and verdicts at the view's time, from the view's roots.
-abbrev pub question_in : State → View → Fpr → List ℕ → Question
-question_in s view target uid = asks (record_of s.held.certs s.held.verdicts view.time uid) view.roots target
-
--- P holds of the question from this view, if it is open
-abbrev pub OfQuestion : Engine → List ℕ → Fpr → List ℕ → (Question → Type 0) → Type 0
-OfQuestion engine name target uid P =
-    IfSome (view_at engine.views name) (λ (v : View). P (question_in (state_of engine) v target uid))
+use Rattle.wot_kept.specs.declared.parts.Parts.{Parts}
 
 -- the question over these roads, from these roots
 abbrev pub asked_over : Present → List (Fpr × ℕ) → Fpr → List ℕ → Question
@@ -38,11 +22,6 @@ present_in p = record { keyring = p.keyring.now; time = p.t }
 -- the question over the parts
 abbrev pub asked_of : Parts → Fpr → List ℕ → Question
 asked_of p target uid = asked_over (present_in p) p.roots.now target uid
-
--- the network that the roads show is that of the keyring's certificates and verdicts at a time, and each part of it
--- depends on a few of them
-abbrev pub IsLocalTo : Keyring → ℕ → Present → Type 0
-IsLocalTo k t p = IsLocal (certificates_in k) k.verdicts t (told_of p)
 
 -- ---- answers
 

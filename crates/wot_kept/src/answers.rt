@@ -10,11 +10,11 @@ ghost use Rattle.wot_keyring.specs.Keyring.{Keyring as Held};
 ghost use Rattle.wot_search.specs.Making.{IsMaking};
 ghost use Rattle.wot_search.specs.Reach.{IsReach};
 ghost use Rattle.wot_network.specs.Net.{told_of};
-ghost use Rattle.wot_cache.specs.Answers.{AllStill, AreFew, AreRight, AreRightIn, AreStill, StayRight, StayRightWith};
-ghost use Rattle.wot_cache.specs.Answers.{IsAmong, IsTheAnswer, IsFound, IsGood, IsRight};
-ghost use Rattle.wot_cache.specs.Answers.{look, looked_by, looked_in, IsSameBut};
-ghost use Rattle.wot_cache.specs.Asked.{AreSettled, IsAnswered, IsAskedIn};
-ghost use Rattle.wot_cache.specs.Question.{present_in};
+ghost use Rattle.wot_kept.specs.Answers.{AllStill, AreFew, AreRight, AreRightIn, AreStill, StayRight, StayRightWith};
+ghost use Rattle.wot_kept.specs.Answers.{IsAmong, IsTheAnswer, IsFound, IsGood, IsRight};
+ghost use Rattle.wot_kept.specs.Answers.{look, looked_by, looked_in, IsSameBut};
+ghost use Rattle.wot_kept.specs.Asked.{AreSettled, IsAnswered, IsAskedIn};
+ghost use Rattle.wot_kept.specs.Question.{present_in};
 
 use crate::asked::Asked;
 use crate::budget::Budget;
@@ -65,7 +65,7 @@ pub struct KeptAnswer {
 
 impl KeptAnswer {
     /// Whether this is its question.
-    pub(crate) fn is_of(&self, asked: &Asked<'_>, time: u32) -> bool
+    pub fn is_of(&self, asked: &Asked<'_>, time: u32) -> bool
         ensures same { result ≡ true → IsAskedIn asked.now self.now time }
     {
         self.time == time
@@ -247,7 +247,7 @@ pub struct Answers {
 }
 
 impl Model for Answers {
-    ghost use Rattle.wot_cache.specs.Answers.{OfView, AreFew};
+    ghost use Rattle.wot_kept.specs.Answers.{OfView, AreFew};
 
     ghost Value = { OfView };
 

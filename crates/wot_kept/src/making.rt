@@ -4,9 +4,9 @@ ghost use Rattle.std.specs.Prelude.{◌≡◌, IfOk, IfSome};
 ghost use Rattle.wot_network.specs.Net.{told_of};
 ghost use Rattle.wot_network.specs.Roads.{present_of};
 ghost use Rattle.wot_search.specs.Making.{IsMaking};
-ghost use Rattle.wot_cache.specs.Answers.{AreRightIn};
-ghost use Rattle.wot_cache.specs.Asked.{AreSettled};
-ghost use Rattle.wot_cache.specs.Question.{present_in};
+ghost use Rattle.wot_kept.specs.Answers.{AreRightIn};
+ghost use Rattle.wot_kept.specs.Asked.{AreSettled};
+ghost use Rattle.wot_kept.specs.Question.{present_in};
 
 use crate::answers::Answers;
 use crate::parts::Parts;

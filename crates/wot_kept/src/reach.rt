@@ -4,8 +4,8 @@ ghost use Rattle.std.specs.Prelude.{◌≡◌, true, IfSome};
 ghost use Rattle.wot_search.specs.Making.{IsMaking};
 ghost use Rattle.wot_search.specs.Reach.{IsReach};
 ghost use Rattle.wot_network.specs.Net.{told_of};
-ghost use Rattle.wot_cache.specs.Answers.{IsReaching};
-ghost use Rattle.wot_cache.specs.Question.{present_in};
+ghost use Rattle.wot_kept.specs.Answers.{IsReaching};
+ghost use Rattle.wot_kept.specs.Question.{present_in};
 
 use crate::parts::Parts;
 use wot_search::{Making, Reach};

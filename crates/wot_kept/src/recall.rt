@@ -3,10 +3,10 @@
 ghost use Rattle.std.specs.Prelude.{◌≡◌, IfOk};
 ghost use Rattle.std.specs.Map.{remove_entry};
 ghost use Rattle.wot_keyring.specs.Keyring.{Keyring as Held};
-ghost use Rattle.wot_cache.specs.Answers.{AreAllRight, AreRightIn, IsFound, IsRight, KeepsFor};
-ghost use Rattle.wot_cache.specs.Asked.{AreSettled, IsAnswered, IsConsulted};
-ghost use Rattle.wot_cache.specs.Marks.{IsForgotten};
-ghost use Rattle.wot_cache.specs.Views.{is_name};
+ghost use Rattle.wot_kept.specs.Answers.{AreAllRight, AreRightIn, IsFound, IsRight, KeepsFor};
+ghost use Rattle.wot_kept.specs.Asked.{AreSettled, IsAnswered, IsConsulted};
+ghost use Rattle.wot_kept.specs.Names.{IsForgotten};
+ghost use Rattle.wot_kept.specs.Names.{is_name};
 
 use crate::answers::{Answers, KeptAnswer, look_at};
 use crate::asked::Asked;

@@ -15,8 +15,8 @@ use Rattle.wot_explain.specs.declared.explained.ExplainFault.{ExplainFault}
 use Rattle.wot_explain.specs.declared.explained.ExplainFault.TheVariants as explains
 use Rattle.wot_watch.specs.declared.watches.PutFault.{PutFault}
 use Rattle.wot_watch.specs.declared.watches.PutFault.TheVariants as puts
-use Rattle.wot_cache.specs.declared.view.AskFault.{AskFault}
-use Rattle.wot_cache.specs.declared.view.AskFault.TheVariants as asks
+use Rattle.wot_kept.specs.declared.fault.AskFault.{AskFault}
+use Rattle.wot_kept.specs.declared.fault.AskFault.TheVariants as asks
 use Rattle.wot_cache.specs.declared.view.View.{View}
 use Rattle.wot_cache.specs.Marks.{IsRefreshed}
 use Rattle.wot_cache.specs.State.{Engine}

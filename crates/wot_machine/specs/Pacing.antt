@@ -12,7 +12,7 @@ use Rattle.wot_script.specs.declared.reply.Reply.TheVariants as replies
 use Rattle.wot_keyring.specs.Keyring.{certificates_in}
 use Rattle.wot_network.specs.Net.{told_of}
 use Rattle.wot_network.specs.Roads.{present_of}
-use Rattle.wot_cache.specs.declared.parts.Parts.{Parts}
+use Rattle.wot_kept.specs.declared.parts.Parts.{Parts}
 use Rattle.wot_cache.specs.declared.view.View.{View}
 use Rattle.wot_cache.specs.Turns.{turn_at}
 use Rattle.wot_cache.specs.Views.{view_at}

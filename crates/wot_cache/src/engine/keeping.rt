@@ -1,13 +1,12 @@
 //! What an engine keeps of its answers, and how much. Kept answers change no answer: these clauses, and `consulted` of
 //! `Engine::ask`, only bound them.
 ghost use Rattle.std.specs.Prelude.{◌≡◌, ◌≤◌, None, IfSome};
-ghost use Rattle.wot_cache.specs.Answers.{RestsOnLeads};
+ghost use Rattle.wot_kept.specs.Answers.{RestsOnLeads};
 ghost use Rattle.wot_cache.specs.Consulted.{IsKeptFor};
 ghost use Rattle.wot_cache.specs.Views.{view_at};
 
 use crate::Engine;
-use crate::answers::KeptAnswer;
-use crate::asked::Asked;
+use wot_kept::{Asked, KeptAnswer};
 use wot_types::{Fpr, ViewName};
 
 impl Engine {

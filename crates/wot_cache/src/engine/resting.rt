@@ -8,12 +8,11 @@ ghost use Rattle.wot_cache.specs.Marks.{IsRefreshed};
 ghost use Rattle.wot_cache.specs.Question.{OfQuestion};
 ghost use Rattle.wot_cache.specs.Views.{view_at, TellsOpen};
 
-use crate::asked::Asked;
 use crate::basis::{Basis, kept_sum};
 use crate::engine::Engine;
-use crate::view::AskFault;
 use crate::views;
 use wot_auth::Answer;
+use wot_kept::{AskFault, Asked};
 use wot_types::{Fpr, Steps, ViewName};
 
 impl Engine {

@@ -10,8 +10,9 @@ ghost use Rattle.wot_cache.specs.Views.{view_at, with_time, time_fault, with_roo
 ghost use Rattle.wot_cache.specs.Views.{TellsFault};
 
 use crate::view::{NoView, View, ViewFault};
-use crate::{Engine, networks, recall, views};
+use crate::{Engine, networks, views};
 use wot_edge::Roots;
+use wot_kept::forget;
 use wot_types::{Fpr, Limit, Memory, ViewName};
 
 impl Engine {
@@ -144,7 +145,7 @@ impl Engine {
         }
         views::close(&mut self.networked.views, view);
         networks::forget(&mut self.networked.networks, view);
-        recall::forget(&mut self.answers, view);
+        forget(&mut self.answers, view);
         self.turns.forget(view);
         Ok(())
     }

@@ -1,5 +1,5 @@
-use Rattle.wot_cache.proofs.Counting.{few_put, fewer, right_put}
-use Rattle.wot_cache.proofs.answers.add.Goals as goal
+use Rattle.wot_kept.proofs.Counting.{few_put, fewer, right_put}
+use Rattle.wot_kept.proofs.answers.add.Goals as goal
 
 pub overflow_sub-result : goal.overflow_sub-result
 overflow_sub-result c =

@@ -1,8 +1,8 @@
 use Rattle.std.proofs.Common.{sym}
-use Rattle.wot_cache.proofs.Counting.{few_set}
-use Rattle.wot_cache.proofs.Grounds.{right_again}
-use Rattle.wot_cache.proofs.Inside.{answer_found, answer_set}
-use Rattle.wot_cache.proofs.answers.give.Goals as goal
+use Rattle.wot_kept.proofs.Counting.{few_set}
+use Rattle.wot_kept.proofs.Grounds.{right_again}
+use Rattle.wot_kept.specs.RightLaws.{answer_found, answer_set}
+use Rattle.wot_kept.proofs.answers.give.Goals as goal
 
 pub give-requires-clause-right : goal.give-requires-clause-right
 give-requires-clause-right c =

@@ -2,13 +2,14 @@ use Rattle.std.specs.Prelude.{IfSome}
 use Rattle.std.proofs.Common.{Option, rules, sym, subst}
 use Rattle.wot_edge.specs.Record.{IsRecord}
 use Rattle.wot_network.specs.Net.{Present, told_of}
-use Rattle.wot_cache.specs.declared.reach.KeptReach.{KeptReach}
-use Rattle.wot_cache.specs.Answers.{AreAllRight, AreRight, Entries, IsReaching}
-use Rattle.wot_cache.specs.Asked.{question_of}
-use Rattle.wot_cache.proofs.Asking.{if_ok, told_from}
-use Rattle.wot_cache.proofs.Inside.{all_right_set, right_found}
-use Rattle.wot_cache.proofs.Marking.{keeps_set}
-use Rattle.wot_cache.proofs.ask.answer.Goals as goal
+use Rattle.wot_kept.specs.declared.reach.KeptReach.{KeptReach}
+use Rattle.wot_kept.specs.Answers.{AreAllRight, AreRight, Entries, IsReaching}
+use Rattle.wot_kept.specs.Asked.{question_of}
+use Rattle.wot_kept.specs.CaseLaws.{if_ok}
+use Rattle.wot_kept.proofs.Told.{told_from}
+use Rattle.wot_kept.specs.RightLaws.{all_right_set, right_found}
+use Rattle.wot_kept.proofs.KeepsFor.{keeps_set}
+use Rattle.wot_kept.proofs.ask.answer.Goals as goal
 
 pub find-requires-clause-right : goal.find-requires-clause-right
 find-requires-clause-right c =

@@ -2,7 +2,7 @@ use Rattle.std.specs.Prelude.{IfOk}
 use Rattle.std.proofs.Common.{subst}
 use Rattle.wot_search.specs.Reach.{IsReach, Table}
 use Rattle.wot_network.specs.Net.{Present, told_of}
-use Rattle.wot_cache.proofs.ask.made_reach.Goals as goal
+use Rattle.wot_kept.proofs.ask.made_reach.Goals as goal
 
 pub returns : goal.returns
 returns c = record {

@@ -3,9 +3,9 @@ use Rattle.wot_types.specs.declared.fpr.Fpr.{Fpr}
 use Rattle.wot_edge.specs.Leads.{Leads}
 use Rattle.wot_edge.specs.Record.{Has}
 use Rattle.wot_network.specs.Net.{Present, told_of}
-use Rattle.wot_cache.specs.Question.{IsAnswerAround, asked_over}
-use Rattle.wot_cache.proofs.Asking.{answered_over}
-use Rattle.wot_cache.proofs.ask.search_near.Goals as goal
+use Rattle.wot_kept.specs.Question.{IsAnswerAround, asked_over}
+use Rattle.wot_kept.proofs.Told.{answered_over}
+use Rattle.wot_kept.proofs.ask.search_near.Goals as goal
 
 pub authenticate_metered-requires : goal.authenticate_metered-requires
 authenticate_metered-requires c = record { wanted = c.requires.askable.wanted; few = c.requires.askable.few }

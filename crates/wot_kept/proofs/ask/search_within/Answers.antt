@@ -1,8 +1,9 @@
 use Rattle.std.proofs.Common.{sym, subst}
 use Rattle.wot_search.specs.Reach.{IsReach}
 use Rattle.wot_network.specs.Net.{Present, told_of}
-use Rattle.wot_cache.proofs.Asking.{answered_over, both_ok}
-use Rattle.wot_cache.proofs.ask.search_within.Goals as goal
+use Rattle.wot_kept.proofs.Told.{answered_over}
+use Rattle.wot_kept.specs.CaseLaws.{both_ok}
+use Rattle.wot_kept.proofs.ask.search_within.Goals as goal
 
 pub authenticate_within-requires : goal.authenticate_within-requires
 authenticate_within-requires c = record {

@@ -3,8 +3,8 @@ use Rattle.std.proofs.Common.{Option, sym, subst}
 use Rattle.wot_search.specs.declared.making.Making.{Making}
 use Rattle.wot_search.specs.Making.{IsMaking}
 use Rattle.wot_network.specs.Net.{Present, told_of}
-use Rattle.wot_cache.specs.Question.{present_in}
-use Rattle.wot_cache.proofs.making.advanced.Goals as goal
+use Rattle.wot_kept.specs.Question.{present_in}
+use Rattle.wot_kept.proofs.making.advanced.Goals as goal
 
 pub advanced-requires : goal.advanced-requires
 advanced-requires c =

@@ -1,6 +1,6 @@
 use Rattle.std.proofs.Common.{ℕ, List, subst}
-use Rattle.wot_cache.specs.Answers.{KeepsFor}
-use Rattle.wot_cache.proofs.recall.begin.Goals as goal
+use Rattle.wot_kept.specs.Answers.{KeepsFor}
+use Rattle.wot_kept.proofs.recall.begin.Goals as goal
 
 pub returns-in-Ok : goal.returns-in-Ok
 returns-in-Ok c = record {

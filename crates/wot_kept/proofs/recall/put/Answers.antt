@@ -1,6 +1,6 @@
-use Rattle.wot_cache.proofs.Inside.{all_right_inserted}
-use Rattle.wot_cache.proofs.Marking.{keeps_inserted}
-use Rattle.wot_cache.proofs.recall.put.Goals as goal
+use Rattle.wot_kept.specs.RightLaws.{all_right_inserted}
+use Rattle.wot_kept.proofs.KeepsFor.{keeps_inserted}
+use Rattle.wot_kept.proofs.recall.put.Goals as goal
 
 pub returns : goal.returns
 returns c = record {

@@ -1,6 +1,6 @@
 use Rattle.std.proofs.Common.{sym, subst, ◌∙◌}
-use Rattle.wot_cache.specs.Answers.{Amounts, IsFound}
-use Rattle.wot_cache.proofs.recall.remember.Goals as goal
+use Rattle.wot_kept.specs.Answers.{Amounts, IsFound}
+use Rattle.wot_kept.proofs.recall.remember.Goals as goal
 
 pub returns-in-Ok : goal.returns-in-Ok
 returns-in-Ok c =

@@ -1,12 +1,12 @@
 use Rattle.std.proofs.Common.{◌≡◌, ℕ, List, Some, refl, sym, subst}
 use Rattle.wot_edge.specs.Answer.{IsAnswer, amount_of}
 use Rattle.wot_auth.specs.declared.answer.Answer.{Answer}
-use Rattle.wot_cache.specs.declared.answers.KeptAnswer.{KeptAnswer}
+use Rattle.wot_kept.specs.declared.answers.KeptAnswer.{KeptAnswer}
 use Rattle.wot_network.specs.Net.{told_of}
-use Rattle.wot_cache.specs.Answers.{AllLead}
-use Rattle.wot_cache.specs.Question.{IsAnswerAround, asked_of, present_in}
-use Rattle.wot_cache.proofs.Grounds.{found_made, right_made}
-use Rattle.wot_cache.proofs.recall.with_grounds.Goals as goal
+use Rattle.wot_kept.specs.Answers.{AllLead}
+use Rattle.wot_kept.specs.Question.{IsAnswerAround, asked_of, present_in}
+use Rattle.wot_kept.proofs.Grounds.{found_made, right_made}
+use Rattle.wot_kept.proofs.recall.with_grounds.Goals as goal
 
 pub returns : goal.returns
 returns c =

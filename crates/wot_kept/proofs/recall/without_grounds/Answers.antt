@@ -1,10 +1,10 @@
 use Rattle.std.proofs.Common.{◌≡◌, ℕ, List, None, refl, sym, subst}
 use Rattle.wot_edge.specs.Answer.{IsAnswer, amount_of}
 use Rattle.wot_auth.specs.declared.answer.Answer.{Answer}
-use Rattle.wot_cache.specs.declared.answers.KeptAnswer.{KeptAnswer}
-use Rattle.wot_cache.specs.Question.{asked_of}
-use Rattle.wot_cache.proofs.Grounds.{found_made, right_of_all}
-use Rattle.wot_cache.proofs.recall.without_grounds.Goals as goal
+use Rattle.wot_kept.specs.declared.answers.KeptAnswer.{KeptAnswer}
+use Rattle.wot_kept.specs.Question.{asked_of}
+use Rattle.wot_kept.proofs.Grounds.{found_made, right_of_all}
+use Rattle.wot_kept.proofs.recall.without_grounds.Goals as goal
 
 pub returns : goal.returns
 returns c =

@@ -1,5 +1,5 @@
 use Rattle.std.proofs.Common.{◌≡◌, ◌++◌}
-use Rattle.wot_cache.proofs.roots.listed.Given as goal
+use Rattle.wot_kept.proofs.roots.listed.Given as goal
 
 abbrev pub invariant-roots : goal.invariant-roots
 invariant-roots l =

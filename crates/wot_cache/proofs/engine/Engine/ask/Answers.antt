@@ -1,10 +1,11 @@
 use Rattle.std.proofs.Common.{Ok, refl, sym, subst}
 use Rattle.std.proofs.lemmas.Result.{err_from_is_err_and}
 use Rattle.wot_keyring.specs.Keyring.{Keyring}
-use Rattle.wot_cache.specs.Answers.{AreAllRight}
+use Rattle.wot_kept.specs.Answers.{AreAllRight}
 use Rattle.wot_cache.specs.Marks.{end_in}
 use Rattle.wot_cache.specs.Views.{view_at}
-use Rattle.wot_cache.proofs.Asking.{few_seen, if_ok, if_some, present_seen, right_kept, right_seen, seen_after}
+use Rattle.wot_cache.proofs.Asking.{few_seen, present_seen, right_kept, right_seen, seen_after}
+use Rattle.wot_kept.specs.CaseLaws.{if_ok, if_some}
 use Rattle.wot_cache.proofs.Asking.{told_seen}
 use Rattle.wot_cache.proofs.ConsultsLeads.{consulted, keeps_itself}
 use Rattle.wot_cache.proofs.Marking.{answered_open, engine_after, err_less, left, made_as}

@@ -1,6 +1,6 @@
 use Rattle.std.proofs.Common.{sym, ap, subst, ◌∙◌}
-use Rattle.wot_cache.specs.Answers.{Amounts, AreRight, AreRightIn, OfView}
-use Rattle.wot_cache.proofs.answers.Answers.give.Goals as goal
+use Rattle.wot_kept.specs.Answers.{Amounts, AreRight, AreRightIn, OfView}
+use Rattle.wot_kept.proofs.answers.Answers.give.Goals as goal
 
 pub give-requires : goal.give-requires
 give-requires c =

@@ -1,7 +1,7 @@
 use Rattle.std.proofs.Common.{refl, sym, ap, subst}
-use Rattle.wot_cache.specs.Answers.{Amounts, AreRightIn, IsFound, OfView}
-use Rattle.wot_cache.proofs.Grounds.{good_at, right_again}
-use Rattle.wot_cache.proofs.answers.Answers.keep.Goals as goal
+use Rattle.wot_kept.specs.Answers.{Amounts, AreRightIn, IsFound, OfView}
+use Rattle.wot_kept.proofs.Grounds.{good_at, right_again}
+use Rattle.wot_kept.proofs.answers.Answers.keep.Goals as goal
 
 pub returns-clause-right : goal.returns-clause-right
 returns-clause-right c k all right found =

@@ -1,7 +1,7 @@
 use Rattle.std.proofs.Common.{sym, subst}
-use Rattle.wot_cache.specs.Answers.{AreRightIn, IsAmong, OfView}
-use Rattle.wot_cache.proofs.Inside.{answer_found}
-use Rattle.wot_cache.proofs.answers.Answers.kept.Goals as goal
+use Rattle.wot_kept.specs.Answers.{AreRightIn, IsAmong, OfView}
+use Rattle.wot_kept.specs.RightLaws.{answer_found}
+use Rattle.wot_kept.proofs.answers.Answers.kept.Goals as goal
 
 pub returns-in-Some : goal.returns-in-Some
 returns-in-Some c = record {

@@ -1,8 +1,8 @@
 use Rattle.std.specs.Prelude.{IfSome}
 use Rattle.std.proofs.Common.{Option, sym, ap, subst, ◌∙◌}
-use Rattle.wot_cache.specs.declared.reach.KeptReach.{KeptReach}
-use Rattle.wot_cache.specs.Answers.{Amounts, AreRightIn, IsReaching, OfView}
-use Rattle.wot_cache.proofs.answers.Answers.reach.Goals as goal
+use Rattle.wot_kept.specs.declared.reach.KeptReach.{KeptReach}
+use Rattle.wot_kept.specs.Answers.{Amounts, AreRightIn, IsReaching, OfView}
+use Rattle.wot_kept.proofs.answers.Answers.reach.Goals as goal
 
 pub give-requires : goal.give-requires
 give-requires c =

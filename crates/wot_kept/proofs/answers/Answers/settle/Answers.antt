@@ -1,7 +1,7 @@
 use Rattle.std.proofs.Common.{◌<◌, sym, subst, arith}
-use Rattle.wot_cache.specs.Answers.{AreRightIn, OfView}
-use Rattle.wot_cache.proofs.Grounds.{reaching_turned, right_turned}
-use Rattle.wot_cache.proofs.answers.Answers.settle.Goals as goal
+use Rattle.wot_kept.specs.Answers.{AreRightIn, OfView}
+use Rattle.wot_kept.proofs.Grounds.{reaching_turned, right_turned}
+use Rattle.wot_kept.proofs.answers.Answers.settle.Goals as goal
 
 pub returns-clause-right : goal.returns-clause-right
 returns-clause-right c k all =

@@ -1,9 +1,9 @@
 use Rattle.std.proofs.Common.{sym, ap, subst, ◌∙◌}
 use Rattle.wot_auth.specs.declared.answer.Answer.{Answer}
-use Rattle.wot_cache.specs.declared.answers.KeptAnswer.{KeptAnswer}
-use Rattle.wot_cache.specs.Asked.{IsAnswered}
-use Rattle.wot_cache.proofs.Grounds.{of_question}
-use Rattle.wot_cache.proofs.answers.KeptAnswer.give.Goals as goal
+use Rattle.wot_kept.specs.declared.answers.KeptAnswer.{KeptAnswer}
+use Rattle.wot_kept.specs.Asked.{IsAnswered}
+use Rattle.wot_kept.specs.RightLaws.{of_question}
+use Rattle.wot_kept.proofs.answers.KeptAnswer.give.Goals as goal
 
 pub returns-in-Ok-clause-answered : goal.returns-in-Ok-clause-answered
 returns-in-Ok-clause-answered c =

@@ -1,6 +1,6 @@
 use Rattle.std.proofs.Common.{refl}
-use Rattle.wot_cache.proofs.Grounds.{good_now, right_now}
-use Rattle.wot_cache.proofs.answers.KeptAnswer.is_good.Goals as goal
+use Rattle.wot_kept.proofs.Grounds.{good_now, right_now}
+use Rattle.wot_kept.proofs.answers.KeptAnswer.is_good.Goals as goal
 
 pub returns-clause-good : goal.returns-clause-good
 returns-clause-good c =

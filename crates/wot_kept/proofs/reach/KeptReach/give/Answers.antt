@@ -1,6 +1,6 @@
 use Rattle.wot_network.specs.Net.{told_of}
-use Rattle.wot_cache.specs.Question.{present_in}
-use Rattle.wot_cache.proofs.reach.KeptReach.give.Goals as goal
+use Rattle.wot_kept.specs.Question.{present_in}
+use Rattle.wot_kept.proofs.reach.KeptReach.give.Goals as goal
 
 pub returns-then-is_now : goal.returns-then-is_now
 returns-then-is_now c =

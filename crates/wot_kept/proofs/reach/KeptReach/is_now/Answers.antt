@@ -1,7 +1,7 @@
 use Rattle.std.proofs.Common.{refl, ◌∙◌}
 use Rattle.std.proofs.lemmas.Bool.{eqb-true}
-use Rattle.wot_cache.proofs.Grounds.{reaching_now}
-use Rattle.wot_cache.proofs.reach.KeptReach.is_now.Goals as goal
+use Rattle.wot_kept.proofs.Grounds.{reaching_now}
+use Rattle.wot_kept.proofs.reach.KeptReach.is_now.Goals as goal
 
 pub returns : goal.returns
 returns c =

@@ -1,7 +1,7 @@
 use Rattle.std.proofs.Common.{refl}
-use Rattle.wot_cache.specs.declared.reach.KeptReach.{KeptReach}
-use Rattle.wot_cache.proofs.Grounds.{reaching_made}
-use Rattle.wot_cache.proofs.reach.KeptReach.new.Goals as goal
+use Rattle.wot_kept.specs.declared.reach.KeptReach.{KeptReach}
+use Rattle.wot_kept.proofs.Grounds.{reaching_made}
+use Rattle.wot_kept.proofs.reach.KeptReach.new.Goals as goal
 
 pub returns : goal.returns
 returns c =
