@@ -1,38 +1,29 @@
 -- Asking over the parts that a view shows is asking the view's question.
-use Rattle.std.proofs.Common.{◌≡◌, ℕ, ◌≤◌, List, [], length, Option, Some, None, Result, Ok, Err, refl, sym, ap, subst}
+use Rattle.std.proofs.Common.{◌≡◌, ℕ, ◌≤◌, List, length, Option, Some, None, refl, sym, ap, subst}
 use Rattle.std.proofs.Common.{◌∙◌, arith}
-use Rattle.std.specs.Prelude.{IfOk, IfSome, IsSomeAnd}
+use Rattle.std.specs.Prelude.{IfSome, IsSomeAnd}
 use Rattle.wot_types.specs.declared.fpr.Fpr.{Fpr}
 use Rattle.wot_types.specs.declared.limits.Limits.{Limits}
-use Rattle.wot_edge.specs.declared.path.Path.{Path}
-use Rattle.wot_edge.specs.Answer.{EachNext, IsAnswer, amount_of}
-use Rattle.wot_edge.specs.Capacity.{AllFit}
-use Rattle.wot_edge.specs.Path.{Question, use_of}
-use Rattle.wot_edge.specs.Record.{IsRecord}
-use Rattle.wot_edge.specs.Roots.{root_amount}
+use Rattle.wot_edge.specs.Path.{Question}
 use Rattle.wot_auth.specs.declared.answer.Answer.{Answer}
 use Rattle.wot_held.specs.Keyring.{Keyring}
 use Rattle.wot_network.specs.Net.{IsRight, Net, Present}
 use Rattle.wot_network.specs.Roads.{present_of}
 use Rattle.wot_kept.specs.declared.parts.Parts.{Parts}
 use Rattle.wot_cache.specs.declared.view.View.{View}
-use Rattle.wot_cache.specs.Answers.{AllAnswers, AreAllRight}
+use Rattle.wot_kept.specs.Answers.{AllAnswers, AreAllRight}
 use Rattle.wot_cache.specs.Inside.{IsEngine, IsReady, Networks, network_at}
 use Rattle.wot_cache.specs.Parts.{ArePartsOf}
-use Rattle.wot_cache.specs.Question.{IsLocalTo, IsTold, TellsSpent, asked_of, asked_over, present_in, question_in}
+use Rattle.wot_cache.specs.Question.{IsLocalTo, IsTold, asked_of, asked_over, present_in, question_in}
 use Rattle.wot_cache.specs.Dump.{engine_of}
 use Rattle.wot_cache.specs.State.{Engine, ViewMarks, state_of}
 use Rattle.wot_cache.specs.Turns.{Turns}
 use Rattle.wot_cache.specs.Views.{AreWithinLimits, Views, view_at}
 use Rattle.wot_cache.proofs.Inside.{few_there}
 
-pub if_ok : {A E : Type 0} (r : Result A E) (P Q : A → Type 0) → ((a : A) → P a → Q a) → IfOk r P → IfOk r Q
-if_ok (Ok a) P Q step p = step a p
-if_ok (Err e) P Q step p = tt
-
 -- an engine with only its networks replaced keeps its keyring and views
-pub same_engine : {marks : ViewMarks} {turns : Turns} (engine : Engine) (k new : Keyring) (views more : Views) →
-    record { keyring = k; views = views; marks = marks; turns = turns } ≡ engine
+pub same_engine : {marks : ViewMarks} {turns : Turns} {answers : AllAnswers} (engine : Engine) (k new : Keyring)
+    (views more : Views) → record { keyring = k; views = views; marks = marks; turns = turns; answers = answers } ≡ engine
     → new ≡ k → more ≡ views → engine_of new more ≡ engine_of engine.keyring engine.views
 same_engine engine k new views more seen same equal =
     ap (λ (k : Keyring). engine_of k more) same ∙ ap (λ (vs : Views). engine_of k vs) equal
@@ -59,9 +50,10 @@ as_asked P engine name p target uid seen holds =
     (subst (λ (roots : List (Fpr × ℕ)). P (asked_over (present_of p.roads) roots target uid)) are.roots holds)) seen
 
 -- the parts are still those of the view after the engine's networks are replaced
-pub seen_after : {marks : ViewMarks} {turns : Turns} (engine : Engine) (k new : Keyring) (views more : Views)
-    (name : List ℕ) (p : Parts)
-    → record { keyring = k; views = views; marks = marks; turns = turns } ≡ engine → new ≡ k → more ≡ views →
+pub seen_after : {marks : ViewMarks} {turns : Turns} {answers : AllAnswers} (engine : Engine) (k new : Keyring)
+    (views more : Views) (name : List ℕ) (p : Parts)
+    → record { keyring = k; views = views; marks = marks; turns = turns; answers = answers } ≡ engine → new ≡ k
+    → more ≡ views →
     IsSomeAnd (view_at more name) (λ (v : View). ArePartsOf new v p) → AreSeen engine name p
 seen_after engine k new views more name p is same equal seen =
     subst (λ (e : Engine). AreSeen e name p) (same_engine engine k new views more is same equal) seen
@@ -82,7 +74,7 @@ few_of limits k views name p within small seen = by (view_at views name) refl se
 -- the parts have no more roots than the limit allows
 pub few_seen : {marks : ViewMarks} {turns : Turns} (engine : Engine) (k : Keyring) (views : Views) (networks : Networks)
     (answers : AllAnswers) (name : List ℕ) (p : Parts)
-    → record { keyring = k; views = views; marks = marks; turns = turns } ≡ engine →
+    → record { keyring = k; views = views; marks = marks; turns = turns; answers = answers } ≡ engine →
     IsEngine k views networks answers turns → AreSeen engine name p → length p.roots.now ≤ 64
 few_seen engine k views networks answers name p same inside seen =
     few_of k.limits engine.keyring engine.views name p (subst (λ (e : Engine). AreWithinLimits k.limits e.views) same
@@ -134,7 +126,8 @@ present_seen engine name p = by (view_at engine.views name)
 
 -- kept answers that are right in the engine's keyring are right in the keyring of the parts
 pub right_seen : {marks : ViewMarks} {turns : Turns} (engine : Engine) (k : Keyring) (views : Views) (name : List ℕ)
-    (p : Parts) (answers : AllAnswers) → record { keyring = k; views = views; marks = marks; turns = turns } ≡ engine
+    (p : Parts) (answers : AllAnswers)
+    → record { keyring = k; views = views; marks = marks; turns = turns; answers = answers } ≡ engine
     → AreSeen engine name p → AreAllRight k answers → AreAllRight p.keyring.now answers
 right_seen engine k views name p answers same seen right = by (view_at engine.views name) seen
   where
@@ -145,8 +138,9 @@ right_seen engine k views name p answers same seen right = by (view_at engine.vi
         ∙ sym are.keyring) right
 
 -- the converse
-pub right_kept : {marks : ViewMarks} {turns : Turns} (engine : Engine) (k new : Keyring) (views : Views) (name : List ℕ)
-    (p : Parts) (answers : AllAnswers) → record { keyring = k; views = views; marks = marks; turns = turns } ≡ engine
+pub right_kept : {marks : ViewMarks} {turns : Turns} {before : AllAnswers} (engine : Engine) (k new : Keyring)
+    (views : Views) (name : List ℕ) (p : Parts) (answers : AllAnswers)
+    → record { keyring = k; views = views; marks = marks; turns = turns; answers = before } ≡ engine
     → new ≡ k → AreSeen engine name p → AreAllRight p.keyring.now answers → AreAllRight new answers
 right_kept engine k new views name p answers same equal seen right = by (view_at engine.views name) seen
   where
@@ -164,42 +158,3 @@ told_seen engine name p target uid wanted a seen told =
     as_asked (λ (q : Question). IsTold q wanted a) engine name p target uid seen
     (subst (λ (present : Present). IsTold (asked_over present p.roots.now target uid) wanted a)
     (sym (present_seen engine name p seen)) told)
-
-pub if_some : {A : Type 0} (o : Option A) (P Q : A → Type 0) → ((a : A) → P a → Q a) → IfSome o P → IfSome o Q
-if_some None P Q step p = tt
-if_some (Some a) P Q step p = step a p
-
-pub both_ok : {A E : Type 0} (r : Result A E) (P Q R : A → Type 0) → ((a : A) → P a → Q a → R a) → IfOk r P → IfOk r Q →
-    IfOk r R
-both_ok (Ok a) P Q R step p q = step a p q
-both_ok (Err e) P Q R step p q = tt
-
--- ---- the laws of answers, as premises
-
-abbrev pub OneAnswer : Type 0
-OneAnswer = (q : Question) (wanted : ℕ) (a b : List Path) → IsRecord q.told → IsAnswer q wanted a →
-    IsAnswer q wanted b → a ≡ b
-
-abbrev pub ZeroSpent : Type 0
-ZeroSpent = (q : Question) (wanted : ℕ) (paths : List Path) → 1 ≤ wanted → IsAnswer q wanted paths →
-    TellsSpent q (amount_of paths)
-
-abbrev pub PairsFit : Type 0
-PairsFit = (q : Question) (paths : List Path) → EachNext q [] paths → AllFit [] paths
-
-abbrev pub RootsFit : Type 0
-RootsFit = (q : Question) (paths : List Path) (fpr : Fpr) → EachNext q [] paths →
-    (use_of paths).root fpr ≤ root_amount q.roots fpr
-
-pub told_from : OneAnswer → ZeroSpent → PairsFit → RootsFit → (q : Question) (wanted : ℕ) (a : Answer) → 1 ≤ wanted →
-    IsRecord q.told
-    → IsAnswer q wanted a.paths → a.sum ≡ amount_of a.paths → IsTold q wanted a
-told_from one spent pairs roots q wanted a some lawful is sum =
-    let zero = spent q wanted a.paths some is in record {
-      answer = is;
-      one = λ others other. one q wanted others a.paths lawful other is;
-      sum = sum;
-      zero = (λ e. zero.0 (sym sum ∙ e), λ s. sum ∙ zero.1 s);
-      pairs = pairs q a.paths is.each;
-      roots = λ fpr. roots q a.paths fpr is.each;
-    }

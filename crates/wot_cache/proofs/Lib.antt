@@ -2,11 +2,10 @@ mod Changes
 mod Inside
 mod Asking
 mod Marking
+mod ConsultsLeads
 pub mod Turning
 pub mod Lines
 pub mod DumpSize
 pub mod Replay
-pub mod Counting
-pub mod Grounds
 pub mod Resting
 pub mod Onward

@@ -1,13 +1,13 @@
 -- Marks of views. Networks are kept for open views only, and their marks are what contracts see of them.
-use Rattle.std.proofs.Common.{◌≡◌, ℕ, Bool, true, false, cond, List, [], ◌∷◌, Option, Some, None, Result, Ok, Err, OnOk}
+use Rattle.std.proofs.Common.{◌≡◌, ℕ, Bool, true, false, cond, List, [], Option, Some, None, Result, Ok, Err, OnOk}
 use Rattle.std.proofs.Common.{OnErr, refl, sym, ap, subst, ◌∙◌}
-use Rattle.std.specs.Prelude.{IfOk, IfSome, IsSomeAnd, is_ok}
+use Rattle.std.specs.Prelude.{IfOk, IsSomeAnd, is_ok}
 use Rattle.std.specs.declared.cmp.Ordering.{Ordering}
 use Rattle.std.specs.declared.cmp.Ordering.TheVariants.{Less, Equal, Greater}
 use Rattle.std.specs.BTreeMap.{insert_entry}
 use Rattle.std.specs.Map.{lookup, set_value}
 use Rattle.std.specs.Option.{option_map, unwrap_or, MatchOption}
-use Rattle.std.specs.Ordering.{is_eq, match_ordering}
+use Rattle.std.specs.Ordering.{is_eq}
 use Rattle.std.proofs.lemmas.Cmp.{nat_list_cmp_total, tied_itself}
 use Rattle.std.proofs.lemmas.Map.Made.{lookup-map_values}
 use Rattle.wot_types.specs.declared.fpr.Fpr.{Fpr}
@@ -16,13 +16,14 @@ use Rattle.wot_types.specs.ViewName.{view_name_cmp}
 use Rattle.wot_held.specs.Keyring.{Keyring}
 use Rattle.wot_network.specs.Net.{Net, Marks, marks_of}
 use Rattle.wot_cache.specs.declared.view.View.{View}
-use Rattle.wot_cache.specs.Answers.{AllAnswers, KeepsFor, OfView}
+use Rattle.wot_kept.specs.Answers.{AllAnswers, KeepsFor}
 use Rattle.wot_cache.specs.Inside.{AllFit, AreOfOpen, IsEngine, Networks, network_at}
-use Rattle.wot_cache.specs.Marks.{IsForgotten, IsMadeFor, IsRefreshed, OthersStay, marks_by, marks_in, marks_shown}
-use Rattle.wot_cache.specs.Marks.{shown}
+use Rattle.wot_cache.specs.Marks.{End, IsForgotten, IsMadeFor, IsRefreshed, OthersStay, end_at, end_in, marks_by}
+use Rattle.wot_cache.specs.Marks.{marks_in, marks_shown, shown}
 use Rattle.wot_cache.specs.State.{Engine, OtherMarksStay, marks_at}
 use Rattle.wot_cache.specs.Turns.{Turns}
 use Rattle.wot_cache.specs.Views.{MovesTime, SetsAmount, Views, is_name, view_at, with_amount}
+use Rattle.wot_kept.specs.EntryLaws.{none_set, none_put}
 
 -- ---- names
 
@@ -37,40 +38,6 @@ pub found_by : {X : Type 0} (name other : List ℕ) (es : List (List ℕ × X)) 
 found_by name other es e =
     let same = equal_if (view_name_cmp name other) e in
     ap (λ (test : List ℕ → Bool). lookup test es) (λ i key. is_eq (nat_list_cmp_total.congr name other key same i))
-
--- ---- what is missing in a map that grew was missing before
-
-none_behind : {X : Type 0} (q : Bool) (v w : X) (old new : Option X) → (new ≡ None → old ≡ None) →
-    cond q (Some v) new ≡ None → cond q (Some w) old ≡ None
-none_behind true v w old new rest none = absurd cc
-none_behind false v w old new rest none = rest none
-
-none_left : {X : Type 0} (q : Bool) (v : X) (old : Option X) → cond q (Some v) old ≡ None → old ≡ None
-none_left true v old none = absurd cc
-none_left false v old none = none
-
-none_set : {K X : Type 0} (query test : K → Bool) (es : List (K × X)) (v : X) →
-    lookup query (set_value test es v) ≡ None → lookup query es ≡ None
-none_set query test [] v none = refl
-none_set query test (e ∷ es) v none = by (none_set query test es v) (test e.0) none
-  where
-    by : (lookup query (set_value test es v) ≡ None → lookup query es ≡ None) → (b : Bool)
-        → lookup query (cond b ((e.0, v) ∷ es) (e ∷ set_value test es v)) ≡ None →
-        cond (query e.0) (Some e.1) (lookup query es) ≡ None
-    by rest true = none_behind (query e.0) v e.1 (lookup query es) (lookup query es) (λ none. none)
-    by rest false = none_behind (query e.0) e.1 e.1 (lookup query es) (lookup query (set_value test es v)) rest
-
-none_put : {K X : Type 0} (query : K → Bool) (cmp : K → K → Ordering) (es : List (K × X)) (k : K) (v : X)
-    → lookup query (insert_entry cmp es k v) ≡ None → lookup query es ≡ None
-none_put query cmp [] k v none = refl
-none_put query cmp (e ∷ es) k v none = by (none_put query cmp es k v) (cmp k e.0) none
-  where
-    by : (lookup query (insert_entry cmp es k v) ≡ None → lookup query es ≡ None) → (o : Ordering)
-        → lookup query (match_ordering o ((k, v) ∷ e ∷ es) ((e.0, v) ∷ es) (e ∷ insert_entry cmp es k v)) ≡ None
-        → cond (query e.0) (Some e.1) (lookup query es) ≡ None
-    by rest Less = none_left (query k) v (cond (query e.0) (Some e.1) (lookup query es))
-    by rest Equal = none_behind (query e.0) v e.1 (lookup query es) (lookup query es) (λ none. none)
-    by rest Greater = none_behind (query e.0) e.1 e.1 (lookup query es) (lookup query (insert_entry cmp es k v)) rest
 
 -- ---- what is kept is still kept for open views only
 
@@ -140,44 +107,6 @@ refreshed_open views old new name others closed all other none = by (is_name nam
         ∙ all other none
     by false e = others other e ∙ all other none
 
--- ---- the answers of other views
-
-still_none_set : {K X : Type 0} (query test : K → Bool) (es : List (K × X)) (v : X) → lookup query es ≡ None →
-    lookup query (set_value test es v) ≡ None
-still_none_set query test [] v none = refl
-still_none_set query test (e ∷ es) v none = by (still_none_set query test es v) (test e.0) none
-  where
-    by : (lookup query es ≡ None → lookup query (set_value test es v) ≡ None) → (b : Bool)
-        → cond (query e.0) (Some e.1) (lookup query es) ≡ None →
-        lookup query (cond b ((e.0, v) ∷ es) (e ∷ set_value test es v)) ≡ None
-    by rest true = none_behind (query e.0) e.1 v (lookup query es) (lookup query es) (λ none. none)
-    by rest false = none_behind (query e.0) e.1 e.1 (lookup query (set_value test es v)) (lookup query es) rest
-
-still_none_put : {K X : Type 0} (query : K → Bool) (cmp : K → K → Ordering) (es : List (K × X)) (k : K) (v : X) →
-    query k ≡ false
-    → lookup query es ≡ None → lookup query (insert_entry cmp es k v) ≡ None
-still_none_put query cmp [] k v apart none = ap (λ (b : Bool). cond b (Some v) None) apart
-still_none_put query cmp (e ∷ es) k v apart none = by (still_none_put query cmp es k v apart) (cmp k e.0) none
-  where
-    by : (lookup query es ≡ None → lookup query (insert_entry cmp es k v) ≡ None) → (o : Ordering)
-        → cond (query e.0) (Some e.1) (lookup query es) ≡ None
-        → lookup query (match_ordering o ((k, v) ∷ e ∷ es) ((e.0, v) ∷ es) (e ∷ insert_entry cmp es k v)) ≡ None
-    by rest Less none = ap (λ (b : Bool). cond b (Some v) (cond (query e.0) (Some e.1) (lookup query es))) apart ∙ none
-    by rest Equal none = none_behind (query e.0) e.1 v (lookup query es) (lookup query es) (λ none. none) none
-    by rest Greater none = none_behind (query e.0) e.1 e.1 (lookup query (insert_entry cmp es k v)) (lookup query es)
-        rest none
-
-pub keeps_set : (answers : AllAnswers) (name : List ℕ) (of_view : OfView) →
-    KeepsFor name answers (set_value (is_name name) answers of_view)
-keeps_set answers name of_view other apart none = still_none_set (is_name other) (is_name name) answers of_view none
-
-pub keeps_inserted : {A E : Type 0} (answers new : AllAnswers) (name : List ℕ) (of_view : OfView) (r : Result A E)
-    → OnOk r (new ≡ insert_entry view_name_cmp answers name of_view) → OnErr r (new ≡ answers) →
-    KeepsFor name answers new
-keeps_inserted answers new name of_view (Ok done) put same other apart none =
-    ap (lookup (is_name other)) put ∙ still_none_put (is_name other) view_name_cmp answers name of_view apart none
-keeps_inserted answers new name of_view (Err fault) put same other apart none = ap (lookup (is_name other)) same ∙ none
-
 -- an open view's answers are kept for an open view
 pub answered_open : (P : View → Type 0) (views : Views) (old new : AllAnswers) (name : List ℕ) →
     IsSomeAnd (view_at views name) P
@@ -201,18 +130,19 @@ shown_at networks name =
     by (Some n) = refl
 
 -- a closed view has no marks, and still none right after it is opened
-pub unmarked : {turns : Turns} (next : Turns) (engine : Engine) (k : Keyring) (views new : Views) (networks : Networks)
-    (name : List ℕ) → shown k views networks turns ≡ engine
-    → AreOfOpen views networks → view_at engine.views name ≡ None → marks_at (shown k new networks next) name ≡ []
-unmarked {turns} next engine k views new networks name seen all =
-    subst (λ (e : Engine). view_at e.views name ≡ None → marks_at (shown k new networks next) name ≡ []) seen
+pub unmarked : {turns : Turns} {answers : AllAnswers} (next : Turns) (engine : Engine) (k : Keyring)
+    (views new : Views) (networks : Networks) (name : List ℕ) → shown k views networks turns answers ≡ engine
+    → AreOfOpen views networks → view_at engine.views name ≡ None
+    → marks_at (shown k new networks next answers) name ≡ []
+unmarked {turns} {answers} next engine k views new networks name seen all =
+    subst (λ (e : Engine). view_at e.views name ≡ None → marks_at (shown k new networks next answers) name ≡ []) seen
     (λ none. shown_at networks name ∙ ap marks_by (all name none))
 
-pub others_marked : {turns : Turns} (next : Turns) (engine : Engine) (k new : Keyring) (views more : Views)
-    (old rest : Networks) (name : List ℕ) → shown k views old turns ≡ engine
-    → OthersStay name old rest → OtherMarksStay name engine (shown new more rest next)
-others_marked {turns} next engine k new views more old rest name seen others =
-    subst (λ (e : Engine). OtherMarksStay name e (shown new more rest next)) seen
+pub others_marked : {turns : Turns} {answers : AllAnswers} (next : Turns) (engine : Engine) (k new : Keyring)
+    (views more : Views) (old rest : Networks) (name : List ℕ) → shown k views old turns answers ≡ engine
+    → OthersStay name old rest → OtherMarksStay name engine (shown new more rest next answers)
+others_marked {turns} {answers} next engine k new views more old rest name seen others =
+    subst (λ (e : Engine). OtherMarksStay name e (shown new more rest next answers)) seen
     (λ other e. shown_at rest other ∙ ap marks_by (others other e) ∙ sym (shown_at old other))
 
 -- forgetting a network leaves the others
@@ -226,7 +156,7 @@ gone_itself name old rest forgotten =
     (tied_itself nat_list_cmp_total name)
 
 pub none_shown : (turns : Turns) (k : Keyring) (views : Views) (rest : Networks) (name : List ℕ) →
-    network_at rest name ≡ None → marks_at (shown k views rest turns) name ≡ []
+    network_at rest name ≡ None → marks_at (shown k views rest turns []) name ≡ []
 none_shown turns k views rest name none = shown_at rest name ∙ ap marks_by none
 
 -- ---- questions
@@ -246,12 +176,10 @@ pub if_err : {T E : Type 0} (s : Result T E) (P : T → Type 0) (e : E) → s �
 if_err {T} {E} s P e is = subst (λ (r : Result T E). IfOk r P) (sym is) tt
 
 -- the bounds of a refresh hold whatever the question answers
-pub made_as : {A B T E : Type 0} (o : Option View) (r : Result A B) (s : Result T E) (k : Keyring) (old new : Marks)
-    (before after : ℕ)
-    → (is_ok s ≡ true → is_ok r ≡ true) → IfSome o (λ (v : View). IsMadeFor r k v.time old new before after)
-    → IfSome o (λ (v : View). IsMadeFor s k v.time old new before after)
-made_as None r s k old new before after less m = tt
-made_as (Some v) r s k old new before after less m = record {
+pub made_as : {A B T E : Type 0} (o : Option View) (r : Result A B) (s : Result T E) (k : Keyring) (old new : End)
+    → (is_ok s ≡ true → is_ok r ≡ true) → IsMadeFor r o k old new → IsMadeFor s o k old new
+made_as None r s k old new less m = tt
+made_as (Some v) r s k old new less m = record {
   marks = on_less r s _ less m.marks;
   stay = m.stay;
   least = on_less r s _ less m.least;
@@ -259,22 +187,21 @@ made_as (Some v) r s k old new before after less m = record {
   never_less = m.never_less;
 }
 
-pub left : {T E : Type 0} {turns : Turns} (s : Result T E) (engine : Engine) (k new : Keyring) (views more : Views)
-    (old rest : Networks) (name : List ℕ) (before after : ℕ)
-    → shown k views old turns ≡ engine → new ≡ k → more ≡ views
-    → IfSome (view_at views name) (λ (v : View). IsMadeFor s k v.time (marks_in old name) (marks_in rest name) before
-    after)
+pub left : {T E : Type 0} {turns : Turns} {answers later : AllAnswers} (s : Result T E) (engine : Engine)
+    (k new : Keyring) (views more : Views) (old rest : Networks) (name : List ℕ) (before after : ℕ)
+    → shown k views old turns answers ≡ engine → new ≡ k → more ≡ views
+    → IsMadeFor s (view_at views name) k (end_in old name before) (end_in rest name after)
     → OthersStay name old rest → (view_at views name ≡ None → (rest ≡ old) × (after ≡ before)) →
-    IsRefreshed s name engine (shown new more rest turns) before after
-left {turns = turns} s engine k new views more old rest name before after seen same equal made others closed =
-    subst (λ (e : Engine). IsRefreshed s name e (shown new more rest turns) before after) seen (record {
+    IsRefreshed s name engine (shown new more rest turns later) before after
+left {turns = turns} {answers = answers} {later = later} s engine k new views more old rest name before after seen same
+    equal made others closed =
+    subst (λ (e : Engine). IsRefreshed s name e (shown new more rest turns later) before after) seen (record {
       stays = record { keyring = same; views = equal; turns = refl };
-      made = subst (λ (m : Marks). IfSome (view_at views name) (λ (v : View). IsMadeFor s k v.time m
-          (marks_at (shown new more rest turns) name) before after))
-          (sym (shown_at old name))
-          (subst (λ (m : Marks). IfSome (view_at views name) (λ (v : View). IsMadeFor s k v.time (marks_in old name) m
-          before after)) (sym (shown_at rest name)) made);
-      others = others_marked turns (shown k views old turns) k new views more old rest name refl others;
+      made = subst (λ (m : Marks). IsMadeFor s (view_at views name) k (record { marks = m; made = before })
+          (end_at (shown new more rest turns later) name after)) (sym (shown_at old name))
+          (subst (λ (m : Marks). IsMadeFor s (view_at views name) k (end_in old name before)
+          (record { marks = m; made = after })) (sym (shown_at rest name)) made);
+      others = others_marked turns (shown k views old turns answers) k new views more old rest name refl others;
       closed = λ none. (
         shown_at rest name ∙ ap (λ (ns : Networks). marks_in ns name) (closed none).0
             ∙ sym (shown_at old name),

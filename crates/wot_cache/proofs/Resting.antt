@@ -20,23 +20,22 @@ use Rattle.wot_held.specs.Keyring.{Keyring, is_fpr, kept_at, stamp_at}
 use Rattle.wot_held.specs.Kept.{AreStamped}
 use Rattle.wot_held.specs.Later.{IsLater, IsLaterAt, IsUnaltered, SaysSame}
 use Rattle.wot_index.specs.Log.{HasChangedSince, Logged, is_listed}
-use Rattle.wot_cache.specs.declared.answers.KeptAnswer.{KeptAnswer}
-use Rattle.wot_cache.specs.declared.answers.Looked.{Looked}
-use Rattle.wot_kept.specs.declared.fault.AskFault.{AskFault}
-use Rattle.wot_kept.specs.declared.fault.AskFault.TheVariants as asked
+use Rattle.wot_kept.specs.declared.answers.KeptAnswer.{KeptAnswer}
+use Rattle.wot_kept.specs.declared.answers.Looked.{Looked}
+use Rattle.wot_kept.specs.declared.fault.AskFault.{AskFault, TheVariants as asked}
 use Rattle.wot_cache.specs.declared.view.View.{View}
-use Rattle.wot_cache.specs.Answers.{AllStill, Amounts, AreStill, IsOf, IsRight}
+use Rattle.wot_kept.specs.Answers.{AllAnswers, AllStill, Amounts, AreStill, IsOf, IsRight}
 use Rattle.wot_cache.specs.Basis.{AllIn, AreCalm, AreViewsOn, Basis, CarriesOn, HasAmount, HasGrown, Includes, IsFreeOf}
 use Rattle.wot_cache.specs.Basis.{IsKeptAt, IsKeptOn, IsKeyringOn, IsPresent, IsSameOrClosed, IsUndisturbed, RestsAt}
 use Rattle.wot_cache.specs.Basis.{RestsOn, is_in, question_on}
 use Rattle.wot_cache.specs.Inside.{Networks}
-use Rattle.wot_cache.specs.Marks.{IsRefreshed, shown}
+use Rattle.wot_cache.specs.Marks.{IsRefreshed, end_at, shown}
 use Rattle.wot_cache.specs.Question.{OfQuestion, question_in}
-use Rattle.wot_cache.specs.State.{Engine, StaysButMarks, marks_at, state_of}
+use Rattle.wot_cache.specs.State.{Engine, StaysButMarks, state_of}
 use Rattle.wot_cache.specs.Turns.{Turns}
 use Rattle.wot_cache.specs.Views.{TellsOpen, Views, view_at}
-use Rattle.wot_cache.proofs.Asking.{if_some}
-use Rattle.wot_cache.proofs.Grounds.{of_question, stamp_past}
+use Rattle.wot_kept.specs.CaseLaws.{if_some}
+use Rattle.wot_kept.specs.RightLaws.{of_question, stamp_past}
 use Rattle.wot_cache.proofs.Marking.{made_as}
 
 itself : (n : ℕ) → n ≤ n
@@ -316,8 +315,8 @@ whole_rests engine basis name target wanted uid n now all has later on calm =
 
 -- ---- moving a basis forward
 
-module _ (engine : Engine) (k : Keyring) (views : Views) (networks : Networks) (turns : Turns)
-    (seen : shown k views networks turns ≡ engine) (old new : Basis) where
+module _ {answers : AllAnswers} (engine : Engine) (k : Keyring) (views : Views) (networks : Networks) (turns : Turns)
+    (seen : shown k views networks turns answers ≡ engine) (old new : Basis) where
   pub stands_now : old.turns ≡ turns.count → AreCalm k old.changes old.fprs →
       (old.whole ≡ true → k.changes ≡ old.changes) → IsUndisturbed engine old
   stands_now same calm whole =
@@ -327,17 +326,18 @@ module _ (engine : Engine) (k : Keyring) (views : Views) (networks : Networks) (
       count ≡ turns.count
       → IsPresent engine old → stands ≡ true
   still_now stands count is counted now =
-      let here : IsPresent (shown k views networks turns) old = subst (λ (e : Engine). IsPresent e old)
+      let here : IsPresent (shown k views networks turns answers) old = subst (λ (e : Engine). IsPresent e old)
       (sym seen) now in
       is (here.turns ∙ sym counted) here.changes
 
   pub moved_now : old.turns ≡ turns.count → new ≡ record old { changes = k.changes } → IsPresent engine new
   moved_now same moved =
-      subst (λ (e : Engine). IsPresent e new) seen (subst (λ (b : Basis). IsPresent (shown k views networks turns) b)
-      (sym moved) (record { changes = refl; turns = same }))
+      subst (λ (e : Engine). IsPresent e new) seen
+      (subst (λ (b : Basis). IsPresent (shown k views networks turns answers) b) (sym moved)
+      (record { changes = refl; turns = same }))
 
   moved_on : AreCalm k old.changes old.fprs → (old.whole ≡ true → k.changes ≡ old.changes) →
-      CarriesOn (shown k views networks turns) old (record old { changes = k.changes })
+      CarriesOn (shown k views networks turns answers) old (record old { changes = k.changes })
   moved_on calm whole later on undisturbed = record {
     turns = undisturbed.turns;
     calm = λ fpr is.
@@ -354,7 +354,7 @@ module _ (engine : Engine) (k : Keyring) (views : Views) (networks : Networks) (
       CarriesOn engine old new
   carried_on true calm whole moved kept =
       subst (λ (e : Engine). CarriesOn e old new) seen
-      (subst (λ (b : Basis). CarriesOn (shown k views networks turns) old b) (sym (moved refl))
+      (subst (λ (b : Basis). CarriesOn (shown k views networks turns answers) old b) (sym (moved refl))
       (moved_on (calm refl) (whole refl)))
   carried_on false calm whole moved kept = λ later on undisturbed. subst (λ (b : Basis). IsUndisturbed later b)
       (kept refl) undisturbed
@@ -389,9 +389,9 @@ present_on engine old new grown now = record { changes = grown.changes ∙ now.c
 
 -- ---- kept answers of a view
 
-module _ (engine : Engine) (k : Keyring) (views : Views) (networks : Networks) (turns : Turns)
-    (seen : shown k views networks turns ≡ engine) (name : List ℕ) (target : Fpr) (wanted : ℕ) (uid : List ℕ) (v : View)
-    (found : Some v ≡ view_at views name) where
+module _ {answers : AllAnswers} (engine : Engine) (k : Keyring) (views : Views) (networks : Networks) (turns : Turns)
+    (seen : shown k views networks turns answers ≡ engine) (name : List ℕ) (target : Fpr) (wanted : ℕ) (uid : List ℕ)
+    (v : View) (found : Some v ≡ view_at views name) where
   at_view : view_at engine.views name ≡ Some v
   at_view = subst (λ (e : Engine). view_at e.views name ≡ Some v) seen (sym found)
 
@@ -455,7 +455,7 @@ pub refreshed_as : {A B T E : Type 0} (r : Result A B) (s : Result T E) (name : 
     → IsRefreshed r name old new before after → IsRefreshed s name old new before after
 refreshed_as r s name old new before after less is = record {
   stays = is.stays;
-  made = made_as (view_at old.views name) r s old.keyring (marks_at old name) (marks_at new name) before after less
+  made = made_as (view_at old.views name) r s old.keyring (end_at old name before) (end_at new name after) less
       is.made;
   others = is.others;
   closed = is.closed;

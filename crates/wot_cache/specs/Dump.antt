@@ -51,7 +51,7 @@ pub record CarriesOver (rows : PolicyRows) (old new : State) : Type 0 where
 
 -- an engine with this keyring and these views that hasn't been asked anything
 abbrev pub engine_of : Keyring → Views → Engine
-engine_of keyring views = record { keyring = keyring; views = views; marks = []; turns = no_turns }
+engine_of keyring views = record { keyring = keyring; views = views; marks = []; turns = no_turns; answers = [] }
 
 -- the commands of such an engine
 abbrev pub commands_over : Keyring → Views → List StateLine

@@ -1,14 +1,13 @@
 -- The edges that a line makes, whatever its result: the bounds hold once the view was refreshed.
 use Rattle.std.proofs.Common.{◌≡◌, inl, inr, ℕ, ◌≤◌, List, length, true, false, Option, Some, None, Result, Ok, Err}
 use Rattle.std.proofs.Common.{OnOk, refl, sym, ap, subst}
-use Rattle.std.specs.Prelude.{IfSome, is_ok}
+use Rattle.std.specs.Prelude.{is_ok}
 use Rattle.wot_held.specs.Held.{held_of}
 use Rattle.wot_held.specs.Keyring.{Keyring}
-use Rattle.wot_network.specs.Net.{Marks}
 use Rattle.wot_script.specs.declared.command.Command.{Command}
 use Rattle.wot_cache.specs.declared.view.View.{View}
-use Rattle.wot_cache.specs.Marks.{IsMadeFor, IsRefreshed}
-use Rattle.wot_cache.specs.State.{Engine, StaysButMarks, marks_at, state_of}
+use Rattle.wot_cache.specs.Marks.{End, IsMadeFor, IsRefreshed, end_at}
+use Rattle.wot_cache.specs.State.{Engine, StaysButMarks, state_of}
 use Rattle.wot_cache.specs.Views.{view_at}
 use Rattle.wot_script.specs.Grammar.{command_of}
 use Rattle.wot_step.specs.declared.class.Class.{Class}
@@ -48,11 +47,9 @@ module _ {A B T E : Type 0} (r : Result A B) (s : Result T E) (less : is_ok s �
       by (Ok a) (Ok b) less p = p
       by (Err e) (Ok b) less p = let never : false ≡ true = less refl in absurd cc
 
-  made_as : (o : Option View) (k : Keyring) (old new : Marks) (before after : ℕ) →
-      IfSome o (λ (v : View). IsMadeFor r k v.time old new before after)
-      → IfSome o (λ (v : View). IsMadeFor s k v.time old new before after)
-  made_as None k old new before after m = tt
-  made_as (Some v) k old new before after m = record {
+  made_as : (o : Option View) (k : Keyring) (old new : End) → IsMadeFor r o k old new → IsMadeFor s o k old new
+  made_as None k old new m = tt
+  made_as (Some v) k old new m = record {
     marks = on_less _ m.marks;
     stay = m.stay;
     least = on_less _ m.least;
@@ -64,7 +61,7 @@ module _ {A B T E : Type 0} (r : Result A B) (s : Result T E) (less : is_ok s �
       IsRefreshed s name old new before after
   refreshed_as name old new before after d = record {
     stays = d.stays;
-    made = made_as (view_at old.views name) old.keyring (marks_at old name) (marks_at new name) before after d.made;
+    made = made_as (view_at old.views name) old.keyring (end_at old name before) (end_at new name after) d.made;
     others = d.others;
     closed = d.closed;
   }
@@ -121,8 +118,8 @@ pub refreshed_unopened : {A B T E : Type 0} (r : Result A B) (s : Result T E) (n
     → view_at old.views name ≡ None → IsRefreshed r name old new before after → IsRefreshed s name old new before after
 refreshed_unopened r s name old new before after none d = record {
   stays = d.stays;
-  made = subst (λ (o : Option View). IfSome o (λ (v : View). IsMadeFor s old.keyring v.time (marks_at old name)
-      (marks_at new name) before after)) (sym none) tt;
+  made = subst (λ (o : Option View). IsMadeFor s o old.keyring (end_at old name before) (end_at new name after))
+      (sym none) tt;
   others = d.others;
   closed = d.closed;
 }

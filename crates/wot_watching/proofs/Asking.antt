@@ -1,10 +1,10 @@
 -- The edges that asking watches makes, one after another.
 use Rattle.std.proofs.Common.{◌≡◌, ℕ, ◌≤◌, true, List, [], ◌∷◌, Option, Some, None, Result, Ok, Err, IsErrAnd}
 use Rattle.std.proofs.Common.{refl, sym, subst, ◌∙◌, arith}
-use Rattle.std.specs.Prelude.{IfSome, is_ok}
+use Rattle.std.specs.Prelude.{is_ok}
 use Rattle.wot_cache.specs.declared.view.View.{View}
-use Rattle.wot_cache.specs.Marks.{IsMadeFor, IsRefreshed}
-use Rattle.wot_cache.specs.State.{Engine, marks_at}
+use Rattle.wot_cache.specs.Marks.{IsMadeFor, IsRefreshed, end_at}
+use Rattle.wot_cache.specs.State.{Engine}
 use Rattle.wot_cache.specs.Views.{view_at}
 use Rattle.wot_watch.specs.Watches.{Watch, Watches}
 use Rattle.wot_step.specs.Made.{WatchMakes, WatchesMake}
@@ -49,9 +49,8 @@ module _ (T : Type 0) {E : Type 0} (e : E) where
     closed = λ none. (refl, refl);
   }
     where
-      by : (o : Option View) → IfSome o (λ (v : View).
-          IsMadeFor {T = T} {E = E} (Err e) engine.keyring v.time (marks_at engine name) (marks_at engine name) made
-          made)
+      by : (o : Option View) →
+          IsMadeFor {T = T} {E = E} (Err e) o engine.keyring (end_at engine name made) (end_at engine name made)
       by None = tt
       by (Some v) = record {
         marks = tt;

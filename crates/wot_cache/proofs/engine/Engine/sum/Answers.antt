@@ -23,13 +23,13 @@ pub returns-in-Ok-clause-sum : goal.returns-in-Ok-clause-sum
 returns-in-Ok-clause-sum c =
     question_before (HasAmount c.args.wanted c.rested.result) c.args.self.now c.ask.new.self c.args.view.now
     c.args.target.now c.args.uid.now
-    c.ask.ensures.refreshed.stays c.rested.ensures.sum
+    c.ask.ensures.refreshed.stays c.rested.ensures.rested.sum
 
 pub returns-in-Ok-clause-rests : goal.returns-in-Ok-clause-rests
 returns-in-Ok-clause-rests c =
     rests_before c.args.self.now c.ask.new.self c.rested.new.basis c.args.view.now c.args.target.now c.args.wanted
     c.args.uid.now c.rested.result
-    c.ask.ensures.refreshed.stays c.rested.ensures.rests
+    c.ask.ensures.refreshed.stays c.rested.ensures.rested.rests
 
 pub returns-in-Ok-clause-refreshed : goal.returns-in-Ok-clause-refreshed
 returns-in-Ok-clause-refreshed c =

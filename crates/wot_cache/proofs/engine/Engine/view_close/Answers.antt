@@ -1,4 +1,5 @@
-use Rattle.wot_cache.proofs.Inside.{all_right_without, within_closed, fit_without}
+use Rattle.wot_kept.specs.RightLaws.{all_right_without}
+use Rattle.wot_cache.proofs.Inside.{within_closed, fit_without}
 use Rattle.wot_cache.proofs.Marking.{closed_open, gone_itself, none_shown, others_left, others_marked}
 use Rattle.std.proofs.Common.{rules, ◌≡◌, true, subst, sym}
 use Rattle.std.specs.Prelude.{is_some}

@@ -1,0 +1,4 @@
+mod Counting
+mod Grounds
+mod Told
+mod KeepsFor
