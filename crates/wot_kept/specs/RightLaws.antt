@@ -10,9 +10,9 @@ use Rattle.std.specs.BTreeMap.{insert_entry, is_at}
 use Rattle.std.specs.Map.{lookup, remove_entry, set_value}
 use Rattle.wot_types.specs.declared.fpr.Fpr.{Fpr}
 use Rattle.wot_types.specs.ViewName.{view_name_cmp}
-use Rattle.wot_keyring.specs.Import.{IsOneChange}
-use Rattle.wot_keyring.specs.Keyring.{Keyring}
-use Rattle.wot_keyring.specs.Later.{IsLater}
+use Rattle.wot_held.specs.Import.{IsOneChange}
+use Rattle.wot_held.specs.Keyring.{Keyring}
+use Rattle.wot_held.specs.Later.{IsLater}
 use Rattle.wot_kept.specs.declared.answers.KeptAnswer.{KeptAnswer}
 use Rattle.wot_kept.specs.declared.reach.KeptReach.{KeptReach}
 use Rattle.wot_kept.specs.declared.answers.Looked.{Looked}
@@ -23,9 +23,9 @@ use Rattle.std.specs.Option.{option_map_or}
 use Rattle.wot_verdict.specs.Verdicts as verdicts
 use Rattle.wot_edge.specs.Answer.{IsAnswer}
 use Rattle.wot_edge.specs.Path.{asks}
-use Rattle.wot_keyring.specs.declared.kept.Kept.{Kept}
-use Rattle.wot_keyring.specs.Keyring.{certificates_in, is_fpr, kept_at, stamp_at}
-use Rattle.wot_keyring.specs.Kept.{AreStamped}
+use Rattle.wot_held.specs.declared.kept.Kept.{Kept}
+use Rattle.wot_held.specs.Keyring.{certificates_in, is_fpr, kept_at, stamp_at}
+use Rattle.wot_held.specs.Kept.{AreStamped}
 use Rattle.wot_network.specs.Told.{record_of}
 use Rattle.wot_kept.specs.Answers.{IsTheAnswer}
 use Rattle.wot_kept.specs.Answers.{IsOf}

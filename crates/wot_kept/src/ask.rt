@@ -5,7 +5,7 @@ ghost use Rattle.std.specs.Prelude.{◌≡◌, ℕ, List, IfOk, IfSome, OnErr};
 ghost use Rattle.wot_edge.specs.Record.{IsRecord};
 ghost use Rattle.wot_network.specs.Net.{told_of};
 ghost use Rattle.wot_network.specs.Roads.{present_of};
-ghost use Rattle.wot_search.specs.Reach.{IsReach};
+ghost use Rattle.wot_reach.specs.Reach.{IsReach};
 ghost use Rattle.wot_kept.specs.Answers.{AreAllRight, AreRightIn, KeepsFor};
 ghost use Rattle.wot_kept.specs.Asked.{question_of, AreSettled, IsAnswered, IsAskable};
 ghost use Rattle.wot_kept.specs.Question.{present_in, IsTold};

@@ -1,8 +1,8 @@
 //! The table of reach that a view keeps with its answers, or the making of one as far as it has come. `answers` keeps
 //! it. It is used only for the keyring, the roots and the time for which it was begun.
 ghost use Rattle.std.specs.Prelude.{◌≡◌, true, IfSome};
-ghost use Rattle.wot_search.specs.Making.{IsMaking};
-ghost use Rattle.wot_search.specs.Reach.{IsReach};
+ghost use Rattle.wot_reach.specs.Making.{IsMaking};
+ghost use Rattle.wot_reach.specs.Reach.{IsReach};
 ghost use Rattle.wot_network.specs.Net.{told_of};
 ghost use Rattle.wot_kept.specs.Answers.{IsReaching};
 ghost use Rattle.wot_kept.specs.Question.{present_in};

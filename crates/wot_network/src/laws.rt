@@ -2,7 +2,7 @@
 //! record (sorted, local, resting on trust signatures) from the definitions to wot_cache and wot_machine.
 ghost use Rattle.std.specs.Prelude.{◌≤◌, ◌↔◌, ℕ, List, IsTrue};
 ghost use Rattle.wot_verdict.specs.Verdicts.{Entries};
-ghost use Rattle.wot_cert.specs.Certificate.{Component};
+ghost use Rattle.wot_part.specs.Certificate.{Component};
 ghost use Rattle.wot_edge.specs.declared.edge.EdgeFacts.{EdgeFacts as TheEdge};
 ghost use Rattle.wot_edge.specs.Record.{IsRecord};
 ghost use Rattle.wot_held.specs.Keyring.{Certificates, Keyring};

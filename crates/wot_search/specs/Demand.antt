@@ -8,7 +8,7 @@ use Rattle.wot_edge.specs.Path.{Question, step_of, step_left}
 use Rattle.wot_layer.specs.declared.node.Node.{Node}
 use Rattle.wot_layer.specs.declared.node.Demand.{Demand}
 use Rattle.wot_layer.specs.declared.node.Demand.TheVariants.{On, Before}
-use Rattle.wot_search.specs.Quest.{Quest}
+use Rattle.wot_layer.specs.Quest.{Quest}
 
 abbrev pub is_place : Option ℕ → ℕ → Bool
 is_place None uid = false

@@ -1,5 +1,5 @@
 use Rattle.std.proofs.Common.{sym, subst}
-use Rattle.wot_search.specs.Reach.{IsReach}
+use Rattle.wot_reach.specs.Reach.{IsReach}
 use Rattle.wot_network.specs.Net.{Present, told_of}
 use Rattle.wot_kept.proofs.Told.{answered_over}
 use Rattle.wot_kept.specs.CaseLaws.{both_ok}

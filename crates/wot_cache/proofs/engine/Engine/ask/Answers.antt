@@ -1,6 +1,6 @@
 use Rattle.std.proofs.Common.{Ok, refl, sym, subst}
 use Rattle.std.proofs.lemmas.Result.{err_from_is_err_and}
-use Rattle.wot_keyring.specs.Keyring.{Keyring}
+use Rattle.wot_held.specs.Keyring.{Keyring}
 use Rattle.wot_kept.specs.Answers.{AreAllRight}
 use Rattle.wot_cache.specs.Marks.{end_in}
 use Rattle.wot_cache.specs.Views.{view_at}
