@@ -1,11 +1,11 @@
 mod Changes
 mod Inside
-mod Asking
-mod Marking
+mod PartsAnswer
+mod OpenViewsMarks
 mod ConsultsLeads
-pub mod Turning
+pub mod TurnsOfViews
 pub mod Lines
 pub mod DumpSize
 pub mod Replay
-pub mod Resting
+pub mod BasisStaysTrue
 pub mod Onward

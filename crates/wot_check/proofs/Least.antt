@@ -22,7 +22,7 @@ use Rattle.wot_edge.specs.declared.demand.Demand.{Demand}
 use Rattle.wot_check.specs.Absence.{Accepts, IsAbsence, IsLeast, IsLeastTable, LeastBy, RootsSpent, is_in_order}
 use Rattle.wot_check.specs.Claim.{claim_of}
 use Rattle.wot_check.specs.Growth.{IsLabel, IsSettled, Labelled}
-use Rattle.wot_check.proofs.Layering.{each_next_shows, rooted_left}
+use Rattle.wot_check.proofs.AfterALayer.{each_next_shows, rooted_left}
 use Rattle.wot_edge.specs.Demand.{demand_of}
 use Rattle.wot_check.specs.Demand.{Covers, may_stand}
 use Rattle.wot_check.specs.Table.{IsTable, IsAtMost, Labels, label_at}

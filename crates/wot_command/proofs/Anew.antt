@@ -48,9 +48,9 @@ use Rattle.wot_step.specs.Served.{unserved}
 use Rattle.wot_step.specs.Transcript.{Run}
 use Rattle.wot_step.specs.Fresh.{IsMadeAnew, dumped}
 use Rattle.wot_step.proofs.CutLines.{lines_of-feed}
-use Rattle.wot_step.proofs.Giving.{over, uncalled_step}
+use Rattle.wot_step.proofs.DirectoryGives.{over, uncalled_step}
 use Rattle.wot_step.proofs.Watched.{tells_nothing}
-use Rattle.wot_step.proofs.Stepping.{heard_read, looked_at}
+use Rattle.wot_step.proofs.StepsByKind.{heard_read, looked_at}
 use Rattle.wot_step.proofs.Sessions.{counted_some, turned_some}
 
 -- a reply that is no refusal

@@ -18,7 +18,7 @@ use Rattle.wot_explain.specs.Usable.{TellsEdges}
 use Rattle.wot_command.specs.EdgeLines.{EdgesAreTold, LineMarks, MarksEdges, MarksFrom}
 use Rattle.wot_step.specs.Lines.{heard, is_silent, longest}
 use Rattle.wot_step.specs.Listing.{Explains, explained, explained_from}
-use Rattle.wot_step.proofs.Stepping.{heard_read}
+use Rattle.wot_step.proofs.StepsByKind.{heard_read}
 
 marked : (k : Keyring) (t : ℕ) (fpr : Fpr) (uid : List ℕ) (o : Option Explained)
     → IfSome o (λ (told : Explained). TellsEdges k t fpr uid told.certs)

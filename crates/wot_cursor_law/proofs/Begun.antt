@@ -41,10 +41,10 @@ use Rattle.wot_step.specs.Transcript.{Run}
 use Rattle.wot_step.specs.Session.{Session}
 use Rattle.wot_run_law.proofs.Reached.{reached_can_be}
 use Rattle.wot_step.proofs.Entries.{found_put}
-use Rattle.wot_run_law.proofs.Hearing.{Hears, heard_reads, hears, run_keeps}
-use Rattle.wot_cursor_law.proofs.Joining.{Began, Stands, goes_own, later_itself, later_obeys, passes_on, stands_told}
+use Rattle.wot_run_law.proofs.LineByCommand.{Hears, heard_reads, hears, run_keeps}
+use Rattle.wot_cursor_law.proofs.CursorSoFar.{Began, Stands, goes_own, later_itself, later_obeys, passes_on, stands_told}
 use Rattle.wot_cursor_law.proofs.Behind.{at_first}
-use Rattle.wot_cursor_law.proofs.Rising.{ordered_binds, reached_ordered}
+use Rattle.wot_cursor_law.proofs.SortedStates.{ordered_binds, reached_ordered}
 use Rattle.wot_step.proofs.Viewed.{AreSound, does_views, sound_by, turn_few}
 use Rattle.wot_step.specs.Session.{turning_of}
 

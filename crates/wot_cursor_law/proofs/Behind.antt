@@ -19,7 +19,7 @@ use Rattle.wot_cursor_law.specs.Joined.{Given, has_end, joined}
 use Rattle.wot_step.specs.Listing.{bind_line}
 use Rattle.wot_step.specs.Pacing.{last_place, bind_place}
 use Rattle.wot_step.proofs.Entries.{above_is}
-use Rattle.wot_cursor_law.proofs.Rising.{bind_cmp, bind_total}
+use Rattle.wot_cursor_law.proofs.SortedStates.{bind_cmp, bind_total}
 
 -- ---- what follows a binding of the list
 

@@ -1,4 +1,4 @@
-mod Counting
+mod ConsultedTotal
 mod Grounds
 mod Told
 mod KeepsFor

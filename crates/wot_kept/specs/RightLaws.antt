@@ -1,5 +1,5 @@
--- Laws of kept answers: they are found right, and they stay right in later keyrings. For the proofs of this crate and of
--- those above it.
+-- Laws of kept answers: they are found right, and they stay right in later keyrings. For the proofs of this crate and
+-- of those above it.
 use Rattle.std.proofs.Common.{◌≡◌, inl, inr, ℕ, ◌+◌, ◌<◌, ◌≤◌, List, [], ◌∷◌, Option}
 use Rattle.std.proofs.Common.{Some, None, Result, Ok, Err, OnOk, OnErr, refl, sym, subst, arith}
 use Rattle.std.specs.Prelude.{Vec}

@@ -16,8 +16,8 @@ use Rattle.wot_held.specs.Later.{IsLater}
 use Rattle.wot_held.specs.Keyring.{Entries, Keyring, certificates_in}
 use Rattle.wot_held.specs.Kept.{AreSortedByFpr, IsKeyring, AreTotals}
 use Rattle.wot_merge.specs.Staging.{kept_all, clash_in, weigh_kept, IsTally, IsClashTold}
-use Rattle.wot_keyring.proofs.Accepting.{answered, held, changed_once, keyring_after, totals_after, asked_all}
-use Rattle.wot_keyring.proofs.Accepting.{asked_some}
+use Rattle.wot_keyring.proofs.ImportEffects.{answered, held, changed_once, keyring_after, totals_after, asked_all}
+use Rattle.wot_keyring.proofs.ImportEffects.{asked_some}
 use Rattle.wot_merge.proofs.Clashes.{clashes_told}
 
 true_false : (b : Bool) → b ≡ true → b ≡ false → ⊥

@@ -21,7 +21,7 @@ use Rattle.wot_held.specs.Keyring.{Entries, Certificates, Keyring, is_fpr, strip
 use Rattle.wot_held.specs.Kept.{AreWhole, IsKeyring}
 use Rattle.wot_merge.specs.Staging.{found_for, kept_with, clash_at, clash_in}
 use Rattle.wot_merge.proofs.Clashes.{clashes_told}
-use Rattle.wot_merge.proofs.Taking.{none_stays}
+use Rattle.wot_merge.proofs.MergedInTurn.{none_stays}
 use Rattle.wot_merge.proofs.Transport.{certs_all}
 
 -- ---- the effect and the merge

@@ -21,10 +21,10 @@ use Rattle.wot_held.specs.Keyring.{Certificates, Entries, Keyring, certificates_
 use Rattle.wot_merge.specs.Room.{FitsBeside, HasRoom}
 use Rattle.wot_merge.specs.Staging.{clash_at, found_by, found_for, full_by, joined, kept_as, long_of, weigh_kept}
 use Rattle.wot_merge.specs.Staging.{IsTally}
-use Rattle.wot_keyring.proofs.Accepting.{weighs_all}
+use Rattle.wot_keyring.proofs.ImportEffects.{weighs_all}
 use Rattle.wot_merge.proofs.Clashes.{bodies_same, clash_kept}
 use Rattle.wot_merge.proofs.Steps.{weighs_by}
-use Rattle.wot_merge.proofs.Weighing.{ones}
+use Rattle.wot_merge.proofs.TotalWeight.{ones}
 use Rattle.wot_merge.proofs.Within.{full_is}
 
 -- ---- numbers

@@ -20,7 +20,7 @@ use Rattle.wot_held.specs.Keyring.{Entries, is_fpr}
 use Rattle.wot_held.specs.Kept.{AreWhole}
 use Rattle.wot_merge.specs.Staging.{found_for, kept_as, kept_with, kept_all, clash_at, clash_in}
 use Rattle.wot_held.specs.Verdict.{has_number}
-use Rattle.wot_keyring.proofs.Accepting.{whole_all}
+use Rattle.wot_keyring.proofs.ImportEffects.{whole_all}
 use Rattle.wot_index.proofs.Choices.{or_false, or_more, and_true, and_false}
 use Rattle.wot_merge.proofs.Clashes.{keys_same}
 use Rattle.wot_held.proofs.Inserts.{found_at, lookup_insert}

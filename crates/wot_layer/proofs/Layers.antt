@@ -9,7 +9,7 @@ use Rattle.wot_layer.specs.Quest.{Quest}
 use Rattle.wot_layer.specs.Suffix.{Serves, Suffix, Found, Kept}
 use Rattle.wot_layer.specs.Layer.{AtMost, Covered, IsComplete, Onward}
 use Rattle.wot_layer.specs.Looked.{IsSeen, IsLooked, Widens}
-use Rattle.wot_layer.proofs.Comparing.{AtMost-trans, AtMost-le, AtMost-cons}
+use Rattle.wot_layer.proofs.SuffixOrder.{AtMost-trans, AtMost-le, AtMost-cons}
 use Rattle.wot_layer.proofs.Suffixes.{serves_shorter, reaches_shorter, kept_suffix}
 
 pub onward_refl : (quest : Quest) (size : ℕ) (found : Found) → Onward quest size found found

@@ -27,7 +27,7 @@ use Rattle.wot_live.specs.Found.{found_edges}
 use Rattle.wot_live.specs.Rows.{AreInto, AreRows, edge_at, edges_by, edges_of, is_edge_of, issuers_of, user_id_places}
 use Rattle.wot_live.proofs.Exact.{IsEdge, OnlyCounting, all_append, all_filter_map, all_then, at_append, edge_by-is}
 use Rattle.wot_live.proofs.Exact.{equal-true, found_rows, none_of}
-use Rattle.wot_live.proofs.Putting.{IsBelow}
+use Rattle.wot_live.proofs.EdgesInserted.{IsBelow}
 use Rattle.wot_live.proofs.IssuersInOrder.{IsLeast, any_in_order, any_issuer, none_on, sorted_in_order}
 use Rattle.wot_live.proofs.OneList.{Sorted, none_sorted, one_list, sorted_more}
 

@@ -22,7 +22,7 @@ use Rattle.wot_live.specs.Edge.{edge_facts, edge_by, edge_on, signature_place}
 use Rattle.wot_live.specs.Found.{with_edge, one_of_both, in_edge_order, edge_with, edges_on, edges_from, found_edges}
 use Rattle.wot_live.specs.Rows.{AreRows, edge_at, is_edge_of}
 use Rattle.wot_live.proofs.Orders.{edge_exact, edge_tied}
-use Rattle.wot_live.proofs.Putting.{sorted_united}
+use Rattle.wot_live.proofs.EdgesInserted.{sorted_united}
 
 -- ---- an edge of a list in order
 

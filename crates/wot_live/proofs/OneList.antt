@@ -16,7 +16,7 @@ use Rattle.wot_edge.specs.Order.{edge_cmp}
 use Rattle.wot_live.specs.Rows.{edge_at, is_edge_of}
 use Rattle.wot_live.proofs.Exact.{equal-refl, tied}
 use Rattle.wot_live.proofs.Orders.{edge_exact, edge_total}
-use Rattle.wot_live.proofs.Putting.{IsBelow, below_below}
+use Rattle.wot_live.proofs.EdgesInserted.{IsBelow, below_below}
 
 abbrev pub Sorted : {K : Type 0} → (K → K → Ordering) → List K → Type 0
 Sorted cmp = IsStrictlySortedBy cmp

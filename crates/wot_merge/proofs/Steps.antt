@@ -22,7 +22,7 @@ use Rattle.wot_held.specs.Keyring.{Entries, is_fpr}
 use Rattle.wot_held.specs.Kept.{AreSortedByFpr, AreJudged}
 use Rattle.wot_merge.specs.Staging.{found_for, found_by, kept_with, long_of, WeighsFound, weigh_kept, IsTally, CanMove}
 use Rattle.wot_merge.specs.Staging.{Moves, IsFoundJudged, IsStaged, joined}
-use Rattle.wot_merge.proofs.Weighing.{found_weight, insert_weighs}
+use Rattle.wot_merge.proofs.TotalWeight.{found_weight, insert_weighs}
 
 -- ---- an insertion
 

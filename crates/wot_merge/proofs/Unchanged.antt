@@ -15,7 +15,7 @@ use Rattle.wot_held.specs.Kept.{AreSortedByFpr}
 use Rattle.wot_merge.specs.Staging.{found_for, found_by, joined, kept_as, kept_with, kept_all, weigh_kept}
 use Rattle.wot_held.proofs.Inserts.{insert_same}
 use Rattle.wot_merge.proofs.Steps.{weighs_by}
-use Rattle.wot_merge.proofs.Running.{more_with, more_in_all, sorted_insert}
+use Rattle.wot_merge.proofs.ImportSteps.{more_with, more_in_all, sorted_insert}
 
 pub not_below : (n : ℕ) → nat_lt n n ≡ false
 not_below n = grind (arith, nat_tests)

@@ -1,4 +1,4 @@
-pub mod Deciding
+pub mod RelationsDecided
 pub mod Grammar
 pub mod Marks
 pub mod Meaning

@@ -1,5 +1,5 @@
 pub mod Within
-pub mod Leading
+pub mod EdgesThatLead
 pub mod Enough
-pub mod Slotting
+pub mod SlotNumbers
 pub mod Checked

@@ -1,6 +1,6 @@
 pub mod Ahead
-pub mod Nexting
-pub mod Offering
+pub mod NextOfTwo
+pub mod PathsAreOffers
 pub mod OfRoots
-pub mod Opening
+pub mod TakenOffer
 pub mod OneSearch

@@ -29,13 +29,13 @@ use Rattle.wot_layer.specs.Quest.{Quest}
 use Rattle.wot_layer.specs.Reached.{look}
 use Rattle.wot_layer.specs.Rooted.{Rooted}
 use Rattle.wot_layer.specs.Suffix.{Found, Kept, node_of}
-use Rattle.wot_layer.proofs.Comparing.{AtMost-le}
-use Rattle.wot_layer.proofs.Keeping.{entry_is}
+use Rattle.wot_layer.proofs.SuffixOrder.{AtMost-le}
+use Rattle.wot_layer.proofs.OneSuffixMore.{entry_is}
 use Rattle.wot_layer.proofs.Suffixes.{kept_suffix}
 use Rattle.wot_reach.proofs.Within.{Holds}
 use Rattle.wot_layer.proofs.Rooted.{widest_quest, least_quest, rooted_wide, rooted_fewer, rooted_amount, valid_rooted}
 use Rattle.wot_layer.proofs.Rooted.{first_le, IsShortest, shortest_distinct, suffix_chain}
-use Rattle.wot_search.proofs.Offering.{IsOne, Ascend, AreFirst, first_offers, first_there, roots_there}
+use Rattle.wot_search.proofs.PathsAreOffers.{IsOne, Ascend, AreFirst, first_offers, first_there, roots_there}
 
 -- ---- lists
 

@@ -22,7 +22,7 @@ use Rattle.wot_layer.specs.Quest.{Quest}
 use Rattle.wot_layer.specs.Reached.{look}
 use Rattle.wot_layer.specs.Rooted.{Rooted, IsFirst, IsGood}
 use Rattle.wot_layer.specs.Suffix.{Found, Kept, Suffix, node_of}
-use Rattle.wot_search.proofs.Offering.{least_most}
+use Rattle.wot_search.proofs.PathsAreOffers.{least_most}
 use Rattle.wot_layer.proofs.Rooted.{widest_quest, least_quest, rooted_amount}
 
 -- ---- roots

@@ -1,4 +1,4 @@
-pub mod Nexting
+pub mod NextOfTwo
 pub mod Offers
 pub mod Below
 pub mod Asked

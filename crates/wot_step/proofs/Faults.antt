@@ -18,7 +18,7 @@ use Rattle.wot_cache.specs.State.{Engine}
 use Rattle.wot_cache.specs.Views.{TellsOpen, view_at}
 use Rattle.wot_step.specs.declared.refusal.Refused.{Refused}
 use Rattle.wot_step.specs.Refused.{IsMemory, IsReplyTo, asking, explaining, putting, using_}
-use Rattle.wot_step.proofs.Making.{refreshed_fault, refreshed_unopened}
+use Rattle.wot_step.proofs.EdgesMadeByLine.{refreshed_fault, refreshed_unopened}
 
 told_as : (r : Result Reply Memory) (refused other : Refused) → refused ≡ other → IfOk r (IsReplyTo refused) →
     IfOk r (IsReplyTo other)

@@ -48,9 +48,9 @@ use Rattle.wot_run_law.proofs.Reached.{reached_can_be}
 use Rattle.wot_step.proofs.Entries.{AllValues, all_found, all_put, all_without, apart, found_put, gone_without}
 use Rattle.wot_step.proofs.Entries.{other_put, other_without, rising_put, rising_without}
 use Rattle.wot_run_law.proofs.StaleTold.{untold}
-use Rattle.wot_watch_law.proofs.Telling.{AreByName, all_keep, all_order, behind, is_itself, last_behind, none_of}
-use Rattle.wot_watch_law.proofs.Telling.{other_way}
-use Rattle.wot_watch_law.proofs.Telling.{same_name, was_there}
+use Rattle.wot_watch_law.proofs.WatchLines.{AreByName, all_keep, all_order, behind, is_itself, last_behind, none_of}
+use Rattle.wot_watch_law.proofs.WatchLines.{other_way}
+use Rattle.wot_watch_law.proofs.WatchLines.{same_name, was_there}
 use Rattle.wot_step.proofs.Watched.{AnswerOne, Lawful, Tells-one, amount_has, lines_are_watch, plain_watching}
 use Rattle.wot_step.proofs.Watched.{watched_cases}
 

@@ -1,4 +1,4 @@
-pub mod Cutting
+pub mod FirstSeparator
 pub mod Escapes
 pub mod ImportFits
 pub mod LineParts

@@ -11,7 +11,7 @@ use Rattle.std.proofs.lemmas.Bool.{and_parts, both_ways, eq-eqb, not-true}
 use Rattle.hex.specs.Hex.{encode_lower, encode_with, lower_digits}
 use Rattle.wot_types.specs.ViewName.{is_name_octet, is_view_name}
 use Rattle.wot_words.specs.Fields.{cut, cut_at}
-use Rattle.wot_words.proofs.Cutting.{cut_at-cons}
+use Rattle.wot_words.proofs.FirstSeparator.{cut_at-cons}
 use Rattle.wot_words.proofs.Numerals.{digits-decimal}
 
 -- no octet is this one

@@ -7,7 +7,7 @@ use Rattle.wot_check.specs.Asked.{question_of, used_in}
 use Rattle.wot_check.specs.Demand.{is_covered}
 use Rattle.wot_edge.specs.RowLaws.{row_edge}
 use Rattle.wot_check.proofs.Rows.{all_into, into_own, into_target, within_first, within_later}
-use Rattle.wot_check.proofs.Testing.{covered_more, covered_fails, covered_all}
+use Rattle.wot_check.proofs.ThreePoints.{covered_more, covered_fails, covered_all}
 use Rattle.wot_check.proofs.points.covers.Goals as goal
 
 pub rest-init : goal.rest-init

@@ -11,7 +11,7 @@ use Rattle.wot_check.specs.Demand.{may_stand}
 use Rattle.wot_check.specs.Trace.{IsNamed, IsFollower}
 use Rattle.wot_edge.specs.RowLaws.{row_there}
 use Rattle.wot_check.proofs.Rows.{into_own, into_target}
-use Rattle.wot_check.proofs.Tracing.{none_named, row_follows, row_fails}
+use Rattle.wot_check.proofs.ClaimedSteps.{none_named, row_follows, row_fails}
 use Rattle.wot_check.proofs.trace.follow.Goals as goal
 
 pub stands-requires : goal.stands-requires

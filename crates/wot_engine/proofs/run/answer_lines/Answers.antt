@@ -12,7 +12,7 @@ use Rattle.wot_command.specs.Asked.{LineAsks}
 use Rattle.wot_step.specs.Entry.{MayPut}
 use Rattle.wot_machine.specs.Machine.{kept}
 use Rattle.wot_step.specs.Transcript.{AllTold, Begun}
-use Rattle.wot_step.proofs.Giving.{told_always}
+use Rattle.wot_step.proofs.DirectoryGives.{told_always}
 use Rattle.wot_engine.specs.Asking.{MayAsk, command_by, done}
 use Rattle.wot_engine.specs.Ended.{Reached}
 use Rattle.wot_engine.specs.Ends.{status_at}

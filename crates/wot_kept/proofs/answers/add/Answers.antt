@@ -1,4 +1,4 @@
-use Rattle.wot_kept.proofs.Counting.{few_put, fewer, right_put}
+use Rattle.wot_kept.proofs.ConsultedTotal.{few_put, fewer, right_put}
 use Rattle.wot_kept.proofs.answers.add.Goals as goal
 
 pub overflow_sub-result : goal.overflow_sub-result

@@ -1,5 +1,5 @@
 use Rattle.std.proofs.Common.{sym}
-use Rattle.wot_kept.proofs.Counting.{few_set}
+use Rattle.wot_kept.proofs.ConsultedTotal.{few_set}
 use Rattle.wot_kept.proofs.Grounds.{right_again}
 use Rattle.wot_kept.specs.RightLaws.{answer_found, answer_set}
 use Rattle.wot_kept.proofs.answers.give.Goals as goal

@@ -2,7 +2,7 @@ use Rattle.std.proofs.Common.{◌<◌, subst, ◌∙◌, length, List}
 use Rattle.wot_types.specs.declared.fpr.Fpr.{Fpr}
 use Rattle.wot_layer.specs.Quest.{quest_of}
 use Rattle.wot_layer.specs.Reached.{look}
-use Rattle.wot_layer.proofs.Taking.{chosen_more}
+use Rattle.wot_layer.proofs.OneMoreTried.{chosen_more}
 use Rattle.wot_layer.proofs.choose.choose.Goals as goal
 
 pub layer-preserved : goal.layer-preserved

@@ -3,7 +3,7 @@ use Rattle.wot_edge.specs.Path.{root_left}
 use Rattle.wot_layer.specs.Quest.{quest_of}
 use Rattle.wot_layer.specs.Choice.{node_width}
 use Rattle.wot_layer.specs.Reached.{look}
-use Rattle.wot_layer.proofs.Taking.{taken_not, taken_is}
+use Rattle.wot_layer.proofs.OneMoreTried.{taken_not, taken_is}
 use Rattle.wot_layer.proofs.choose.take.Goals as goal
 
 pub returns-then-left-quest : goal.returns-then-left-quest

@@ -1,6 +1,6 @@
 use Rattle.std.proofs.Common.{sym, ◌∙◌, arith}
 use Rattle.wot_layer.specs.Reached.{look}
-use Rattle.wot_layer.proofs.Collecting.{left_more, left_none, left_done}
+use Rattle.wot_layer.proofs.SuffixByEdges.{left_more, left_none, left_done}
 use Rattle.wot_layer.proofs.collect.collect.Goals as goal
 
 pub edges-preserved : goal.edges-preserved

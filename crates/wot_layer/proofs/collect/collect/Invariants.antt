@@ -5,7 +5,7 @@ use Rattle.wot_edge.specs.Path.{start}
 use Rattle.wot_layer.specs.Quest.{Quest}
 use Rattle.wot_layer.specs.Suffix.{Kept}
 use Rattle.wot_layer.specs.Reached.{look}
-use Rattle.wot_layer.proofs.Collecting.{IsLeft}
+use Rattle.wot_layer.proofs.SuffixByEdges.{IsLeft}
 use Rattle.wot_layer.proofs.collect.collect.Given as goal
 
 abbrev pub invariant-edges : goal.invariant-edges

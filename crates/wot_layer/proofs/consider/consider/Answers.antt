@@ -2,8 +2,8 @@ use Rattle.std.proofs.Common.{inl, inr, sym, subst, ◌∙◌}
 use Rattle.wot_types.specs.declared.fpr.Fpr.{Fpr}
 use Rattle.wot_layer.specs.Quest.{quest_of}
 use Rattle.wot_layer.specs.Reached.{look}
-use Rattle.wot_layer.proofs.Considering.{taken_none, noted_none, wanted_issuer, advances_if, taken_if, noted_if}
-use Rattle.wot_layer.proofs.Extending.{advances_refl}
+use Rattle.wot_layer.proofs.OneEdgeConsidered.{taken_none, noted_none, wanted_issuer, advances_if, taken_if, noted_if}
+use Rattle.wot_layer.proofs.EdgesConsidered.{advances_refl}
 use Rattle.wot_layer.proofs.consider.consider.Goals as goal
 
 pub returns-in-None-clause-all : goal.returns-in-None-clause-all

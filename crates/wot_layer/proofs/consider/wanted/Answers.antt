@@ -1,7 +1,7 @@
 use Rattle.std.proofs.Common.{sym, ap, ◌∙◌}
 use Rattle.wot_layer.specs.Layer.{is_kept}
 use Rattle.wot_layer.specs.Reached.{look}
-use Rattle.wot_layer.proofs.Considering.{wanted_none, wanted_kept, wanted_unkept}
+use Rattle.wot_layer.proofs.OneEdgeConsidered.{wanted_none, wanted_kept, wanted_unkept}
 use Rattle.wot_layer.proofs.consider.wanted.Goals as goal
 
 pub returns-in-None : goal.returns-in-None

@@ -4,7 +4,7 @@ use Rattle.wot_edge.specs.Demand.{is_met}
 use Rattle.wot_layer.specs.Demand.{is_enough}
 use Rattle.wot_layer.specs.Quest.{quest_of}
 use Rattle.std.proofs.lemmas.Bool.{and_from}
-use Rattle.wot_layer.proofs.Considering.{and_not, none_if, some_if}
+use Rattle.wot_layer.proofs.OneEdgeConsidered.{and_not, none_if, some_if}
 use Rattle.wot_layer.proofs.demand.candidate.Goals as goal
 
 pub returns-then-not-reaches : goal.returns-then-not-reaches

@@ -6,8 +6,8 @@ use Rattle.wot_layer.specs.Quest.{quest_of}
 use Rattle.wot_layer.specs.Looked.{IsNear}
 use Rattle.wot_layer.specs.Reached.{look}
 use Rattle.wot_edge.specs.RowLaws.{has_at, edge_into}
-use Rattle.wot_layer.proofs.Extending.{taken_more, taken_end, taken_all, rest_now, advances_trans}
-use Rattle.wot_layer.proofs.Extending.{noted_more, noted_end, noted_all, near_issuer}
+use Rattle.wot_layer.proofs.EdgesConsidered.{taken_more, taken_end, taken_all, rest_now, advances_trans}
+use Rattle.wot_layer.proofs.EdgesConsidered.{noted_more, noted_end, noted_all, near_issuer}
 use Rattle.wot_layer.proofs.extend.extend_by.Goals as goal
 
 pub consider-requires-clause-row : goal.consider-requires-clause-row

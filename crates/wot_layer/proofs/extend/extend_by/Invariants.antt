@@ -5,7 +5,7 @@ use Rattle.wot_layer.specs.Reached.{look}
 use Rattle.wot_layer.specs.Suffix.{Kept}
 use Rattle.wot_layer.specs.Looked.{Gains, IsNear, Widens}
 use Rattle.wot_layer.specs.Growth.{Advances, AreNoted, BeginsIn, IsReady, Only}
-use Rattle.wot_layer.proofs.Extending.{TakenFrom, NotedFrom}
+use Rattle.wot_layer.proofs.EdgesConsidered.{TakenFrom, NotedFrom}
 use Rattle.wot_layer.proofs.extend.extend_by.Given as goal
 
 abbrev pub invariant-edges : goal.invariant-edges

@@ -5,8 +5,8 @@ use Rattle.wot_edge.specs.declared.path.Path.{Path}
 use Rattle.wot_layer.specs.Quest.{quest_of}
 use Rattle.wot_layer.specs.Reached.{look}
 use Rattle.wot_layer.specs.Growth.{IsAfter, IsTurn}
-use Rattle.wot_layer.proofs.Finding.{after_begin, unrooted_begin, empty_result, empty_looked, first_result}
-use Rattle.wot_layer.proofs.Finding.{last_result, looked_fewer, none_there, turned}
+use Rattle.wot_layer.proofs.FirstPathFound.{after_begin, unrooted_begin, empty_result, empty_looked, first_result}
+use Rattle.wot_layer.proofs.FirstPathFound.{last_result, looked_fewer, none_there, turned}
 use Rattle.wot_layer.proofs.first_path.first_from.Goals as goal
 
 pub returns-then-is_empty-clause-first : goal.returns-then-is_empty-clause-first

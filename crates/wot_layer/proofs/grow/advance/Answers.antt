@@ -5,7 +5,7 @@ use Rattle.wot_types.specs.declared.fpr.Fpr.{Fpr}
 use Rattle.wot_layer.specs.Quest.{quest_of}
 use Rattle.wot_layer.specs.Looked.{IsNearOne}
 use Rattle.wot_layer.specs.Reached.{look}
-use Rattle.wot_layer.proofs.Growing.{ready_start, after_more, unrooted_more, near_leads}
+use Rattle.wot_layer.proofs.OneLayer.{ready_start, after_more, unrooted_more, near_leads}
 use Rattle.wot_layer.proofs.grow.advance.Goals as goal
 
 pub returns-in_err-grow-clause-leads : goal.returns-in_err-grow-clause-leads

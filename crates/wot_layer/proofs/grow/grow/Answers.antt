@@ -2,8 +2,8 @@ use Rattle.std.proofs.Common.{inl, inr, arith}
 use Rattle.wot_layer.specs.Quest.{quest_of}
 use Rattle.wot_layer.specs.Reached.{look}
 use Rattle.wot_edge.specs.RowLaws.{has_at}
-use Rattle.wot_layer.proofs.Extending.{advances_trans}
-use Rattle.wot_layer.proofs.Growing.{layer_more, layer_end, ready_at, seen_more, seen_end}
+use Rattle.wot_layer.proofs.EdgesConsidered.{advances_trans}
+use Rattle.wot_layer.proofs.OneLayer.{layer_more, layer_end, ready_at, seen_more, seen_end}
 use Rattle.wot_layer.proofs.grow.grow.Goals as goal
 
 pub layer-preserved : goal.layer-preserved

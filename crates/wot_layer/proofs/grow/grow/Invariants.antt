@@ -3,7 +3,7 @@ use Rattle.wot_layer.specs.Quest.{quest_of}
 use Rattle.wot_layer.specs.Reached.{look}
 use Rattle.wot_layer.specs.Looked.{Gains, IsNearOne, Widens}
 use Rattle.wot_layer.specs.Growth.{Advances, AreNoted, IsReady}
-use Rattle.wot_layer.proofs.Growing.{LayerFrom, SeenFrom}
+use Rattle.wot_layer.proofs.OneLayer.{LayerFrom, SeenFrom}
 use Rattle.wot_layer.proofs.grow.grow.Given as goal
 
 abbrev pub invariant-layer : goal.invariant-layer

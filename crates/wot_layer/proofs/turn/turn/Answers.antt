@@ -1,7 +1,7 @@
 use Rattle.std.proofs.Common.{sym, ◌∙◌, arith}
 use Rattle.wot_layer.specs.Quest.{quest_of}
 use Rattle.wot_layer.specs.Reached.{look}
-use Rattle.wot_layer.proofs.Finding.{turn_none, turn_some}
+use Rattle.wot_layer.proofs.FirstPathFound.{turn_none, turn_some}
 use Rattle.wot_layer.proofs.turn.turn.Goals as goal
 
 pub returns-in-None : goal.returns-in-None

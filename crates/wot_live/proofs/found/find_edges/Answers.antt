@@ -3,7 +3,7 @@ use Rattle.std.specs.List.{AllByRecursion}
 use Rattle.wot_standing.specs.Standing.{own}
 use Rattle.wot_live.specs.Found.{HasFew}
 use Rattle.wot_types.specs.PlainLaws.{all_prefix, seam}
-use Rattle.wot_live.proofs.Putting.{more_found}
+use Rattle.wot_live.proofs.EdgesInserted.{more_found}
 use Rattle.wot_live.proofs.found.find_edges.Goals as goal
 
 pub back-preserved : goal.back-preserved

@@ -11,7 +11,7 @@ use Rattle.wot_standing.specs.Certifiers.{KeepsNewest}
 use Rattle.wot_live.specs.Edge.{edge_by}
 use Rattle.wot_live.specs.Found.{by_place, edge_kept, with_edges, edge_with}
 use Rattle.wot_live.proofs.Places.{behind}
-use Rattle.wot_live.proofs.Putting.{with_edges-option}
+use Rattle.wot_live.proofs.EdgesInserted.{with_edges-option}
 use Rattle.wot_live.proofs.found.put_edges_on.Goals as goal
 
 -- the edge by the places that are kept is that by the newest certification

@@ -5,8 +5,8 @@ use Rattle.wot_edge.specs.Order.{edge_cmp}
 use Rattle.wot_standing.specs.Standing.{own}
 use Rattle.wot_live.specs.Found.{found_edges}
 use Rattle.wot_live.specs.Rows.{AreInto, AreRows}
-use Rattle.wot_live.proofs.Counting.{few_user_ids, has_few, made_within}
-use Rattle.wot_live.proofs.Putting.{values_by_place}
+use Rattle.wot_live.proofs.EdgesBounded.{few_user_ids, has_few, made_within}
+use Rattle.wot_live.proofs.EdgesInserted.{values_by_place}
 use Rattle.wot_live.proofs.Through.{edges_same, revoked_same}
 use Rattle.wot_live.proofs.making.rows.Goals as goal
 

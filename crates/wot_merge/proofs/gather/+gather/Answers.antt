@@ -1,5 +1,5 @@
 use Rattle.std.proofs.Common.{◌/◌, length}
-use Rattle.wot_merge.proofs.Gathering.{both_halves, none_first, none_second, same_poured, none_poured}
+use Rattle.wot_merge.proofs.GatheredMerges.{both_halves, none_first, none_second, same_poured, none_poured}
 use Rattle.wot_merge.proofs.gather.+gather.Goals as goal
 
 pub returns-in-Err-clause-clash : goal.returns-in-Err-clause-clash

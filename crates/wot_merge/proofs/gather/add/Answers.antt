@@ -1,7 +1,7 @@
 use Rattle.std.proofs.Common.{Err, sym, subst}
 use Rattle.wot_cert.specs.Answers.{ClashesExactly}
 use Rattle.wot_cert.specs.declared.fault.MergeFault.{MergeFault}
-use Rattle.wot_merge.proofs.Gathering.{put_beside, clash_there, united_there, united_own}
+use Rattle.wot_merge.proofs.GatheredMerges.{put_beside, clash_there, united_there, united_own}
 use Rattle.wot_merge.proofs.gather.add.Goals as goal
 
 pub returns-in-Ok-clause-own : goal.returns-in-Ok-clause-own

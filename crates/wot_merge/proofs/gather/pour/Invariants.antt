@@ -1,7 +1,7 @@
 use Rattle.std.proofs.Common.{◌++◌, length}
 use Rattle.std.specs.Map.{values_of}
 use Rattle.wot_merge.specs.Gather.{AreOwn}
-use Rattle.wot_merge.proofs.Gathering.{IsPoured}
+use Rattle.wot_merge.proofs.GatheredMerges.{IsPoured}
 use Rattle.wot_merge.proofs.gather.pour.Given as goal
 
 abbrev pub invariant-from : goal.invariant-from

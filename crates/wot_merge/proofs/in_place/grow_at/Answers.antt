@@ -8,7 +8,7 @@ use Rattle.wot_policy.specs.Kept.{rows_of}
 use Rattle.wot_held.specs.Keyring.{Entries, is_fpr}
 use Rattle.wot_merge.specs.Staging.{IsLog}
 use Rattle.wot_merge.proofs.InPlace.{asked_found, asked_none, grown_at, grown_goes_on, set_here}
-use Rattle.wot_merge.proofs.Running.{not_asked}
+use Rattle.wot_merge.proofs.ImportSteps.{not_asked}
 use Rattle.wot_held.specs.declared.kept.Kept.{Kept}
 use Rattle.wot_merge.proofs.in_place.grow_at.Goals as goal
 

@@ -3,7 +3,7 @@ use Rattle.wot_policy.specs.Kept.{rows_of}
 use Rattle.wot_part.specs.Certificate.{unite}
 use Rattle.wot_part.specs.Judged.{judged}
 use Rattle.wot_merge.proofs.InPlace.{none_asked}
-use Rattle.wot_merge.proofs.Running.{not_asked}
+use Rattle.wot_merge.proofs.ImportSteps.{not_asked}
 use Rattle.wot_merge.proofs.Unions.{step_on, union_few}
 use Rattle.wot_merge.proofs.in_place.grow_kept.{Goals as goal}
 

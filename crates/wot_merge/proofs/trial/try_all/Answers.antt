@@ -3,7 +3,7 @@ use Rattle.wot_policy.specs.Kept.{rows_of}
 use Rattle.wot_merge.specs.declared.undo.Was.{Was as TheWas}
 use Rattle.wot_merge.specs.Staging.{IsLog, IsTally, IsClashTold}
 use Rattle.wot_merge.proofs.Clashes.{clashes_told}
-use Rattle.wot_merge.proofs.Trying.{tried_full}
+use Rattle.wot_merge.proofs.TrialMerge.{tried_full}
 use Rattle.wot_merge.proofs.trial.try_all.Goals as goal
 
 pub returns-in-Ok-clause-full : goal.returns-in-Ok-clause-full

@@ -3,7 +3,7 @@ use Rattle.wot_edge.specs.declared.edge.EdgeFacts.{EdgeFacts}
 use Rattle.wot_edge.specs.Record.{Has}
 use Rattle.wot_reach.specs.Reach.{number_of}
 use Rattle.wot_edge.specs.RowLaws.{has_at, edge_known}
-use Rattle.wot_reach.proofs.Leading.{lead_start, lead_more, lead_end}
+use Rattle.wot_reach.proofs.EdgesThatLead.{lead_start, lead_more, lead_end}
 use Rattle.wot_reach.proofs.onward.onward_of.Goals as goal
 
 pub put_if-requires-clause-row : goal.put_if-requires-clause-row

@@ -1,5 +1,5 @@
 use Rattle.wot_reach.specs.Reach.{number_of}
-use Rattle.wot_reach.proofs.Leading.{LeadTo}
+use Rattle.wot_reach.proofs.EdgesThatLead.{LeadTo}
 use Rattle.wot_reach.proofs.onward.onward_of.Given as goal
 
 abbrev pub invariant-places : goal.invariant-places

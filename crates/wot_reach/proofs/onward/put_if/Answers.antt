@@ -1,7 +1,7 @@
 use Rattle.std.proofs.Common.{Bool, sym, subst, ◌∙◌}
 use Rattle.wot_reach.specs.Reach.{number_of}
 use Rattle.wot_reach.specs.Onward.{IsUsableIf}
-use Rattle.wot_reach.proofs.Leading.{adds_edge, adds_none}
+use Rattle.wot_reach.proofs.EdgesThatLead.{adds_edge, adds_none}
 use Rattle.wot_reach.proofs.onward.put_if.Goals as goal
 
 pub returns-then-not-is_onward : goal.returns-then-not-is_onward

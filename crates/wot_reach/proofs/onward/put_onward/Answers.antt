@@ -1,5 +1,5 @@
 use Rattle.wot_reach.specs.Reach.{number_of}
-use Rattle.wot_reach.proofs.Leading.{onward_added}
+use Rattle.wot_reach.proofs.EdgesThatLead.{onward_added}
 use Rattle.wot_reach.proofs.onward.put_onward.Goals as goal
 
 pub returns : goal.returns

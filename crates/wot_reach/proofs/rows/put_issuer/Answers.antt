@@ -1,5 +1,5 @@
 use Rattle.wot_reach.specs.declared.slots.Slot.{Slot}
-use Rattle.wot_reach.proofs.Slotting.{slot_added}
+use Rattle.wot_reach.proofs.SlotNumbers.{slot_added}
 use Rattle.wot_reach.proofs.rows.put_issuer.{Goals as goal}
 
 pub returns : goal.returns

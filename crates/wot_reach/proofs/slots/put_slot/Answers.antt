@@ -1,6 +1,6 @@
 use Rattle.std.proofs.Common.{None}
 use Rattle.wot_reach.specs.declared.slots.Slot.{Slot}
-use Rattle.wot_reach.proofs.Slotting.{slot_added}
+use Rattle.wot_reach.proofs.SlotNumbers.{slot_added}
 use Rattle.wot_reach.proofs.slots.put_slot.{Goals as goal}
 
 pub returns : goal.returns

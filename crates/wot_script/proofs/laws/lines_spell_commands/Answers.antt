@@ -1,4 +1,4 @@
-use Rattle.wot_script.proofs.Wanting.{spelled_at}
+use Rattle.wot_script.proofs.ReadBounds.{spelled_at}
 use Rattle.wot_script.proofs.laws.lines_spell_commands.Goals as goal
 
 pub returns : goal.returns

@@ -1,5 +1,5 @@
 use Rattle.std.proofs.Common.{sym}
-use Rattle.wot_script.proofs.Wanting.{spelled_at}
+use Rattle.wot_script.proofs.ReadBounds.{spelled_at}
 use Rattle.wot_script.proofs.read.read_line.Goals as goal
 
 pub returns-in-Ok-Some-clause-spelled : goal.returns-in-Ok-Some-clause-spelled

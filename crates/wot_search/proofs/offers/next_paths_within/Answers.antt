@@ -8,7 +8,7 @@ use Rattle.wot_search.specs.Offers.{AreNext, AreOfferedBy}
 use Rattle.wot_reach.specs.Reach.{number_at}
 use Rattle.wot_layer.specs.Reached.{look}
 use Rattle.wot_layer.proofs.Layers.{looked_grows}
-use Rattle.wot_search.proofs.Nexting.{spent_next, spent_local}
+use Rattle.wot_search.proofs.NextOfTwo.{spent_next, spent_local}
 use Rattle.wot_search.proofs.OfRoots.{found_next, found_there}
 use Rattle.wot_search.proofs.OneSearch.{none_wide, some_wide, looked_wide, path_some, roots_left, after_more}
 use Rattle.wot_layer.proofs.Rooted.{widest_quest, least_quest}

@@ -5,8 +5,8 @@ use Rattle.wot_types.specs.declared.fpr.Fpr.{Fpr}
 use Rattle.wot_part.specs.Certificate.{Signature}
 use Rattle.wot_types.specs.Fpr.{same_fpr}
 use Rattle.wot_standing.specs.Certifiers.{kept_for, newer_by, number_for}
-use Rattle.wot_standing.proofs.Certifying.{changed, unchanged, none_newer, others_newer, not_newer, is_newer, valid_by}
-use Rattle.wot_standing.proofs.Certifying.{found_at}
+use Rattle.wot_standing.proofs.NumbersByIssuer.{changed, unchanged, none_newer, others_newer, not_newer, is_newer, valid_by}
+use Rattle.wot_standing.proofs.NumbersByIssuer.{found_at}
 use Rattle.wot_standing.proofs.certifiers.note_certification.Goals as goal
 
 pub returns-in_default : goal.returns-in_default

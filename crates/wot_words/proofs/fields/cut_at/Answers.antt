@@ -1,5 +1,5 @@
 use Rattle.std.proofs.Common.{sym, add-one, arith}
-use Rattle.wot_words.proofs.Cutting.{cut_nowhere, cut_there, take_behind}
+use Rattle.wot_words.proofs.FirstSeparator.{cut_nowhere, cut_there, take_behind}
 use Rattle.wot_words.proofs.fields.cut_at.Goals as goal
 
 pub returns-then-octet-separator : goal.returns-then-octet-separator

@@ -4,11 +4,11 @@ use Rattle.wot_held.specs.Keyring.{Keyring}
 use Rattle.wot_kept.specs.Answers.{AreAllRight}
 use Rattle.wot_cache.specs.Marks.{end_in}
 use Rattle.wot_cache.specs.Views.{view_at}
-use Rattle.wot_cache.proofs.Asking.{few_seen, present_seen, right_kept, right_seen, seen_after}
+use Rattle.wot_cache.proofs.PartsAnswer.{few_seen, present_seen, right_kept, right_seen, seen_after}
 use Rattle.wot_kept.specs.CaseLaws.{if_ok, if_some}
-use Rattle.wot_cache.proofs.Asking.{told_seen}
+use Rattle.wot_cache.proofs.PartsAnswer.{told_seen}
 use Rattle.wot_cache.proofs.ConsultsLeads.{consulted, keeps_itself}
-use Rattle.wot_cache.proofs.Marking.{answered_open, engine_after, err_less, left, made_as}
+use Rattle.wot_cache.proofs.OpenViewsMarks.{answered_open, engine_after, err_less, left, made_as}
 use Rattle.wot_cache.proofs.engine.Engine.ask.Goals as goal
 
 pub answer-requires : goal.answer-requires

@@ -8,8 +8,8 @@ use Rattle.wot_cache.specs.Marks.{end_in}
 use Rattle.wot_cache.specs.Question.{IsLocalTo}
 use Rattle.wot_cache.specs.State.{Engine}
 use Rattle.wot_cache.specs.Views.{view_at}
-use Rattle.wot_cache.proofs.Asking.{few_seen, same_engine, seen_after}
-use Rattle.wot_cache.proofs.Marking.{engine_after, err_less, if_err, left, made_as}
+use Rattle.wot_cache.proofs.PartsAnswer.{few_seen, same_engine, seen_after}
+use Rattle.wot_cache.proofs.OpenViewsMarks.{engine_after, err_less, if_err, left, made_as}
 use Rattle.wot_cache.proofs.engine.Engine.parts.Goals as goal
 
 pub returns : goal.returns

@@ -1,5 +1,5 @@
 use Rattle.wot_kept.specs.CaseLaws.{both_some}
-use Rattle.wot_cache.proofs.Resting.{found_now, found_rests}
+use Rattle.wot_cache.proofs.BasisStaysTrue.{found_now, found_rests}
 use Rattle.wot_cache.proofs.engine.Engine.rest.Goals as goal
 
 pub returns-in-Some-clause-rested : goal.returns-in-Some-clause-rested

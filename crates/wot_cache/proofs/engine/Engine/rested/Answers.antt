@@ -1,6 +1,6 @@
 use Rattle.std.proofs.Common.{ap}
 use Rattle.wot_cache.specs.Basis.{Basis}
-use Rattle.wot_cache.proofs.Resting.{grown_whole, present_on, sum_of_answer, whole_rests}
+use Rattle.wot_cache.proofs.BasisStaysTrue.{grown_whole, present_on, sum_of_answer, whole_rests}
 use Rattle.wot_cache.proofs.engine.Engine.rested.Goals as goal
 
 pub returns-in-None : goal.returns-in-None

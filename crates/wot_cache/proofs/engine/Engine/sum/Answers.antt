@@ -3,8 +3,8 @@ use Rattle.wot_auth.specs.declared.answer.Answer.{Answer}
 use Rattle.wot_edge.specs.Answer.{IsAnswer}
 use Rattle.wot_cache.specs.Basis.{HasAmount}
 use Rattle.wot_cache.specs.Views.{view_at}
-use Rattle.wot_cache.proofs.Resting.{grown_itself, open_as, present_still, question_before, refreshed_as, rests_before}
-use Rattle.wot_cache.proofs.Resting.{stays_back}
+use Rattle.wot_cache.proofs.BasisStaysTrue.{grown_itself, open_as, present_still, question_before, refreshed_as, rests_before}
+use Rattle.wot_cache.proofs.BasisStaysTrue.{stays_back}
 use Rattle.wot_cache.proofs.engine.Engine.sum.Goals as goal
 
 pub rested-requires : goal.rested-requires

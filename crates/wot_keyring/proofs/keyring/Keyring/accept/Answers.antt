@@ -5,7 +5,7 @@ use Rattle.wot_held.specs.Keyring.{Entries}
 use Rattle.wot_keyring.proofs.Accepted.{asked_now, asked_by_now, no_clash, answered_now, held_now, counted_now}
 use Rattle.wot_keyring.proofs.Accepted.{keyring_now}
 use Rattle.wot_keyring.proofs.UnionNoted.{indexed_all}
-use Rattle.wot_keyring.proofs.Restamping.{logged_now, united_later_now}
+use Rattle.wot_keyring.proofs.ImportStamps.{logged_now, united_later_now}
 use Rattle.wot_keyring.proofs.keyring.Keyring.accept.Goals as goal
 
 pub invariant_of-self : goal.invariant_of-self

@@ -20,9 +20,9 @@ use Rattle.wot_layer.specs.Looked.{IsLooked}
 use Rattle.wot_layer.specs.Reached.{look}
 use Rattle.wot_layer.specs.Rooted.{IsFirst}
 use Rattle.wot_layer.specs.Growth.{IsAfter, IsUnrooted, IsSmall, IsFirstPath, IsTurn, TurnsTo, IsResult}
-use Rattle.wot_layer.proofs.Comparing.{AtMost-le}
+use Rattle.wot_layer.proofs.SuffixOrder.{AtMost-le}
 use Rattle.wot_layer.proofs.Layers.{complete_all, looked_all}
-use Rattle.wot_layer.proofs.Picking.{IsPicked, picked, picked_first, picked_none}
+use Rattle.wot_layer.proofs.PickedRoot.{IsPicked, picked, picked_first, picked_none}
 use Rattle.wot_layer.proofs.Rooted.{amount_width}
 
 -- ---- before the first layer

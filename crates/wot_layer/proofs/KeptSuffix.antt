@@ -16,7 +16,7 @@ use Rattle.wot_layer.specs.Layer.{AtMost, IsAsGood, Covered, IsGrowing, is_bette
 use Rattle.wot_edge.specs.StepLaws.{is_lt-Less}
 use Rattle.wot_layer.proofs.Order.{not_lt-Less, less_not}
 use Rattle.wot_layer.proofs.Suffixes.{links}
-use Rattle.wot_layer.proofs.Keeping.{entry_is}
+use Rattle.wot_layer.proofs.OneSuffixMore.{entry_is}
 
 module _ (quest : Quest) (good : IsRecord quest.question.told) (found : Found) (step : Step) (rest : List Step)
     (kept : Kept quest found rest) (serves : Serves quest step rest) where

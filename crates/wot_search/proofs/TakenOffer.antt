@@ -7,7 +7,7 @@ use Rattle.wot_edge.specs.declared.path.Path.{Path}
 use Rattle.wot_edge.specs.Answer.{IsNextOrSpent}
 use Rattle.wot_edge.specs.Path.{Question, Use, IsNextPath}
 use Rattle.wot_search.specs.Offers.{AreOffers, AreNext, first_path, is_first_spent, is_left, left_at}
-use Rattle.wot_search.proofs.Offering.{later_refl}
+use Rattle.wot_search.proofs.PathsAreOffers.{later_refl}
 
 -- without the first one, of whose root too little is left
 pub dropped : (roots : List (Fpr × ℕ)) (q : Question) (used : Use) (paths : List Path)

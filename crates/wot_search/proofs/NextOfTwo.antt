@@ -15,7 +15,7 @@ use Rattle.wot_edge.specs.Path.{Question, Use, path_amount}
 use Rattle.wot_layer.specs.Looked.{IsLooked}
 use Rattle.wot_layer.specs.Growth.{IsResult}
 use Rattle.wot_layer.specs.Rooted.{Rooted, IsFirst}
-use Rattle.wot_layer.proofs.Finding.{looked_fewer}
+use Rattle.wot_layer.proofs.FirstPathFound.{looked_fewer}
 use Rattle.wot_layer.proofs.Local.{next_path_there, spent_there, disordered_there}
 use Rattle.wot_layer.proofs.Rooted.{widest_quest, least_quest, rooted_wide, first_next, first_le, none_spent}
 use Rattle.wot_layer.proofs.Rooted.{disordered_spent}

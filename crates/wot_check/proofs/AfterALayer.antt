@@ -17,7 +17,7 @@ use Rattle.wot_check.specs.Growth.{Labelled, Leads, IsLayered, Advances, CoversL
 use Rattle.wot_check.specs.Growth.{IsAfter, IsSettled, IsRooted}
 use Rattle.wot_check.proofs.Demands.{covers_last, covers_at}
 use Rattle.wot_check.proofs.Trails.{Trail, trail_chain, trail_within, trail_positive, excludes_spent, disordered_spent}
-use Rattle.wot_check.proofs.Growing.{leads_only, leads_label, covers_keeps}
+use Rattle.wot_check.proofs.LabelsGiven.{leads_only, leads_label, covers_keeps}
 
 module _ (q : Question) (used : Use) where
   -- ---- layers

@@ -28,7 +28,7 @@ use Rattle.wot_held.specs.Kept.{AreSortedByFpr, IsKeyring, AreTotals}
 use Rattle.wot_held.specs.Removal.{without_cert}
 use Rattle.wot_held.specs.Verdict.{restamped, restamped_all, counted_at, is_over}
 use Rattle.wot_held.proofs.Stamps.{removed_stamped, restamped_stamped}
-use Rattle.wot_merge.proofs.Weighing.{removed_fewer, insert_weighs, found_weight, ones}
+use Rattle.wot_merge.proofs.TotalWeight.{removed_fewer, insert_weighs, found_weight, ones}
 
 -- ---- a certificate removed
 

@@ -19,7 +19,7 @@ use Rattle.wot_words.specs.Fields.{◌>>=◌, behind, cut, cut_at, read_behind}
 use Rattle.wot_words.specs.StateLine.{IsWithin, state_line_of}
 use Rattle.wot_words.specs.declared.state_line.StateLine.{StateLine}
 use Rattle.wot_words.specs.declared.state_line.StateLine.TheVariants as lines
-use Rattle.wot_words.proofs.Cutting.{cut_short}
+use Rattle.wot_words.proofs.FirstSeparator.{cut_short}
 use Rattle.wot_words.proofs.ImportFits.{behind_short, bound_keeps, so}
 use Rattle.wot_script.proofs.Items.{parts_of}
 use Rattle.wot_script.proofs.WordLines.{When, when}

@@ -13,7 +13,7 @@ use Rattle.wot_packet.specs.declared.packet.Why.{Why}
 use Rattle.wot_packet.proofs.Lengths.{IsOctet}
 use Rattle.wot_packet.proofs.First.{HasPacket, FirstMeans, first_means}
 use Rattle.wot_packet.proofs.Lists.{packet_length}
-use Rattle.wot_packet.proofs.Joining.{joined_from, single}
+use Rattle.wot_packet.proofs.TextsJoined.{joined_from, single}
 
 -- What comes before this offset spells the packets.
 pub record ReadSoFar (text : List ℕ) (at : ℕ) (packets : List Packet) : Type 0 where

@@ -21,7 +21,7 @@ use Rattle.wot_merge.specs.Gather.{taken_one, taken_all, IsWholeState, DoTheSame
 use Rattle.wot_merge.specs.Gather.{AreOwn, IsGathered}
 use Rattle.wot_held.specs.Keyring.{Certificates, is_fpr}
 use Rattle.wot_held.proofs.Inserts.{put_at, found_at}
-use Rattle.wot_merge.proofs.Taking.{none_stays, all_of_both, swapped, come_to_nothing, whole_with_all, united_first}
+use Rattle.wot_merge.proofs.MergedInTurn.{none_stays, all_of_both, swapped, come_to_nothing, whole_with_all, united_first}
 
 -- ---- names
 

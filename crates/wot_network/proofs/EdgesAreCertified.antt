@@ -26,7 +26,7 @@ use Rattle.wot_standing.specs.Kinds.{is_certification}
 use Rattle.wot_standing.specs.Standing.{newest_certification, own}
 use Rattle.wot_network.specs.Certified.{IsCertified, IsTrusted, RestsOnCertifications, RestsOnTrust}
 use Rattle.wot_network.specs.Told.{record_of, row_of}
-use Rattle.wot_network.proofs.Looking.{entry_some, row_told}
+use Rattle.wot_network.proofs.LookupsAgree.{entry_some, row_told}
 
 -- ---- members of lists
 

@@ -12,7 +12,7 @@ use Rattle.wot_edge.specs.declared.edge.EdgeFacts.{EdgeFacts}
 use Rattle.wot_standing.specs.Standing.{own}
 use Rattle.wot_live.specs.declared.found.EdgePlace.{EdgePlace}
 use Rattle.wot_live.specs.Found.{HasFew, by_place, edge_with, edges_on, edges_from, found_edges}
-use Rattle.wot_live.proofs.Putting.{length_united}
+use Rattle.wot_live.proofs.EdgesInserted.{length_united}
 
 -- ---- edges
 

@@ -21,7 +21,7 @@ use Rattle.wot_search.specs.Offers.{IsLater, left_at, is_left, AreOffers, AreNex
 use Rattle.wot_layer.proofs.Rooted.{widest_quest, valid_suffix}
 use Rattle.wot_reach.proofs.Within.{open_within}
 use Rattle.wot_layer.proofs.Local.{root_same, open_there, open_here, open_amount, start_there}
-use Rattle.wot_layer.proofs.Picking.{then_Greater}
+use Rattle.wot_layer.proofs.PickedRoot.{then_Greater}
 
 -- ---- later uses
 

@@ -23,7 +23,7 @@ use Rattle.wot_layer.specs.Choice.{node_width, choice_at, is_ahead, ahead_of, ta
 use Rattle.wot_layer.specs.Growth.{IsUnrooted, IsSmall}
 use Rattle.wot_layer.specs.Rooted.{Rooted, IsGood, IsFirst}
 use Rattle.wot_layer.proofs.Order.{not_less_itself}
-use Rattle.wot_layer.proofs.Comparing.{AtMost-le}
+use Rattle.wot_layer.proofs.SuffixOrder.{AtMost-le}
 use Rattle.wot_layer.proofs.Suffixes.{kept_suffix, kept_one}
 use Rattle.wot_layer.proofs.Rooted.{good-trans, amount_width, as_good_good}
 

@@ -11,7 +11,7 @@ use Rattle.wot_search.specs.Below.{IsNextAmount, IsNextBelow}
 use Rattle.wot_search.specs.declared.below.Next.{Next}
 use Rattle.wot_search.specs.declared.below.Next.TheVariants.{Path as IsPath}
 use Rattle.wot_auth.specs.Sum.{IsSumOf}
-use Rattle.wot_auth.proofs.Taking.{amount_more}
+use Rattle.wot_auth.proofs.OnePathMore.{amount_more}
 
 amount_cons : (path : Path) (paths : List Path) → amount_of (path ∷ paths) ≡ path.amount + amount_of paths
 amount_cons path paths = sum_by-cons (λ p. p.amount) path paths

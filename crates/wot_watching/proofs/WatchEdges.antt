@@ -8,7 +8,7 @@ use Rattle.wot_cache.specs.State.{Engine}
 use Rattle.wot_cache.specs.Views.{view_at}
 use Rattle.wot_watch.specs.Watches.{Watch, Watches}
 use Rattle.wot_step.specs.Made.{WatchMakes, WatchesMake}
-use Rattle.wot_step.proofs.Making.{refreshed_as}
+use Rattle.wot_step.proofs.EdgesMadeByLine.{refreshed_as}
 
 -- ---- bounds for one result hold for another that is Ok only if the first one is
 

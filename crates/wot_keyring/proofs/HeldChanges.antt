@@ -17,7 +17,7 @@ use Rattle.wot_held.specs.Held.{Held, held_of, is_said, is_verdict, verdict_set,
 use Rattle.wot_held.specs.Import.{imported, importing, spelled_in, stamped, with_united}
 use Rattle.wot_held.specs.Removal.{without_cert}
 use Rattle.wot_held.specs.Verdict.{counted_at, with_verdict_on, without_verdict_on}
-use Rattle.wot_keyring.proofs.Keeping.{restamped_same}
+use Rattle.wot_keyring.proofs.InvariantKept.{restamped_same}
 
 -- ---- certificates
 

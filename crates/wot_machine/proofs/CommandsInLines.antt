@@ -30,11 +30,11 @@ use Rattle.wot_step.specs.Served.{Served, unserved}
 use Rattle.wot_machine.specs.Stepped.{Replied, Stepped, TellsBehind}
 use Rattle.wot_step.specs.Pacing.{Paces, is_pacing, settled}
 use Rattle.wot_step.specs.Transcript.{octets_of}
-use Rattle.wot_step.proofs.Making.{same_state}
+use Rattle.wot_step.proofs.EdgesMadeByLine.{same_state}
 use Rattle.wot_step.proofs.Paced.{paces_plain, paces_watched, state_paced, turns_paced, uncalled_paced}
 use Rattle.wot_step.proofs.Watched.{paced_unwatched, state_watched, turns_watched, uncalled_watched, watched_unpaced}
 use Rattle.wot_step.proofs.Watched.{watching_plain}
-use Rattle.wot_step.proofs.Stepping.{heard_long, heard_silent, one_reply, passed_over, too_long}
+use Rattle.wot_step.proofs.StepsByKind.{heard_long, heard_silent, one_reply, passed_over, too_long}
 use Rattle.wot_step.proofs.Sessions.{counted_by, same_few, turned_few, turned_still}
 use Rattle.wot_command.proofs.Calling.{idle, idle_by, never_failed}
 

@@ -51,10 +51,10 @@ use Rattle.wot_step.specs.Served.{Served}
 use Rattle.wot_step.specs.Watching.{ReportsWatches, told_all}
 use Rattle.wot_step.specs.Session.{IsCounted, Session, turning_of, watched}
 use Rattle.wot_step.proofs.Entries.{apart, found_set, other_put, other_set, other_without}
-use Rattle.wot_run_law.proofs.Hearing.{Hears, hears, step_keeps}
+use Rattle.wot_run_law.proofs.LineByCommand.{Hears, hears, step_keeps}
 use Rattle.wot_step.proofs.Paced.{paced_cases, plain_paces}
 use Rattle.wot_cursor_law.proofs.Behind.{HasCome, next_piece, place_behind}
-use Rattle.wot_cursor_law.proofs.Rising.{bind_cmp}
+use Rattle.wot_cursor_law.proofs.SortedStates.{bind_cmp}
 use Rattle.wot_step.proofs.Viewed.{AreViewsInOrder, IsShown, does_views, order_by, same_name, shown_by, turns_more}
 use Rattle.wot_run_law.proofs.StaleTold.{Aged, aged}
 

@@ -24,7 +24,7 @@ use Rattle.wot_step.specs.Classes.{class_of}
 use Rattle.wot_step.specs.Lines.{heard, is_silent, longest}
 use Rattle.wot_cursor.specs.Cursors.{Cursor, Cursors, cursor_at}
 use Rattle.wot_step.specs.Made.{ChangesMarks, CursorMakes, LineMakes, Makes, MakesFor, PieceMakes, WatchMakesMarks}
-use Rattle.wot_step.proofs.Stepping.{heard_read}
+use Rattle.wot_step.proofs.StepsByKind.{heard_read}
 
 pub same_state : (old new : Engine) → StaysButMarks old new → state_of new ≡ state_of old
 same_state old new s = λ i. record { held = held_of (s.keyring i); views = s.views i }

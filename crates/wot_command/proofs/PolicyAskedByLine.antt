@@ -27,7 +27,7 @@ use Rattle.wot_step.specs.declared.refusal.Refused.TheVariants.{Keyring as OfKey
 use Rattle.wot_command.specs.Asked.{AsksBy, AsksForNew, CallAsks, ChangeAsks, LineAsks, sound_in}
 use Rattle.wot_step.specs.Lines.{heard, is_silent, longest}
 use Rattle.wot_step.specs.Refused.{IsReplyTo}
-use Rattle.wot_step.proofs.Stepping.{heard_read}
+use Rattle.wot_step.proofs.StepsByKind.{heard_read}
 
 none_more : (n : ℕ) → n ≡ max n (min (n + 0) (2 ^ 64 - 1))
 none_more n = omega arith

@@ -36,7 +36,7 @@ use Rattle.wot_cache.specs.Turns.{Turns}
 use Rattle.wot_cache.specs.Views.{TellsOpen, Views, view_at}
 use Rattle.wot_kept.specs.CaseLaws.{if_some}
 use Rattle.wot_kept.specs.RightLaws.{of_question, stamp_past}
-use Rattle.wot_cache.proofs.Marking.{made_as}
+use Rattle.wot_cache.proofs.OpenViewsMarks.{made_as}
 
 itself : (n : ℕ) → n ≤ n
 itself n = omega arith

@@ -11,7 +11,7 @@ use Rattle.wot_check.specs.Growth.{IsLabel, IsSettled, Labelled}
 use Rattle.wot_check.specs.Leading.{HasChecked, LeadsToTarget, ShareLeading}
 use Rattle.wot_check.specs.Table.{IsTable, Labels, label_at}
 use Rattle.wot_check.proofs.Checks.{certifiers_back, closes_there, introducers_back, turned}
-use Rattle.wot_check.proofs.Layering.{labelled_trail, settled_least}
+use Rattle.wot_check.proofs.AfterALayer.{labelled_trail, settled_least}
 use Rattle.wot_check.proofs.Least.{least_settled}
 use Rattle.wot_check.proofs.Trails.{trail_chain}
 

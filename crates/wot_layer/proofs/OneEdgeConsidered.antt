@@ -24,8 +24,8 @@ use Rattle.wot_layer.specs.Demand.{is_enough, candidate_of}
 use Rattle.wot_layer.specs.Reached.{look}
 use Rattle.wot_layer.specs.Growth.{if_kept, wanted_of, may_stand_of, IsPut, IsPutIf, IsRest, Advances, IsTaken, IsNoted}
 use Rattle.wot_layer.specs.Growth.{AreNoted}
-use Rattle.wot_layer.proofs.Keeping.{put_onward, put_covered, put_growing}
-use Rattle.wot_layer.proofs.Choosing.{kept_free, kept_worse, unkept_covered}
+use Rattle.wot_layer.proofs.OneSuffixMore.{put_onward, put_covered, put_growing}
+use Rattle.wot_layer.proofs.KeptSuffix.{kept_free, kept_worse, unkept_covered}
 use Rattle.wot_layer.proofs.Layers.{onward_refl}
 
 -- ---- the demand

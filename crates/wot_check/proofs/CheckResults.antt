@@ -10,7 +10,7 @@ use Rattle.wot_check.specs.Claim.{Claim, AreGood, EachShows}
 use Rattle.wot_check.specs.Table.{Labels}
 use Rattle.wot_check.specs.Absence.{Accepts, Excludes, Rejects, AreSpent, IsChecked, IsAbsence, is_in_order}
 use Rattle.wot_check.specs.Trace.{AreUsedBy}
-use Rattle.wot_check.proofs.Showing.{each_shows_one}
+use Rattle.wot_check.proofs.ShownPaths.{each_shows_one}
 use Rattle.wot_check.proofs.Trails.{absence_spent}
 
 module _ (q : Question) (good : IsRecord q.told) (claims : List Claim) (table : Labels) where

@@ -15,7 +15,7 @@ use Rattle.wot_check.specs.Trace.{Traces, IsShown}
 use Rattle.wot_check.specs.Using.{AreBelow}
 use Rattle.wot_check.proofs.Sums.{below_push}
 use Rattle.wot_check.proofs.Trails.{Trail, chain_trail, trail_chain, least_most}
-use Rattle.wot_check.proofs.Tracing.{traces_one, traces_steps, traces_trail, trail_traces}
+use Rattle.wot_check.proofs.ClaimedSteps.{traces_one, traces_steps, traces_trail, trail_traces}
 
 pub no_issuers : (steps : List Step) (fpr : Fpr) → length steps ≡ 0 → Has (issuers steps) fpr → ⊥
 no_issuers [] fpr e h = h

@@ -20,9 +20,9 @@ use Rattle.wot_check.specs.Table.{IsTable, Labels}
 use Rattle.wot_check.specs.Trace.{begin_of, Follows, Traces, has_name}
 use Rattle.wot_check.proofs.Entries.{has_lookup, lookup_has}
 use Rattle.wot_check.proofs.Finite.{Both, Dec, Found, all, at_most, both, decided, find, is_so}
-use Rattle.wot_check.proofs.Showing.{shows_traces}
-use Rattle.wot_check.proofs.Testing.{labels_all, labels_fail, last_covered, three_points}
-use Rattle.wot_check.proofs.Tracing.{edge_named, has_name-true, named_edge, traces_steps, traces_trail, true-has_name}
+use Rattle.wot_check.proofs.ShownPaths.{shows_traces}
+use Rattle.wot_check.proofs.ThreePoints.{labels_all, labels_fail, last_covered, three_points}
+use Rattle.wot_check.proofs.ClaimedSteps.{edge_named, has_name-true, named_edge, traces_steps, traces_trail, true-has_name}
 use Rattle.wot_check.proofs.Trails.{least_most, trail_chain}
 
 -- ---- fingerprints

@@ -10,7 +10,7 @@ use Rattle.wot_part.specs.Ranked.{IsRising}
 use Rattle.wot_part.specs.Whole.{IsSigAt, IsPartOf, ArePartsOf, IsCertificate}
 use Rattle.wot_part.proofs.Alike.{united-associates, united-commutes, united-itself}
 use Rattle.wot_part.proofs.Bodies.{bodies_equal}
-use Rattle.wot_cert.proofs.Completing.{map-united}
+use Rattle.wot_cert.proofs.CertificateWithKey.{map-united}
 use Rattle.wot_part.proofs.Rank.{only}
 use Rattle.wot_cert.proofs.Same.{same_cert}
 use Rattle.wot_part.proofs.Walk.{sigs_total, kept_same, parts_total, parts_same}

@@ -10,7 +10,7 @@ use Rattle.wot_layer.specs.Quest.{Quest}
 use Rattle.wot_layer.specs.Suffix.{Serves, Found, Kept, node_of}
 use Rattle.wot_layer.specs.Layer.{AtMost, Covered, Begins, IsEntry, IsGrowing, Onward}
 use Rattle.wot_layer.proofs.Order.{fpr_cases}
-use Rattle.wot_layer.proofs.Comparing.{AtMost-refl, AtMost-trans}
+use Rattle.wot_layer.proofs.SuffixOrder.{AtMost-refl, AtMost-trans}
 
 module _ (quest : Quest) where
   -- what was found at other fingerprints stays
