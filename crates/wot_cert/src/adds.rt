@@ -11,7 +11,7 @@ use crate::{Adds, Cert};
 use wot_part::adds::{added_parts, added_sigs, plus};
 
 /// What the second certificate adds to the first.
-pub(crate) fn added(a: &Cert, b: &Cert) -> Adds
+fn added(a: &Cert, b: &Cert) -> Adds
     requires { size_of (unite a.now b.now) < 2 ^ 63 }
     ensures items { result.items + items_of a.now ≡ items_of (unite a.now b.now) }
     ensures signatures { result.signatures + signatures_of a.now ≡ signatures_of (unite a.now b.now) }
@@ -24,4 +24,17 @@ pub(crate) fn added(a: &Cert, b: &Cert) -> Adds
     let named = plus(direct, user_ids);
     let others = plus(attributes, subkeys);
     plus(named, others)
+}
+
+impl Cert {
+    /// What merging a certificate of the same key would add.
+    pub fn adds(&self, other: &Cert) -> Adds
+        requires same { self.now.key ≡ other.now.key }
+        requires sizes { size_of self.now + size_of other.now < 2 ^ 63 }
+        ensures items { result.items + items_of self.now ≡ items_of (unite self.now other.now) }
+        ensures signatures { result.signatures + signatures_of self.now ≡ signatures_of (unite self.now other.now) }
+        ensures octets { result.octets + size_of self.now ≡ size_of (unite self.now other.now) }
+    {
+        added(self, other)
+    }
 }

@@ -2,7 +2,7 @@
 //!
 //! It stands on `write_packet` and on `specs/Text.antt`. `export` replies, dumps and directory entries are written
 //! here.
-ghost use Rattle.std.specs.Prelude.{◌≤◌, ◌++◌};
+ghost use Rattle.std.specs.Prelude.{◌≡◌, ◌≤◌, ◌++◌, OnOk, OnErr};
 ghost use Rattle.std.specs.List.{AllByRecursion};
 ghost use Rattle.wot_part.specs.Fitting.{SigFits, PartFits};
 ghost use Rattle.wot_cert.specs.ReadBack.{ReadBack};
@@ -61,7 +61,7 @@ fn append_components(cert: &Cert, out: &mut Vec<u8>) -> Result<(), Memory>
 }
 
 /// Appends the text of a certificate, or only some of it if memory runs out.
-pub(crate) fn append_cert(cert: &Cert, out: &mut Vec<u8>) -> Result<(), Memory>
+fn append_cert(cert: &Cert, out: &mut Vec<u8>) -> Result<(), Memory>
     ensures { Appends result out.old.items out.new.items (text_of cert.now) }
 {
     write_packet(6, cert.body(), out)?;
@@ -70,9 +70,31 @@ pub(crate) fn append_cert(cert: &Cert, out: &mut Vec<u8>) -> Result<(), Memory>
 }
 
 /// A law: the text of this certificate is read back as it.
-pub(crate) fn reads_back(cert: &Cert)
+fn reads_back(cert: &Cert)
     ensures { ReadBack cert.now }
 {
     let _ = cert.body();
     read_back();
+}
+
+impl Cert {
+    /// Appends its text: the key and its signatures, then the user IDs, the attributes and the subkeys, each followed
+    /// by its signatures, every packet in its shortest spelling (RFC 9580, section 10.1). After `Memory`, `out` is
+    /// unchanged.
+    pub fn export(&self, out: &mut Vec<u8>) -> Result<(), Memory>
+        ensures text { OnOk result (out.new.items ≡ out.old.items ++ text_of self.now) }
+        ensures kept { OnErr result (out.new.items ≡ out.old.items) }
+        // The text is read back as exactly this certificate.
+        ensures read_back { ReadBack self.now }
+    {
+        reads_back(self);
+        let before = out.len();
+        match append_cert(self, out) {
+            Ok(()) => Ok(()),
+            Err(memory) => {
+                out.truncate(before);
+                Err(memory)
+            }
+        }
+    }
 }
