@@ -1,4 +1,4 @@
-pub mod RelationsDecided
+pub mod Deciding
 pub mod Grammar
 pub mod Marks
 pub mod Meaning

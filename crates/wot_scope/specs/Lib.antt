@@ -1,2 +1,2 @@
-pub mod ScopeDecided
+pub mod Deciding
 pub mod Scope

@@ -1,4 +1,4 @@
-pub mod NextOfTwo
+pub mod Nexting
 pub mod Offers
 pub mod Below
 pub mod Asked
