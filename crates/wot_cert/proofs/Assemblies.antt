@@ -9,7 +9,7 @@ use Rattle.wot_part.specs.Certificate.{on_attribute, on_subkey}
 use Rattle.wot_cert.specs.Drafting.{Group, Sketch, sketched, part_drafted, completed}
 use Rattle.wot_cert.specs.Packets.{is_key}
 use Rattle.wot_part.specs.Whole.{IsCertificate}
-use Rattle.wot_cert.proofs.Completing.{completed-is, completed-whole, sketched-whole}
+use Rattle.wot_cert.proofs.CertificateWithKey.{completed-is, completed-whole, sketched-whole}
 use Rattle.wot_cert.proofs.Same.{same_cert}
 
 -- ---- short packets

@@ -13,7 +13,7 @@ use Rattle.wot_cert.specs.Parts.{of_places}
 use Rattle.wot_part.specs.Text.{size_of}
 use Rattle.wot_part.specs.Totals.{AreTotals, cap}
 use Rattle.wot_part.specs.Whole.{IsCertificate}
-use Rattle.wot_cert.proofs.Merging.{merged}
+use Rattle.wot_cert.proofs.MergedMarks.{merged}
 use Rattle.wot_cert.proofs.Same.{same_cert}
 use Rattle.wot_part.proofs.TextSize.{size_is, union_items, first_items}
 use Rattle.wot_part.proofs.Weights.{unite_more}

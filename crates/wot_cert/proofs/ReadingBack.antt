@@ -22,7 +22,7 @@ use Rattle.wot_cert.specs.Packets.{is_key}
 use Rattle.wot_part.specs.Ranked.{IsBelow, IsRising}
 use Rattle.wot_part.specs.Text.{sigs_text, parts_text, text_of}
 use Rattle.wot_part.specs.Whole.{IsSigAt, IsPartOf, IsCertificate}
-use Rattle.wot_cert.proofs.Completing.{completed-is}
+use Rattle.wot_cert.proofs.CertificateWithKey.{completed-is}
 use Rattle.wot_cert.proofs.Cuts.{at-other}
 use Rattle.wot_part.proofs.Rank.{put_first}
 use Rattle.wot_cert.proofs.Same.{same_cert}

@@ -14,7 +14,7 @@ use Rattle.wot_part.specs.Text.{sigs_text, parts_text, text_of, size_of}
 use Rattle.wot_part.specs.Whole.{IsCertificate}
 use Rattle.wot_cert.proofs.Same.{same_cert}
 use Rattle.wot_part.proofs.TextSize.{some_octet, size_is}
-use Rattle.wot_cert.proofs.Uniting.{commutes}
+use Rattle.wot_cert.proofs.UnionLaws.{commutes}
 use Rattle.wot_part.proofs.Weights.{put_more, united_more, unite_less, unite_more}
 use Rattle.wot_part.proofs.Wholes.{marked_as}
 

@@ -6,7 +6,7 @@ ghost use Rattle.std.specs.Prelude.{◌≡◌, ◌≤◌, ◌++◌, OnOk, OnErr}
 ghost use Rattle.std.specs.List.{AllByRecursion};
 ghost use Rattle.wot_part.specs.Fitting.{SigFits, PartFits};
 ghost use Rattle.wot_cert.specs.ReadBack.{ReadBack};
-ghost use Rattle.wot_part.specs.Text.{Appends, sigs_text, part_text, parts_text, text_of};
+ghost use Rattle.wot_part.specs.Text.{Appends, components_text, sigs_text, part_text, parts_text, text_of};
 
 use crate::laws::read_back;
 use crate::{Cert, Part, Sig};
@@ -52,8 +52,7 @@ fn append_parts(kind: u8, parts: &[Part], out: &mut Vec<u8>) -> Result<(), Memor
 
 /// Appends all components of a certificate, or only some of them if memory runs out.
 fn append_components(cert: &Cert, out: &mut Vec<u8>) -> Result<(), Memory>
-    ensures { Appends result out.old.items out.new.items
-        (parts_text 13 cert.now.user_ids ++ parts_text 17 cert.now.attributes ++ parts_text 14 cert.now.subkeys) }
+    ensures { Appends result out.old.items out.new.items (components_text cert.now) }
 {
     append_parts(13, cert.user_ids(), out)?;
     append_parts(17, cert.attributes(), out)?;

@@ -1,5 +1,5 @@
-//! All cursors by name, and the limit on their number. wot_watch has a table of the same shape: what changes here
-//! probably changes there.
+//! All cursors by name, and the limit on their number. It stands on the table that wot_watch keeps watches in too, and
+//! adds what a cursor remembers.
 ghost use Rattle.std.specs.Prelude.{◌≡◌, [], Err, true, is_some, OnOk, OnErr};
 ghost use Rattle.std.specs.Option.{option_copied};
 ghost use Rattle.wot_cursor.specs.Cursors.{begun, cursor_at, is_full, with_cursor, with_place, without_cursor};
@@ -9,8 +9,8 @@ ghost use Rattle.wot_cursor.specs.Telling.{TellsFull};
 use crate::cursor::Cursor;
 use crate::stamps::Stamps;
 use std::alloc::Global;
-use std::collections::BTreeMap;
 use std::marker::Model;
+use wot_table::{Table, put};
 use wot_types::{Memory, Place, ViewName};
 
 /// The limit on the number of cursors.
@@ -36,7 +36,7 @@ impl From<Memory> for BeginFault {
 /// The cursors by name.
 #[derive(Drop)]
 pub struct Cursors {
-    cursors: BTreeMap<ViewName, Cursor, Global>,
+    cursors: Table<Cursor>,
 }
 
 impl Model for Cursors {
@@ -53,7 +53,7 @@ impl Cursors {
         ensures none { result ≡ [] }
     {
         Cursors {
-            cursors: BTreeMap::new(alloc),
+            cursors: Table::new(alloc),
         }
     }
 
@@ -69,11 +69,11 @@ impl Cursors {
         ensures begun { OnOk result (self.new ≡ with_cursor self.old name (begun view wanted stamps)) }
         ensures kept { OnErr result (self.new ≡ self.old) }
     {
-        if self.cursors.len() >= MOST && !self.cursors.contains_key(&name) {
-            return Err(BeginFault::Full);
+        let cursor = Cursor::new(view, wanted, stamps);
+        if put(&mut self.cursors, MOST, name, cursor)? {
+            return Ok(());
         }
-        put(&mut self.cursors, name, Cursor::new(view, wanted, stamps))?;
-        Ok(())
+        Err(BeginFault::Full)
     }
 
     /// The cursor of a name. `None` if and only if there is none.
@@ -104,17 +104,4 @@ impl Cursors {
     {
         self.cursors.remove(name).is_some()
     }
-}
-
-/// Sets or replaces the cursor of a name.
-fn put(
-    cursors: &mut BTreeMap<ViewName, Cursor, Global>,
-    name: ViewName,
-    cursor: Cursor,
-) -> Result<(), Memory>
-    ensures kept_now { OnOk result (cursors.new.entries ≡ with_cursor cursors.old.entries name cursor) }
-    ensures kept { OnErr result (cursors.new.entries ≡ cursors.old.entries) }
-{
-    cursors.insert(name, cursor)?;
-    Ok(())
 }

@@ -18,16 +18,16 @@ use Rattle.wot_certd.specs.World.{World}
 use Rattle.wot_cache.specs.State.{Engine, State, empty}
 use Rattle.wot_cursor.specs.Cursors.{Cursors}
 use Rattle.wot_watch.specs.Watches.{Watches}
-use Rattle.wot_machine.specs.Asked.{LineAsks}
-use Rattle.wot_machine.specs.Lines.{heard}
+use Rattle.wot_command.specs.Asked.{LineAsks}
+use Rattle.wot_step.specs.Lines.{heard}
 use Rattle.wot_machine.specs.Machine.{Machine, kept}
-use Rattle.wot_machine.specs.Scene.{Scene, opening}
-use Rattle.wot_machine.specs.Transcript.{AllTold, octets_of}
-use Rattle.wot_machine.specs.Watching.{ReportsWatches}
-use Rattle.wot_machine.specs.Session.{Session, beginning, watched, session_of}
-use Rattle.wot_machine.proofs.Giving.{all_told, all_weaker, over}
-use Rattle.wot_machine.proofs.Judging.{asks_as}
-use Rattle.wot_machine.proofs.Stepping.{heard_long}
+use Rattle.wot_step.specs.Scene.{Scene, opening}
+use Rattle.wot_step.specs.Transcript.{AllTold, octets_of}
+use Rattle.wot_step.specs.Watching.{ReportsWatches}
+use Rattle.wot_step.specs.Session.{Session, beginning, watched, session_of}
+use Rattle.wot_step.proofs.DirectoryGives.{all_told, all_weaker, over}
+use Rattle.wot_command.proofs.PolicyAskedByLine.{asks_as}
+use Rattle.wot_step.proofs.StepsByKind.{heard_long}
 use Rattle.wot_engine.specs.Asking.{AsksBy, AsksFirst, AsksFor, AsksInTurn, AsksOnce, MayAsk}
 use Rattle.wot_engine.specs.Asking.{MayAskNext, command_by, done, failed}
 use Rattle.wot_engine.specs.Told.{IsEither}

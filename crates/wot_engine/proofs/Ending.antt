@@ -3,7 +3,7 @@ use Rattle.std.proofs.Common.{◌≡◌, ◌⊎◌, inl, inr, ℕ, List, Option,
 use Rattle.std.proofs.Common.{subst, ◌∙◌, rules, arith}
 use Rattle.std.specs.Prelude.{IfErr, IfSome, IsErrOf}
 use Rattle.wot_policy.specs.declared.rows.PolicyRows.{PolicyRows}
-use Rattle.wot_machine.specs.Transcript.{HasMost}
+use Rattle.wot_step.specs.Transcript.{HasMost}
 use Rattle.wot_engine.specs.declared.run.Stop.{Stop}
 use Rattle.wot_engine.specs.declared.run.Stop.TheVariants.{Read, Write, Memory, TooMuch}
 use Rattle.wot_engine.specs.Ends.{status_at}

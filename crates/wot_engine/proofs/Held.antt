@@ -13,11 +13,11 @@ use Rattle.wot_io.specs.Given as given
 use Rattle.wot_io.specs.declared.lines.Line.{Line}
 use Rattle.wot_policy.specs.declared.rows.PolicyRows.{PolicyRows}
 use Rattle.wot_certd.specs.World.{World}
-use Rattle.wot_machine.specs.Session.{Session, beginning}
-use Rattle.wot_machine.specs.Law.{OneOutcome}
-use Rattle.wot_machine.specs.Entry.{MayPut}
-use Rattle.wot_machine.specs.Transcript.{AllTold, AnsweredMost, Begun, octets_of}
-use Rattle.wot_machine.proofs.Giving.{all_told, all_weaker}
+use Rattle.wot_step.specs.Session.{Session, beginning}
+use Rattle.wot_run_law.specs.Law.{OneOutcome}
+use Rattle.wot_step.specs.Entry.{MayPut}
+use Rattle.wot_step.specs.Transcript.{AllTold, AnsweredMost, Begun, octets_of}
+use Rattle.wot_step.proofs.DirectoryGives.{all_told, all_weaker}
 use Rattle.wot_engine.specs.Asking.{command_by}
 use Rattle.wot_engine.specs.Held.{Moves, MovesOf}
 use Rattle.wot_engine.specs.Ended.{Reached, ReachedWhole}

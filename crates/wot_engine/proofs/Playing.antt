@@ -11,16 +11,16 @@ use Rattle.wot_gen.specs.Summary.{Tallies, amount_in}
 use Rattle.wot_types.specs.Limits.{standard_limits}
 use Rattle.wot_cache.specs.State.{empty}
 use Rattle.wot_machine.specs.Machine.{Machine, kept}
-use Rattle.wot_machine.specs.Session.{Session, watched, session_of}
-use Rattle.wot_machine.specs.Entry.{use_of}
-use Rattle.wot_machine.specs.Lines.{heard}
-use Rattle.wot_machine.specs.CommandRun.{Seen}
-use Rattle.wot_machine.specs.Scene.{Scene, Step, opening}
+use Rattle.wot_step.specs.Session.{Session, watched, session_of}
+use Rattle.wot_step.specs.Entry.{use_of}
+use Rattle.wot_step.specs.Lines.{heard}
+use Rattle.wot_command.specs.CommandRun.{Seen}
+use Rattle.wot_step.specs.Scene.{Scene, Step, opening}
 use Rattle.wot_machine.specs.Stepped.{Replied}
-use Rattle.wot_machine.specs.Transcript.{Run, listed}
-use Rattle.wot_machine.specs.Watching as watching
-use Rattle.wot_machine.proofs.Giving.{Goes, goes, over}
-use Rattle.wot_machine.proofs.Runs.{Run-append}
+use Rattle.wot_step.specs.Transcript.{Run, listed}
+use Rattle.wot_step.specs.Watching as watching
+use Rattle.wot_step.proofs.DirectoryGives.{Goes, goes, over}
+use Rattle.wot_run_law.proofs.Runs.{Run-append}
 use Rattle.wot_engine.specs.Generated.{no_entries}
 use Rattle.wot_engine.specs.Played.{Adds, AddsReply, AddsTold, IsPlayed}
 

@@ -10,17 +10,17 @@ use Rattle.wot_io.specs.Source.{Loses, LosesOf}
 use Rattle.wot_script.specs.declared.reply.Reply.{Reply}
 use Rattle.wot_script.specs.Replies.{reply_text}
 use Rattle.wot_certd.specs.World.{World}
-use Rattle.wot_machine.specs.Session.{Session, beginning}
-use Rattle.wot_machine.specs.Law.{OneOutcome}
-use Rattle.wot_machine.specs.Scene.{Scene, Step, opening}
-use Rattle.wot_machine.specs.Entry.{MayPut, MayPutIn, Use, use_of}
-use Rattle.wot_machine.specs.Lines.{heard}
-use Rattle.wot_machine.specs.Transcript.{Run, RepliesTo, Answered, Begun, IsNow, IsTaken, Leaves, listed, octets_of}
+use Rattle.wot_step.specs.Session.{Session, beginning}
+use Rattle.wot_run_law.specs.Law.{OneOutcome}
+use Rattle.wot_step.specs.Scene.{Scene, Step, opening}
+use Rattle.wot_step.specs.Entry.{MayPut, MayPutIn, Use, use_of}
+use Rattle.wot_step.specs.Lines.{heard}
+use Rattle.wot_step.specs.Transcript.{Run, RepliesTo, Answered, Begun, IsNow, IsTaken, Leaves, listed, octets_of}
 use Rattle.wot_engine.specs.Ended.{Finished, FinishedMost, FinishedTaken, IsLastTaken, MayPutNext, Reached}
 use Rattle.wot_engine.specs.Ended.{ReachedWhole}
-use Rattle.wot_machine.proofs.Giving.{over}
-use Rattle.wot_machine.proofs.Runs.{Run-some, Run-append}
-use Rattle.wot_machine.proofs.CutLines.{lines_of-feed, whole_lines_of-feed, whole_lines_of-none, lines_of-last}
+use Rattle.wot_step.proofs.DirectoryGives.{over}
+use Rattle.wot_run_law.proofs.Runs.{Run-some, Run-append}
+use Rattle.wot_step.proofs.CutLines.{lines_of-feed, whole_lines_of-feed, whole_lines_of-none, lines_of-last}
 use Rattle.wot_policy.specs.declared.rows.PolicyRows.{PolicyRows}
 
 pub joined : (before : List ℕ) (some others : List Reply) →

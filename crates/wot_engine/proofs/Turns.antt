@@ -14,18 +14,18 @@ use Rattle.wot_script.specs.declared.command.Command.{Command}
 use Rattle.wot_script.specs.declared.reply.Reply.{Reply}
 use Rattle.wot_script.specs.Replies.{reply_text}
 use Rattle.wot_certd.specs.World.{World}
-use Rattle.wot_machine.specs.Session.{Session, beginning}
-use Rattle.wot_machine.specs.Entry.{IsServed, MayPut, Use, unused, use_of}
-use Rattle.wot_machine.specs.Law.{OneOutcome}
-use Rattle.wot_machine.specs.Lines.{heard}
-use Rattle.wot_machine.specs.LineStep.{LineStep}
-use Rattle.wot_machine.specs.Scene.{Step, opening}
-use Rattle.wot_machine.specs.Served.{Served}
-use Rattle.wot_machine.specs.Watching.{ReportsWatches}
-use Rattle.wot_machine.specs.Transcript.{Run, Answered, Begun, AnsweredMost, AllTold, IsNow, Leaves, listed, octets_of}
-use Rattle.wot_machine.proofs.Giving.{IsUncalled, all_told, all_weaker, goes, may_call, over}
-use Rattle.wot_machine.proofs.Runs.{Run-one, Run-prefix}
-use Rattle.wot_machine.proofs.Stepping.{heard_long}
+use Rattle.wot_step.specs.Session.{Session, beginning}
+use Rattle.wot_step.specs.Entry.{IsServed, MayPut, Use, unused, use_of}
+use Rattle.wot_run_law.specs.Law.{OneOutcome}
+use Rattle.wot_step.specs.Lines.{heard}
+use Rattle.wot_step.specs.LineStep.{LineStep}
+use Rattle.wot_step.specs.Scene.{Step, opening}
+use Rattle.wot_step.specs.Served.{Served}
+use Rattle.wot_step.specs.Watching.{ReportsWatches}
+use Rattle.wot_step.specs.Transcript.{Run, Answered, Begun, AnsweredMost, AllTold, IsNow, Leaves, listed, octets_of}
+use Rattle.wot_step.proofs.DirectoryGives.{IsUncalled, all_told, all_weaker, goes, may_call, over}
+use Rattle.wot_run_law.proofs.Runs.{Run-one, Run-prefix}
+use Rattle.wot_step.proofs.StepsByKind.{heard_long}
 use Rattle.wot_engine.specs.Asking.{command_by}
 use Rattle.wot_engine.specs.Ended.{FinishedMost, FinishedTaken, Reached, ReachedWhole}
 use Rattle.wot_engine.specs.Turn.{Replies, use_by}

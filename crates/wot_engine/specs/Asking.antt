@@ -10,12 +10,12 @@ use Rattle.wot_script.specs.declared.command.Command.{Command}
 use Rattle.wot_script.specs.declared.reply.Reply.{Reply}
 use Rattle.wot_certd.specs.World.{World}
 use Rattle.wot_cache.specs.State.{State}
-use Rattle.wot_machine.specs.Asked.{LineAsks}
-use Rattle.wot_machine.specs.Both.{Ends}
-use Rattle.wot_machine.specs.Lines.{heard}
-use Rattle.wot_machine.specs.Scene.{Scene, Step, opening}
-use Rattle.wot_machine.specs.Transcript.{IsTaken}
-use Rattle.wot_machine.specs.Session.{Session}
+use Rattle.wot_command.specs.Asked.{LineAsks}
+use Rattle.wot_step.specs.Both.{Ends}
+use Rattle.wot_step.specs.Lines.{heard}
+use Rattle.wot_step.specs.Scene.{Scene, Step, opening}
+use Rattle.wot_step.specs.Transcript.{IsTaken}
+use Rattle.wot_step.specs.Session.{Session}
 use Rattle.wot_engine.specs.Told.{IsEither, Octets, OnContents}
 
 -- ---- lines that were answered

@@ -4,10 +4,10 @@ use Rattle.wot_io.specs.Input.{lines_of, whole_lines_of}
 use Rattle.wot_policy.specs.declared.rows.PolicyRows.{PolicyRows}
 use Rattle.wot_script.specs.declared.reply.Reply.{Reply}
 use Rattle.wot_certd.specs.World.{World}
-use Rattle.wot_machine.specs.Entry.{MayPutIn, use_of}
-use Rattle.wot_machine.specs.Lines.{heard}
-use Rattle.wot_machine.specs.Scene.{Scene}
-use Rattle.wot_machine.specs.Transcript.{IsNow, IsTaken, RepliesTo, octets_of}
+use Rattle.wot_step.specs.Entry.{MayPutIn, use_of}
+use Rattle.wot_step.specs.Lines.{heard}
+use Rattle.wot_step.specs.Scene.{Scene}
+use Rattle.wot_step.specs.Transcript.{IsNow, IsTaken, RepliesTo, octets_of}
 
 -- ---- the source
 

@@ -4,8 +4,8 @@ use Rattle.wot_io.specs.Counts.{Rose}
 use Rattle.wot_io.specs.Input.{lines_of}
 use Rattle.wot_policy.specs.declared.rows.PolicyRows.{PolicyRows}
 use Rattle.wot_certd.specs.World.{World}
-use Rattle.wot_machine.specs.Both.{Ends}
-use Rattle.wot_machine.specs.Transcript.{AllTold, Answered, AnsweredMost, Begun, Leaves}
+use Rattle.wot_step.specs.Both.{Ends}
+use Rattle.wot_step.specs.Transcript.{AllTold, Answered, AnsweredMost, Begun, Leaves}
 use Rattle.wot_engine.specs.Ended.{FinishedMost, FinishedTaken, Reached, ReachedWhole}
 use Rattle.wot_engine.specs.Forms.{IsForm, IsRun, OnGenerated}
 

@@ -6,14 +6,14 @@ use Rattle.wot_io.specs.declared.lines.Line.TheVariants.{Text, Long, End}
 use Rattle.wot_policy.specs.declared.rows.PolicyRows.{PolicyRows}
 use Rattle.wot_script.specs.declared.reply.Reply.{Reply}
 use Rattle.wot_certd.specs.World.{World}
-use Rattle.wot_machine.specs.Both.{Ends}
-use Rattle.wot_machine.specs.Entry.{IsServed, Use, unused, use_of}
-use Rattle.wot_machine.specs.Lines.{heard, longest}
-use Rattle.wot_machine.specs.LineStep.{LineStep}
-use Rattle.wot_machine.specs.Served.{Served}
-use Rattle.wot_machine.specs.Watching.{ReportsWatches}
-use Rattle.wot_machine.specs.Session.{Session}
-use Rattle.wot_machine.specs.Transcript.{listed, octets_of}
+use Rattle.wot_step.specs.Both.{Ends}
+use Rattle.wot_step.specs.Entry.{IsServed, Use, unused, use_of}
+use Rattle.wot_step.specs.Lines.{heard, longest}
+use Rattle.wot_step.specs.LineStep.{LineStep}
+use Rattle.wot_step.specs.Served.{Served}
+use Rattle.wot_step.specs.Watching.{ReportsWatches}
+use Rattle.wot_step.specs.Session.{Session}
+use Rattle.wot_step.specs.Transcript.{listed, octets_of}
 
 -- the reader before the first line
 abbrev pub unread : ReaderState

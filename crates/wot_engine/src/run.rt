@@ -6,16 +6,16 @@ ghost use Rattle.std.specs.Prelude.{◌≡◌, ◌≢◌, ◌<◌, ◌≤◌, �
 ghost use Rattle.std.specs.Prelude.{IfSome, OnErr, OnOk, IsErrOf, vec_items};
 ghost use Rattle.wot_types.specs.Limits.{standard_limits};
 ghost use Rattle.wot_policy.specs.Kept.{IsFaithful, rows_of};
-ghost use Rattle.wot_keyring.specs.Kept.{IsJudgedBy};
+ghost use Rattle.wot_held.specs.Kept.{IsJudgedBy};
 ghost use Rattle.wot_io.specs.Counts.{Rose};
 ghost use Rattle.wot_io.specs.Filled.{IsAtEnd};
 ghost use Rattle.wot_io.specs.Input.{HasNoFeed};
 ghost use Rattle.wot_io.specs.Sink.{GainsPrefix};
 ghost use Rattle.wot_cache.specs.State.{empty, state_of};
 ghost use Rattle.wot_machine.specs.Machine.{kept};
-ghost use Rattle.wot_machine.specs.Both.{ends, itself};
-ghost use Rattle.wot_machine.specs.Entry.{MayPutTo};
-ghost use Rattle.wot_machine.specs.Transcript.{HasMost, TakesAtMost};
+ghost use Rattle.wot_step.specs.Both.{ends, itself};
+ghost use Rattle.wot_step.specs.Entry.{MayPutTo};
+ghost use Rattle.wot_step.specs.Transcript.{HasMost, TakesAtMost};
 ghost use Rattle.wot_engine.specs.Asking.{MayAsk, ReadAsks, RunAsks, command_by, done};
 ghost use Rattle.wot_engine.specs.Ends.{IsMuchOrMemory, status_at};
 ghost use Rattle.wot_engine.specs.Ended.{TakesMost};
@@ -29,8 +29,9 @@ ghost use Rattle.wot_engine.specs.declared.run.Stop.TheVariants.{Memory as NoMem
 use std::alloc::Global;
 use wot_certd::Shelf;
 use wot_io::{Failed, Line, Lines, LinesFault, Sink, Source, write_all};
-use wot_machine::{Machine, each_line_has_one_outcome};
+use wot_machine::Machine;
 use wot_policy::{Ask, Policy};
+use wot_run_law::each_line_has_one_outcome;
 use wot_script::{Reply, print_reply};
 use wot_types::Memory;
 

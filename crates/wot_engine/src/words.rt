@@ -5,8 +5,8 @@ ghost use Rattle.std.specs.Prelude.{◌≡◌, ◌⊎◌, ◌↔◌, map, string
 ghost use Rattle.wot_policy.specs.Kept.{IsFaithful, rows_of};
 ghost use Rattle.wot_io.specs.Counts.{Rose};
 ghost use Rattle.wot_io.specs.Filled.{IsAtEnd};
-ghost use Rattle.wot_machine.specs.Both.{ends, itself};
-ghost use Rattle.wot_machine.specs.Transcript.{TakesAtMost};
+ghost use Rattle.wot_step.specs.Both.{ends, itself};
+ghost use Rattle.wot_step.specs.Transcript.{TakesAtMost};
 ghost use Rattle.wot_engine.specs.Asking.{RunAsks};
 ghost use Rattle.wot_engine.specs.Ends.{status_at};
 ghost use Rattle.wot_engine.specs.Forms.{IsForm};
@@ -22,8 +22,8 @@ use crate::run::{Stop, run};
 use std::alloc::Global;
 use wot_certd::Shelf;
 use wot_io::{Sink, Source};
-use wot_machine::each_line_has_one_outcome;
 use wot_policy::{Ask, Policy};
+use wot_run_law::each_line_has_one_outcome;
 
 /// Runs the program with the words after its name, and returns its exit status: 0 if the input was read to its end and
 /// every reply was written, 2 if the arguments are wrong, 3 after a failed read, 4 after a failed write, 5 if memory

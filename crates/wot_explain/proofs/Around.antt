@@ -16,8 +16,8 @@ use Rattle.wot_cert.specs.Issuer.{good_by}
 use Rattle.wot_cert.specs.Time.{made_of}
 use Rattle.wot_edge.specs.Path.{step_of}
 use Rattle.wot_edge.specs.declared.path.Step.{Step}
-use Rattle.wot_keyring.specs.Keyring.{Certificates, is_fpr}
-use Rattle.wot_keyring.specs.Later.{SaysSame}
+use Rattle.wot_held.specs.Keyring.{Certificates, is_fpr}
+use Rattle.wot_held.specs.Later.{SaysSame}
 use Rattle.wot_live.specs.Edge.{edge_by}
 use Rattle.wot_network.specs.Local.{AgreeAt}
 use Rattle.wot_network.specs.Standings.{DecideStandings, DecideUserIds}

@@ -28,7 +28,7 @@ use Rattle.wot_edge.specs.declared.edge.EdgeFacts.{EdgeFacts}
 use Rattle.wot_edge.specs.declared.path.Step.{Step}
 use Rattle.wot_edge.specs.Path.{step_of}
 use Rattle.wot_edge.specs.Record.{Has}
-use Rattle.wot_keyring.specs.Keyring.{Certificates, is_fpr}
+use Rattle.wot_held.specs.Keyring.{Certificates, is_fpr}
 use Rattle.wot_live.specs.Edge.{edge_facts, edge_by, edge_on, edge_of, signature_place}
 use Rattle.wot_network.specs.Told.{is_usable_by}
 use Rattle.wot_standing.specs.declared.status.Standing.{Standing}

@@ -10,7 +10,7 @@ use Rattle.wot_part.specs.Certificate.{Signature, Component, Certificate, sig_cm
 use Rattle.wot_part.specs.Ranked.{IsRising}
 use Rattle.wot_edge.specs.Record.{Has, Record, entry_at}
 use Rattle.wot_edge.specs.declared.path.Step.{Step}
-use Rattle.wot_keyring.specs.Keyring.{Certificates, Keyring, cert_at, certificates_in}
+use Rattle.wot_held.specs.Keyring.{Certificates, Keyring, cert_at, certificates_in}
 use Rattle.wot_live.specs.Edge.{signature_place}
 use Rattle.wot_standing.specs.Kinds.{is_certification}
 use Rattle.wot_standing.specs.Standing.{own}

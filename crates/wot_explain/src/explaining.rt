@@ -7,7 +7,7 @@ ghost use Rattle.wot_explain.specs.Explaining.{Explains, explained_in, explanati
 ghost use Rattle.wot_part.specs.Certificate.{sig_cmp};
 ghost use Rattle.wot_part.specs.Ranked.{IsRising};
 ghost use Rattle.wot_explain.specs.Usable.{AreRoadsOf, TellsEdges};
-ghost use Rattle.wot_keyring.specs.Keyring.{certificates_in};
+ghost use Rattle.wot_held.specs.Keyring.{certificates_in};
 ghost use Rattle.wot_live.specs.Found.{HasFew};
 
 use crate::reasons::reasons;

@@ -15,8 +15,8 @@ use Rattle.wot_part.specs.Certificate.{unite_part, unite_parts, part_with}
 use Rattle.wot_part.specs.Counts.{sigs_on}
 use Rattle.wot_part.specs.Judged.{judged, judged_sig}
 use Rattle.wot_part.specs.Whole.{IsCertificate, IsSigAt, IsPartOf}
-use Rattle.wot_keyring.specs.Verdict.{is_among, has_number}
-use Rattle.wot_keyring.proofs.Choices.{or_false, or_itself, or_more, or_passed, or_crossed}
+use Rattle.wot_held.specs.Verdict.{is_among, has_number}
+use Rattle.wot_index.proofs.Choices.{or_false, or_itself, or_more, or_passed, or_crossed}
 
 -- ---- sets in the order of a rank
 

@@ -5,8 +5,8 @@ use denote.Triple.Both.{Both}
 use Rattle.wot_cache.specs.State.{Engine, StaysButMarks}
 use Rattle.wot_cursor.specs.Cursors.{Cursors}
 use Rattle.wot_watch.specs.Watches.{Watches}
-use Rattle.wot_machine.specs.Both.{Ends}
-use Rattle.wot_machine.specs.Session.{Session, watched, session_of}
+use Rattle.wot_step.specs.Both.{Ends}
+use Rattle.wot_step.specs.Session.{Session, watched, session_of}
 
 -- its engine, cursors and watches, and the number of edges made for all its questions
 pub record Machine : Type 0 where

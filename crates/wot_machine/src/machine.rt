@@ -1,7 +1,7 @@
 //! The machine between two lines, and what one line does: it is read as a command, the command is run on the engine and
 //! the certificate directory, its reply is printed, and the watch lines are printed after it.
-//! A function for each command is in the files next to this one. `specs/Outcome.antt` and `specs/LineStep.antt` define
-//! the outcome of each command. A new command gets its arm with its class, in `state`, `pacing` or `watching`.
+//! `specs/Outcome.antt` and `specs/LineStep.antt` of wot_step define the outcome of each command. A new command gets
+//! its arm with its class, in wot_command, wot_pacing or wot_watching; nothing here changes.
 ghost use Rattle.std.specs.Prelude.{◌≡◌, ◌≤◌, ◌<◌, ◌+◌, ◌-◌, ◌^◌, [], ◌++◌};
 ghost use Rattle.std.specs.Prelude.{length, vec_items, vec_len, vec_capacity};
 ghost use Rattle.std.specs.Prelude.{Some, None, false, true, IfOk, IfSome, IsOk, OnOk, OnErr};
@@ -9,43 +9,42 @@ ghost use Rattle.std.specs.List.{AllByRecursion};
 ghost use Rattle.wot_types.specs.Limits.{standard_limits};
 ghost use Rattle.wot_policy.specs.declared.rows.PolicyRows.{PolicyRows};
 ghost use Rattle.wot_policy.specs.Kept.{IsFaithful, rows_of};
-ghost use Rattle.wot_keyring.specs.Kept.{IsJudgedBy};
-ghost use Rattle.wot_keyring.specs.Import.{IsOneChange};
+ghost use Rattle.wot_held.specs.Kept.{IsJudgedBy};
+ghost use Rattle.wot_held.specs.Import.{IsOneChange};
 ghost use Rattle.wot_script.specs.Grammar.{command_of};
 ghost use Rattle.wot_script.specs.Replies.{HasWords, is_short, reply_text};
 ghost use Rattle.wot_cache.specs.State.{empty, state_of, StaysButMarks};
-ghost use Rattle.wot_machine.specs.Asked.{AsksBy, LineAsks};
-ghost use Rattle.wot_machine.specs.Classes.{IsFit, IsSmall};
-ghost use Rattle.wot_machine.specs.EdgeLines.{CommandMarks, LineMarks};
-ghost use Rattle.wot_machine.specs.Lines.{heard, is_silent};
-ghost use Rattle.wot_machine.specs.Entry.{MayPut, entry_for, use_by, use_of};
-ghost use Rattle.wot_machine.specs.Both.{ends, itself};
-ghost use Rattle.wot_machine.specs.CommandRun.{over};
+ghost use Rattle.wot_command.specs.Asked.{AsksBy, LineAsks};
+ghost use Rattle.wot_step.specs.Classes.{IsFit, IsSmall};
+ghost use Rattle.wot_command.specs.EdgeLines.{CommandMarks, LineMarks};
+ghost use Rattle.wot_step.specs.Lines.{heard, is_silent};
+ghost use Rattle.wot_step.specs.Entry.{MayPut, entry_for, use_by, use_of};
+ghost use Rattle.wot_step.specs.Both.{ends, itself};
+ghost use Rattle.wot_command.specs.CommandRun.{over};
 ghost use Rattle.wot_machine.specs.Stepped.{RunsIn, ClassRunsIn, Replies, LineRun, TellsBehind};
-ghost use Rattle.wot_machine.specs.Transcript.{octets_of};
+ghost use Rattle.wot_step.specs.Transcript.{octets_of};
 ghost use Rattle.wot_machine.specs.Machine.{kept, parts, PartsStay, StaysKept};
-ghost use Rattle.wot_machine.specs.Pacing.{settled};
-ghost use Rattle.wot_machine.specs.Fresh.{IsDump, OnDump, IsMadeAnew};
-ghost use Rattle.wot_machine.specs.Made.{LineMakes, Makes, TellingMakes, WatchesMake};
+ghost use Rattle.wot_step.specs.Pacing.{settled};
+ghost use Rattle.wot_step.specs.Fresh.{IsDump, OnDump, IsMadeAnew};
+ghost use Rattle.wot_step.specs.Made.{LineMakes, Makes, TellingMakes, WatchesMake};
 ghost use Rattle.wot_script.specs.declared.reply.Reply.TheVariants as replies;
-ghost use Rattle.wot_machine.specs.Settled.{CountsDiffer, IsNoAmount};
-ghost use Rattle.wot_machine.specs.Watching.{AreLines, IsWatchLine, told_all};
+ghost use Rattle.wot_watching.specs.Settled.{CountsDiffer, IsNoAmount};
+ghost use Rattle.wot_step.specs.Watching.{AreLines, IsWatchLine, told_all};
 
-use crate::class::{Class, sort};
-use crate::pacing::pace;
-use crate::state::obey;
-use crate::told::{Moved, Told, alone, plain, settle};
-use crate::watching::{are_settled, tell_all, watch, watch_lines};
 use std::alloc::Global;
 use std::marker::Model;
 use wot_cache::laws::{change_goes_on, rests_on, views_go_on};
 use wot_cache::{Basis, Engine};
 use wot_certd::Shelf;
+use wot_command::obey;
 use wot_cursor::Cursors;
+use wot_pacing::pace;
 use wot_policy::{Ask, Policy};
 use wot_script::{LineFault, Reply, print_reply, read_line};
+use wot_step::{Class, Moved, Told, alone, plain, settle, sort};
 use wot_types::{Limits, Memory, Steps};
 use wot_watch::Watches;
+use wot_watching::{are_settled, tell_all, watch, watch_lines};
 
 /// The most octets in a line, without its line feed.
 const LONGEST: usize = 16_777_216;
@@ -70,7 +69,7 @@ impl Model for Machine {
     ghost use Rattle.std.specs.Prelude.{◌≡◌};
     ghost use Rattle.wot_types.specs.Limits.{standard_limits};
     ghost use Rattle.wot_machine.specs.Machine.{Machine as TheMachine};
-    ghost use Rattle.wot_machine.specs.Settled.{AreSettled};
+    ghost use Rattle.wot_watching.specs.Settled.{AreSettled};
 
     ghost Value = { TheMachine };
 

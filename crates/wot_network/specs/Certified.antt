@@ -8,7 +8,7 @@ use Rattle.wot_part.specs.Certificate.{Certificate, Component, Signature, said_b
 use Rattle.wot_cert.specs.Issuer.{good_by}
 use Rattle.wot_edge.specs.Record.{Has, Row, rows_into}
 use Rattle.wot_edge.specs.Roots.{root_amount}
-use Rattle.wot_keyring.specs.Keyring.{Certificates, is_fpr}
+use Rattle.wot_held.specs.Keyring.{Certificates, is_fpr}
 use Rattle.wot_standing.specs.Kinds.{is_certification}
 use Rattle.wot_network.specs.Told.{record_of}
 

@@ -10,8 +10,8 @@ use Rattle.wot_edge.specs.Agree.{Agree}
 use Rattle.wot_edge.specs.Path.{asks}
 use Rattle.wot_edge.specs.Record.{Has, Record}
 use Rattle.wot_edge.specs.Roots.{root_amount}
-use Rattle.wot_keyring.specs.Keyring.{Certificates, is_fpr}
-use Rattle.wot_keyring.specs.Later.{SaysSame}
+use Rattle.wot_held.specs.Keyring.{Certificates, is_fpr}
+use Rattle.wot_held.specs.Later.{SaysSame}
 use Rattle.wot_network.specs.Told.{record_of}
 
 -- Both hold the same certificate under a fingerprint, with the same marks, or none; and the verdicts on the numbers of

@@ -8,7 +8,7 @@ use Rattle.wot_part.specs.Counts.{sum_of}
 use Rattle.wot_part.specs.Fitting.{PartFits}
 use Rattle.wot_part.specs.Sizes.{sig_size, own_size, part_items, part_signatures, part_size, Weighs, IsSum, IsFew}
 use Rattle.wot_part.specs.Sizes.{BringsSigs, BringsParts}
-use Rattle.wot_part.proofs.Adding.{Adding, Ahead, adding_equal, few_adds, few_joined, few_alone, few_new}
+use Rattle.wot_part.proofs.AddedInOrder.{Adding, Ahead, adding_equal, few_adds, few_joined, few_alone, few_new}
 use Rattle.wot_part.proofs.TextSize.{sum_least, part_items_least}
 use Rattle.wot_part.proofs.Walk.{parts_total, parts_same}
 use Rattle.wot_part.proofs.Weights.{united_more}

@@ -6,7 +6,7 @@ use Rattle.wot_part.specs.Certificate.{Signature, sig_cmp, kept, unite_sigs}
 use Rattle.wot_part.specs.Counts.{sum_of}
 use Rattle.wot_part.specs.Fitting.{SigFits}
 use Rattle.wot_part.specs.Sizes.{sig_size, Weighs, IsFew}
-use Rattle.wot_part.proofs.Adding.{Adding, Ahead, adding_equal, few_adds}
+use Rattle.wot_part.proofs.AddedInOrder.{Adding, Ahead, adding_equal, few_adds}
 use Rattle.wot_part.proofs.TextSize.{sum_least, some_octet}
 use Rattle.wot_part.proofs.Walk.{sigs_total, kept_same}
 

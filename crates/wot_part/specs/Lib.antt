@@ -6,7 +6,7 @@ pub mod Text
 pub mod Counts
 pub mod Judged
 pub mod New
-pub mod Asking
+pub mod PolicyAsked
 pub mod Lent
 pub mod Marked
 pub mod Fitting

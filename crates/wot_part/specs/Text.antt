@@ -14,6 +14,10 @@ part_text kind part = written kind part.body ++ sigs_text part.sigs
 abbrev pub parts_text : ℕ → List Component → List ℕ
 parts_text kind parts = flat_map (part_text kind) parts
 
+-- the components, each kind in its order
+abbrev pub components_text : Certificate → List ℕ
+components_text c = parts_text 13 c.user_ids ++ parts_text 17 c.attributes ++ parts_text 14 c.subkeys
+
 abbrev pub text_of : Certificate → List ℕ
 text_of c =
     written 6 c.key ++ sigs_text c.direct ++ parts_text 13 c.user_ids ++ parts_text 17 c.attributes

@@ -1,10 +1,8 @@
 -- Watches by name.
-use Rattle.std.specs.Prelude.{ℕ, ◌&&◌, Bool, nat_le, List, length, Option, is_none}
-use Rattle.std.specs.BTreeMap.{insert_entry, is_at}
-use Rattle.std.specs.Map.{lookup, set_value, remove_entry}
-use Rattle.std.specs.Option.{option_map_or}
-use Rattle.wot_types.specs.ViewName.{view_name_cmp}
+use Rattle.std.specs.Prelude.{ℕ, Bool, List, Option}
 use Rattle.wot_types.specs.declared.fpr.Fpr.{Fpr}
+use Rattle.wot_table.specs.Table as tables
+use Rattle.wot_table.specs.Table.{Table, entry_at, with_changed, with_entry, without_entry}
 
 -- A watch: the view that is asked, the binding, the wanted amount, and the amount last reported.
 pub record Watch : Type 0 where
@@ -14,36 +12,30 @@ pub record Watch : Type 0 where
   pub uid : List ℕ
   pub told : ℕ
 
--- The watches in the order of their names, which are seen as octets.
+-- the watches by name
 abbrev pub Watches : Type 0
-Watches = List (List ℕ × Watch)
+Watches = Table Watch
 
 -- the limit on the number of watches
 abbrev pub most : ℕ
 most = 64
 
--- whether this is the name
-abbrev pub is_name : List ℕ → List ℕ → Bool
-is_name name = is_at (view_name_cmp name)
-
 -- the watch of a name; none if it isn't there
 abbrev pub watch_at : Watches → List ℕ → Option Watch
-watch_at watches name = lookup (is_name name) watches
+watch_at watches name = entry_at watches name
 
--- whether a watch of this name would exceed the limit: the name is new, and the limit is reached
+-- whether a watch of this name would exceed the limit
 abbrev pub is_full : Watches → List ℕ → Bool
-is_full watches name = is_none (watch_at watches name) && nat_le most (length watches)
+is_full watches name = tables.is_full most watches name
 
 -- with this watch, in place of an earlier one of the name
 abbrev pub with_watch : Watches → List ℕ → Watch → Watches
-with_watch watches name watch = insert_entry view_name_cmp watches name watch
+with_watch watches name watch = with_entry watches name watch
 
 -- the watches after this amount was reported for that one, which is there
 abbrev pub with_told : Watches → List ℕ → ℕ → Watches
-with_told watches name amount =
-    option_map_or (λ watch. set_value (is_name name) watches (record watch { told = amount }))
-    (watch_at watches name) watches
+with_told watches name amount = with_changed (λ watch. record watch { told = amount }) watches name
 
 -- the watches without that one
 abbrev pub without_watch : Watches → List ℕ → Watches
-without_watch watches name = remove_entry (is_name name) watches
+without_watch watches name = without_entry watches name

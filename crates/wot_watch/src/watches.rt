@@ -1,5 +1,5 @@
-//! All watches by name, and the limit on their number. wot_cursor has a table of the same shape: what changes here
-//! probably changes there.
+//! All watches by name, and the limit on their number. It stands on the table that wot_cursor keeps cursors in too, and
+//! adds what a watch remembers.
 ghost use Rattle.std.specs.Prelude.{◌≡◌, [], is_some, OnOk, OnErr};
 ghost use Rattle.std.specs.Option.{option_copied};
 ghost use Rattle.std.specs.Iterator.{YieldsFirstBy, item_count};
@@ -9,9 +9,9 @@ ghost use Rattle.wot_watch.specs.Telling.{TellsFull};
 
 use crate::watch::Watch;
 use std::alloc::Global;
-use std::collections::BTreeMap;
 use std::collections::btree_map::Iter;
 use std::marker::Model;
+use wot_table::{Table, put};
 use wot_types::{Memory, ViewName};
 
 /// The limit on the number of watches.
@@ -37,7 +37,7 @@ impl From<Memory> for PutFault {
 /// The watches by name.
 #[derive(Drop)]
 pub struct Watches {
-    watches: BTreeMap<ViewName, Watch, Global>,
+    watches: Table<Watch>,
 }
 
 impl Model for Watches {
@@ -54,7 +54,7 @@ impl Watches {
         ensures none { result ≡ [] }
     {
         Watches {
-            watches: BTreeMap::new(alloc),
+            watches: Table::new(alloc),
         }
     }
 
@@ -64,11 +64,10 @@ impl Watches {
         ensures put { OnOk result (self.new ≡ with_watch self.old name watch) }
         ensures kept { OnErr result (self.new ≡ self.old) }
     {
-        if self.watches.len() >= MOST && !self.watches.contains_key(&name) {
-            return Err(PutFault::Full);
+        if put(&mut self.watches, MOST, name, watch)? {
+            return Ok(());
         }
-        put(&mut self.watches, name, watch)?;
-        Ok(())
+        Err(PutFault::Full)
     }
 
     /// The watch of a name. `None` if and only if there is none.
@@ -108,19 +107,6 @@ impl Watches {
             entries: self.watches.iter(),
         }
     }
-}
-
-/// Sets or replaces the watch of a name.
-fn put(
-    watches: &mut BTreeMap<ViewName, Watch, Global>,
-    name: ViewName,
-    watch: Watch,
-) -> Result<(), Memory>
-    ensures put { OnOk result (watches.new.entries ≡ with_watch watches.old.entries name watch) }
-    ensures kept { OnErr result (watches.new.entries ≡ watches.old.entries) }
-{
-    watches.insert(name, watch)?;
-    Ok(())
 }
 
 /// An iterator over watches and their names, in the order of the names.

@@ -2,7 +2,7 @@ use Rattle.std.proofs.Common.{sym}
 use Rattle.wot_part.specs.Certificate.{part_cmp, unite_part}
 use Rattle.wot_part.specs.Fitting.{PartFits}
 use Rattle.wot_part.specs.Sizes.{part_items, part_signatures, part_size}
-use Rattle.wot_part.proofs.Adding.{adding_less, adding_new, adding_ended, ahead_greater, ahead_none}
+use Rattle.wot_part.proofs.AddedInOrder.{adding_less, adding_new, adding_ended, ahead_greater, ahead_none}
 use Rattle.wot_part.proofs.AddingParts.{parts_few, parts_equal, parts_few_equal, union_few, part_few, brings_same}
 use Rattle.wot_part.proofs.Walk.{parts_total, parts_same}
 use Rattle.wot_part.proofs.adds.added_parts.Goals as goal

@@ -2,7 +2,7 @@ use Rattle.std.proofs.Common.{sym}
 use Rattle.wot_part.specs.Certificate.{sig_cmp, kept}
 use Rattle.wot_part.specs.Fitting.{SigFits}
 use Rattle.wot_part.specs.Sizes.{sig_size}
-use Rattle.wot_part.proofs.Adding.{adding_less, adding_new, adding_ended, ahead_greater, ahead_none}
+use Rattle.wot_part.proofs.AddedInOrder.{adding_less, adding_new, adding_ended, ahead_greater, ahead_none}
 use Rattle.wot_part.proofs.AddingSigs.{one, sigs_few, sigs_equal}
 use Rattle.wot_part.proofs.Walk.{sigs_total, kept_same}
 use Rattle.wot_part.proofs.adds.added_sigs.Goals as goal

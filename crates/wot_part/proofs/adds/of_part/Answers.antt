@@ -1,6 +1,6 @@
 use Rattle.std.proofs.Common.{◌≡◌, ℕ, ◌+◌, length, sym, ap, ◌∙◌, arith}
 use Rattle.wot_part.specs.Counts.{sum_of}
-use Rattle.wot_part.proofs.Counting.{ones}
+use Rattle.wot_part.proofs.ItemCounts.{ones}
 use Rattle.wot_part.proofs.adds.of_part.Goals as goal
 
 counted : (l o : ℕ) → o ≡ l → 1 + l ≡ 1 + o

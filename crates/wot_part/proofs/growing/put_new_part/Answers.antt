@@ -10,7 +10,7 @@ use Rattle.wot_part.specs.Sizes.{part_items, part_signatures, part_size}
 use Rattle.wot_part.proofs.Fresh.{fresh_judged, fresh_sound, fresh_items, fresh_signatures, fresh_size}
 use Rattle.wot_part.proofs.Inserted.{put_part_back, follow_insert, sum_put}
 use Rattle.wot_part.proofs.Onward.{none_asked}
-use Rattle.wot_part.proofs.Asking.{not_asked}
+use Rattle.wot_part.proofs.PolicyAsked.{not_asked}
 use Rattle.wot_part.proofs.Weights.{part_more}
 use Rattle.wot_part.proofs.growing.put_new_part.Goals as goal
 

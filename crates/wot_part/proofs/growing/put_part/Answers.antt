@@ -4,7 +4,7 @@ use Rattle.wot_policy.specs.Kept.{rows_of}
 use Rattle.wot_part.specs.Certificate.{Component, part_cmp, unite_part, part_with}
 use Rattle.wot_part.specs.Growing.{TellsPlace, sound_weight}
 use Rattle.wot_part.specs.Judged.{if_sound, judged_sig}
-use Rattle.wot_part.proofs.Asking.{not_asked}
+use Rattle.wot_part.proofs.PolicyAsked.{not_asked}
 use Rattle.wot_part.proofs.Onward.{none_asked}
 use Rattle.wot_part.proofs.Weights.{part_more}
 use Rattle.wot_part.proofs.growing.put_part.Goals as goal

@@ -9,7 +9,7 @@ use Rattle.wot_part.specs.Growing.{sound_weight}
 use Rattle.wot_part.specs.Judged.{if_sound, judged_sig}
 use Rattle.wot_part.specs.Ranked.{put, IsRising}
 use Rattle.wot_part.specs.Sizes.{part_items, part_signatures, part_size}
-use Rattle.wot_part.proofs.Asking.{asked_again}
+use Rattle.wot_part.proofs.PolicyAsked.{asked_again}
 use Rattle.wot_part.proofs.Follows.{follow_then}
 use Rattle.wot_part.proofs.Onward.{all_front, union_on, put_within, counted_on, counted_up_to}
 use Rattle.wot_part.proofs.Rank.{united_rises}

@@ -8,7 +8,7 @@ use Rattle.wot_part.specs.Fitting.{SigFits}
 use Rattle.wot_part.specs.Judged.{if_sound, judged_sig}
 use Rattle.wot_part.specs.Ranked.{put, IsRising}
 use Rattle.wot_part.specs.Sizes.{sig_size}
-use Rattle.wot_part.proofs.Asking.{asked_again}
+use Rattle.wot_part.proofs.PolicyAsked.{asked_again}
 use Rattle.wot_part.proofs.Follows.{follow_then}
 use Rattle.wot_part.proofs.Onward.{all_front, union_on, put_within, counted_on, no_less, least_sum, put_then}
 use Rattle.wot_part.proofs.Rank.{united_rises}

@@ -3,8 +3,8 @@ use Rattle.wot_policy.specs.declared.rows.PolicyRows.{PolicyRows}
 use Rattle.wot_policy.specs.Kept.{rows_of}
 use Rattle.wot_part.specs.Certificate.{Component}
 use Rattle.wot_part.specs.New.{judged_parts, sound_new_on}
-use Rattle.wot_part.proofs.Asking.{asked_again}
-use Rattle.wot_part.proofs.Stepping.{step_list, step_count}
+use Rattle.wot_part.proofs.PolicyAsked.{asked_again}
+use Rattle.wot_part.proofs.StepInPlace.{step_list, step_count}
 use Rattle.wot_part.proofs.judge.judge_new_parts.Goals as goal
 
 pub loop-at-preserved : goal.loop-at-preserved

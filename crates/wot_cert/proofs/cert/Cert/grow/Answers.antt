@@ -4,9 +4,9 @@ use Rattle.wot_part.specs.Certificate.{Certificate, unite}
 use Rattle.wot_part.specs.Counts.{items_of}
 use Rattle.wot_part.specs.Judged.{IsJudged, if_sound, judged, sound_of}
 use Rattle.wot_part.specs.Text.{size_of}
-use Rattle.wot_part.proofs.Asking.{not_asked}
+use Rattle.wot_part.proofs.PolicyAsked.{not_asked}
 use Rattle.wot_cert.proofs.Grown.{no_fewer, is_union, is_whole, new_totals, items_more, items_new}
-use Rattle.wot_cert.proofs.Merging.{merged_judged}
+use Rattle.wot_cert.proofs.MergedMarks.{merged_judged}
 use Rattle.wot_part.proofs.Weights.{unite_more}
 use Rattle.wot_cert.proofs.cert.Cert.grow.Goals as goal
 

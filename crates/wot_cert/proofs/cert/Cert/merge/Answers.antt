@@ -3,7 +3,7 @@ use Rattle.wot_policy.specs.Kept.{rows_of}
 use Rattle.wot_part.specs.Certificate.{unite}
 use Rattle.wot_part.specs.Counts.{items_of}
 use Rattle.wot_part.specs.Judged.{IsJudged, sound_of, if_sound}
-use Rattle.wot_cert.proofs.Merging.{merged, merged_sound, merged_judged}
+use Rattle.wot_cert.proofs.MergedMarks.{merged, merged_sound, merged_judged}
 use Rattle.wot_part.proofs.TextSize.{union_items, first_items, more_items}
 use Rattle.wot_part.proofs.Weights.{beside_weight}
 use Rattle.wot_cert.proofs.cert.Cert.merge.Goals as goal

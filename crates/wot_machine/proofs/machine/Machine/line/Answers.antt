@@ -3,16 +3,17 @@ use Rattle.wot_types.specs.declared.memory.Memory.{Memory}
 use Rattle.wot_policy.specs.Kept.{rows_of}
 use Rattle.wot_machine.specs.Machine.{kept}
 use Rattle.wot_cache.specs.State.{Engine, state_of}
-use Rattle.wot_machine.specs.declared.told.Told.{Told}
-use Rattle.wot_machine.specs.Entry.{use_of}
-use Rattle.wot_machine.specs.Lines.{heard}
-use Rattle.wot_machine.specs.Made.{LineMakes}
-use Rattle.wot_machine.specs.CommandRun.{Seen}
-use Rattle.wot_machine.specs.Asked.{LineAsks}
-use Rattle.wot_machine.proofs.Judging.{asks_as, asks_not}
-use Rattle.wot_machine.proofs.Making.{line_makes_as}
-use Rattle.wot_machine.proofs.Putting.{any_err, puts_still, served_puts}
-use Rattle.wot_machine.proofs.Running.{passed, told_step}
+use Rattle.wot_step.specs.declared.told.Told.{Told}
+use Rattle.wot_step.specs.Entry.{use_of}
+use Rattle.wot_step.specs.Lines.{heard}
+use Rattle.wot_step.specs.Made.{LineMakes}
+use Rattle.wot_command.specs.CommandRun.{Seen}
+use Rattle.wot_command.specs.Asked.{LineAsks}
+use Rattle.wot_command.proofs.PolicyAskedByLine.{asks_as, asks_not}
+use Rattle.wot_step.proofs.EdgesMadeByLine.{line_makes_as}
+use Rattle.wot_step.proofs.Results.{any_err}
+use Rattle.wot_command.proofs.DirectoryAfterFailure.{puts_still, served_puts}
+use Rattle.wot_machine.proofs.CommandsInLines.{passed, told_step}
 use Rattle.wot_machine.proofs.machine.Machine.line.Goals as goal
 
 pub returns-in-Some-clause-step : goal.returns-in-Some-clause-step

@@ -2,20 +2,20 @@ use Rattle.std.proofs.Common.{rules, ◌≡◌, false, Option, Some, Result, Ok,
 use Rattle.wot_types.specs.declared.memory.Memory.{Memory}
 use Rattle.wot_policy.specs.Kept.{rows_of}
 use Rattle.wot_script.specs.Grammar.{command_of}
-use Rattle.wot_machine.specs.declared.told.Told.{Told}
-use Rattle.wot_machine.specs.Lines.{heard, is_silent}
+use Rattle.wot_step.specs.declared.told.Told.{Told}
+use Rattle.wot_step.specs.Lines.{heard, is_silent}
 use Rattle.wot_machine.specs.Machine.{Machine, kept}
-use Rattle.wot_machine.specs.Made.{LineMakes}
-use Rattle.wot_machine.specs.Pacing.{settled}
-use Rattle.wot_machine.specs.Settled.{AreSettled}
+use Rattle.wot_step.specs.Made.{LineMakes}
+use Rattle.wot_step.specs.Pacing.{settled}
+use Rattle.wot_watching.specs.Settled.{AreSettled}
 use Rattle.wot_cache.specs.State.{state_of}
-use Rattle.wot_machine.specs.Asked.{LineAsks}
-use Rattle.wot_machine.specs.EdgeLines.{LineMarks}
-use Rattle.wot_machine.proofs.EdgeLines.{heard_marks}
-use Rattle.wot_machine.proofs.Judging.{asks_as, asks_heard}
-use Rattle.wot_machine.proofs.Making.{line_makes_as, makes_heard}
-use Rattle.wot_machine.proofs.Running.{replied_long, replied_silent}
-use Rattle.wot_machine.proofs.Settling.{settled_told}
+use Rattle.wot_command.specs.Asked.{LineAsks}
+use Rattle.wot_command.specs.EdgeLines.{LineMarks}
+use Rattle.wot_command.proofs.EdgeLines.{heard_marks}
+use Rattle.wot_command.proofs.PolicyAskedByLine.{asks_as, asks_heard}
+use Rattle.wot_step.proofs.EdgesMadeByLine.{line_makes_as, makes_heard}
+use Rattle.wot_machine.proofs.CommandsInLines.{replied_long, replied_silent}
+use Rattle.wot_watching.proofs.WatchesSettled.{settled_told}
 use Rattle.wot_machine.proofs.machine.Machine.reply.Goals as goal
 
 pub returns-clause-makes : goal.returns-clause-makes

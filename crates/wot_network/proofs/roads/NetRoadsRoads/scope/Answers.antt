@@ -6,7 +6,7 @@ use Rattle.wot_network.specs.Net.{told_of}
 use Rattle.wot_network.specs.Roads.{present_of}
 use Rattle.wot_network.specs.Told.{is_in_scope}
 use Rattle.std.proofs.lemmas.Result.{IfOk-weaker}
-use Rattle.wot_network.proofs.Looking.{scope_open, scope_some, scope_none}
+use Rattle.wot_network.proofs.LookupsAgree.{scope_open, scope_some, scope_none}
 use Rattle.wot_network.proofs.roads.NetRoadsRoads.scope.Goals as goal
 
 pub returns-in-Some : goal.returns-in-Some

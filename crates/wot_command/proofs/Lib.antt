@@ -1,0 +1,9 @@
+mod Anew
+pub mod Calling
+pub mod EdgeLines
+pub mod PolicyAskedByLine
+mod CertificateLines
+pub mod DirectoryAfterFailure
+pub mod RefusedReplies
+mod Short
+mod StoredOrRefused

@@ -1,0 +1,20 @@
+use Rattle.std.proofs.Common.{ℕ, List, Result, Ok, ap, sym}
+use Rattle.wot_script.specs.declared.reply.Reply.{Reply}
+use Rattle.wot_step.proofs.Results.{if_ok}
+use Rattle.wot_command.proofs.StoredOrRefused.{if_err, nothing_told}
+use Rattle.wot_command.proofs.store.text_for.Goals as goal
+
+pub returns-in-Bytes-clause-text : goal.returns-in-Bytes-clause-text
+returns-in-Bytes-clause-text c = rw c.in-Bytes.is (rw c.deref.ensures.value at c.union_text.ensures.text)
+
+pub returns-in-Bytes-clause-told : goal.returns-in-Bytes-clause-told
+returns-in-Bytes-clause-told c = rw c.in-Bytes.is (rw c.deref.ensures.value at c.union_text.ensures.told)
+
+pub returns-in-Absent-clause-text : goal.returns-in-Absent-clause-text
+returns-in-Absent-clause-text c =
+    let Text : List ℕ → Result (List ℕ) Reply = λ octets. Ok octets in
+    rw c.in-Absent.is (if_ok c.cert_text.result _ _ (λ text e. ap Text (sym e)) c.cert_text.ensures.text)
+
+pub returns-in-Absent-clause-told : goal.returns-in-Absent-clause-told
+returns-in-Absent-clause-told c = if_err c.cert_text.result _ _ (λ why e. nothing_told _ why e)
+    c.cert_text.ensures.memory

@@ -1,0 +1,4 @@
+pub mod Asked
+pub mod CommandRun
+pub mod EdgeLines
+pub mod Stored

@@ -1,0 +1,175 @@
+//! What each command that changes something does to the engine, and its reply: imports, removals, verdicts and views.
+//! It stands on wot_cache's calls and on `Refused` of wot_step for their errors.
+ghost use Rattle.std.specs.Prelude.{◌≡◌, ◌<◌, ◌-◌, ◌^◌, [], length, None, true, IfOk, OnErr};
+ghost use Rattle.wot_types.specs.Limits.{standard_limits};
+ghost use Rattle.wot_policy.specs.Kept.{IsFaithful, rows_of};
+ghost use Rattle.wot_held.specs.Kept.{IsJudgedBy, StaysJudged};
+ghost use Rattle.wot_held.specs.Import.{IsOneChange};
+ghost use Rattle.wot_script.specs.Replies.{is_short};
+ghost use Rattle.wot_cache.specs.State.{marks_at, state_of, OtherMarksStay};
+ghost use Rattle.wot_cache.specs.Turns.{IsOneClosing, IsOneTurn};
+ghost use Rattle.wot_cache.specs.Views.{view_at};
+ghost use Rattle.wot_command.specs.Asked.{AsksForNew};
+ghost use Rattle.wot_step.specs.Outcome.{import as import_, remove as remove_of, set_verdict as set_verdict_of};
+ghost use Rattle.wot_step.specs.Outcome.{clear_verdict as clear_verdict_of, time as time_of, root as root_of};
+ghost use Rattle.wot_step.specs.Outcome.{close as close_of};
+ghost use Rattle.wot_step.specs.LineStep.{ComesTo};
+
+use wot_cache::{Engine, NoView};
+use wot_keyring::{Absent, Imported};
+use wot_policy::{Ask, Policy};
+use wot_script::Reply;
+use wot_step::{Refused, reply_to};
+use wot_types::{Fpr, Memory, SigNumber, ViewName};
+use wot_verdict::Verdict;
+
+/// `import HEX`: merges the certificates of the octets, all or none, into the keyring. After `Memory` the engine is
+/// unchanged.
+pub fn import<F: Fn(Ask) -> bool>(
+    engine: &mut Engine,
+    octets: &[u8],
+    policy: &mut Policy<F>,
+) -> Result<Reply, Memory>
+    requires standard { engine.old.keyring.limits ≡ standard_limits }
+    requires countable { engine.old.keyring.changes < 2 ^ 64 - 1 }
+    requires small { length octets.now < 2 ^ 29 }
+    requires judged { IsJudgedBy (rows_of policy.old) engine.old.keyring }
+    requires faithful { IsFaithful F.Fn policy.old }
+    ensures gives { IfOk result (λ reply.
+        ComesTo (import_ (rows_of policy.old) (state_of engine.old) octets.now) reply (state_of engine.new)) }
+    ensures short { IfOk result (λ reply. is_short reply ≡ true) }
+    ensures kept { OnErr result (engine.new ≡ engine.old) }
+    ensures marks { engine.new.marks ≡ engine.old.marks }
+    ensures turns { engine.new.turns ≡ engine.old.turns }
+    ensures counted { IsOneChange engine.old.keyring engine.new.keyring }
+    ensures standard { engine.new.keyring.limits ≡ standard_limits }
+    ensures asked { AsksForNew result (state_of engine.old) (state_of engine.new) policy.old policy.new }
+    ensures judged { IsJudgedBy (rows_of policy.old) engine.new.keyring }
+    ensures faithful { IsFaithful F.Fn policy.new }
+    ensures rows { rows_of policy.new ≡ rows_of policy.old }
+{
+    match engine.import(octets, policy) {
+        Ok(
+            Imported {
+                taken,
+                skipped,
+                fresh,
+            },
+        ) => Ok(Reply::Taken(taken, skipped, fresh)),
+        Err(refusal) => reply_to(Refused::Keyring(refusal)),
+    }
+}
+
+/// `drop FPR`: removes a certificate, or replies that it is absent. Takes no memory.
+pub fn remove(engine: &mut Engine, fpr: &Fpr) -> Reply
+    requires standard { engine.old.keyring.limits ≡ standard_limits }
+    requires countable { engine.old.keyring.changes < 2 ^ 64 - 1 }
+    ensures gives { ComesTo (remove_of (state_of engine.old) fpr.now) result (state_of engine.new) }
+    ensures short { is_short result ≡ true }
+    ensures marks { engine.new.marks ≡ engine.old.marks }
+    ensures turns { engine.new.turns ≡ engine.old.turns }
+    ensures counted { IsOneChange engine.old.keyring engine.new.keyring }
+    ensures standard { engine.new.keyring.limits ≡ standard_limits }
+    ensures judged { StaysJudged engine.old.keyring engine.new.keyring }
+{
+    match engine.remove(fpr) {
+        Ok(()) => Reply::Done,
+        Err(Absent) => Reply::Absent,
+    }
+}
+
+/// `verdict NUM good FPR` and `verdict NUM bad`: sets the verdict on a signature, which needn't be held. Refused if the
+/// number of verdicts is at its limit. After `Memory` the engine is unchanged.
+pub fn set_verdict(
+    engine: &mut Engine,
+    number: SigNumber,
+    verdict: Verdict,
+) -> Result<Reply, Memory>
+    requires standard { engine.old.keyring.limits ≡ standard_limits }
+    requires countable { engine.old.keyring.changes < 2 ^ 64 - 1 }
+    ensures gives { IfOk result (λ reply.
+        ComesTo (set_verdict_of (state_of engine.old) number verdict) reply (state_of engine.new)) }
+    ensures short { IfOk result (λ reply. is_short reply ≡ true) }
+    ensures kept { OnErr result (engine.new ≡ engine.old) }
+    ensures marks { engine.new.marks ≡ engine.old.marks }
+    ensures turns { engine.new.turns ≡ engine.old.turns }
+    ensures counted { IsOneChange engine.old.keyring engine.new.keyring }
+    ensures standard { engine.new.keyring.limits ≡ standard_limits }
+    ensures judged { StaysJudged engine.old.keyring engine.new.keyring }
+{
+    match engine.set_verdict(number, verdict) {
+        Ok(()) => Ok(Reply::Done),
+        Err(refusal) => reply_to(Refused::Keyring(refusal)),
+    }
+}
+
+/// `verdict NUM none`: removes a verdict, or replies that it is absent. Takes no memory.
+pub fn clear_verdict(engine: &mut Engine, number: &SigNumber) -> Reply
+    requires standard { engine.old.keyring.limits ≡ standard_limits }
+    requires countable { engine.old.keyring.changes < 2 ^ 64 - 1 }
+    ensures gives { ComesTo (clear_verdict_of (state_of engine.old) number.now) result (state_of engine.new) }
+    ensures short { is_short result ≡ true }
+    ensures marks { engine.new.marks ≡ engine.old.marks }
+    ensures turns { engine.new.turns ≡ engine.old.turns }
+    ensures counted { IsOneChange engine.old.keyring engine.new.keyring }
+    ensures standard { engine.new.keyring.limits ≡ standard_limits }
+    ensures judged { StaysJudged engine.old.keyring engine.new.keyring }
+{
+    match engine.clear_verdict(number) {
+        Ok(()) => Reply::Done,
+        Err(Absent) => Reply::Absent,
+    }
+}
+
+/// `view V time T`: opens a view, or moves its time, in seconds since 1970. Refused if the number of views is at its
+/// limit. After `Memory` the engine is unchanged.
+pub fn time(engine: &mut Engine, view: &ViewName, t: u32) -> Result<Reply, Memory>
+    requires standard { engine.old.keyring.limits ≡ standard_limits }
+    requires turnable { engine.old.turns.count < 2 ^ 64 - 1 }
+    ensures gives { IfOk result (λ reply.
+        ComesTo (time_of (state_of engine.old) view.now t) reply (state_of engine.new)) }
+    ensures turned { IsOneTurn view.now engine.old.views engine.old.turns engine.new.views engine.new.turns }
+    ensures short { IfOk result (λ reply. is_short reply ≡ true) }
+    ensures kept { OnErr result (engine.new ≡ engine.old) }
+    ensures marks { engine.new.marks ≡ engine.old.marks }
+    ensures unmarked { view_at engine.old.views view.now ≡ None → marks_at engine.new view.now ≡ [] }
+    ensures keyring { engine.new.keyring ≡ engine.old.keyring }
+{
+    match engine.view_time(view, t) {
+        Ok(()) => Ok(Reply::Done),
+        Err(fault) => reply_to(Refused::View(fault)),
+    }
+}
+
+/// `view V root FPR A`: sets the amount of a root; 0 removes it. Refused if the view isn't open, if there is no root to
+/// remove, or if the number of its roots is at its limit. After `Memory` the engine is unchanged.
+pub fn root(engine: &mut Engine, view: &ViewName, fpr: &Fpr, amount: u8) -> Result<Reply, Memory>
+    requires standard { engine.old.keyring.limits ≡ standard_limits }
+    requires turnable { engine.old.turns.count < 2 ^ 64 - 1 }
+    ensures gives { IfOk result (λ reply.
+        ComesTo (root_of (state_of engine.old) view.now fpr.now amount) reply (state_of engine.new)) }
+    ensures turned { IsOneTurn view.now engine.old.views engine.old.turns engine.new.views engine.new.turns }
+    ensures short { IfOk result (λ reply. is_short reply ≡ true) }
+    ensures kept { OnErr result (engine.new ≡ engine.old) }
+    ensures marks { engine.new.marks ≡ engine.old.marks }
+    ensures keyring { engine.new.keyring ≡ engine.old.keyring }
+{
+    match engine.view_root(view, fpr, amount) {
+        Ok(()) => Ok(Reply::Done),
+        Err(fault) => reply_to(Refused::View(fault)),
+    }
+}
+
+/// `view V close`: closes a view, or replies that it isn't open. Takes no memory.
+pub fn close(engine: &mut Engine, view: &ViewName) -> Reply
+    ensures gives { ComesTo (close_of (state_of engine.old) view.now) result (state_of engine.new) }
+    ensures turned { IsOneClosing view.now engine.old.views engine.old.turns engine.new.views engine.new.turns }
+    ensures short { is_short result ≡ true }
+    ensures others { OtherMarksStay view.now engine.old engine.new }
+    ensures keyring { engine.new.keyring ≡ engine.old.keyring }
+{
+    match engine.view_close(view) {
+        Ok(()) => Reply::Done,
+        Err(NoView) => Reply::View,
+    }
+}

@@ -1,0 +1,20 @@
+//! The commands that don't change cursors or watches: each is run on the engine and the certificate directory, and gets
+//! its reply. One file for each family. It stands on wot_step for what each does, and on the layers below for how.
+//! wot_machine calls `obey` for them.
+#![tactic(auto)]
+
+mod absence;
+mod answer;
+mod bindings;
+mod checking;
+mod commands;
+mod fresh;
+mod listing;
+mod load;
+mod pending;
+mod reasons;
+mod state;
+mod store;
+
+pub use fresh::dump_makes_the_state_anew;
+pub use state::obey;

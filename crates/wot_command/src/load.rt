@@ -1,0 +1,95 @@
+//! The reply to `load NAME`: an entry of the certificate directory is read and merged with what is held. It stands on
+//! wot_certd for the entry and on `Keyring::load` for the rest.
+ghost use Rattle.std.specs.Prelude.{◌≡◌, ◌≤◌, ◌<◌, ◌-◌, ◌^◌, length, true, IfOk, OnErr};
+ghost use Rattle.wot_types.specs.Limits.{standard_limits};
+ghost use Rattle.wot_policy.specs.Kept.{IsFaithful, rows_of};
+ghost use Rattle.wot_held.specs.Kept.{IsJudgedBy};
+ghost use Rattle.wot_held.specs.Import.{IsOneChange};
+ghost use Rattle.wot_script.specs.Replies.{is_short};
+ghost use Rattle.wot_cache.specs.State.{state_of};
+ghost use Rattle.wot_command.specs.Asked.{AsksForNew};
+ghost use Rattle.wot_step.specs.Both.{ends};
+ghost use Rattle.wot_step.specs.Entry.{MayPutTo, loads};
+ghost use Rattle.wot_step.specs.LineStep.{Loads};
+ghost use Rattle.wot_command.specs.CommandRun.{LoadsBy, seen};
+
+use wot_cache::Engine;
+use wot_certd::{Given, Shelf};
+use wot_keyring::Imported;
+use wot_policy::{Ask, Policy};
+use wot_script::Reply;
+use wot_step::{Refused, reply_to};
+use wot_types::{Memory, Name};
+
+/// The reply to `load`: reads an entry of the certificate directory, and merges its one certificate with what is held.
+/// Refused if the directory fails, if the entry is absent or has more than 8,388,608 octets, or if `import` would
+/// refuse its octets or they aren't exactly the certificate of the entry's name. After `Memory` the engine is
+/// unchanged.
+pub fn load<D: Shelf, F: Fn(Ask) -> bool>(
+    engine: &mut Engine,
+    name: &Name,
+    shelf: &mut D,
+    policy: &mut Policy<F>,
+) -> Result<Reply, Memory>
+    requires standard { engine.old.keyring.limits ≡ standard_limits }
+    requires countable { engine.old.keyring.changes < 2 ^ 64 - 1 }
+    requires judged { IsJudgedBy (rows_of policy.old) engine.old.keyring }
+    requires faithful { IsFaithful F.Fn policy.old }
+    ensures did { IfOk result (LoadsBy (rows_of policy.old) name.now
+        (ends state_of engine) (ends (seen D.world D.faults) shelf)) }
+    ensures entries { OnErr result (MayPutTo (state_of engine.old) (loads name.now) (ends D.world shelf)) }
+    ensures later { D.faults shelf.old ≤ D.faults shelf.new }
+    ensures short { IfOk result (λ reply. is_short reply ≡ true) }
+    ensures kept { OnErr result (engine.new ≡ engine.old) }
+    ensures marks { engine.new.marks ≡ engine.old.marks }
+    ensures turns { engine.new.turns ≡ engine.old.turns }
+    ensures counted { IsOneChange engine.old.keyring engine.new.keyring }
+    ensures standard { engine.new.keyring.limits ≡ standard_limits }
+    ensures asked { AsksForNew result (state_of engine.old) (state_of engine.new) policy.old policy.new }
+    ensures judged { IsJudgedBy (rows_of policy.old) engine.new.keyring }
+    ensures faithful { IsFaithful F.Fn policy.new }
+    ensures rows { rows_of policy.new ≡ rows_of policy.old }
+{
+    match shelf.read(name) {
+        Ok(Given::Bytes(octets)) => enter(engine, name, &octets, policy),
+        Ok(Given::Absent) => Ok(Reply::Absent),
+        Ok(Given::Long) => Ok(Reply::Long),
+        Err(fault) => reply_to(Refused::from(fault)),
+    }
+}
+
+/// Merges the one certificate of an entry's octets with what is held.
+fn enter<F: Fn(Ask) -> bool>(
+    engine: &mut Engine,
+    name: &Name,
+    octets: &[u8],
+    policy: &mut Policy<F>,
+) -> Result<Reply, Memory>
+    requires standard { engine.old.keyring.limits ≡ standard_limits }
+    requires countable { engine.old.keyring.changes < 2 ^ 64 - 1 }
+    requires small { length octets.now < 2 ^ 29 }
+    requires judged { IsJudgedBy (rows_of policy.old) engine.old.keyring }
+    requires faithful { IsFaithful F.Fn policy.old }
+    ensures gives { IfOk result (Loads (rows_of policy.old) (ends state_of engine) name.now octets.now) }
+    ensures short { IfOk result (λ reply. is_short reply ≡ true) }
+    ensures kept { OnErr result (engine.new ≡ engine.old) }
+    ensures marks { engine.new.marks ≡ engine.old.marks }
+    ensures turns { engine.new.turns ≡ engine.old.turns }
+    ensures counted { IsOneChange engine.old.keyring engine.new.keyring }
+    ensures standard { engine.new.keyring.limits ≡ standard_limits }
+    ensures asked { AsksForNew result (state_of engine.old) (state_of engine.new) policy.old policy.new }
+    ensures judged { IsJudgedBy (rows_of policy.old) engine.new.keyring }
+    ensures faithful { IsFaithful F.Fn policy.new }
+    ensures rows { rows_of policy.new ≡ rows_of policy.old }
+{
+    match engine.load(name, octets, policy) {
+        Ok(
+            Imported {
+                taken,
+                skipped,
+                fresh,
+            },
+        ) => Ok(Reply::Taken(taken, skipped, fresh)),
+        Err(refusal) => reply_to(Refused::Keyring(refusal)),
+    }
+}

@@ -1,0 +1,233 @@
+//! Runs the commands that don't change cursors or watches: one function for each class, which chooses the command's own
+//! function. Those are in the files next to this one. A new command of a class is one arm here.
+ghost use Rattle.std.specs.Prelude.{◌≡◌, ◌≤◌, ◌<◌, ◌-◌, ◌^◌, ℕ, None, false, true, IfOk, OnOk, OnErr};
+ghost use Rattle.wot_types.specs.Limits.{standard_limits};
+ghost use Rattle.wot_policy.specs.declared.rows.PolicyRows.{PolicyRows};
+ghost use Rattle.wot_policy.specs.Kept.{IsFaithful, rows_of};
+ghost use Rattle.wot_held.specs.Kept.{IsJudgedBy};
+ghost use Rattle.wot_held.specs.Import.{IsOneChange};
+ghost use Rattle.wot_script.specs.Replies.{is_short};
+ghost use Rattle.wot_cache.specs.Marks.{IsRefreshed};
+ghost use Rattle.wot_cache.specs.State.{StaysButMarks, state_of};
+ghost use Rattle.wot_cache.specs.Views.{view_at};
+ghost use Rattle.wot_step.specs.declared.class.Class.TheVariants.{State as OfState};
+ghost use Rattle.wot_step.specs.declared.class.StateCommand.TheVariants as kinds;
+ghost use Rattle.wot_command.specs.Asked.{AsksBy, CallAsks, ChangeAsks};
+ghost use Rattle.wot_step.specs.Both.{ends};
+ghost use Rattle.wot_step.specs.Classes.{AnswersQuestion, IsFit, IsSmall, IsWanted};
+ghost use Rattle.wot_step.specs.Classes.{change_of, reading, view_change_of};
+ghost use Rattle.wot_command.specs.EdgeLines.{CommandMarks, QuestionMarks};
+ghost use Rattle.wot_step.specs.Entry.{MayPutTo, entry_for, use_by, use_in};
+ghost use Rattle.wot_step.specs.Fresh.{IsMadeAnew, OnDump};
+ghost use Rattle.wot_step.specs.LineStep.{ComesTo};
+ghost use Rattle.wot_step.specs.Made.{ChangesMarks, MakesFor};
+ghost use Rattle.wot_command.specs.CommandRun.{StateRunOver, over};
+ghost use Rattle.wot_step.specs.Session.{AreTurned, IsTurnedBy, turning_in};
+
+use crate::absence::absence;
+use crate::answer::ask;
+use crate::bindings::list;
+use crate::checking::check;
+use crate::commands::{clear_verdict, close, import, remove, root, set_verdict, time};
+use crate::listing::{dump, export, keys};
+use crate::load::load;
+use crate::pending::pending;
+use crate::reasons::explain;
+use crate::store::store;
+use std::alloc::Global;
+use wot_cache::Engine;
+use wot_certd::Shelf;
+use wot_policy::{Ask, Policy};
+use wot_script::Reply;
+use wot_step::{Change, Read, ShelfCall, StateCommand, ViewChange, ViewQuestion};
+use wot_types::{Memory, Steps, ViewName};
+
+/// Runs a command that doesn't change cursors or watches. If the reply isn't short, and after `Memory`, nothing has
+/// changed but marks and the count of edges made.
+pub fn obey<D: Shelf, F: Fn(Ask) -> bool>(
+    alloc: Global,
+    engine: &mut Engine,
+    steps: &mut Steps,
+    command: &StateCommand,
+    shelf: &mut D,
+    policy: &mut Policy<F>,
+) -> Result<Reply, Memory>
+    requires fit { IsFit (OfState command.now) }
+    requires small { IsSmall (OfState command.now) }
+    requires standard { engine.old.keyring.limits ≡ standard_limits }
+    requires countable { engine.old.keyring.changes < 2 ^ 64 - 1 }
+    requires turnable { engine.old.turns.count < 2 ^ 64 - 1 }
+    requires judged { IsJudgedBy (rows_of policy.old) engine.old.keyring }
+    requires faithful { IsFaithful F.Fn policy.old }
+    ensures did { IfOk result (StateRunOver (rows_of policy.old) command.now
+        (ends state_of engine) (over D.world D.faults shelf)) }
+    ensures untouched { entry_for (state_of engine.old) (use_by (OfState command.now)) ≡ None → shelf.new ≡ shelf.old }
+    ensures entries { OnErr result (MayPutTo (state_of engine.old) (use_by (OfState command.now))
+        (ends D.world shelf)) }
+    ensures later { D.faults shelf.old ≤ D.faults shelf.new }
+    ensures anew { OnOk result (OnDump (OfState command.now)
+        ((rows : PolicyRows) → IsMadeAnew rows (state_of engine.old))) }
+    ensures edges { OnOk result (CommandMarks engine.old (OfState command.now)) }
+    ensures quiet { IfOk result (λ reply. is_short reply ≡ false → StaysButMarks engine.old engine.new) }
+    ensures kept { OnErr result (StaysButMarks engine.old engine.new) }
+    ensures makes { MakesFor result command.now engine.old engine.new steps.old.made steps.new.made }
+    ensures standard { engine.new.keyring.limits ≡ standard_limits }
+    ensures counted { IsOneChange engine.old.keyring engine.new.keyring }
+    ensures turned { OnOk result (IsTurnedBy (OfState command.now)
+        engine.old.views engine.old.turns engine.new.views engine.new.turns) }
+    ensures asked { AsksBy result (OfState command.now) (state_of engine.old) (state_of engine.new)
+        policy.old policy.new }
+    ensures judged { IsJudgedBy (rows_of policy.old) engine.new.keyring }
+    ensures faithful { IsFaithful F.Fn policy.new }
+    ensures rows { rows_of policy.new ≡ rows_of policy.old }
+{
+    match command {
+        StateCommand::Change(what) => change(engine, what, policy),
+        StateCommand::View(view, what) => change_view(engine, view, what),
+        StateCommand::Question(view, what) => answer(alloc, engine, steps, view, what),
+        StateCommand::Read(what) => read(alloc, engine, what),
+        StateCommand::Shelf(what) => call(alloc, engine, what, shelf, policy),
+    }
+}
+
+/// Runs a change of certificates or verdicts. After `Memory` nothing has changed.
+fn change<F: Fn(Ask) -> bool>(
+    engine: &mut Engine,
+    what: &Change,
+    policy: &mut Policy<F>,
+) -> Result<Reply, Memory>
+    requires small { IsSmall (OfState (kinds.Change what.now)) }
+    requires standard { engine.old.keyring.limits ≡ standard_limits }
+    requires countable { engine.old.keyring.changes < 2 ^ 64 - 1 }
+    requires judged { IsJudgedBy (rows_of policy.old) engine.old.keyring }
+    requires faithful { IsFaithful F.Fn policy.old }
+    ensures gives { IfOk result (λ reply.
+        ComesTo (change_of (rows_of policy.old) (state_of engine.old) what.now) reply (state_of engine.new)) }
+    ensures short { IfOk result (λ reply. is_short reply ≡ true) }
+    ensures kept { OnErr result (engine.new ≡ engine.old) }
+    ensures marks { engine.new.marks ≡ engine.old.marks }
+    ensures turns { engine.new.turns ≡ engine.old.turns }
+    ensures counted { IsOneChange engine.old.keyring engine.new.keyring }
+    ensures standard { engine.new.keyring.limits ≡ standard_limits }
+    ensures asked { ChangeAsks result what.now (state_of engine.old) (state_of engine.new) policy.old policy.new }
+    ensures judged { IsJudgedBy (rows_of policy.old) engine.new.keyring }
+    ensures faithful { IsFaithful F.Fn policy.new }
+    ensures rows { rows_of policy.new ≡ rows_of policy.old }
+{
+    match what {
+        Change::Import(octets) => import(engine, octets.items(), policy),
+        Change::Remove(fpr) => Ok(remove(engine, fpr)),
+        Change::Judge(number, verdict) => set_verdict(engine, *number, *verdict),
+        Change::Unjudge(number) => Ok(clear_verdict(engine, number)),
+    }
+}
+
+/// Runs a change of a view. After `Memory` nothing has changed.
+fn change_view(engine: &mut Engine, view: &ViewName, what: &ViewChange) -> Result<Reply, Memory>
+    requires standard { engine.old.keyring.limits ≡ standard_limits }
+    requires turnable { engine.old.turns.count < 2 ^ 64 - 1 }
+    ensures gives { IfOk result (λ reply.
+        ComesTo (view_change_of (state_of engine.old) view.now what.now) reply (state_of engine.new)) }
+    ensures turned { AreTurned (turning_in view.now what.now)
+        engine.old.views engine.old.turns engine.new.views engine.new.turns }
+    ensures short { IfOk result (λ reply. is_short reply ≡ true) }
+    ensures kept { OnErr result (engine.new ≡ engine.old) }
+    ensures marks { (made : ℕ) → ChangesMarks result view.now what.now engine.old engine.new made made }
+    ensures keyring { engine.new.keyring ≡ engine.old.keyring }
+{
+    match what {
+        ViewChange::Time(t) => time(engine, view, *t),
+        ViewChange::Root(fpr, amount) => root(engine, view, fpr, *amount),
+        ViewChange::Close => Ok(close(engine, view)),
+    }
+}
+
+/// Answers a question from a view.
+fn answer(
+    alloc: Global,
+    engine: &mut Engine,
+    steps: &mut Steps,
+    view: &ViewName,
+    what: &ViewQuestion,
+) -> Result<Reply, Memory>
+    requires wanted { IsWanted what.now }
+    requires small { IsSmall (OfState (kinds.Question view.now what.now)) }
+    ensures answers { IfOk result
+        (AnswersQuestion (state_of engine.old) (view_at engine.old.views view.now) what.now) }
+    ensures edges { OnOk result (QuestionMarks engine.old view.now what.now) }
+    ensures keyring { engine.new.keyring ≡ engine.old.keyring }
+    ensures views { engine.new.views ≡ engine.old.views }
+    ensures refreshed { IsRefreshed result view.now engine.old engine.new steps.old.made steps.new.made }
+{
+    match what {
+        ViewQuestion::Ask(target, wanted, uid) => {
+            ask(alloc, engine, steps, view, target, *wanted, uid.octets())
+        }
+        ViewQuestion::List(wanted) => list(alloc, engine, steps, view, *wanted),
+        ViewQuestion::Explain(fpr, uid) => {
+            explain(alloc, engine, steps, view, fpr, uid.octets())
+        }
+        ViewQuestion::Absence(target, wanted, uid) => {
+            absence(alloc, engine, steps, view, target, *wanted, uid.octets())
+        }
+        ViewQuestion::Check(target, claims, labels, uid) => check(
+            alloc,
+            engine,
+            steps,
+            view,
+            target,
+            claims,
+            labels,
+            uid.octets(),
+        ),
+    }
+}
+
+/// Reads the state.
+fn read(alloc: Global, engine: &Engine, what: &Read) -> Result<Reply, Memory>
+    requires standard { engine.now.keyring.limits ≡ standard_limits }
+    ensures reply { IfOk result (λ reply. reply ≡ reading (state_of engine.now) what.now) }
+    ensures anew { OnOk result (OnDump (OfState (kinds.Read what.now))
+        ((rows : PolicyRows) → IsMadeAnew rows (state_of engine.now))) }
+{
+    match what {
+        Read::Pending => pending(alloc, engine),
+        Read::Keys => keys(alloc, engine),
+        Read::Export(fpr) => export(alloc, engine, fpr),
+        Read::Dump => dump(alloc, engine),
+    }
+}
+
+/// Runs a call of the certificate directory. After `Memory` the engine is unchanged.
+fn call<D: Shelf, F: Fn(Ask) -> bool>(
+    alloc: Global,
+    engine: &mut Engine,
+    what: &ShelfCall,
+    shelf: &mut D,
+    policy: &mut Policy<F>,
+) -> Result<Reply, Memory>
+    requires standard { engine.old.keyring.limits ≡ standard_limits }
+    requires countable { engine.old.keyring.changes < 2 ^ 64 - 1 }
+    requires judged { IsJudgedBy (rows_of policy.old) engine.old.keyring }
+    requires faithful { IsFaithful F.Fn policy.old }
+    ensures did { IfOk result (StateRunOver (rows_of policy.old) (kinds.Shelf what.now)
+        (ends state_of engine) (over D.world D.faults shelf)) }
+    ensures untouched { entry_for (state_of engine.old) (use_in what.now) ≡ None → shelf.new ≡ shelf.old }
+    ensures entries { OnErr result (MayPutTo (state_of engine.old) (use_in what.now) (ends D.world shelf)) }
+    ensures later { D.faults shelf.old ≤ D.faults shelf.new }
+    ensures short { IfOk result (λ reply. is_short reply ≡ true) }
+    ensures kept { OnErr result (engine.new ≡ engine.old) }
+    ensures marks { engine.new.marks ≡ engine.old.marks }
+    ensures turns { engine.new.turns ≡ engine.old.turns }
+    ensures counted { IsOneChange engine.old.keyring engine.new.keyring }
+    ensures standard { engine.new.keyring.limits ≡ standard_limits }
+    ensures asked { CallAsks result what.now (state_of engine.old) (state_of engine.new) policy.old policy.new }
+    ensures judged { IsJudgedBy (rows_of policy.old) engine.new.keyring }
+    ensures faithful { IsFaithful F.Fn policy.new }
+    ensures rows { rows_of policy.new ≡ rows_of policy.old }
+{
+    match what {
+        ShelfCall::Load(name) => load(engine, name, shelf, policy),
+        ShelfCall::Store(fpr) => store(alloc, engine, fpr, shelf),
+    }
+}

@@ -1,0 +1,5 @@
+mod Begun
+mod Behind
+mod Exchanges
+mod CursorSoFar
+mod SortedStates

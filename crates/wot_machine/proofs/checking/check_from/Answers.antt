@@ -1,6 +1,0 @@
-use Rattle.wot_machine.proofs.Absences.{spelled_table}
-use Rattle.wot_machine.proofs.checking.check_from.Goals as goal
-
-pub claimed_table-requires : goal.claimed_table-requires
-claimed_table-requires c =
-    record { table = rw c.items.ensures.whole (spelled_table c.args.claims.now c.args.labels.now c.requires.spelled) }

@@ -1,8 +1,0 @@
-use Rattle.wot_machine.proofs.Refusing.{if_ok, judge_gives}
-use Rattle.wot_machine.proofs.commands.set_verdict.Goals as goal
-
-pub returns-in-Err-clause-gives : goal.returns-in-Err-clause-gives
-returns-in-Err-clause-gives c =
-    if_ok c.reply_to.result _ _ (λ reply is.
-    judge_gives c.args.engine.now c.set_verdict.new.self c.args.number c.args.verdict c.in-Err.refusal reply
-    c.requires.standard c.in-Err.ensures.full c.in-Err.ensures.kept is) c.reply_to.ensures.reply

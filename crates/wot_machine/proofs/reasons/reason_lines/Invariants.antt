@@ -1,9 +1,0 @@
-use Rattle.std.proofs.Common.{◌≡◌, ◌++◌, length, map}
-use Rattle.wot_machine.specs.Listing.{reason_line}
-use Rattle.wot_machine.proofs.reasons.reason_lines.Given as goal
-
-abbrev pub invariant-reasons : goal.invariant-reasons
-invariant-reasons l = l.lines ++ map reason_line l.left ≡ map reason_line l.fn.reasons
-
-abbrev pub decreases-reasons : goal.decreases-reasons
-decreases-reasons l = length l.left

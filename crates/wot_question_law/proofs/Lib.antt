@@ -1,0 +1,5 @@
+mod Alike
+mod ClaimsAccepted
+mod Explained
+mod ProofsRestOnLeads
+mod Slices

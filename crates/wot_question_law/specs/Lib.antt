@@ -1,0 +1,3 @@
+pub mod Depends
+pub mod ProofsRestOnLeads
+pub mod Slices

@@ -1,0 +1,4 @@
+pub mod Exchanges
+pub mod Judged
+pub mod Law
+pub mod Numbers

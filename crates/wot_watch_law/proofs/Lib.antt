@@ -1,0 +1,2 @@
+mod WatchLines
+mod Worth

@@ -1,0 +1,2 @@
+pub mod WatchEdges
+pub mod WatchesSettled
