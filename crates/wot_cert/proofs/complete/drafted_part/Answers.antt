@@ -7,5 +7,7 @@ use Rattle.wot_cert.proofs.complete.drafted_part.Goals as goal
 
 pub new-requires : goal.new-requires
 new-requires c =
-    subst (λ (sigs : List Signature). IsRising sig_cmp sigs) (sym c.in_ok-put_fresh_sigs.ensures.sigs)
-    (sigs-rise c.args.key.now c.args.kind c.args.body.now (bodies_in c.args.sigs.now) c.requires.rises)
+    record {
+      rises = subst (λ (sigs : List Signature). IsRising sig_cmp sigs) (sym c.in_ok-put_fresh_sigs.ensures.sigs)
+          (sigs-rise c.args.key.now c.args.kind c.args.body.now (bodies_in c.args.sigs.now) c.requires.rises);
+    }
