@@ -1,3 +1,3 @@
-pub mod Taking
-pub mod Summing
-pub mod Slicing
+pub mod OnePathMore
+pub mod SumWithOneMore
+pub mod SlicesSuffice

@@ -7,8 +7,8 @@ use Rattle.wot_edge.specs.Answer.{IsAnswer}
 use Rattle.wot_edge.specs.Path.{Question}
 use Rattle.wot_edge.specs.Record.{Has, IsRecord}
 use Rattle.wot_search.specs.Asked.{HasAll}
-use Rattle.wot_search.specs.Looked.{Widens}
-use Rattle.wot_search.specs.Reach.{Table}
+use Rattle.wot_layer.specs.Looked.{Widens}
+use Rattle.wot_reach.specs.Reach.{Table}
 use Rattle.wot_auth.specs.declared.answer.Answer.{Answer}
 
 -- there is no other answer

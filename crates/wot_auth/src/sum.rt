@@ -4,7 +4,7 @@
 //! for each binding.
 ghost use Rattle.std.specs.Prelude.{◌≤◌, length, IfOk};
 ghost use Rattle.wot_edge.specs.Path.{asks};
-ghost use Rattle.wot_search.specs.Reach.{IsReach};
+ghost use Rattle.wot_reach.specs.Reach.{IsReach};
 ghost use Rattle.wot_auth.specs.Sum.{IsSumOf};
 
 use std::alloc::Global;

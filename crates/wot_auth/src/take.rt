@@ -6,8 +6,8 @@ ghost use Rattle.wot_edge.specs.Record.{IsRecord};
 ghost use Rattle.wot_edge.specs.Path.{asks};
 ghost use Rattle.wot_edge.specs.Answer.{IsAnswer, amount_of};
 ghost use Rattle.wot_edge.specs.Leads.{Leads};
-ghost use Rattle.wot_search.specs.Looked.{Gains, Widens};
-ghost use Rattle.wot_search.specs.Reach.{IsReach};
+ghost use Rattle.wot_layer.specs.Looked.{Gains, Widens};
+ghost use Rattle.wot_reach.specs.Reach.{IsReach};
 ghost use Rattle.wot_auth.specs.Agreed.{IsAnswerLocally};
 
 use crate::Answer;

@@ -1,12 +1,11 @@
 mod Changes
 mod Inside
-mod Asking
-mod Marking
-pub mod Turning
+mod PartsAnswer
+mod OpenViewsMarks
+mod ConsultsLeads
+pub mod TurnsOfViews
 pub mod Lines
 pub mod DumpSize
 pub mod Replay
-pub mod Counting
-pub mod Grounds
-pub mod Resting
+pub mod BasisStaysTrue
 pub mod Onward

@@ -5,11 +5,11 @@ use Rattle.std.proofs.lemmas.Grind.{flat_map-append}
 use Rattle.std.proofs.lemmas.List.{length-map}
 use Rattle.std.specs.List.{AllByRecursion, flat_map}
 use Rattle.wot_types.specs.declared.limits.Limits.{Limits}
-use Rattle.wot_keyring.specs.Held.{held_of}
-use Rattle.wot_keyring.specs.Kept.{AreSmall}
+use Rattle.wot_held.specs.Held.{held_of}
+use Rattle.wot_held.specs.Kept.{AreSmall}
 use Rattle.wot_keyring.specs.Dump as keyrings
 use Rattle.wot_edge.specs.Roots.{IsRoots}
-use Rattle.wot_script.specs.declared.command.Command.{Command}
+use Rattle.wot_words.specs.declared.state_line.StateLine.{StateLine}
 use Rattle.wot_keyring.specs.Dump.{AreLines, command_line_of, lines_of}
 use Rattle.wot_cache.specs.Views.{Views, AreWithinLimits}
 use Rattle.wot_cache.specs.declared.view.View.{View}
@@ -17,23 +17,23 @@ use Rattle.wot_cache.specs.Dump.{HaveRoots, commands_of, root_of, view_commands}
 use Rattle.wot_cache.specs.State.{Engine, state_of}
 
 -- the lines of all commands but the rest are appended
-pub record PutSoFar (before now : List ℕ) (all rest : List Command) : Type 0 where
+pub record PutSoFar (before now : List ℕ) (all rest : List StateLine) : Type 0 where
   pub made : List ℕ
   pub text : now ≡ before ++ made
   pub left : made ++ lines_of rest ≡ lines_of all
   pub lined : AreLines rest → AreLines all
 
-pub none_put : (before : List ℕ) (all : List Command) → PutSoFar before before all all
+pub none_put : (before : List ℕ) (all : List StateLine) → PutSoFar before before all all
 none_put before all = record { made = []; text = sym (append-nil before); left = refl; lined = λ h. h }
 
-lines-append : (cs ds : List Command) → lines_of (cs ++ ds) ≡ lines_of cs ++ lines_of ds
+lines-append : (cs ds : List StateLine) → lines_of (cs ++ ds) ≡ lines_of cs ++ lines_of ds
 lines-append cs ds = flat_map-append command_line_of cs ds
 
-pub both_lines : (cs ds : List Command) → AreLines cs → AreLines ds → AreLines (cs ++ ds)
+pub both_lines : (cs ds : List StateLine) → AreLines cs → AreLines ds → AreLines (cs ++ ds)
 both_lines [] ds h k = k
 both_lines (c ∷ cs) ds h k = (h.0, both_lines cs ds h.1 k)
 
-pub some_put : (before now next : List ℕ) (all cs rest : List Command) → PutSoFar before now all (cs ++ rest)
+pub some_put : (before now next : List ℕ) (all cs rest : List StateLine) → PutSoFar before now all (cs ++ rest)
     → next ≡ now ++ lines_of cs → AreLines cs → PutSoFar before next all rest
 some_put before now next all cs rest so_far added lines = record {
   made = so_far.made ++ lines_of cs;
@@ -51,7 +51,7 @@ pub record ViewsPut (before now : List ℕ) (all rest : Views) (count : ℕ) : T
   pub counted : count + length (flat_map view_commands rest) ≡ length (flat_map view_commands all)
   pub roots : HaveRoots rest → HaveRoots all
 
-length-view_commands : (e : List ℕ × View) (rest : List Command) →
+length-view_commands : (e : List ℕ × View) (rest : List StateLine) →
     length (view_commands e ++ rest) ≡ 1 + length e.1.roots + length rest
 length-view_commands e rest = omega (arith, length-append (view_commands e) rest, length-map e.1.roots (root_of e.0))
 
@@ -94,7 +94,7 @@ pub dumped : (engine : Engine) (before mid now : List ℕ) →
     → now ≡ mid ++ lines_of (flat_map view_commands engine.views) →
     now ≡ before ++ lines_of (commands_of (state_of engine))
 dumped engine before mid now first last =
-    let held : List Command = keyrings.commands_of (held_of engine.keyring) in
+    let held : List StateLine = keyrings.commands_of (held_of engine.keyring) in
     last
     ∙ ap (λ text. text ++ lines_of (flat_map view_commands engine.views)) first
     ∙ append_assoc before (lines_of held) (lines_of (flat_map view_commands engine.views))

@@ -13,7 +13,7 @@ use Rattle.wot_cache.specs.declared.view.View.{View}
 use Rattle.wot_cache.specs.Basis.{AreViewsOn, IsSameOrClosed, OtherViewsStay}
 use Rattle.wot_cache.specs.Turns.{IsOneClosing, IsOneTurn, Turns}
 use Rattle.wot_cache.specs.Views.{Views, is_name, rooted, timed, view_at, with_amount, with_root, with_time}
-use Rattle.wot_cache.proofs.Marking.{equal_if, found_by}
+use Rattle.wot_cache.proofs.OpenViewsMarks.{equal_if, found_by}
 
 -- ---- other names
 

@@ -18,11 +18,11 @@ use Rattle.wot_types.specs.Fpr.{fpr_cmp}
 use Rattle.wot_types.specs.FprLaws.{fpr_total}
 use Rattle.wot_types.specs.ViewName.{view_name_cmp}
 use Rattle.wot_policy.specs.declared.rows.PolicyRows.{PolicyRows}
-use Rattle.wot_script.specs.declared.command.Command.{Command}
-use Rattle.wot_script.specs.declared.command.Command.TheVariants.{Import, Good, Bad, Time, Root}
+use Rattle.wot_words.specs.declared.state_line.StateLine.{StateLine}
+use Rattle.wot_words.specs.declared.state_line.StateLine.TheVariants.{Import, Good, Bad, Time, Root}
 use Rattle.wot_keyring.specs.Dump as keyrings
 use Rattle.wot_keyring.specs.Dump.{after_all, judged_by}
-use Rattle.wot_keyring.specs.Held.{Held, held_of, nothing}
+use Rattle.wot_held.specs.Held.{Held, held_of, nothing}
 use Rattle.wot_edge.specs.Roots.{IsRoots, AreAmounts, root_amount}
 use Rattle.wot_cache.specs.declared.view.View.{View}
 use Rattle.wot_cache.specs.declared.view.ViewFault.{ViewFault}
@@ -42,7 +42,7 @@ over views held = record { held = held; views = views }
 abbrev over_some : Views → Option Held → Option State
 over_some views o = option_map (over views) o
 
-one_over : (rows : PolicyRows) (l : Limits) (views : Views) (command : Command) (held new : Held) →
+one_over : (rows : PolicyRows) (l : Limits) (views : Views) (command : StateLine) (held new : Held) →
     keyrings.after rows l command held ≡ Some new
     → after rows l command (over views held) ≡ Some (over views new)
 one_over rows l views (Import octets) held new e = ap (over_some views) e
@@ -50,12 +50,12 @@ one_over rows l views (Good number fpr) held new e = ap (over_some views) e
 one_over rows l views (Bad number) held new e = ap (over_some views) e
 one_over rows l views command held new e = cc e
 
-refused_stays : (rows : PolicyRows) (l : Limits) (commands : List Command) →
+refused_stays : (rows : PolicyRows) (l : Limits) (commands : List StateLine) →
     after_all (keyrings.after rows l) commands None ≡ None
 refused_stays rows l [] = refl
 refused_stays rows l (command ∷ commands) = refl
 
-further : (rows : PolicyRows) (l : Limits) (views : Views) (command : Command) (commands : List Command)
+further : (rows : PolicyRows) (l : Limits) (views : Views) (command : StateLine) (commands : List StateLine)
     (held new : Held)
     → ((mid : Held) → after_all (keyrings.after rows l) commands (Some mid) ≡ Some new →
     after_all (after rows l) commands (Some (over views mid)) ≡ Some (over views new))
@@ -67,7 +67,7 @@ further rows l views command commands held new rest None was e = let none = refu
 further rows l views command commands held new rest (Some mid) was e =
     ap (after_all (after rows l) commands) (one_over rows l views command held mid was) ∙ rest mid e
 
-all_over : (rows : PolicyRows) (l : Limits) (views : Views) (commands : List Command) (held new : Held)
+all_over : (rows : PolicyRows) (l : Limits) (views : Views) (commands : List StateLine) (held new : Held)
     → after_all (keyrings.after rows l) commands (Some held) ≡ Some new →
     after_all (after rows l) commands (Some (over views held)) ≡ Some (over views new)
 all_over rows l views [] held new e = ap (over_some views) e
@@ -175,7 +175,7 @@ view_made rows l s prefix e below room roots few =
     ap (after_all (after rows l) (map (root_of e.0) e.1.roots)) (opened rows l s prefix e.0 e.1.time below room)
     ∙ roots_set rows l s prefix e.0 e.1.time below e.1.roots roots few [] e.1.roots refl
 
-after_both : (rows : PolicyRows) (l : Limits) (cs ds : List Command) (o : Option State)
+after_both : (rows : PolicyRows) (l : Limits) (cs ds : List StateLine) (o : Option State)
     → after_all (after rows l) (cs ++ ds) o ≡ after_all (after rows l) ds (after_all (after rows l) cs o)
 after_both rows l [] ds o = refl
 after_both rows l (c ∷ cs) [] None = refl

@@ -6,11 +6,12 @@ use Rattle.wot_types.specs.declared.fpr.Fpr.{Fpr}
 use Rattle.wot_edge.specs.declared.path.Path.{Path}
 use Rattle.wot_edge.specs.Answer.{IsAnswer, amount_of}
 use Rattle.wot_edge.specs.Path.{Question, asks}
-use Rattle.wot_keyring.specs.Keyring.{Keyring, certificates_in, is_fpr, stamp_at}
-use Rattle.wot_keyring.specs.Later.{IsUnaltered}
-use Rattle.wot_keyring.specs.Log.{Logged, is_listed}
+use Rattle.wot_held.specs.Keyring.{Keyring, certificates_in, is_fpr, stamp_at}
+use Rattle.wot_held.specs.Later.{IsUnaltered}
+use Rattle.wot_index.specs.Log.{Logged, is_listed}
 use Rattle.wot_network.specs.Told.{record_of}
-use Rattle.wot_cache.specs.declared.answers.Looked.{Looked}
+use Rattle.wot_kept.specs.declared.answers.Looked.{Looked}
+use Rattle.wot_kept.specs.declared.asked.Asked.{Asked}
 use Rattle.wot_cache.specs.declared.view.View.{View}
 use Rattle.wot_cache.specs.Question.{OfQuestion}
 use Rattle.wot_cache.specs.State.{Engine}
@@ -113,12 +114,21 @@ RestsAt k count fprs view target wanted uid amount =
     (later : Keyring) → IsKeyringOn k later → AreCalm later count fprs
     → HasAmount wanted amount (question_on later view target uid)
 
+-- the amount of what is asked rests on these fingerprints from now on
+abbrev pub IsKeptSum : Keyring → List Fpr → View → Asked → ℕ → Type 0
+IsKeptSum k fprs view asked amount = RestsAt k k.changes fprs view asked.target.now asked.wanted asked.uid.now amount
+
 -- This is the amount of the answer from the named view as long as the view is open and the basis undisturbed, however
 -- the engine develops.
 abbrev pub RestsOn : Engine → Basis → List ℕ → Fpr → ℕ → List ℕ → ℕ → Type 0
 RestsOn engine basis name target wanted uid amount =
     (later : Engine) → IsKeptOn engine later → IsUndisturbed later basis
     → OfQuestion later name target uid (HasAmount wanted amount)
+
+-- This is the sum of what is asked from a view, and it rests on the basis.
+pub record IsRested (engine : Engine) (name : List ℕ) (asked : Asked) (basis : Basis) (amount : ℕ) : Type 0 where
+  pub sum : OfQuestion engine name asked.target.now asked.uid.now (HasAmount asked.wanted amount)
+  pub rests : RestsOn engine basis name asked.target.now asked.wanted asked.uid.now amount
 
 -- every answer that depends on the old basis depends on the new one, however the engine develops
 abbrev pub CarriesOn : Engine → Basis → Basis → Type 0

@@ -9,26 +9,26 @@ use Rattle.wot_types.specs.declared.fpr.Fpr.{Fpr}
 use Rattle.wot_types.specs.declared.limits.Limits.{Limits}
 use Rattle.wot_edge.specs.Roots.{IsRoots}
 use Rattle.wot_policy.specs.declared.rows.PolicyRows.{PolicyRows}
-use Rattle.wot_script.specs.declared.command.Command.{Command}
-use Rattle.wot_script.specs.declared.command.Command.TheVariants.{Time, Root}
+use Rattle.wot_words.specs.declared.state_line.StateLine.{StateLine}
+use Rattle.wot_words.specs.declared.state_line.StateLine.TheVariants.{Time, Root}
 use Rattle.wot_keyring.specs.Dump as keyrings
 use Rattle.wot_keyring.specs.Dump.{after_all, judged_by}
-use Rattle.wot_keyring.specs.Keyring.{Keyring}
+use Rattle.wot_held.specs.Keyring.{Keyring}
 use Rattle.wot_cache.specs.declared.view.View.{View}
 use Rattle.wot_cache.specs.declared.view.ViewFault.{ViewFault}
 use Rattle.wot_cache.specs.Turns.{no_turns}
 use Rattle.wot_cache.specs.Views.{Views, AreWithinLimits, root_fault, time_fault, view_at}
 use Rattle.wot_cache.specs.State.{Engine, State, start, state_of, with_held, rooting, timing}
 
-abbrev pub root_of : List ℕ → Fpr × ℕ → Command
+abbrev pub root_of : List ℕ → Fpr × ℕ → StateLine
 root_of view root = Root view root.0 root.1
 
 -- a view's time, followed by its roots
-abbrev pub view_commands : List ℕ × View → List Command
+abbrev pub view_commands : List ℕ × View → List StateLine
 view_commands e = Time e.0 e.1.time ∷ map (root_of e.0) e.1.roots
 
 -- the keyring's commands, followed by the views by name, each with its roots by fingerprint
-abbrev pub commands_of : State → List Command
+abbrev pub commands_of : State → List StateLine
 commands_of s = keyrings.commands_of s.held ++ flat_map view_commands s.views
 
 -- ---- running the commands in a fresh engine
@@ -38,7 +38,7 @@ unless_refused (Some fault) new = None
 unless_refused None new = Some new
 
 -- the state after a command; None if the command is refused
-abbrev pub after : PolicyRows → Limits → Command → State → Option State
+abbrev pub after : PolicyRows → Limits → StateLine → State → Option State
 after rows l (Time view t) s = unless_refused (time_fault l s.views view) (timing view t s)
 after rows l (Root view fpr amount) s =
     unless_refused (root_fault l (view_at s.views view) fpr amount) (rooting view fpr amount s)
@@ -51,10 +51,10 @@ pub record CarriesOver (rows : PolicyRows) (old new : State) : Type 0 where
 
 -- an engine with this keyring and these views that hasn't been asked anything
 abbrev pub engine_of : Keyring → Views → Engine
-engine_of keyring views = record { keyring = keyring; views = views; marks = []; turns = no_turns }
+engine_of keyring views = record { keyring = keyring; views = views; marks = []; turns = no_turns; answers = [] }
 
 -- the commands of such an engine
-abbrev pub commands_over : Keyring → Views → List Command
+abbrev pub commands_over : Keyring → Views → List StateLine
 commands_over keyring views = commands_of (state_of (engine_of keyring views))
 
 -- No command is refused in a fresh engine with the same limits, and together they restore the engine's state.

@@ -1,6 +1,5 @@
 pub mod Views
 pub mod Turns
-pub mod Answers
 pub mod Basis
 pub mod Inside
 pub mod Marks
@@ -8,4 +7,5 @@ pub mod State
 pub mod Lent
 pub mod Parts
 pub mod Question
+pub mod Consulted
 pub mod Dump

@@ -6,11 +6,12 @@ use Rattle.std.specs.Option.{unwrap_or}
 use Rattle.wot_types.specs.declared.fpr.Fpr.{Fpr}
 use Rattle.wot_types.specs.declared.limits.Limits.{Limits}
 use Rattle.wot_key.specs.Key.{fpr_of}
-use Rattle.wot_cert.specs.Certificate.{Certificate}
-use Rattle.wot_keyring.specs.Held.{Held, nothing, held_of}
-use Rattle.wot_keyring.specs.Keyring.{Keyring}
-use Rattle.wot_keyring.specs.Keyring as keyrings
+use Rattle.wot_part.specs.Certificate.{Certificate}
+use Rattle.wot_held.specs.Held.{Held, nothing, held_of}
+use Rattle.wot_held.specs.Keyring.{Keyring}
+use Rattle.wot_held.specs.{Keyring as keyrings}
 use Rattle.wot_network.specs.Net.{Marks}
+use Rattle.wot_kept.specs.Answers.{AllAnswers}
 use Rattle.wot_cache.specs.Turns.{Turns, no_turns}
 use Rattle.wot_cache.specs.Views.{Views, is_name, with_time, with_root, without_view}
 
@@ -52,16 +53,18 @@ closing view s = record s { views = without_view s.views view }
 abbrev pub ViewMarks : Type 0
 ViewMarks = List (List ℕ × Marks)
 
--- what contracts see of an engine: its keyring, its views, the marks of each view that was asked something, and turns
+-- what contracts see of an engine: its keyring, its views, the marks and the kept answers of each view that was asked
+-- something, and turns
 pub record Engine : Type 0 where
   pub keyring : Keyring
   pub views : Views
   pub marks : ViewMarks
   pub turns : Turns
+  pub answers : AllAnswers
 
 -- an empty engine
 abbrev pub empty : Limits → Engine
-empty limits = record { keyring = keyrings.empty limits; views = []; marks = []; turns = no_turns }
+empty limits = record { keyring = keyrings.empty limits; views = []; marks = []; turns = no_turns; answers = [] }
 
 -- the marks of a view
 abbrev pub marks_at : Engine → List ℕ → Marks
@@ -71,8 +74,8 @@ marks_at engine name = unwrap_or (lookup (is_name name) engine.marks) []
 abbrev pub state_of : Engine → State
 state_of engine = record { held = held_of engine.keyring; views = engine.views }
 
--- All but the marks is unchanged: certificates with their stamps of admission, verdicts, the count of changes, and the
--- open views with their times, roots and turns.
+-- All but the marks and the kept answers is unchanged: certificates with their stamps of admission, verdicts, the count
+-- of changes, and the open views with their times, roots and turns.
 pub record StaysButMarks (old new : Engine) : Type 0 where
   pub keyring : new.keyring ≡ old.keyring
   pub views : new.views ≡ old.views

@@ -11,19 +11,16 @@ use Rattle.wot_types.specs.declared.limits.Limit.TheVariants as words
 use Rattle.wot_types.specs.Fpr.{fpr_cmp}
 use Rattle.wot_types.specs.ViewName.{view_name_cmp}
 use Rattle.wot_edge.specs.Roots.{root_amount}
-use Rattle.wot_cache.specs.declared.view.AskFault.{AskFault}
-use Rattle.wot_cache.specs.declared.view.AskFault.TheVariants as asked
+use Rattle.wot_kept.specs.declared.fault.AskFault.{AskFault}
+use Rattle.wot_kept.specs.declared.fault.AskFault.TheVariants as asked
 use Rattle.wot_cache.specs.declared.view.View.{View}
 use Rattle.wot_cache.specs.declared.view.ViewFault.{ViewFault}
 use Rattle.wot_cache.specs.declared.view.ViewFault.TheVariants as faults
+pub use Rattle.wot_kept.specs.Names.{is_name}
 
 -- the open views in the order of their names, which are seen as octets
 abbrev pub Views : Type 0
 Views = List (List ℕ × View)
-
--- whether two names are equal
-abbrev pub is_name : List ℕ → List ℕ → Bool
-is_name name = is_at (view_name_cmp name)
 
 -- the view of this name; None if it isn't open
 abbrev pub view_at : Views → List ℕ → Option View

@@ -1,16 +1,15 @@
 //! What the answers to a set of questions depend on, so that it is known without asking again that none has changed.
 //! wot_machine keeps one for its watches. It stands on the keyring's log of changes and on the kept answers.
 ghost use Rattle.std.specs.Prelude.{◌≡◌, false, true, IfSome};
-ghost use Rattle.wot_cache.specs.Answers.{AreAllRight, IsRight};
-ghost use Rattle.wot_cache.specs.Basis.{empty_at, is_in, AllIn, AreCalm, HasGrown, Includes, IsFreeOf, RestsAt};
+ghost use Rattle.wot_kept.specs.Answers.{AreAllRight, IsRight};
+ghost use Rattle.wot_cache.specs.Basis.{empty_at, is_in, AllIn, AreCalm, HasGrown, Includes, IsFreeOf, IsKeptSum};
 
-use crate::answers::{KeptAnswer, Looked, are_still};
 use crate::engine::Engine;
-use crate::recall::AllAnswers;
 use crate::view::View;
 use std::alloc::Global;
 use std::collections::BTreeSet;
 use std::marker::Model;
+use wot_kept::{AllAnswers, Asked, KeptAnswer, Looked, are_still};
 use wot_keyring::Keyring;
 use wot_types::{Fpr, ViewName};
 
@@ -159,17 +158,14 @@ fn sum_of(
     kept: &KeptAnswer,
     keyring: &Keyring,
     seen_from: &View,
-    target: &Fpr,
-    wanted: u32,
-    uid: &[u8],
+    asked: &Asked<'_>,
     basis: &mut Basis,
 ) -> Option<u32>
     requires right { IsRight keyring.now kept.now }
-    ensures rests { IfSome result
-        (λ n. RestsAt keyring.now keyring.now.changes basis.new.fprs seen_from.now target.now wanted uid.now n) }
+    ensures rests { IfSome result (IsKeptSum keyring.now basis.new.fprs seen_from.now asked.now) }
     ensures grown { HasGrown basis.old basis.new }
 {
-    if !kept.is_of(target, wanted, uid, seen_from.time) {
+    if !kept.is_of(asked, seen_from.time) {
         return None;
     }
     let Some(looked) = &kept.looked else {
@@ -189,21 +185,18 @@ pub(crate) fn kept_sum(
     keyring: &Keyring,
     view: &ViewName,
     seen_from: &View,
-    target: &Fpr,
-    wanted: u32,
-    uid: &[u8],
+    asked: &Asked<'_>,
     basis: &mut Basis,
 ) -> Option<u32>
     requires right { AreAllRight keyring.now answers.now.entries }
-    ensures rests { IfSome result
-        (λ n. RestsAt keyring.now keyring.now.changes basis.new.fprs seen_from.now target.now wanted uid.now n) }
+    ensures rests { IfSome result (IsKeptSum keyring.now basis.new.fprs seen_from.now asked.now) }
     ensures grown { HasGrown basis.old basis.new }
 {
     let Some(of_view) = answers.get(view) else {
         return None;
     };
-    match of_view.kept(target, wanted, uid) {
-        Some(kept) => sum_of(kept, keyring, seen_from, target, wanted, uid, basis),
+    match of_view.kept(asked) {
+        Some(kept) => sum_of(kept, keyring, seen_from, asked, basis),
         None => None,
     }
 }

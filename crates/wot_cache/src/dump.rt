@@ -16,8 +16,8 @@ use crate::views::Views;
 use std::alloc::Global;
 use wot_edge::Roots;
 use wot_keyring::{Keyring, put_line};
-use wot_script::Command;
 use wot_types::{Fpr, Memory, ViewName};
+use wot_words::StateLine;
 
 /// A law: if the keyring's commands restore what it holds, the engine's commands restore its state.
 pub fn replayed()
@@ -27,12 +27,12 @@ pub fn replayed()
 /// Appends the command that opens a view at its time. After `Memory`, this and every other call of this file leaves
 /// `out` unchanged.
 fn put_time(alloc: Global, view: &ViewName, t: u32, out: &mut Vec<u8>) -> Result<(), Memory>
-    ensures appended { OnOk result (out.new.items ≡ out.old.items ++ command_line_of (Command.Time view.now t)) }
-    ensures line { OnOk result (IsLine (Command.Time view.now t)) }
+    ensures appended { OnOk result (out.new.items ≡ out.old.items ++ command_line_of (StateLine.Time view.now t)) }
+    ensures line { OnOk result (IsLine (StateLine.Time view.now t)) }
     ensures kept { OnErr result (out.new.items ≡ out.old.items) }
 {
     let view = view.duplicate(alloc)?;
-    put_line(&Command::Time(view, t), out)
+    put_line(&StateLine::Time(view, t), out)
 }
 
 /// Appends the command that sets a root's amount.
@@ -44,12 +44,12 @@ fn put_root(
     out: &mut Vec<u8>,
 ) -> Result<(), Memory>
     ensures appended { OnOk result (out.new.items
-        ≡ out.old.items ++ command_line_of (Command.Root view.now fpr amount)) }
-    ensures line { OnOk result (IsLine (Command.Root view.now fpr amount)) }
+        ≡ out.old.items ++ command_line_of (StateLine.Root view.now fpr amount)) }
+    ensures line { OnOk result (IsLine (StateLine.Root view.now fpr amount)) }
     ensures kept { OnErr result (out.new.items ≡ out.old.items) }
 {
     let view = view.duplicate(alloc)?;
-    put_line(&Command::Root(view, fpr, amount), out)
+    put_line(&StateLine::Root(view, fpr, amount), out)
 }
 
 /// Appends such a command for each root.

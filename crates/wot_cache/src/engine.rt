@@ -1,57 +1,50 @@
 //! The engine's public calls: changes of the keyring and of views, questions, and the parts that listings read. Each
 //! contract says what changes and what doesn't, in the terms of specs/State.antt. wot_machine is proved from these
 //! alone.
-ghost use Rattle.std.specs.Prelude.{◌≡◌, ◌≢◌, ◌<◌, ◌≤◌, ◌+◌, ◌-◌, ◌^◌, ◌++◌, ℕ, List, [], length, false, true};
-ghost use Rattle.std.specs.Prelude.{Some, None, Err, is_ok, is_some, IfOk, IfSome, IsSomeAnd, OnOk, OnErr};
-ghost use Rattle.std.specs.Option.{option_copied, option_map};
+ghost use Rattle.std.specs.Prelude.{◌≡◌, ◌<◌, ◌≤◌, ◌+◌, ◌-◌, ◌^◌, ◌++◌, ℕ, List, [], length};
+ghost use Rattle.std.specs.Prelude.{Some, is_ok, is_some, IfOk, IfSome, IsSomeAnd, OnOk, OnErr};
 ghost use Rattle.wot_policy.specs.Kept.{IsFaithful, rows_of, asked_more};
-ghost use Rattle.wot_keyring.specs.Keyring.{verdict_on};
-ghost use Rattle.wot_keyring.specs.Held.{held_of, cert_in, removing, verdict_set, verdict_cleared};
-ghost use Rattle.wot_keyring.specs.Kept.{AreSmall, IsJudgedBy, StaysJudged};
-ghost use Rattle.wot_keyring.specs.Import.{ImportReturns, AsksFor, IsOneChange, imported, importing};
-ghost use Rattle.wot_keyring.specs.Removal.{without_cert};
-ghost use Rattle.wot_keyring.specs.Verdict.{without_verdict_on, SetsVerdict, TellsFull};
+ghost use Rattle.wot_held.specs.Keyring.{verdict_on};
+ghost use Rattle.wot_held.specs.Held.{held_of, cert_in, removing, verdict_set, verdict_cleared};
+ghost use Rattle.wot_held.specs.Kept.{AreSmall, IsJudgedBy, StaysJudged};
+ghost use Rattle.wot_held.specs.Import.{ImportReturns, AsksFor, IsOneChange, imported, importing};
+ghost use Rattle.wot_held.specs.Removal.{without_cert};
+ghost use Rattle.wot_held.specs.Verdict.{without_verdict_on, SetsVerdict, TellsFull};
 ghost use Rattle.wot_edge.specs.Answer.{IsAnswer, amount_of};
 ghost use Rattle.wot_edge.specs.Capacity.{AllFit};
 ghost use Rattle.wot_edge.specs.Lawful.{AreEntries};
 ghost use Rattle.wot_edge.specs.Record.{IsRecord};
-ghost use Rattle.wot_edge.specs.Roots.{IsRoots, root_amount};
 ghost use Rattle.wot_network.specs.Net.{signatures_in, told_of};
 ghost use Rattle.wot_network.specs.Roads.{present_of};
 ghost use Rattle.wot_keyring.specs.Dump.{lines_of, AreLines};
 ghost use Rattle.wot_policy.specs.declared.rows.PolicyRows.{PolicyRows as Rows};
+ghost use Rattle.wot_cache.specs.Consulted.{ConsultsLeads};
 ghost use Rattle.wot_cache.specs.Dump.{commands_of, IsRestored};
 ghost use Rattle.wot_cache.specs.Marks.{IsRefreshed};
 ghost use Rattle.wot_cache.specs.Parts.{ArePartsOf};
 ghost use Rattle.wot_cache.specs.Question.{AreWithinRoots, IsLocalTo, IsOnlyAnswer, OfQuestion, TellsSpent};
-ghost use Rattle.wot_cache.specs.State.{empty, marks_at, state_of, IsStateAfter, OtherMarksStay};
-ghost use Rattle.wot_cache.specs.Turns.{turn_at, IsOneTurn, IsOneClosing};
-ghost use Rattle.wot_cache.specs.Views.{view_at, with_time, time_fault, with_root, root_fault, without_view};
-ghost use Rattle.wot_cache.specs.Views.{TellsFault, TellsOpen};
+ghost use Rattle.wot_cache.specs.State.{empty, state_of, IsStateAfter};
+ghost use Rattle.wot_cache.specs.Views.{view_at, TellsOpen};
 
 mod keeping;
 mod load;
 mod resting;
+mod view;
 
-use crate::ask::answer;
 use crate::dump::put_engine;
-use crate::parts::Parts;
 use crate::present::Networked;
-use crate::recall::{self, AllAnswers};
 use crate::turns::Turns;
-use crate::view::{AskFault, NoView, View, ViewFault};
-use crate::{networks, views};
 use std::alloc::Global;
 use std::collections::BTreeMap;
 use std::marker::Model;
 use wot_auth::Answer;
-use wot_edge::Roots;
+use wot_kept::{AllAnswers, AskFault, Asked, Parts, answer};
 use wot_keyring::laws::later_is_order;
 use wot_keyring::{Absent, Imported, Keyring, Refusal};
 use wot_network::NetRoads;
 use wot_network::laws::fits_later;
 use wot_policy::{Ask, Policy};
-use wot_types::{Fpr, Limit, Limits, Memory, SigNumber, Steps, ViewName};
+use wot_types::{Fpr, Limits, Memory, SigNumber, Steps, ViewName};
 use wot_verdict::Verdict;
 
 /// One keyring and the views over it. Calls that change the keyring leave the views unchanged, and the converse.
@@ -70,7 +63,8 @@ impl Model for Engine {
 
     ghost Value = { TheEngine };
 
-    ghost view = { λ a. shown a.networked.keyring a.networked.views.entries a.networked.networks.entries a.turns };
+    ghost view = { λ a. shown a.networked.keyring a.networked.views.entries a.networked.networks.entries a.turns
+        a.answers.entries };
 
     ghost invariant = { λ a. IsEngine a.networked.keyring a.networked.views.entries a.networked.networks.entries
         a.answers.entries a.turns };
@@ -191,178 +185,9 @@ impl Engine {
         self.networked.keyring.clear_verdict(number)
     }
 
-    /// Opens a view without roots at this time (in seconds since 1970), or moves the time of an open view, which keeps
-    /// its roots. A view that is opened, or whose time changes, gets a new turn. `Full` comes if the number of views is
-    /// at its limit.
-    pub fn view_time(&mut self, view: &ViewName, t: u32) -> Result<(), ViewFault>
-        requires turnable { self.old.turns.count < 2 ^ 64 - 1 }
-        ensures timed { OnOk result (self.new.views ≡ with_time self.old.views view.now t) }
-        ensures turned { OnOk result (IsOneTurn view.now self.old.views self.old.turns self.new.views self.new.turns) }
-        ensures fault { TellsFault result (time_fault self.old.keyring.limits self.old.views view.now) }
-        ensures kept { OnErr result (self.new ≡ self.old) }
-        ensures keyring { self.new.keyring ≡ self.old.keyring }
-        ensures marks { self.new.marks ≡ self.old.marks }
-        // A view that is opened has no marks.
-        ensures unmarked { view_at self.old.views view.now ≡ None → marks_at self.new view.now ≡ [] }
-    {
-        if self.time(view) == Some(t) {
-            return Ok(());
-        }
-        if views::move_time(&mut self.networked.views, view, t) {
-            self.turns.raise(view);
-            return Ok(());
-        }
-        if self.networked.keyring.limits().views <= self.networked.views.len() as u64 {
-            return Err(ViewFault::Full(Limit::Views));
-        }
-        self.open(view, t)
-    }
-
-    fn open(&mut self, view: &ViewName, t: u32) -> Result<(), ViewFault>
-        requires turnable { self.old.turns.count < 2 ^ 64 - 1 }
-        requires closed { view_at self.old.views view.now ≡ None }
-        requires room { length self.old.views < self.old.keyring.limits.views }
-        ensures opened { OnOk result (self.new.views ≡ with_time self.old.views view.now t) }
-        ensures turned { OnOk result (IsOneTurn view.now self.old.views self.old.turns self.new.views self.new.turns) }
-        ensures fault { OnErr result (result ≡ Err ViewFault.Memory) }
-        ensures kept { OnErr result (self.new ≡ self.old) }
-        ensures keyring { self.new.keyring ≡ self.old.keyring }
-        ensures marks { self.new.marks ≡ self.old.marks }
-    {
-        self.turns.begin(view.duplicate(self.alloc)?)?;
-        let opened = View {
-            time: t,
-            roots: Roots::new(self.alloc),
-        };
-        match views::open(self.alloc, &mut self.networked.views, view, opened) {
-            Ok(()) => Ok(()),
-            Err(Memory) => {
-                self.turns.take_back(view);
-                Err(ViewFault::Memory)
-            }
-        }
-    }
-
-    /// Sets the amount of a root in an open view; 0 removes the root. A root needs no certificate in the keyring. A
-    /// view whose roots change gets a new turn. `View` comes if the view isn't open, `Absent` if there is no root to
-    /// remove, and `Full` if the number of the view's roots is at its limit.
-    pub fn view_root(&mut self, view: &ViewName, fpr: &Fpr, amount: u8) -> Result<(), ViewFault>
-        requires turnable { self.old.turns.count < 2 ^ 64 - 1 }
-        ensures rooted { OnOk result (self.new.views ≡ with_root self.old.views view.now fpr.now amount) }
-        ensures turned { OnOk result (IsOneTurn view.now self.old.views self.old.turns self.new.views self.new.turns) }
-        ensures fault { TellsFault result
-            (root_fault self.old.keyring.limits (view_at self.old.views view.now) fpr.now amount) }
-        ensures kept { OnErr result (self.new ≡ self.old) }
-        ensures keyring { self.new.keyring ≡ self.old.keyring }
-        ensures marks { self.new.marks ≡ self.old.marks }
-    {
-        if let Some(fault) = self.root_fault(view, fpr, amount) {
-            return Err(fault);
-        }
-        if self.has_root(view, fpr, amount) {
-            return Ok(());
-        }
-        views::set_amount(&mut self.networked.views, view, *fpr, amount)?;
-        self.turns.raise(view);
-        Ok(())
-    }
-
-    /// Whether a root has this amount in a view.
-    fn has_root(&self, view: &ViewName, fpr: &Fpr, amount: u8) -> bool
-        requires allowed { root_fault self.now.keyring.limits (view_at self.now.views view.now) fpr.now amount ≡ None }
-        ensures same { result ≡ true → with_root self.now.views view.now fpr.now amount ≡ self.now.views }
-        ensures other { result ≡ false →
-            IfSome (view_at self.now.views view.now) (λ v. root_amount v.roots fpr.now ≢ amount) }
-    {
-        match views::find(&self.networked.views, view) {
-            Some(open) => {
-                let _count = open.roots.len();
-                open.roots.get(fpr) == amount
-            }
-            None => false,
-        }
-    }
-
-    /// Why a root's amount can't be set, other than out of memory.
-    fn root_fault(&self, view: &ViewName, fpr: &Fpr, amount: u8) -> Option<ViewFault>
-        ensures fault { result ≡ root_fault self.now.keyring.limits (view_at self.now.views view.now) fpr.now amount }
-        ensures roots { IfSome (view_at self.now.views view.now) (λ v. IsRoots v.roots) }
-    {
-        let Some(view) = views::find(&self.networked.views, view) else {
-            return Some(ViewFault::View);
-        };
-        let count = view.roots.len() as u64;
-        if view.roots.get(fpr) > 0 {
-            return None;
-        }
-        if amount == 0 {
-            return Some(ViewFault::Absent);
-        }
-        if self.networked.keyring.limits().roots <= count {
-            return Some(ViewFault::Full(Limit::Roots));
-        }
-        None
-    }
-
-    /// Closes a view and forgets its roots. Takes no memory. The counter of turns doesn't change.
-    pub fn view_close(&mut self, view: &ViewName) -> Result<(), NoView>
-        ensures closed { OnOk result (self.new.views ≡ without_view self.old.views view.now) }
-        ensures turned { OnOk result
-            (IsOneClosing view.now self.old.views self.old.turns self.new.views self.new.turns) }
-        ensures absent { is_ok result ≡ is_some (view_at self.old.views view.now) }
-        ensures kept { OnErr result (self.new ≡ self.old) }
-        ensures keyring { self.new.keyring ≡ self.old.keyring }
-        ensures others { OtherMarksStay view.now self.old self.new }
-        ensures forgotten { OnOk result (marks_at self.new view.now ≡ []) }
-    {
-        if views::find(&self.networked.views, view).is_none() {
-            return Err(NoView);
-        }
-        views::close(&mut self.networked.views, view);
-        networks::forget(&mut self.networked.networks, view);
-        recall::forget(&mut self.answers, view);
-        self.turns.forget(view);
-        Ok(())
-    }
-
-    /// How often views were opened, or changed their time or roots.
-    pub fn turns(&self) -> u64
-        ensures turns { result ≡ self.now.turns.count }
-    {
-        self.turns.count()
-    }
-
-    /// The turn at which a view was last opened or changed. `None` exactly if it isn't open.
-    pub fn turn(&self, view: &ViewName) -> Option<u64>
-        ensures turn { result ≡ turn_at self.now.turns view.now }
-        ensures open { is_some result ≡ is_some (view_at self.now.views view.now) }
-    {
-        self.turns.of(view)
-    }
-
-    /// The time of an open view, in seconds since 1970.
-    pub fn time(&self, view: &ViewName) -> Option<u32>
-        ensures time { result ≡ option_map (λ v. v.time) (view_at self.now.views view.now) }
-    {
-        match views::find(&self.networked.views, view) {
-            Some(view) => Some(view.time),
-            None => None,
-        }
-    }
-
-    /// The roots of an open view.
-    pub fn roots(&self, view: &ViewName) -> Option<&Roots>
-        ensures roots { option_copied result ≡ option_map (λ v. v.roots) (view_at self.now.views view.now) }
-    {
-        match views::find(&self.networked.views, view) {
-            Some(view) => Some(&view.roots),
-            None => None,
-        }
-    }
-
     /// How confident one can be that a user ID belongs to a target, from an open view: the next paths until their sum
     /// reaches `wanted`, or until no valid path of positive amount is left. Before that the view's network is refreshed
-    /// for stale certificates, and each edge made is counted in `steps`. Only the view's marks change.
+    /// for stale certificates, and each edge made is counted in `steps`. Only the view's marks and kept answers change.
     pub fn ask(
         &mut self,
         view: &ViewName,
@@ -387,6 +212,8 @@ impl Engine {
             (λ v. AreWithinRoots v.roots a.paths)) }
         ensures open { TellsOpen result (view_at self.old.views view.now) }
         ensures refreshed { IsRefreshed result view.now self.old self.new steps.old.made steps.new.made }
+        // The search notes no more than what leads to the target.
+        ensures consulted { ConsultsLeads view.now self.old self.new }
         ensures made_most { steps.new.made ≤ steps.old.made + signatures_in self.old.keyring }
         ensures never_less { steps.old.made ≤ steps.new.made }
     {
@@ -394,16 +221,12 @@ impl Engine {
         self.networked.refresh(self.alloc, view, steps)?;
         let made = steps.made.saturating_sub(before);
         let parts = self.networked.parts(view);
-        answer(
-            self.alloc,
-            &mut self.answers,
-            &parts,
-            view,
+        let asked = Asked {
             target,
             wanted,
             uid,
-            made,
-        )
+        };
+        answer(self.alloc, &mut self.answers, &parts, view, &asked, made)
     }
 
     /// The roads that a question from an open view is asked over: those of the current keyring at the view's time. The

@@ -2,8 +2,8 @@
 //! watches: what a change leaves alone, and what an answer depends on.
 ghost use Rattle.std.specs.Prelude.{◌≤◌, ℕ, List, length};
 ghost use Rattle.wot_types.specs.declared.fpr.Fpr.{Fpr};
-ghost use Rattle.wot_keyring.specs.Import.{IsOneChange};
-ghost use Rattle.wot_keyring.specs.Keyring.{Keyring};
+ghost use Rattle.wot_held.specs.Import.{IsOneChange};
+ghost use Rattle.wot_held.specs.Keyring.{Keyring};
 ghost use Rattle.wot_cache.specs.Basis.{ClosingGoesOn, IsKeptOn, IsKeyringOn, OtherViewsStay, TurnGoesOn};
 ghost use Rattle.wot_cache.specs.Basis.{RestsOnLater, RestsOnMore};
 ghost use Rattle.wot_cache.specs.State.{Engine, StaysButMarks};

@@ -3,26 +3,17 @@
 //! is kept is speed only: no definition of a reply mentions it.
 #![tactic(auto)]
 
-mod answers;
-mod ask;
 mod basis;
-mod budget;
 mod dump;
 mod engine;
-mod key;
 pub mod laws;
-mod making;
 mod networks;
-mod parts;
 mod present;
-mod recall;
-mod roots;
 mod turns;
 mod view;
 mod views;
 
-pub use answers::{KeptAnswer, Looked};
 pub use basis::Basis;
 pub use engine::Engine;
-pub use parts::Parts;
-pub use view::{AskFault, NoView, View, ViewFault};
+pub use view::{NoView, View, ViewFault};
+pub use wot_kept::{AskFault, KeptAnswer, Looked, Parts};

@@ -8,7 +8,7 @@ ghost use Rattle.wot_types.specs.ViewName.{view_name_cmp};
 ghost use Rattle.wot_network.specs.Net.{IsRight};
 ghost use Rattle.wot_cache.specs.Views.{is_name};
 ghost use Rattle.wot_cache.specs.Inside.{AllFit};
-ghost use Rattle.wot_cache.specs.Marks.{IsForgotten, IsMadeIn, OthersStay};
+ghost use Rattle.wot_cache.specs.Marks.{AreRenewed, IsForgotten, OthersStay};
 
 use std::alloc::Global;
 use std::collections::BTreeMap;
@@ -57,8 +57,8 @@ pub fn refresh(
     ensures fit { AllFit networks.new.entries keyring.now }
     ensures right { OnOk result (IsSomeAnd (lookup (is_name view.now) networks.new.entries)
         (λ network. IsRight network keyring.now t)) }
-    ensures made { IsMadeIn result view.now keyring.now t networks.old.entries networks.new.entries
-        steps.old.made steps.new.made }
+    ensures made { AreRenewed result view.now keyring.now t (networks.old.entries, steps.old.made)
+        (networks.new.entries, steps.new.made) }
     ensures others { OthersStay view.now networks.old.entries networks.new.entries }
 {
     match networks.get_mut(view) {
@@ -81,8 +81,8 @@ fn begin(
     ensures fit { AllFit networks.new.entries keyring.now }
     ensures right { OnOk result (IsSomeAnd (lookup (is_name view.now) networks.new.entries)
         (λ network. IsRight network keyring.now t)) }
-    ensures made { IsMadeIn result view.now keyring.now t networks.old.entries networks.new.entries
-        steps.old.made steps.new.made }
+    ensures made { AreRenewed result view.now keyring.now t (networks.old.entries, steps.old.made)
+        (networks.new.entries, steps.new.made) }
     ensures others { OthersStay view.now networks.old.entries networks.new.entries }
 {
     let mut network = Network::new(alloc, t);

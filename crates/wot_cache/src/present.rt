@@ -12,10 +12,9 @@ ghost use Rattle.wot_cache.specs.Parts.{ArePartsOf};
 ghost use Rattle.wot_cache.specs.Views.{view_at, TellsOpen};
 
 use crate::networks::{self, Networks};
-use crate::parts::Parts;
-use crate::view::AskFault;
 use crate::views::{self, Views};
 use std::alloc::Global;
+use wot_kept::{AskFault, Parts};
 use wot_keyring::Keyring;
 use wot_network::laws::stale_are_some;
 use wot_types::{Memory, Steps, ViewName};
@@ -43,7 +42,7 @@ impl Networked {
         ensures open { TellsOpen result (view_at self.old.views.entries view.now) }
         ensures ready { OnOk result (IsReady self.new.keyring self.new.views.entries self.new.networks.entries
             view.now) }
-        ensures made { IsMadeOver result view.now self.old self.new steps.old.made steps.new.made }
+        ensures made { IsMadeOver result view.now (self.old, steps.old.made) (self.new, steps.new.made) }
         ensures others { OthersStay view.now self.old.networks.entries self.new.networks.entries }
         ensures closed { IsUnmade view.now self.old self.new steps.old.made steps.new.made }
         ensures made_most { steps.new.made ≤ steps.old.made + signatures_in self.old.keyring }

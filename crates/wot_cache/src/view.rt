@@ -36,12 +36,3 @@ impl From<Memory> for ViewFault {
 /// The view isn't open.
 #[derive(Clone, Copy, PartialEq, Eq)]
 pub struct NoView;
-
-/// Why there is no answer.
-#[derive(Clone, Copy, PartialEq, Eq)]
-pub enum AskFault {
-    /// The view isn't open.
-    View,
-    /// Out of memory.
-    Memory,
-}

@@ -11,8 +11,8 @@ use Rattle.std.specs.Ordering.{nat_cmp}
 use Rattle.std.specs.Cmp.Lexicographic.{slice_cmp}
 use Rattle.wot_packet.specs.Spelling.{Spelled}
 use Rattle.wot_cert.specs.Packets.{is_key, is_signature, begins_component}
-use Rattle.wot_cert.specs.Ranked.{put, united, IsRising}
-use Rattle.wot_cert.specs.Certificate.{Component, Certificate, fresh, on_key, on_user_id, on_attribute, on_subkey}
+use Rattle.wot_part.specs.Ranked.{put, united, IsRising}
+use Rattle.wot_part.specs.Certificate.{Component, Certificate, fresh, on_key, on_user_id, on_attribute, on_subkey}
 use Rattle.wot_cert.specs.Assembly.{Section, cut_at, has_readable_key, certificate_of}
 use Rattle.wot_cert.specs.declared.draft.Draft.{Draft}
 

@@ -1,144 +1,17 @@
 //! What a merge would add, without merging: how many keys, components, signatures and octets.
 //!
-//! It stands on the sorted lists of both certificates and on `specs/Sizes.antt`. `Cert::adds` hands it on; the program
-//! itself learns from `Cert::grow` what a merge added.
+//! It stands on `wot_part`, which says it of sorted lists. `Cert::adds` hands it on; the program itself learns from
+//! `Cert::grow` what a merge added.
 ghost use Rattle.std.specs.Prelude.{◌≡◌, ◌<◌, ◌^◌, ◌+◌};
-ghost use Rattle.std.specs.List.{AllByRecursion};
-ghost use Rattle.wot_cert.specs.Certificate.{unite, sig_cmp, part_cmp, unite_sigs, unite_parts};
-ghost use Rattle.wot_cert.specs.Counts.{sum_of, items_of, signatures_of};
-ghost use Rattle.wot_cert.specs.Fitting.{SigFits, PartFits};
-ghost use Rattle.wot_cert.specs.Ranked.{IsRising};
-ghost use Rattle.wot_cert.specs.Sizes.{sig_size, part_size, part_items, part_signatures};
-ghost use Rattle.wot_cert.specs.Sizes.{BringsSigs, BringsParts, Weighs, IsSum, IsFew};
-ghost use Rattle.wot_cert.specs.Text.{size_of};
+ghost use Rattle.wot_part.specs.Certificate.{unite};
+ghost use Rattle.wot_part.specs.Counts.{items_of, signatures_of};
+ghost use Rattle.wot_part.specs.Text.{size_of};
 
-use crate::part::order as order_parts;
-use crate::sig::order;
-use crate::sizes::{packet_octets, part_octets};
-use crate::{Cert, Part, Sig};
-use std::cmp::Ordering;
-
-/// What a merge adds.
-#[derive(Clone, Copy, PartialEq, Eq)]
-pub struct Adds {
-    /// How many keys, components and signatures.
-    pub items: u64,
-    /// How many signatures.
-    pub signatures: u64,
-    /// How many octets of text.
-    pub octets: u64,
-}
-
-/// Adds nothing.
-pub(crate) const NOTHING: Adds = Adds {
-    items: 0,
-    signatures: 0,
-    octets: 0,
-};
-
-/// The sum of both.
-pub(crate) fn plus(a: Adds, b: Adds) -> Adds
-    requires { IsFew (2 ^ 64) a b }
-    ensures { IsSum result a b }
-{
-    Adds {
-        items: a.items + b.items,
-        signatures: a.signatures + b.signatures,
-        octets: a.octets + b.octets,
-    }
-}
-
-fn of_sig(sig: &Sig) -> Adds
-    requires { SigFits sig.now }
-    ensures { Weighs (λ _. 1) (λ _. 1) sig_size result sig.now }
-{
-    Adds {
-        items: 1,
-        signatures: 1,
-        octets: packet_octets(sig.body()),
-    }
-}
-
-/// What the second list adds to the first.
-pub(crate) fn added_sigs(a: &[Sig], b: &[Sig]) -> Adds
-    requires a { IsRising sig_cmp a.now }
-    requires b { IsRising sig_cmp b.now }
-    requires fit { AllByRecursion SigFits b.now }
-    requires few { sum_of sig_size (unite_sigs a.now b.now) < 2 ^ 63 }
-    ensures { BringsSigs result a.now (unite_sigs a.now b.now) }
-{
-    let mut adds = NOTHING;
-    let mut left = a;
-    let mut right = b;
-    'walk: while let Some((y, ys)) = right.split_first() {
-        let Some((x, xs)) = left.split_first() else {
-            adds = plus(adds, of_sig(y));
-            right = ys;
-            continue;
-        };
-        match order(x, y) {
-            Ordering::Less => left = xs,
-            Ordering::Equal => {
-                left = xs;
-                right = ys;
-            }
-            Ordering::Greater => {
-                adds = plus(adds, of_sig(y));
-                right = ys;
-            }
-        }
-    }
-    adds
-}
-
-fn of_part(part: &Part) -> Adds
-    requires fits { PartFits part.now }
-    requires few { part_size part.now < 2 ^ 63 }
-    ensures { Weighs part_items part_signatures part_size result part.now }
-{
-    let count = part.sigs().len() as u64;
-    Adds {
-        items: 1 + count,
-        signatures: count,
-        octets: part_octets(part),
-    }
-}
-
-/// What the second list adds to the first.
-pub(crate) fn added_parts(a: &[Part], b: &[Part]) -> Adds
-    requires a { IsRising part_cmp a.now }
-    requires b { IsRising part_cmp b.now }
-    requires fit { AllByRecursion PartFits b.now }
-    requires few { sum_of part_size (unite_parts a.now b.now) < 2 ^ 63 }
-    ensures { BringsParts result a.now (unite_parts a.now b.now) }
-{
-    let mut adds = NOTHING;
-    let mut left = a;
-    let mut right = b;
-    'walk: while let Some((y, ys)) = right.split_first() {
-        let Some((x, xs)) = left.split_first() else {
-            adds = plus(adds, of_part(y));
-            right = ys;
-            continue;
-        };
-        match order_parts(x, y) {
-            Ordering::Less => left = xs,
-            Ordering::Equal => {
-                adds = plus(adds, added_sigs(x.sigs(), y.sigs()));
-                left = xs;
-                right = ys;
-            }
-            Ordering::Greater => {
-                adds = plus(adds, of_part(y));
-                right = ys;
-            }
-        }
-    }
-    adds
-}
+use crate::{Adds, Cert};
+use wot_part::adds::{added_parts, added_sigs, plus};
 
 /// What the second certificate adds to the first.
-pub(crate) fn added(a: &Cert, b: &Cert) -> Adds
+fn added(a: &Cert, b: &Cert) -> Adds
     requires { size_of (unite a.now b.now) < 2 ^ 63 }
     ensures items { result.items + items_of a.now ≡ items_of (unite a.now b.now) }
     ensures signatures { result.signatures + signatures_of a.now ≡ signatures_of (unite a.now b.now) }
@@ -151,4 +24,17 @@ pub(crate) fn added(a: &Cert, b: &Cert) -> Adds
     let named = plus(direct, user_ids);
     let others = plus(attributes, subkeys);
     plus(named, others)
+}
+
+impl Cert {
+    /// What merging a certificate of the same key would add.
+    pub fn adds(&self, other: &Cert) -> Adds
+        requires same { self.now.key ≡ other.now.key }
+        requires sizes { size_of self.now + size_of other.now < 2 ^ 63 }
+        ensures items { result.items + items_of self.now ≡ items_of (unite self.now other.now) }
+        ensures signatures { result.signatures + signatures_of self.now ≡ signatures_of (unite self.now other.now) }
+        ensures octets { result.octets + size_of self.now ≡ size_of (unite self.now other.now) }
+    {
+        added(self, other)
+    }
 }

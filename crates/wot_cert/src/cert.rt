@@ -1,39 +1,36 @@
-//! The type `Cert` and its calls: build, read, merge, grow and shrink, export.
+//! The type `Cert` and its calls: build, read, merge, grow and shrink.
 //!
-//! It stands on `places`, `measure`, `adds`, `judge`, `growing`, `shrinking` and `export`, and on
-//! `specs/Certificate.antt`. Its public clauses are what all crates above know of a certificate.
-ghost use Rattle.std.specs.Prelude.{◌≡◌, ◌≢◌, ◌+◌, ◌++◌, ◌-◌, ◌<◌, ◌^◌, min, MatchBool, Some, true, false, []};
+//! It stands on `wot_part` and `places`; `export` and `adds` have its other calls. Their public clauses are what all
+//! crates above know of a certificate.
+ghost use Rattle.std.specs.Prelude.{◌≡◌, ◌≢◌, ◌+◌, ◌-◌, ◌<◌, ◌^◌, min, MatchBool, Some, true, false, []};
 ghost use Rattle.std.specs.Prelude.{OnOk, OnErr, IfOk, IfSome};
 ghost use Rattle.std.specs.Option.{MatchOption};
 ghost use Rattle.wot_key.specs.Key.{is_readable, key_of, fpr_of};
 ghost use Rattle.wot_cert.specs.Answers.{ClashesExactly, IsWhereReadable};
-ghost use Rattle.wot_cert.specs.Asking.{Asks, AsksOnOk};
+ghost use Rattle.wot_part.specs.Asking.{Asks, AsksOnOk};
 ghost use Rattle.wot_cert.specs.Assembly.{bare};
 ghost use Rattle.wot_cert.specs.Drafting.{IsWholeSketch, completed, seen};
-ghost use Rattle.wot_cert.specs.Certificate.{Certificate, unite, unmarked, with_each};
-ghost use Rattle.wot_cert.specs.Certificate.{on_key, on_user_id, on_attribute, on_subkey};
-ghost use Rattle.wot_cert.specs.Copied.{copied};
-ghost use Rattle.wot_cert.specs.Counts.{items_of, signatures_of};
-ghost use Rattle.wot_cert.specs.Judged.{judged, IsJudged, sound_of};
+ghost use Rattle.wot_part.specs.Certificate.{Certificate, unite, unmarked, with_each};
+ghost use Rattle.wot_part.specs.Certificate.{on_key, on_user_id, on_attribute, on_subkey};
+ghost use Rattle.wot_part.specs.Copied.{copied};
+ghost use Rattle.wot_part.specs.Counts.{items_of, signatures_of};
+ghost use Rattle.wot_part.specs.Judged.{judged, IsJudged, sound_of};
 ghost use Rattle.wot_cert.specs.Parts.{IsCertOf, of_places};
 ghost use Rattle.wot_cert.specs.Growing.{AsksForCert, LeadsBack, shrunk};
-ghost use Rattle.wot_cert.specs.New.{judged_beside, sound_beside};
-ghost use Rattle.wot_cert.specs.ReadBack.{ReadBack};
-ghost use Rattle.wot_cert.specs.Text.{size_of, text_of};
+ghost use Rattle.wot_part.specs.New.{judged_beside, sound_beside};
+ghost use Rattle.wot_part.specs.Text.{size_of};
 ghost use Rattle.wot_policy.specs.Kept.{IsFaithful, rows_of};
-ghost use Rattle.wot_cert.specs.Whole.{IsCertificate, AreSigsAt, ArePartsOf};
+ghost use Rattle.wot_part.specs.Whole.{IsCertificate, AreSigsAt, ArePartsOf};
 
-use crate::adds::added;
 use crate::draft::Draft;
-use crate::export::{append_cert, reads_back};
-use crate::judge::{judge_new, judge_new_parts};
-use crate::measure::totals_of;
 use crate::places::Places;
-use crate::sig::Marks;
 use crate::{Adds, Growth, MergeFault, Part, Sig};
 use std::alloc::Global;
 use std::marker::Model;
 use wot_key::{Key, fingerprint, read_key};
+use wot_part::judge::{judge_new, judge_new_parts};
+use wot_part::measure::totals_of;
+use wot_part::sig::Marks;
 use wot_policy::{Ask, Policy};
 use wot_types::{Fpr, Memory};
 
@@ -49,9 +46,9 @@ pub struct Cert {
 }
 
 impl Model for Cert {
-    ghost use Rattle.wot_cert.specs.Certificate.{Certificate};
+    ghost use Rattle.wot_part.specs.Certificate.{Certificate};
     ghost use Rattle.wot_cert.specs.Parts.{IsCertOf, of_places};
-    ghost use Rattle.wot_cert.specs.Totals.{AreTotals};
+    ghost use Rattle.wot_part.specs.Totals.{AreTotals};
 
     ghost Value = { Certificate };
 
@@ -373,36 +370,5 @@ impl Cert {
         let before = growth.before;
         self.places.take_back(growth);
         self.totals = before;
-    }
-
-    /// Appends its text: the key and its signatures, then the user IDs, the attributes and the subkeys, each followed
-    /// by its signatures, every packet in its shortest spelling (RFC 9580, section 10.1). After `Memory`, `out` is
-    /// unchanged.
-    pub fn export(&self, out: &mut Vec<u8>) -> Result<(), Memory>
-        ensures text { OnOk result (out.new.items ≡ out.old.items ++ text_of self.now) }
-        ensures kept { OnErr result (out.new.items ≡ out.old.items) }
-        // The text is read back as exactly this certificate.
-        ensures read_back { ReadBack self.now }
-    {
-        reads_back(self);
-        let before = out.len();
-        match append_cert(self, out) {
-            Ok(()) => Ok(()),
-            Err(memory) => {
-                out.truncate(before);
-                Err(memory)
-            }
-        }
-    }
-
-    /// What merging a certificate of the same key would add.
-    pub fn adds(&self, other: &Cert) -> Adds
-        requires same { self.now.key ≡ other.now.key }
-        requires sizes { size_of self.now + size_of other.now < 2 ^ 63 }
-        ensures items { result.items + items_of self.now ≡ items_of (unite self.now other.now) }
-        ensures signatures { result.signatures + signatures_of self.now ≡ signatures_of (unite self.now other.now) }
-        ensures octets { result.octets + size_of self.now ≡ size_of (unite self.now other.now) }
-    {
-        added(self, other)
     }
 }

@@ -1,12 +1,12 @@
 //! From a draft to the lists of a certificate: every signature gets its number, since the key is known now.
 //!
 //! It stands on `draft` and on `specs/Drafting.antt`. `places` calls it for each kind of component.
-ghost use Rattle.std.specs.Prelude.{◌≡◌, ◌<◌, ◌^◌, ◌++◌, ◌∷◌, [], OnOk, map, length};
+ghost use Rattle.std.specs.Prelude.{◌≡◌, ◌<◌, ◌^◌, ◌++◌, ◌∷◌, [], OnOk, IfOk, map, length};
 ghost use Rattle.std.specs.List.{AllByRecursion};
-ghost use Rattle.wot_cert.specs.Certificate.{fresh};
+ghost use Rattle.wot_part.specs.Certificate.{fresh};
 ghost use Rattle.wot_cert.specs.Drafting.{IsShort, IsShortGroup, body_cmp, part_drafted};
 ghost use Rattle.wot_cert.specs.Drafting.{bodies_in, groups_in};
-ghost use Rattle.wot_cert.specs.Ranked.{IsRising};
+ghost use Rattle.wot_part.specs.Ranked.{IsRising};
 
 use crate::draft::{Bodies, Groups};
 use crate::{Part, Sig};
@@ -61,6 +61,26 @@ pub(crate) fn put_fresh_sigs(
     Ok(())
 }
 
+/// The component with this body and the signatures with these bodies on it, without marks.
+fn drafted_part(
+    alloc: Global,
+    key: &[u8],
+    kind: u8,
+    body: &[u8],
+    sigs: &Bodies,
+) -> Result<Part, Memory>
+    requires key { length key.now < 2 ^ 32 }
+    requires body { length body.now < 2 ^ 32 }
+    requires sigs { AllByRecursion IsShort (bodies_in sigs.now) }
+    requires rises { IsRising body_cmp (bodies_in sigs.now) }
+    ensures part { IfOk result (λ p. p ≡ part_drafted key.now kind (body.now, bodies_in sigs.now)) }
+{
+    let mut on_it = Vec::new(alloc);
+    put_fresh_sigs(alloc, &mut on_it, key, kind, body, sigs)?;
+    let body = Vec::from_slice(alloc, body)?;
+    Ok(Part::new(body, on_it))
+}
+
 fn push_drafted(
     alloc: Global,
     parts: &mut Vec<Part>,
@@ -76,7 +96,7 @@ fn push_drafted(
     ensures pushed { OnOk result (parts.new.items
         ≡ parts.old.items ++ part_drafted key.now kind (body.now, bodies_in sigs.now) ∷ []) }
 {
-    let part = Part::drafted(alloc, key, kind, body, sigs)?;
+    let part = drafted_part(alloc, key, kind, body, sigs)?;
     parts.push(part)?;
     Ok(())
 }

@@ -1,16 +1,10 @@
-//! The log of a merge in place: what was inserted, and where. `growing` writes it, `shrinking` reads it, and
-//! `wot_keyring` keeps it until an import can't fail any more.
+//! The log of a merge in place: what was inserted, and where. `wot_part` writes and reads its steps, and `wot_keyring`
+//! keeps it until an import can't fail any more.
 ghost use Rattle.std.specs.Prelude.{◌≡◌, []};
 
 use crate::Adds;
 use std::alloc::Global;
-
-/// One step on a list of components: a component was inserted, or signatures were added to one, at these places.
-#[derive(Drop)]
-pub(crate) enum PartStep {
-    New(usize),
-    Grown(usize, Vec<usize>),
-}
+use wot_part::PartStep;
 
 /// What a certificate grew by, in the order of insertion: enough to undo it without memory.
 #[derive(Drop)]

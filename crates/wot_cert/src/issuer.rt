@@ -4,7 +4,7 @@
 //! self-signatures above starts with it.
 ghost use Rattle.std.specs.Prelude.{◌≡◌, ◌&&◌, false};
 ghost use Rattle.std.specs.Option.{option_map_or};
-ghost use Rattle.wot_cert.specs.Certificate.{said_by};
+ghost use Rattle.wot_part.specs.Certificate.{said_by};
 ghost use Rattle.wot_cert.specs.Issuer.{issuer_of as issuer_in, allows, good_by, issuer_with};
 
 use crate::Sig;

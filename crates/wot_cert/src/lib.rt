@@ -1,7 +1,7 @@
 //! Certificates: assembled from packets, merged, marked by the policy, written, and their spans in time.
 //!
-//! It stands on `wot_packet`, `wot_key`, `wot_signature`, `wot_verdict` and `wot_policy`. `wot_keyring` keeps
-//! certificates, and `wot_standing` and `wot_live` read them.
+//! It stands on `wot_part`, which has the lists of signatures and components, and on `wot_packet`, `wot_key` and
+//! `wot_policy`. `wot_keyring` keeps certificates, and `wot_standing` and `wot_live` read them.
 #![tactic(auto)]
 
 mod adds;
@@ -13,21 +13,13 @@ mod draft;
 mod export;
 mod fault;
 mod first_fault;
-mod growing;
 mod growth;
 mod issuer;
-mod judge;
 pub mod laws;
-mod measure;
 mod moments;
-mod part;
 mod places;
-mod shrinking;
-mod sig;
-mod sizes;
 mod spans;
 
-pub use adds::Adds;
 pub use assembling::{Assembled, assemble};
 pub use cert::Cert;
 pub use cert_list::CertList;
@@ -35,6 +27,5 @@ pub use fault::{CertFault, MergeFault};
 pub use growth::Growth;
 pub use issuer::issuer_of;
 pub use moments::Span;
-pub use part::Part;
-pub use sig::Sig;
 pub use spans::span;
+pub use wot_part::{Adds, Part, Sig};

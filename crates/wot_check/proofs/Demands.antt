@@ -1,51 +1,21 @@
 -- What is demanded of an edge, as its parts.
-use Rattle.std.proofs.Common.{◌≡◌, ◌≢◌, ◌⊎◌, inl, inr, ℕ, suc, zero, ◌+◌, ◌<◌, ◌≤◌, Bool, true, false, cond, List, []}
+use Rattle.std.proofs.Common.{◌≡◌, ◌≢◌, ◌⊎◌, inl, inr, ℕ, suc, zero, ◌+◌, ◌<◌, ◌≤◌, Bool, true, false, List, []}
 use Rattle.std.proofs.Common.{◌∷◌, length, Option, Some, None, refl, sym, ap, subst, ◌∙◌, arith, leb-true, le-leb, not}
-use Rattle.std.specs.Prelude.{◌&&◌, ◌||◌, nat_le, nat_lt, nat_eq}
-use Rattle.std.proofs.lemmas.Bool.{eqb-true, eq-eqb, not-true, ltb-true, lt-ltb, and_parts, and_from, or_cases}
+use Rattle.std.specs.Prelude.{◌&&◌, ◌||◌, nat_le, nat_lt}
+use Rattle.std.proofs.lemmas.Bool.{not-true, ltb-true, lt-ltb, and_parts, and_from, or_cases}
 use Rattle.wot_types.specs.declared.fpr.Fpr.{Fpr}
 use Rattle.wot_types.specs.Fpr.{same_fpr}
-use Rattle.wot_types.specs.FprLaws.{same_fpr-true, same_fpr-refl}
 use Rattle.wot_edge.specs.declared.path.Step.{Step}
+use Rattle.wot_edge.specs.DemandLaws.{apart-false, demand_some, false-apart, place-true, true-place}
 use Rattle.wot_edge.specs.Record.{Row, entry_at}
 use Rattle.wot_edge.specs.Path.{Question, Use, Reaches, step_of, step_left}
-use Rattle.wot_check.specs.declared.demand.Demand.{Demand}
-use Rattle.wot_check.specs.declared.demand.Demand.TheVariants.{On, Before}
-use Rattle.wot_check.specs.Demand.{is_place, is_met, demand_of, is_in_scope, promises, may_stand, is_within, is_covered}
+use Rattle.wot_edge.specs.declared.demand.Demand.{Demand}
+use Rattle.wot_edge.specs.declared.demand.Demand.TheVariants.{On, Before}
+use Rattle.wot_edge.specs.Demand.{is_met, demand_of}
+use Rattle.wot_check.specs.Demand.{is_in_scope, promises, may_stand, is_within, is_covered}
 use Rattle.wot_check.specs.Demand.{Covers}
 use Rattle.wot_check.specs.Table.{Labels, label_at, IsAtMost}
 use Rattle.wot_check.specs.Absence.{MayPrecede, LastLabelled}
-
--- ---- fingerprints
-
-pub apart-false : (a b : Fpr) → a ≢ b → same_fpr a b ≡ false
-apart-false a b n = by (same_fpr a b) refl
-  where
-    by : (t : Bool) → same_fpr a b ≡ t → t ≡ false
-    by true e = absurd (n (same_fpr-true a b e))
-    by false e = refl
-
-false-apart : (a b : Fpr) → same_fpr a b ≡ false → a ≢ b
-false-apart a b e f = let g : same_fpr a b ≡ true = subst (λ (x : Fpr). same_fpr a x ≡ true) f (same_fpr-refl a) in cc
-
--- ---- a demand
-
-place-true : (p : Option ℕ) (uid : ℕ) → is_place p uid ≡ true → p ≡ Some uid
-place-true None uid e = absurd cc
-place-true (Some place) uid e = ap Some (eqb-true place uid e)
-
-true-place : (p : Option ℕ) (uid : ℕ) → p ≡ Some uid → is_place p uid ≡ true
-true-place p uid e = subst (λ (x : Option ℕ). is_place x uid ≡ true) (sym e) (eq-eqb uid uid refl)
-
-suc-zero : (n : ℕ) → nat_eq (suc n) 0 ≡ false
-suc-zero n = by (nat_eq (suc n) 0) refl
-  where
-    by : (b : Bool) → nat_eq (suc n) 0 ≡ b → b ≡ false
-    by true e = absurd (let f = eqb-true (suc n) 0 e in omega (arith, f))
-    by false e = refl
-
-pub demand_some : (q : Question) (n : ℕ) → demand_of q (suc n) ≡ Before (suc n)
-demand_some q n = ap (λ (b : Bool). cond b (On (entry_at q.told q.target).place) (Before (suc n))) (suc-zero n)
 
 -- a usable edge with a positive residual amount
 pub record IsOpenRow (used : Use) (row : Row) : Type 0 where

@@ -18,14 +18,16 @@ use Rattle.wot_edge.specs.declared.path.Step.{Step}
 use Rattle.wot_edge.specs.Answer.{IsAnswer, amount_of}
 use Rattle.wot_edge.specs.Record.{blank, Has, Record, Row, rows_into}
 use Rattle.wot_edge.specs.Path.{IsSpent, Question, Use, Stands, root_left, start, step_left, step_of, use_of}
-use Rattle.wot_check.specs.declared.demand.Demand.{Demand}
+use Rattle.wot_edge.specs.declared.demand.Demand.{Demand}
 use Rattle.wot_check.specs.Absence.{Accepts, IsAbsence, IsLeast, IsLeastTable, LeastBy, RootsSpent, is_in_order}
 use Rattle.wot_check.specs.Claim.{claim_of}
 use Rattle.wot_check.specs.Growth.{IsLabel, IsSettled, Labelled}
-use Rattle.wot_check.proofs.Layering.{each_next_shows, rooted_left}
-use Rattle.wot_check.specs.Demand.{Covers, demand_of, may_stand}
+use Rattle.wot_check.proofs.AfterALayer.{each_next_shows, rooted_left}
+use Rattle.wot_edge.specs.Demand.{demand_of}
+use Rattle.wot_check.specs.Demand.{Covers, may_stand}
 use Rattle.wot_check.specs.Table.{IsTable, IsAtMost, Labels, label_at}
-use Rattle.wot_check.proofs.Demands.{before_whole, covers_at, covers_last, demand_some, reaches_stands, stands_reaches}
+use Rattle.wot_edge.specs.DemandLaws.{demand_some}
+use Rattle.wot_check.proofs.Demands.{before_whole, covers_at, covers_last, reaches_stands, stands_reaches}
 use Rattle.wot_check.proofs.Demands.{within_covered, within_some}
 use Rattle.wot_check.proofs.Entries.{all_has, has_lookup, labels_insert, label_small, lookup_has}
 use Rattle.wot_check.proofs.Finite.{Both, Dec, Found, both, decided, find, is_so}

@@ -1,26 +1,9 @@
--- The rows of an edge, and lists that are processed from the front.
-use Rattle.std.proofs.Common.{◌≡◌, ◌⊎◌, inl, inr, ℕ, List, [], ◌∷◌, length, map, refl, sym, ap, subst, ◌∙◌, arith}
+-- Lists that are processed from the front, and edges into a fingerprint.
+use Rattle.std.proofs.Common.{◌≡◌, ◌⊎◌, inl, inr, ℕ, List, [], ◌∷◌, length, refl, sym, ap, subst, ◌∙◌, arith}
 use Rattle.wot_types.specs.declared.fpr.Fpr.{Fpr}
 use Rattle.wot_edge.specs.declared.edge.EdgeFacts.{EdgeFacts}
-use Rattle.wot_edge.specs.Record.{Record, Row, Has, IsRecord, rows_into, edges_into}
-
-pub row_there : (told : Record) (fpr : Fpr) (edge : EdgeFacts) → Has (edges_into told fpr) edge
-    → (row : Row) × Has (rows_into told fpr) row × (row.edge ≡ edge)
-row_there told fpr edge h = by (rows_into told fpr) h
-  where
-    by : (rows : List Row) → Has (map (λ row. row.edge) rows) edge → (row : Row) × Has rows row × (row.edge ≡ edge)
-    by [] h = absurd h
-    by (x ∷ rows) (inl e) = (x, inl refl, sym e)
-    by (x ∷ rows) (inr h) = let r = by rows h in (r.0, inr r.1, r.2)
-
-pub row_edge : (told : Record) (fpr : Fpr) (row : Row) → Has (rows_into told fpr) row
-    → Has (edges_into told fpr) row.edge
-row_edge told fpr row h = by (rows_into told fpr) h
-  where
-    by : (rows : List Row) → Has rows row → Has (map (λ r. r.edge) rows) row.edge
-    by [] h = absurd h
-    by (x ∷ rows) (inl e) = inl (ap (λ (r : Row). r.edge) e)
-    by (x ∷ rows) (inr h) = inr (by rows h)
+use Rattle.wot_edge.specs.Record.{Record, Has, IsRecord, edges_into}
+use Rattle.wot_edge.specs.RowLaws.{row_there}
 
 -- all elements of one list are in another
 abbrev pub Within : {X : Type 0} → List X → List X → Type 0

@@ -1,26 +1,14 @@
 -- What is demanded of an edge into a fingerprint that is this many edges from the target.
-use Rattle.std.specs.Prelude.{◌≡◌, ℕ, ◌+◌, ◌<◌, nat_le, nat_lt, nat_eq, ◌&&◌, ◌||◌, not, Bool, true, false, Option}
-use Rattle.std.specs.Prelude.{Some, None, cond}
+use Rattle.std.specs.Prelude.{◌≡◌, ℕ, ◌+◌, ◌<◌, nat_le, nat_lt, ◌&&◌, ◌||◌, not, Bool, true, false, Option}
+use Rattle.std.specs.Prelude.{Some, None}
 use Rattle.wot_types.specs.declared.fpr.Fpr.{Fpr}
-use Rattle.wot_types.specs.Fpr.{same_fpr}
+use Rattle.wot_edge.specs.declared.demand.Demand.{Demand}
+use Rattle.wot_edge.specs.declared.demand.Demand.TheVariants.{On, Before}
 use Rattle.wot_edge.specs.declared.edge.EdgeFacts.{EdgeFacts}
-use Rattle.wot_edge.specs.Record.{Row, Has, entry_at, rows_into}
+use Rattle.wot_edge.specs.Demand.{is_met, demand_of}
+use Rattle.wot_edge.specs.Record.{Row, Has, rows_into}
 use Rattle.wot_edge.specs.Path.{Question, Use, step_of, step_left}
-use Rattle.wot_check.specs.declared.demand.Demand.{Demand}
-use Rattle.wot_check.specs.declared.demand.Demand.TheVariants.{On, Before}
 use Rattle.wot_check.specs.Table.{Labels, label_at}
-
-abbrev pub is_place : Option ℕ → ℕ → Bool
-is_place None uid = false
-is_place (Some place) uid = nat_eq place uid
-
-abbrev pub is_met : Fpr → Demand → EdgeFacts → Bool
-is_met target (On place) edge = is_place place edge.uid
-is_met target (Before size) edge = nat_le size edge.depth && not (same_fpr edge.issuer target)
-
--- the demand before this many edges
-abbrev pub demand_of : Question → ℕ → Demand
-demand_of q size = cond (nat_eq size 0) (On (entry_at q.told q.target).place) (Before size)
 
 -- the last edge of a path needs no scope
 abbrev pub is_in_scope : Demand → Row → Bool

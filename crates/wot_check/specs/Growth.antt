@@ -6,7 +6,7 @@ use Rattle.wot_edge.specs.declared.path.Step.{Step}
 use Rattle.wot_edge.specs.Record.{Row, Has}
 use Rattle.wot_edge.specs.Path.{Question, Use, Stands, start, step_left, root_left}
 use Rattle.wot_check.specs.declared.growth.Growth.{Growth}
-use Rattle.wot_check.specs.declared.demand.Demand.{Demand}
+use Rattle.wot_edge.specs.declared.demand.Demand.{Demand}
 use Rattle.wot_check.specs.Table.{GivesLabel, Labels, label_at}
 use Rattle.wot_check.specs.Absence.{Closes, RootsSpent}
 use Rattle.wot_check.specs.Demand.{Covers, may_stand}

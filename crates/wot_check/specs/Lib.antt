@@ -6,4 +6,4 @@ pub mod Demand
 pub mod Trace
 pub mod Growth
 pub mod Using
-pub mod Leading
+pub mod LeastTableOfLeads

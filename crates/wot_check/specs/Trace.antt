@@ -12,7 +12,8 @@ use Rattle.wot_check.specs.declared.claimed.ClaimedStep.{ClaimedStep}
 use Rattle.wot_edge.specs.Sums.{Sums, use_in}
 use Rattle.wot_check.specs.Absence.{is_in_order}
 use Rattle.wot_check.specs.Claim.{Claim, Shows, EachShows, AreGood, claimed_step}
-use Rattle.wot_check.specs.Demand.{demand_of, may_stand}
+use Rattle.wot_edge.specs.Demand.{demand_of}
+use Rattle.wot_check.specs.Demand.{may_stand}
 
 -- the start of claimed steps: the first issuer, or the target itself
 abbrev pub begin_of : Fpr → List ClaimedStep → Fpr

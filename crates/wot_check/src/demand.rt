@@ -1,53 +1,21 @@
-//! What is demanded of an edge at its place on a path: user ID, depth, scope, issuer, and residual amount.
+//! Whether an edge may come at a place on a path: its demand, usability, scope and residual amount.
 //!
-//! It stands on `left` and on `specs/Demand.antt`. It follows the definition of a valid path, and shares no code with
-//! the search.
+//! It stands on `wot_edge`, which tests demands, and on `specs/Demand.antt`. It shares nothing else with the search.
 ghost use Rattle.std.specs.Prelude.{◌≡◌, ℕ, List, IfOk};
+ghost use Rattle.wot_edge.specs.Demand.{demand_of};
 ghost use Rattle.wot_edge.specs.Record.{EachRow, Has, edges_into};
 ghost use Rattle.wot_check.specs.Asked.{TellsEach, question_of, used_in};
-ghost use Rattle.wot_check.specs.Demand.{is_place, is_met, demand_of, is_in_scope, promises, may_stand};
+ghost use Rattle.wot_check.specs.Demand.{is_in_scope, promises, may_stand};
 
 use crate::asked::Asked;
-use crate::left::{left_of_step, step_from};
-use crate::same::is_same;
-use wot_edge::{Edge, EdgeFacts, Roads};
-use wot_types::{Fpr, Memory};
-
-/// What is demanded of an edge: to be on the wanted user ID, by its place among the target's; or to have at least this
-/// depth, a scope that holds, and an issuer other than the target.
-#[derive(Clone, Copy)]
-pub enum Demand {
-    On(Option<u32>),
-    Before(u8),
-}
+use wot_edge::{Demand, Edge, EdgeFacts, Roads, demand_at, left_of_step, meets, step_from};
+use wot_types::Memory;
 
 /// What is demanded of edges with `size` edges after them.
 pub fn demanded<R: Roads>(roads: &R, asked: &Asked, size: u8) -> Demand
     ensures { result ≡ demand_of (question_of (R.told roads.now) asked.now) size }
 {
-    if size == 0 {
-        Demand::On(roads.place(asked.target, asked.uid))
-    } else {
-        Demand::Before(size)
-    }
-}
-
-fn is_at(place: Option<u32>, uid: u32) -> bool
-    ensures { result ≡ is_place place uid }
-{
-    match place {
-        Some(place) => place == uid,
-        None => false,
-    }
-}
-
-fn meets(target: &Fpr, demand: Demand, edge: &EdgeFacts) -> bool
-    ensures { result ≡ is_met target.now demand edge.now }
-{
-    match demand {
-        Demand::On(place) => is_at(place, edge.uid),
-        Demand::Before(size) => size <= edge.depth && !is_same(&edge.issuer, target),
-    }
+    demand_at(roads, asked.target, asked.uid, size)
 }
 
 fn offers(asked: &Asked, demand: Demand, edge: &EdgeFacts) -> bool

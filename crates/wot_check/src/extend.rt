@@ -7,11 +7,11 @@ ghost use Rattle.wot_check.specs.Asked.{Asking, EachAsked};
 ghost use Rattle.wot_check.specs.Growth.{GivesIfNew, GoesOn, GrowsByLayer, GrowsInto};
 
 use crate::asked::Asked;
-use crate::demand::{Demand, demanded, stands};
+use crate::demand::{demanded, stands};
 use crate::growth::{Growth, give};
 use std::alloc::Global;
 use std::mem;
-use wot_edge::{Edge, Roads};
+use wot_edge::{Demand, Edge, Roads};
 use wot_types::{Fpr, Memory};
 
 /// Labels the issuer of an edge, if the edge may come there and its issuer has no label yet.

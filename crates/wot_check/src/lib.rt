@@ -14,7 +14,6 @@ pub mod laws;
 mod left;
 mod making;
 mod points;
-mod same;
 mod show;
 mod table;
 mod trace;

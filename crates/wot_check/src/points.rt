@@ -10,10 +10,10 @@ ghost use Rattle.wot_check.specs.Demand.{Covers, CoversBelow, is_covered_by, is_
 ghost use Rattle.wot_check.specs.Growth.{AreRootsSpent};
 
 use crate::asked::Asked;
-use crate::demand::{Demand, demanded, stands};
+use crate::demand::{demanded, stands};
 use crate::left::left_of_root;
 use crate::table::Table;
-use wot_edge::{Edge, Roads};
+use wot_edge::{Demand, Edge, Roads};
 use wot_types::{Fpr, Memory};
 
 fn within(most: u8, label: Option<u8>) -> bool

@@ -12,11 +12,10 @@ ghost use Rattle.wot_check.specs.Trace.{AreUsedBy, IsPathBy, IsShown};
 use crate::asked::Asked;
 use crate::claimed::Claimed;
 use crate::left::left_of_path;
-use crate::same::is_same;
 use crate::trace::trace;
 use crate::using::{add, unused};
 use std::alloc::Global;
-use wot_edge::{Path, Roads, Roots, Step, StepList, Used};
+use wot_edge::{Path, Roads, Roots, Step, StepList, Used, is_same};
 use wot_types::{Fpr, Memory};
 
 /// Whether a step has this issuer.

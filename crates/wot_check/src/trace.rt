@@ -9,10 +9,8 @@ ghost use Rattle.wot_check.specs.Trace.{IsFollower, IsFound, IsTrace, NoneNamed,
 use crate::asked::Asked;
 use crate::claimed::ClaimedStep;
 use crate::demand::{demanded, stands};
-use crate::left::step_from;
-use crate::same::is_same;
 use std::alloc::Global;
-use wot_edge::{Edge, Roads, Step};
+use wot_edge::{Edge, Roads, Step, is_same, step_from};
 use wot_types::{Fpr, Memory};
 
 fn names(item: &ClaimedStep, edge: &Edge) -> bool

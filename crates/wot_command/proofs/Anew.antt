@@ -12,21 +12,23 @@ use Rattle.wot_types.specs.declared.limits.Limit.TheVariants as words
 use Rattle.wot_types.specs.Limits.{standard_limits}
 use Rattle.wot_io.specs.Input as inputs
 use Rattle.wot_policy.specs.declared.rows.PolicyRows.{PolicyRows}
+use Rattle.wot_words.specs.StateLine.{IsHeard, spelling, state_line_of}
+use Rattle.wot_words.specs.declared.state_line.StateLine.{StateLine}
+use Rattle.wot_words.specs.declared.state_line.StateLine.TheVariants as sets
 use Rattle.wot_script.specs.declared.command.Command.{Command}
-use Rattle.wot_script.specs.declared.command.Command.TheVariants as commands
+use Rattle.wot_script.specs.Grammar.{command_for, command_of}
 use Rattle.wot_script.specs.declared.reply.Reply.{Reply}
 use Rattle.wot_script.specs.declared.reply.Reply.TheVariants as replies
 use Rattle.wot_script.specs.Replies.{is_refusal}
-use Rattle.wot_script.specs.Spelling.{IsHeard, spelling}
 use Rattle.wot_verdict.specs.declared.verdict.Verdict.{Verdict}
 use Rattle.wot_verdict.specs.declared.verdict.Verdict.TheVariants as said
-use Rattle.wot_keyring.specs.declared.import.Imported.{Imported}
-use Rattle.wot_keyring.specs.declared.refusal.Refusal.{Refusal}
+use Rattle.wot_held.specs.declared.imported.Imported.{Imported}
+use Rattle.wot_held.specs.declared.refusal.Refusal.{Refusal}
 use Rattle.wot_keyring.specs.Dump as keyrings
 use Rattle.wot_keyring.specs.Dump.{AreLines, IsLine, after_all, lines_of, unless_over}
-use Rattle.wot_keyring.specs.Held.{Held, verdict_set}
-use Rattle.wot_keyring.specs.Import.{answer_to, importing}
-use Rattle.wot_keyring.specs.Verdict.{is_over}
+use Rattle.wot_held.specs.Held.{Held, verdict_set}
+use Rattle.wot_held.specs.Import.{answer_to, importing}
+use Rattle.wot_held.specs.Verdict.{is_over}
 use Rattle.wot_certd.specs.World.{World}
 use Rattle.wot_cache.specs.declared.view.ViewFault.{ViewFault}
 use Rattle.wot_cache.specs.Views.{root_fault, time_fault, view_at}
@@ -46,9 +48,9 @@ use Rattle.wot_step.specs.Served.{unserved}
 use Rattle.wot_step.specs.Transcript.{Run}
 use Rattle.wot_step.specs.Fresh.{IsMadeAnew, dumped}
 use Rattle.wot_step.proofs.CutLines.{lines_of-feed}
-use Rattle.wot_step.proofs.Giving.{over, uncalled_step}
+use Rattle.wot_step.proofs.DirectoryGives.{over, uncalled_step}
 use Rattle.wot_step.proofs.Watched.{tells_nothing}
-use Rattle.wot_step.proofs.Stepping.{heard_read, looked_at}
+use Rattle.wot_step.proofs.StepsByKind.{heard_read, looked_at}
 use Rattle.wot_step.proofs.Sessions.{counted_some, turned_some}
 
 -- a reply that is no refusal
@@ -90,40 +92,40 @@ judged_so s number verdict new e =
     chosen (is_over standard_limits s.held.verdicts number) (only s (replies.Full words.Verdicts)) s new
     (verdict_set number verdict s.held) e
 
--- A command of a dump that isn't refused does what the machine does. It doesn't call the certificate directory, and
+-- A line of a dump that isn't refused does what the machine does. It doesn't call the certificate directory, and
 -- isn't about a cursor or a watch.
 record Accepts (rows : PolicyRows) (class : Class) (s new : State) : Type 0 where
   takes : Takes (StateStep rows s class unserved) new
   uncalled : use_by class ≡ unused
   own : is_own class ≡ true
 
--- no other command is in a dump
-accepted : (rows : PolicyRows) (command : Command) (s new : State) → after rows standard_limits command s ≡ Some new →
-    Accepts rows (class_of command) s new
-accepted rows (commands.Import octets) s new e =
+-- no other line is in a dump
+accepted : (rows : PolicyRows) (line : StateLine) (s new : State) → after rows standard_limits line s ≡ Some new →
+    Accepts rows (class_of (command_for line)) s new
+accepted rows (sets.Import octets) s new e =
     record {
       takes = taken rows s octets (answer_to rows standard_limits s.held.certs octets) new e;
       uncalled = refl;
       own = refl;
     }
-accepted rows (commands.Good number fpr) s new e =
+accepted rows (sets.Good number fpr) s new e =
     record { takes = judged_so s number (said.Good fpr) new e; uncalled = refl; own = refl }
-accepted rows (commands.Bad number) s new e =
+accepted rows (sets.Bad number) s new e =
     record { takes = judged_so s number said.Bad new e; uncalled = refl; own = refl }
-accepted rows (commands.Time view t) s new e =
+accepted rows (sets.Time view t) s new e =
     record {
       takes = allowed s (time_fault standard_limits s.views view) (timing view t s) new e;
       uncalled = refl;
       own = refl;
     }
-accepted rows (commands.Root view fpr amount) s new e =
+accepted rows (sets.Root view fpr amount) s new e =
     record {
       takes =
           allowed s (root_fault standard_limits (view_at s.views view) fpr amount) (rooting view fpr amount s) new e;
       uncalled = refl;
       own = refl;
     }
-accepted rows command s new e = absurd (cc e)
+accepted rows line s new e = absurd (cc e)
 
 -- ---- lines
 
@@ -131,7 +133,7 @@ heard : (line : List ℕ) → IsHeard line → is_silent line ≡ false
 heard [] h = absurd h
 heard (octet ∷ octets) h = ne_eqb octet 35 h
 
-cut_lines : (commands : List Command) → AreLines commands → inputs.lines_of (lines_of commands) ≡ map spelling commands
+cut_lines : (commands : List StateLine) → AreLines commands → inputs.lines_of (lines_of commands) ≡ map spelling commands
 cut_lines [] lines = refl
 cut_lines (c ∷ commands) lines =
     ap inputs.lines_of (append_assoc (spelling c) (10 ∷ []) (lines_of commands))
@@ -169,21 +171,28 @@ leads rows old (OfState command) reply new own does =
 leads rows old (OfCursor name command) reply new own does = absurd (cc own)
 leads rows old (OfWatch name command) reply new own does = absurd (cc own)
 
--- the step of a command's line, in any world
-stepped : (rows : PolicyRows) (c : Command) (s new : Session) (reply : Reply) → IsLine c →
-    use_by (class_of c) ≡ unused → CommandStep rows s (class_of c) unserved reply new → new.watches ≡ [] → (world : World)
+-- what a line sets is what its command sets
+read_as : (text : List ℕ) (c : StateLine) → state_line_of text ≡ Some c → command_of text ≡ Some (command_for c)
+unfolding command_of
+read_as text c e = rw e refl
+
+-- the step of such a line, in any world
+stepped : (rows : PolicyRows) (c : StateLine) (s new : Session) (reply : Reply) → IsLine c →
+    use_by (class_of (command_for c)) ≡ unused → CommandStep rows s (class_of (command_for c)) unserved reply new →
+    new.watches ≡ [] → (world : World)
     → Step rows (over s world) (spelling c) (Some reply) [] (over new world)
 stepped rows c s new reply line none obeys unwatched world =
     let Answered : Option Command → Type 0 = λ o. ReadLineStep rows s o unserved reply new in
     let is_heard : is_silent (spelling c) ≡ false = heard (spelling c) line.heard in
+    let read : command_of (spelling c) ≡ Some (command_for c) = read_as (spelling c) c line.read in
     uncalled_step rows world s new new (spelling c) (Some reply) []
-    (ap use_of (heard_read (spelling c) line.short is_heard ∙ line.read) ∙ none)
-    (looked_at rows s (spelling c) unserved reply new line.short is_heard (subst Answered (sym line.read) obeys))
+    (ap use_of (heard_read (spelling c) line.short is_heard ∙ read) ∙ none)
+    (looked_at rows s (spelling c) unserved reply new line.short is_heard (subst Answered (sym read) obeys))
     (tells_nothing new unwatched)
 
 -- ---- runs
 
-record Runs (rows : PolicyRows) (s : Session) (commands : List Command) (new : State) : Type 0 where
+record Runs (rows : PolicyRows) (s : Session) (commands : List StateLine) (new : State) : Type 0 where
   replies_are : List Reply
   whole : Session
   state : whole.state ≡ new
@@ -193,12 +202,12 @@ record Runs (rows : PolicyRows) (s : Session) (commands : List Command) (new : S
   each : length replies_are ≡ length (map spelling commands)
   well : AllByRecursion (λ reply. is_refusal reply ≡ false) replies_are
 
-refused_stays : (rows : PolicyRows) (l : Limits) (commands : List Command) →
+refused_stays : (rows : PolicyRows) (l : Limits) (commands : List StateLine) →
     after_all (after rows l) commands None ≡ None
 refused_stays rows l [] = refl
 refused_stays rows l (command ∷ commands) = refl
 
-further : (rows : PolicyRows) (c : Command) (commands : List Command) (s : Session) (new : State) → s.watches ≡ [] →
+further : (rows : PolicyRows) (c : StateLine) (commands : List StateLine) (s : Session) (new : State) → s.watches ≡ [] →
     IsLine c
     → ((mid : Session) → mid.watches ≡ [] → after_all (after rows standard_limits) commands (Some mid.state) ≡ Some new →
     Runs rows mid commands new)
@@ -207,9 +216,10 @@ further : (rows : PolicyRows) (c : Command) (commands : List Command) (s : Sessi
 further rows c commands s new none line rest None was e = let stays = refused_stays rows standard_limits commands in
     absurd (cc (stays, e))
 further rows c commands s new none line rest (Some mid) was e =
-    let a : Accepts rows (class_of c) s.state mid = accepted rows c s.state mid was in
-    let t : Takes (StateStep rows s.state (class_of c) unserved) mid = a.takes in
-    let l : Leads rows s (class_of c) t.reply mid = leads rows s (class_of c) t.reply mid a.own t.does in
+    let a : Accepts rows (class_of (command_for c)) s.state mid = accepted rows c s.state mid was in
+    let t : Takes (StateStep rows s.state (class_of (command_for c)) unserved) mid = a.takes in
+    let l : Leads rows s (class_of (command_for c)) t.reply mid =
+    leads rows s (class_of (command_for c)) t.reply mid a.own t.does in
     let still : l.whole.watches ≡ [] = l.watches ∙ none in
     let more : Runs rows l.whole commands new =
     rest l.whole still (ap (λ (x : State). after_all (after rows standard_limits) commands (Some x)) l.state ∙ e) in
@@ -232,7 +242,7 @@ further rows c commands s new none line rest (Some mid) was e =
       well = (t.well, more.well);
     }
 
-runs : (rows : PolicyRows) (commands : List Command) (s : Session) (new : State) → s.watches ≡ [] → AreLines commands
+runs : (rows : PolicyRows) (commands : List StateLine) (s : Session) (new : State) → s.watches ≡ [] → AreLines commands
     → after_all (after rows standard_limits) commands (Some s.state) ≡ Some new → Runs rows s commands new
 runs rows [] s new none lines e = record {
   replies_are = [];

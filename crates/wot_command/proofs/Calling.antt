@@ -8,8 +8,8 @@ use Rattle.wot_types.specs.declared.fpr.Fpr.{Fpr}
 use Rattle.wot_types.specs.declared.name.Name.{Name}
 use Rattle.wot_types.specs.declared.name.Name.TheVariants.{Cert}
 use Rattle.wot_io.specs.Counts.{Rose, last_count}
-use Rattle.wot_cert.specs.Certificate.{Certificate}
-use Rattle.wot_keyring.specs.Held.{cert_in}
+use Rattle.wot_part.specs.Certificate.{Certificate}
+use Rattle.wot_held.specs.Held.{cert_in}
 use Rattle.wot_policy.specs.declared.rows.PolicyRows.{PolicyRows}
 use Rattle.wot_script.specs.declared.reply.Reply.{Reply}
 use Rattle.wot_script.specs.declared.reply.Reply.TheVariants as replies

@@ -1,9 +1,9 @@
 mod Anew
 pub mod Calling
 pub mod EdgeLines
-pub mod Judging
-mod Keeping
-pub mod Putting
-pub mod Refusing
+pub mod PolicyAskedByLine
+mod CertificateLines
+pub mod DirectoryAfterFailure
+pub mod RefusedReplies
 mod Short
-mod Storing
+mod StoredOrRefused

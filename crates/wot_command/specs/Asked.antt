@@ -1,7 +1,7 @@
 -- How often a line asks the policy: once for each well-formed signature that it adds. No reply depends on it.
 use Rattle.std.specs.Prelude.{◌≡◌, ℕ, ◌-◌, Option, Some, None, Result, OnOk}
-use Rattle.wot_cert.specs.Judged.{sound_of}
-use Rattle.wot_keyring.specs.Import.{weigh}
+use Rattle.wot_part.specs.Judged.{sound_of}
+use Rattle.wot_held.specs.Import.{weigh}
 use Rattle.wot_policy.specs.declared.policy.Policy.{Policy}
 use Rattle.wot_policy.specs.Kept.{asked_more}
 use Rattle.wot_script.specs.declared.command.Command.{Command}

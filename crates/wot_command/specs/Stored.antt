@@ -5,10 +5,9 @@ use Rattle.wot_types.specs.declared.fpr.Fpr.{Fpr}
 use Rattle.wot_types.specs.declared.name.Name.{Name}
 use Rattle.wot_types.specs.declared.name.Name.TheVariants.{Cert}
 use Rattle.wot_io.specs.Counts.{Rose}
-use Rattle.wot_cert.specs.Certificate.{Certificate}
-use Rattle.wot_cert.specs.Text.{text_of}
-use Rattle.wot_keyring.specs.declared.refusal.Refusal.{Refusal}
-use Rattle.wot_keyring.specs.declared.refusal.Refusal.TheVariants as refusals
+use Rattle.wot_part.specs.Certificate.{Certificate}
+use Rattle.wot_part.specs.Text.{text_of}
+use Rattle.wot_held.specs.declared.refusal.Refusal.{Refusal, TheVariants as refusals}
 use Rattle.wot_script.specs.declared.reply.Reply.{Reply}
 use Rattle.wot_script.specs.Replies.{is_short}
 use Rattle.wot_certd.specs.declared.shelf.Given.{Given}

@@ -3,8 +3,8 @@
 ghost use Rattle.std.specs.Prelude.{◌≡◌, ◌≤◌, ◌<◌, ◌-◌, ◌^◌, length, true, IfOk, OnErr};
 ghost use Rattle.wot_types.specs.Limits.{standard_limits};
 ghost use Rattle.wot_policy.specs.Kept.{IsFaithful, rows_of};
-ghost use Rattle.wot_keyring.specs.Kept.{IsJudgedBy};
-ghost use Rattle.wot_keyring.specs.Import.{IsOneChange};
+ghost use Rattle.wot_held.specs.Kept.{IsJudgedBy};
+ghost use Rattle.wot_held.specs.Import.{IsOneChange};
 ghost use Rattle.wot_script.specs.Replies.{is_short};
 ghost use Rattle.wot_cache.specs.State.{state_of};
 ghost use Rattle.wot_command.specs.Asked.{AsksForNew};

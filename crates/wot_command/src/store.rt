@@ -3,9 +3,9 @@
 ghost use Rattle.std.specs.Prelude.{◌≡◌, ◌≤◌, ◌<◌, ◌^◌, None, Ok, Some, length, true, IfErr, IfOk, OnErr};
 ghost use Rattle.wot_policy.specs.declared.rows.PolicyRows.{PolicyRows};
 ghost use Rattle.wot_types.specs.declared.name.Name.TheVariants.{Cert as CertName};
-ghost use Rattle.wot_cert.specs.Text.{text_of};
-ghost use Rattle.wot_keyring.specs.Entry.{entry_in};
-ghost use Rattle.wot_keyring.specs.Held.{cert_in};
+ghost use Rattle.wot_part.specs.Text.{text_of};
+ghost use Rattle.wot_held.specs.Entry.{entry_in};
+ghost use Rattle.wot_held.specs.Held.{cert_in};
 ghost use Rattle.wot_script.specs.Replies.{is_short};
 ghost use Rattle.wot_certd.specs.Shelf.{FitsEntry};
 ghost use Rattle.wot_cache.specs.State.{State, state_of};

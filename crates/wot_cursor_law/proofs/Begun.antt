@@ -10,9 +10,9 @@ use Rattle.wot_types.specs.ViewName.{view_name_cmp}
 use Rattle.wot_key.specs.Key.{fpr_of}
 use Rattle.wot_policy.specs.declared.rows.PolicyRows.{PolicyRows}
 use Rattle.wot_verdict.specs.Verdicts.{Entries}
-use Rattle.wot_cert.specs.Certificate.{Certificate}
+use Rattle.wot_part.specs.Certificate.{Certificate}
 use Rattle.wot_edge.specs.Record.{IsRecord}
-use Rattle.wot_keyring.specs.Keyring.{Certificates}
+use Rattle.wot_held.specs.Keyring.{Certificates}
 use Rattle.wot_network.specs.Told.{record_of}
 use Rattle.wot_script.specs.Grammar.{command_of}
 use Rattle.wot_script.specs.Spelling.{HasSpelling}
@@ -41,10 +41,10 @@ use Rattle.wot_step.specs.Transcript.{Run}
 use Rattle.wot_step.specs.Session.{Session}
 use Rattle.wot_run_law.proofs.Reached.{reached_can_be}
 use Rattle.wot_step.proofs.Entries.{found_put}
-use Rattle.wot_run_law.proofs.Hearing.{Hears, heard_reads, hears, run_keeps}
-use Rattle.wot_cursor_law.proofs.Joining.{Began, Stands, goes_own, later_itself, later_obeys, passes_on, stands_told}
+use Rattle.wot_run_law.proofs.LineByCommand.{Hears, heard_reads, hears, run_keeps}
+use Rattle.wot_cursor_law.proofs.CursorSoFar.{Began, Stands, goes_own, later_itself, later_obeys, passes_on, stands_told}
 use Rattle.wot_cursor_law.proofs.Behind.{at_first}
-use Rattle.wot_cursor_law.proofs.Rising.{ordered_binds, reached_ordered}
+use Rattle.wot_cursor_law.proofs.SortedStates.{ordered_binds, reached_ordered}
 use Rattle.wot_step.proofs.Viewed.{AreSound, does_views, sound_by, turn_few}
 use Rattle.wot_step.specs.Session.{turning_of}
 

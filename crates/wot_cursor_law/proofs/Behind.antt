@@ -11,7 +11,7 @@ use Rattle.std.proofs.lemmas.Grind.{flat_map-append}
 use Rattle.std.proofs.lemmas.List.{length-map, length-take, map-append}
 use Rattle.std.proofs.lemmas.List.Folds.{list_any-append}
 use Rattle.wot_types.specs.declared.place.Place.{Place}
-use Rattle.wot_cert.specs.Ranked.{IsBelow, IsRising}
+use Rattle.wot_part.specs.Ranked.{IsBelow, IsRising}
 use Rattle.wot_script.specs.declared.reply.BindLine.{BindLine}
 use Rattle.wot_explain.specs.declared.bind.Bind.{Bind}
 use Rattle.wot_explain.specs.Piece.{binds_after, piece_of}
@@ -19,7 +19,7 @@ use Rattle.wot_cursor_law.specs.Joined.{Given, has_end, joined}
 use Rattle.wot_step.specs.Listing.{bind_line}
 use Rattle.wot_step.specs.Pacing.{last_place, bind_place}
 use Rattle.wot_step.proofs.Entries.{above_is}
-use Rattle.wot_cursor_law.proofs.Rising.{bind_cmp, bind_total}
+use Rattle.wot_cursor_law.proofs.SortedStates.{bind_cmp, bind_total}
 
 -- ---- what follows a binding of the list
 

@@ -1,5 +1,5 @@
 mod Begun
 mod Behind
 mod Exchanges
-mod Joining
-mod Rising
+mod CursorSoFar
+mod SortedStates

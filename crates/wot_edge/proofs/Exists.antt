@@ -18,7 +18,7 @@ use Rattle.wot_edge.proofs.Trail.{first_next, none_spent, disordered_spent}
 use Rattle.wot_edge.proofs.Covers.{Covers-has, IsComplete, IsFound, better_most, worse_most}
 use Rattle.wot_edge.proofs.Layers.{is_better, better_of, chosen, grown, first_layer, first_or, climbed_to, next_from}
 use Rattle.wot_edge.proofs.Layers.{first_from, first_of, total, climbed, next_of}
-use Rattle.wot_edge.proofs.Searching.{first_found, first_layer_complete, grown_found, grown_is_complete}
+use Rattle.wot_edge.proofs.FoundByLayers.{first_found, first_layer_complete, grown_found, grown_is_complete}
 
 module _ (q : Question) (used : Use) (least : ℕ) where
   -- what is chosen, of these

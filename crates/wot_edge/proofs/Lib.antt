@@ -3,11 +3,11 @@ pub mod PairSums
 pub mod Layers
 pub mod Trail
 pub mod Covers
-pub mod Searching
+pub mod FoundByLayers
 pub mod Exists
 pub mod One
-pub mod Answering
-pub mod Fitting
+pub mod AnswerByPaths
+pub mod PathsFit
 pub mod Worked
 pub mod PlainTold
 pub mod Recorded

@@ -14,7 +14,7 @@ use Rattle.wot_edge.specs.Path.{Question, use_of, asks, step_of, start, IsNextPa
 use Rattle.wot_edge.specs.Answer.{IsAnswer}
 use Rattle.wot_edge.proofs.Layers.{next_of, first_from, climbed}
 use Rattle.wot_edge.proofs.Exists.{AreNextOrSpent, next_of_is}
-use Rattle.wot_edge.proofs.Answering.{taken_answer}
+use Rattle.wot_edge.proofs.AnswerByPaths.{taken_answer}
 
 -- ---- how a question is written
 

@@ -4,6 +4,9 @@ pub mod Record
 pub mod Roots
 pub mod Path
 pub mod Sums
+pub mod Demand
+pub mod DemandLaws
+pub mod RowLaws
 pub mod Answer
 pub mod Capacity
 pub mod Agree

@@ -4,8 +4,10 @@
 //! definitions, and `wot_live` makes the edges.
 #![tactic(auto)]
 
+mod demand;
 mod edge;
 pub mod laws;
+mod left;
 mod lists;
 mod maps;
 mod pairs;
@@ -16,7 +18,9 @@ mod roots;
 mod sums;
 mod used;
 
+pub use demand::{Demand, demand_at, is_same, meets};
 pub use edge::{Edge, EdgeFacts};
+pub use left::{left_of_step, remaining, step_from};
 pub use lists::{PathList, StepList};
 pub use path::{Path, Step};
 pub use roads::Roads;

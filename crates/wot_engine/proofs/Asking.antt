@@ -25,9 +25,9 @@ use Rattle.wot_step.specs.Scene.{Scene, opening}
 use Rattle.wot_step.specs.Transcript.{AllTold, octets_of}
 use Rattle.wot_step.specs.Watching.{ReportsWatches}
 use Rattle.wot_step.specs.Session.{Session, beginning, watched, session_of}
-use Rattle.wot_step.proofs.Giving.{all_told, all_weaker, over}
-use Rattle.wot_command.proofs.Judging.{asks_as}
-use Rattle.wot_step.proofs.Stepping.{heard_long}
+use Rattle.wot_step.proofs.DirectoryGives.{all_told, all_weaker, over}
+use Rattle.wot_command.proofs.PolicyAskedByLine.{asks_as}
+use Rattle.wot_step.proofs.StepsByKind.{heard_long}
 use Rattle.wot_engine.specs.Asking.{AsksBy, AsksFirst, AsksFor, AsksInTurn, AsksOnce, MayAsk}
 use Rattle.wot_engine.specs.Asking.{MayAskNext, command_by, done, failed}
 use Rattle.wot_engine.specs.Told.{IsEither}

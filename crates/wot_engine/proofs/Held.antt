@@ -17,7 +17,7 @@ use Rattle.wot_step.specs.Session.{Session, beginning}
 use Rattle.wot_run_law.specs.Law.{OneOutcome}
 use Rattle.wot_step.specs.Entry.{MayPut}
 use Rattle.wot_step.specs.Transcript.{AllTold, AnsweredMost, Begun, octets_of}
-use Rattle.wot_step.proofs.Giving.{all_told, all_weaker}
+use Rattle.wot_step.proofs.DirectoryGives.{all_told, all_weaker}
 use Rattle.wot_engine.specs.Asking.{command_by}
 use Rattle.wot_engine.specs.Held.{Moves, MovesOf}
 use Rattle.wot_engine.specs.Ended.{Reached, ReachedWhole}

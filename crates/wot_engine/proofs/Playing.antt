@@ -19,7 +19,7 @@ use Rattle.wot_step.specs.Scene.{Scene, Step, opening}
 use Rattle.wot_machine.specs.Stepped.{Replied}
 use Rattle.wot_step.specs.Transcript.{Run, listed}
 use Rattle.wot_step.specs.Watching as watching
-use Rattle.wot_step.proofs.Giving.{Goes, goes, over}
+use Rattle.wot_step.proofs.DirectoryGives.{Goes, goes, over}
 use Rattle.wot_run_law.proofs.Runs.{Run-append}
 use Rattle.wot_engine.specs.Generated.{no_entries}
 use Rattle.wot_engine.specs.Played.{Adds, AddsReply, AddsTold, IsPlayed}

@@ -18,7 +18,7 @@ use Rattle.wot_step.specs.Lines.{heard}
 use Rattle.wot_step.specs.Transcript.{Run, RepliesTo, Answered, Begun, IsNow, IsTaken, Leaves, listed, octets_of}
 use Rattle.wot_engine.specs.Ended.{Finished, FinishedMost, FinishedTaken, IsLastTaken, MayPutNext, Reached}
 use Rattle.wot_engine.specs.Ended.{ReachedWhole}
-use Rattle.wot_step.proofs.Giving.{over}
+use Rattle.wot_step.proofs.DirectoryGives.{over}
 use Rattle.wot_run_law.proofs.Runs.{Run-some, Run-append}
 use Rattle.wot_step.proofs.CutLines.{lines_of-feed, whole_lines_of-feed, whole_lines_of-none, lines_of-last}
 use Rattle.wot_policy.specs.declared.rows.PolicyRows.{PolicyRows}

@@ -5,7 +5,7 @@ use Rattle.wot_io.specs.ReaderState.{ReaderState}
 use Rattle.wot_io.specs.declared.lines.Line.TheVariants.{End}
 use Rattle.wot_io.specs.declared.lines.Line.{Line}
 use Rattle.wot_policy.specs.declared.rows.PolicyRows.{PolicyRows}
-use Rattle.wot_keyring.specs.Kept.{IsJudgedBy}
+use Rattle.wot_held.specs.Kept.{IsJudgedBy}
 use Rattle.wot_certd.specs.World.{World}
 use Rattle.wot_cache.specs.State.{Engine, empty}
 use Rattle.wot_cursor.specs.Cursors.{Cursors}

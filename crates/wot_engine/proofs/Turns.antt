@@ -23,9 +23,9 @@ use Rattle.wot_step.specs.Scene.{Step, opening}
 use Rattle.wot_step.specs.Served.{Served}
 use Rattle.wot_step.specs.Watching.{ReportsWatches}
 use Rattle.wot_step.specs.Transcript.{Run, Answered, Begun, AnsweredMost, AllTold, IsNow, Leaves, listed, octets_of}
-use Rattle.wot_step.proofs.Giving.{IsUncalled, all_told, all_weaker, goes, may_call, over}
+use Rattle.wot_step.proofs.DirectoryGives.{IsUncalled, all_told, all_weaker, goes, may_call, over}
 use Rattle.wot_run_law.proofs.Runs.{Run-one, Run-prefix}
-use Rattle.wot_step.proofs.Stepping.{heard_long}
+use Rattle.wot_step.proofs.StepsByKind.{heard_long}
 use Rattle.wot_engine.specs.Asking.{command_by}
 use Rattle.wot_engine.specs.Ended.{FinishedMost, FinishedTaken, Reached, ReachedWhole}
 use Rattle.wot_engine.specs.Turn.{Replies, use_by}

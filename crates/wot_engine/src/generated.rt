@@ -7,7 +7,7 @@ ghost use Rattle.wot_types.specs.Limits.{standard_limits};
 ghost use Rattle.wot_io.specs.Counts.{Rose};
 ghost use Rattle.wot_io.specs.Input.{lines_of};
 ghost use Rattle.wot_policy.specs.Kept.{IsFaithful, rows_of};
-ghost use Rattle.wot_keyring.specs.Kept.{IsJudgedBy};
+ghost use Rattle.wot_held.specs.Kept.{IsJudgedBy};
 ghost use Rattle.wot_cache.specs.State.{StaysButMarks, empty};
 ghost use Rattle.wot_step.specs.Both.{ends, itself};
 ghost use Rattle.wot_machine.specs.Machine.{kept};

@@ -1,19 +1,73 @@
 -- Lists of bindings, joined.
 use Rattle.std.proofs.Common.{◌≡◌, ◌≤◌, ℕ, Bool, true, false, cond, List, [], ◌∷◌, ◌++◌, length, map, arith, refl, sym}
 use Rattle.std.proofs.Common.{ap, subst, ◌∙◌, append_assoc, append-nil}
-use Rattle.std.specs.Prelude.{nat_le}
+use Rattle.std.specs.Prelude.{filter, if◌then◌else◌, nat_le}
+use Rattle.std.specs.List.{AllByRecursion}
+use Rattle.wot_types.specs.PlainLaws.{all_then}
 use Rattle.wot_types.specs.declared.fpr.Fpr.{Fpr}
-use Rattle.wot_cert.specs.Certificate.{Component, Certificate}
+use Rattle.wot_part.specs.Certificate.{Component, Certificate}
 use Rattle.wot_edge.specs.Answer.{IsAnswer, amount_of}
 use Rattle.wot_edge.specs.Path.{Question, asks}
 use Rattle.wot_edge.specs.declared.path.Path.{Path}
 use Rattle.wot_edge.specs.Record.{IsRecord, Record}
-use Rattle.wot_keyring.specs.declared.kept.Kept.{Kept}
-use Rattle.wot_keyring.specs.Keyring.{Entries, stripped}
-use Rattle.wot_keyring.specs.Kept.{AreNamed}
+use Rattle.wot_held.specs.declared.kept.Kept.{Kept}
+use Rattle.wot_held.specs.Keyring.{Entries, stripped}
+use Rattle.wot_held.specs.Kept.{AreNamed}
 use Rattle.wot_explain.specs.declared.bind.Bind.{Bind}
-use Rattle.wot_explain.specs.Listing.{Pair, pair_of, pairs_in, pairs_of, pairs_of_all, with_bind, IsListed, IsTheList}
-use Rattle.wot_explain.specs.Listing.{AddsListed}
+use Rattle.wot_explain.specs.Listing.{Pair, pair_in, pair_of, pairs_in, pairs_of, pairs_of_all, IsListed, IsTheList}
+use Rattle.wot_explain.specs.Listing.{AddsListed, IsSummed, is_authenticated_to}
+
+-- ---- pair by pair
+
+-- the list with the binding in front, if its sum reaches the wanted amount
+abbrev pub with_bind : ℕ → Pair → ℕ → List Bind → List Bind
+with_bind wanted pair sum binds =
+    if nat_le wanted sum then record { sum = sum; fpr = pair.0; uid = pair.1 } ∷ binds else binds
+
+-- an answer for the first pair, then the list of the others
+pub record IsWithFirst (q : Question) (wanted : ℕ) (pair : Pair) (Others : List Bind → Type 0) (binds : List Bind)
+    : Type 0 where
+  pub paths : List Path
+  pub others : List Bind
+  pub answer : IsAnswer q wanted paths
+  pub listed : Others others
+  pub whole : binds ≡ with_bind wanted pair (amount_of paths) others
+
+-- the list, as a walk over the pairs makes it
+abbrev pub IsWalked : (List ℕ → Record) → List (Fpr × ℕ) → ℕ → List Pair → List Bind → Type 0
+IsWalked told roots wanted [] binds = binds ≡ []
+IsWalked told roots wanted (pair ∷ pairs) binds =
+    IsWithFirst (asks (told pair.1) roots pair.0) wanted pair (IsWalked told roots wanted pairs) binds
+
+module _ (told : List ℕ → Record) (roots : List (Fpr × ℕ)) (wanted : ℕ) where
+  walked_sums : (sums : List Bind) → AllByRecursion (IsSummed told roots wanted) sums →
+      IsWalked told roots wanted (map pair_in sums) (filter (is_authenticated_to wanted) sums)
+  walked_sums [] h = refl
+  walked_sums (bind ∷ sums) h = record {
+    paths = h.0.0;
+    others = filter (is_authenticated_to wanted) sums;
+    answer = h.0.1;
+    listed = walked_sums sums h.1;
+    whole = ap (λ (sum : ℕ). with_bind wanted (pair_in bind) sum (filter (is_authenticated_to wanted) sums)) h.0.2;
+  }
+
+  pub walked : (pairs : List Pair) (binds : List Bind) → IsListed told roots wanted pairs binds →
+      IsWalked told roots wanted pairs binds
+  walked pairs binds h =
+      subst (λ (ps : List Pair). IsWalked told roots wanted ps binds) h.each
+      (subst (λ (bs : List Bind). IsWalked told roots wanted (map pair_in h.sums) bs) (sym h.chosen)
+      (walked_sums h.sums h.summed))
+
+  pub listed_by : (pairs : List Pair) (binds : List Bind) → IsWalked told roots wanted pairs binds →
+      IsListed told roots wanted pairs binds
+  listed_by [] binds h = record { sums = []; each = refl; summed = tt; chosen = h }
+  listed_by (pair ∷ pairs) binds h =
+      let rest = listed_by pairs h.others h.listed in record {
+        sums = record { sum = amount_of h.paths; fpr = pair.0; uid = pair.1 } ∷ rest.sums;
+        each = ap (λ (ps : List Pair). pair ∷ ps) rest.each;
+        summed = ((h.paths, h.answer, refl), rest.summed);
+        chosen = h.whole ∙ ap (with_bind wanted pair (amount_of h.paths)) rest.chosen;
+      }
 
 with_more : (wanted : ℕ) (pair : Pair) (sum : ℕ) (xs ys : List Bind) →
     with_bind wanted pair sum xs ++ ys ≡ with_bind wanted pair sum (xs ++ ys)
@@ -25,24 +79,29 @@ with_more wanted pair sum xs ys = by (nat_le wanted sum)
     by false = refl
 
 module _ (told : List ℕ → Record) (roots : List (Fpr × ℕ)) (wanted : ℕ) where
-  pub joined : (xs ys : List Pair) (a b : List Bind) → IsListed told roots wanted xs a →
-      IsListed told roots wanted ys b → IsListed told roots wanted (xs ++ ys) (a ++ b)
-  joined [] ys a b h g = subst (λ (front : List Bind). IsListed told roots wanted ys (front ++ b)) (sym h) g
-  joined (x ∷ xs) ys a b h g = record {
+  joined_walks : (xs ys : List Pair) (a b : List Bind) → IsWalked told roots wanted xs a →
+      IsWalked told roots wanted ys b → IsWalked told roots wanted (xs ++ ys) (a ++ b)
+  joined_walks [] ys a b h g = subst (λ (front : List Bind). IsWalked told roots wanted ys (front ++ b)) (sym h) g
+  joined_walks (x ∷ xs) ys a b h g = record {
     paths = h.paths;
     others = h.others ++ b;
     answer = h.answer;
-    listed = joined xs ys h.others b h.listed g;
+    listed = joined_walks xs ys h.others b h.listed g;
     whole = ap (λ (front : List Bind). front ++ b) h.whole ∙ with_more wanted x (amount_of h.paths) h.others b;
   }
 
-  -- the list of joined pairs is two lists
-  pub split : (xs ys : List Pair) (binds : List Bind) → IsListed told roots wanted (xs ++ ys) binds
-      → (a : List Bind) × (b : List Bind) × IsListed told roots wanted xs a × IsListed told roots wanted ys
+  pub joined : (xs ys : List Pair) (a b : List Bind) → IsListed told roots wanted xs a →
+      IsListed told roots wanted ys b → IsListed told roots wanted (xs ++ ys) (a ++ b)
+  joined xs ys a b h g =
+      listed_by told roots wanted (xs ++ ys) (a ++ b) (joined_walks xs ys a b (walked told roots wanted xs a h)
+      (walked told roots wanted ys b g))
+
+  split_walk : (xs ys : List Pair) (binds : List Bind) → IsWalked told roots wanted (xs ++ ys) binds
+      → (a : List Bind) × (b : List Bind) × IsWalked told roots wanted xs a × IsWalked told roots wanted ys
       b × (binds ≡ a ++ b)
-  split [] ys binds h = ([], binds, refl, h, refl)
-  split (x ∷ xs) ys binds h =
-      let rest = split xs ys h.others h.listed in
+  split_walk [] ys binds h = ([], binds, refl, h, refl)
+  split_walk (x ∷ xs) ys binds h =
+      let rest = split_walk xs ys h.others h.listed in
       let a = with_bind wanted x (amount_of h.paths) rest.0 in (
         a,
         rest.1,
@@ -51,6 +110,14 @@ module _ (told : List ℕ → Record) (roots : List (Fpr × ℕ)) (wanted : ℕ)
         h.whole ∙ ap (with_bind wanted x (amount_of h.paths)) rest.4
             ∙ sym (with_more wanted x (amount_of h.paths) rest.0 rest.1),
       )
+
+  -- the list of joined pairs is two lists
+  pub split : (xs ys : List Pair) (binds : List Bind) → IsListed told roots wanted (xs ++ ys) binds
+      → (a : List Bind) × (b : List Bind) × IsListed told roots wanted xs a × IsListed told roots wanted ys
+      b × (binds ≡ a ++ b)
+  split xs ys binds h =
+      let s = split_walk xs ys binds (walked told roots wanted (xs ++ ys) binds h) in
+      (s.0, s.1, listed_by told roots wanted xs s.0 s.2, listed_by told roots wanted ys s.1 s.3, s.4)
 
   joined_one : (xs ys : List Pair) (a b : List Bind) → IsTheList told roots wanted xs a →
       IsTheList told roots wanted ys b → IsTheList told roots wanted (xs ++ ys) (a ++ b)
@@ -72,7 +139,11 @@ module _ (told : List ℕ → Record) (roots : List (Fpr × ℕ)) (wanted : ℕ)
   )
 
   pub none_added : (out : List Bind) → AddsListed told roots wanted [] out out
-  none_added out = ([], record { listed = refl; one = λ others h. h }, sym (append-nil out))
+  none_added out = (
+    [],
+    record { listed = listed_by told roots wanted [] [] refl; one = λ others h. walked told roots wanted [] others h },
+    sym (append-nil out),
+  )
 
   -- the list of one pair
   pub one_added : (pair : Pair) (paths : List Path) (old new : List Bind) →
@@ -82,11 +153,18 @@ module _ (told : List ℕ → Record) (roots : List (Fpr × ℕ)) (wanted : ℕ)
   one_added pair paths old new h one e = (
     with_bind wanted pair (amount_of paths) [],
     record {
-      listed = record { paths = paths; others = []; answer = h; listed = refl; whole = refl };
+      listed = listed_by told roots wanted (pair ∷ []) (with_bind wanted pair (amount_of paths) []) (record {
+        paths = paths;
+        others = [];
+        answer = h;
+        listed = refl;
+        whole = refl;
+      });
       one = λ others l.
-          l.whole
-          ∙ ap (λ (ps : List Path). with_bind wanted pair (amount_of ps) l.others) (one l.paths l.answer)
-          ∙ ap (λ (bs : List Bind). with_bind wanted pair (amount_of paths) bs) l.listed;
+          let w = walked told roots wanted (pair ∷ []) others l in
+          w.whole
+          ∙ ap (λ (ps : List Path). with_bind wanted pair (amount_of ps) w.others) (one w.paths w.answer)
+          ∙ ap (λ (bs : List Bind). with_bind wanted pair (amount_of paths) bs) w.listed;
     },
     e,
   )
@@ -119,13 +197,13 @@ module _ (told : List ℕ → Record) (roots : List (Fpr × ℕ)) (wanted : ℕ)
 pub listed_same : (told other : List ℕ → Record) (roots : List (Fpr × ℕ)) (wanted : ℕ) →
     ((u : List ℕ) → told u ≡ other u) → (pairs : List Pair) (binds : List Bind) →
     IsListed told roots wanted pairs binds → IsListed other roots wanted pairs binds
-listed_same told other roots wanted e [] binds h = h
-listed_same told other roots wanted e (pair ∷ pairs) binds h = record {
-  paths = h.paths;
-  others = h.others;
-  answer = subst (λ (r : Record). IsAnswer (asks r roots pair.0) wanted h.paths) (e pair.1) h.answer;
-  listed = listed_same told other roots wanted e pairs h.others h.listed;
-  whole = h.whole;
+listed_same told other roots wanted e pairs binds h = record {
+  sums = h.sums;
+  each = h.each;
+  summed = all_then (IsSummed told roots wanted) (IsSummed other roots wanted)
+      (λ bind s. (s.0, subst (λ (r : Record). IsAnswer (asks r roots bind.fpr) wanted s.0) (e bind.uid) s.1, s.2))
+      h.sums h.summed;
+  chosen = h.chosen;
 }
 
 pub the_list_same : (told other : List ℕ → Record) (roots : List (Fpr × ℕ)) (wanted : ℕ) →
@@ -156,27 +234,43 @@ pairs_named (e ∷ entries) h =
 
 -- ---- one list
 
-pub listed_some : ((q : Question) (wanted : ℕ) → 1 ≤ wanted → (paths : List Path) × IsAnswer q wanted paths)
+some_walk : ((q : Question) (wanted : ℕ) → 1 ≤ wanted → (paths : List Path) × IsAnswer q wanted paths)
     → (told : List ℕ → Record) (roots : List (Fpr × ℕ)) (wanted : ℕ) (pairs : List Pair) → 1 ≤ wanted →
-    (binds : List Bind) × IsListed told roots wanted pairs binds
-listed_some answer told roots wanted [] h = ([], refl)
-listed_some answer told roots wanted (pair ∷ pairs) h =
+    (binds : List Bind) × IsWalked told roots wanted pairs binds
+some_walk answer told roots wanted [] h = ([], refl)
+some_walk answer told roots wanted (pair ∷ pairs) h =
     let a = answer (asks (told pair.1) roots pair.0) wanted h in
-    let rest = listed_some answer told roots wanted pairs h in (
+    let rest = some_walk answer told roots wanted pairs h in (
       with_bind wanted pair (amount_of a.0) rest.0,
       record { paths = a.0; others = rest.0; answer = a.1; listed = rest.1; whole = refl },
     )
+
+pub listed_some : ((q : Question) (wanted : ℕ) → 1 ≤ wanted → (paths : List Path) × IsAnswer q wanted paths)
+    → (told : List ℕ → Record) (roots : List (Fpr × ℕ)) (wanted : ℕ) (pairs : List Pair) → 1 ≤ wanted →
+    (binds : List Bind) × IsListed told roots wanted pairs binds
+listed_some answer told roots wanted pairs h =
+    let walk = some_walk answer told roots wanted pairs h in
+    (walk.0, listed_by told roots wanted pairs walk.0 walk.1)
+
+one_walk : ((q : Question) (wanted : ℕ) (a b : List Path) → IsRecord q.told → IsAnswer q wanted a →
+    IsAnswer q wanted b → a ≡ b)
+    → (told : List ℕ → Record) (roots : List (Fpr × ℕ)) (wanted : ℕ) (pairs : List Pair) (a b : List Bind) →
+    ((u : List ℕ) → IsRecord (told u)) → IsWalked told roots wanted pairs a → IsWalked told roots wanted pairs b →
+    a ≡ b
+one_walk answer told roots wanted [] a b lawful h g = h ∙ sym g
+one_walk answer told roots wanted (pair ∷ pairs) a b lawful h g =
+    let paths = answer (asks (told pair.1) roots pair.0) wanted h.paths g.paths (lawful pair.1) h.answer g.answer in
+    let others = one_walk answer told roots wanted pairs h.others g.others lawful h.listed g.listed in
+    h.whole
+    ∙ ap (λ (ps : List Path). with_bind wanted pair (amount_of ps) h.others) paths
+    ∙ ap (λ (bs : List Bind). with_bind wanted pair (amount_of g.paths) bs) others
+    ∙ sym g.whole
 
 pub listed_one : ((q : Question) (wanted : ℕ) (a b : List Path) → IsRecord q.told → IsAnswer q wanted a →
     IsAnswer q wanted b → a ≡ b)
     → (told : List ℕ → Record) (roots : List (Fpr × ℕ)) (wanted : ℕ) (pairs : List Pair) (a b : List Bind) →
     ((u : List ℕ) → IsRecord (told u)) → IsListed told roots wanted pairs a → IsListed told roots wanted pairs b →
     a ≡ b
-listed_one answer told roots wanted [] a b lawful h g = h ∙ sym g
-listed_one answer told roots wanted (pair ∷ pairs) a b lawful h g =
-    let paths = answer (asks (told pair.1) roots pair.0) wanted h.paths g.paths (lawful pair.1) h.answer g.answer in
-    let others = listed_one answer told roots wanted pairs h.others g.others lawful h.listed g.listed in
-    h.whole
-    ∙ ap (λ (ps : List Path). with_bind wanted pair (amount_of ps) h.others) paths
-    ∙ ap (λ (bs : List Bind). with_bind wanted pair (amount_of g.paths) bs) others
-    ∙ sym g.whole
+listed_one answer told roots wanted pairs a b lawful h g =
+    one_walk answer told roots wanted pairs a b lawful (walked told roots wanted pairs a h)
+    (walked told roots wanted pairs b g)

@@ -1,5 +1,5 @@
 -- A piece of a list grows, pair by pair.
-use Rattle.std.proofs.Common.{◌≡◌, ◌<◌, ◌≤◌, ℕ, Bool, true, false, cond, List, [], ◌∷◌, ◌++◌, length, map, take, filter}
+use Rattle.std.proofs.Common.{◌≡◌, ◌<◌, ◌≤◌, ℕ, Bool, true, false, cond, List, [], ◌∷◌, ◌++◌, length, map, take}
 use Rattle.std.proofs.Common.{Option, Some, None, Ordering, arith, refl, sym, ap, subst, ◌∙◌, append_assoc, append-nil}
 use Rattle.std.specs.Prelude.{nat_le}
 use Rattle.std.specs.declared.cmp.Ordering.TheVariants.{Less, Equal, Greater}
@@ -11,17 +11,17 @@ use Rattle.wot_types.specs.declared.fpr.Fpr.{Fpr}
 use Rattle.wot_types.specs.declared.place.Place.{Place}
 use Rattle.wot_types.specs.Fpr.{fpr_cmp}
 use Rattle.wot_types.specs.FprLaws.{fpr_total}
-use Rattle.wot_cert.specs.Certificate.{Component, Certificate}
+use Rattle.wot_part.specs.Certificate.{Component, Certificate}
 use Rattle.wot_edge.specs.Answer.{amount_of}
 use Rattle.wot_edge.specs.Record.{Record}
-use Rattle.wot_keyring.specs.declared.kept.Kept.{Kept}
-use Rattle.wot_keyring.specs.From.{is_from, entries_from}
-use Rattle.wot_keyring.specs.Keyring.{Entries, stripped}
-use Rattle.wot_keyring.specs.Kept.{AreNamed}
+use Rattle.wot_held.specs.declared.kept.Kept.{Kept}
+use Rattle.wot_held.specs.From.{is_from, entries_from}
+use Rattle.wot_held.specs.Keyring.{Entries, stripped}
+use Rattle.wot_held.specs.Kept.{AreNamed}
 use Rattle.wot_explain.specs.declared.bind.Bind.{Bind}
-use Rattle.wot_explain.specs.Listing.{Pair, pair_of, pairs_in, pairs_of, pairs_of_all, with_bind, IsListed, AddsListed}
+use Rattle.wot_explain.specs.Listing.{Pair, pair_of, pairs_in, pairs_of, pairs_of_all, IsListed, AddsListed}
 use Rattle.wot_explain.specs.Piece.{AddsPiece, IsThePiece, binds_after, comes_after, fpr_at, is_bind_after, piece_of}
-use Rattle.wot_explain.proofs.Listed.{joined, split, pairs_named}
+use Rattle.wot_explain.proofs.Listed.{joined, pairs_named, split, walked, with_bind}
 
 module _ (told : List ℕ → Record) (roots : List (Fpr × ℕ)) (wanted : ℕ) (after : Option Place) (count : ℕ) where
   after_joined : (xs ys : List Bind) → binds_after after (xs ++ ys) ≡ binds_after after xs ++ binds_after after ys
@@ -44,7 +44,8 @@ module _ (told : List ℕ → Record) (roots : List (Fpr × ℕ)) (wanted : ℕ)
 
   pub none_piece : (old : List Bind) → AddsPiece told roots wanted after count [] old old
   none_piece old before binds e h =
-      e ∙ ap (piece_of after count) (sym (ap (λ (bs : List Bind). before ++ bs) h ∙ append-nil before))
+      e ∙ ap (piece_of after count) (sym (ap (λ (bs : List Bind). before ++ bs) (walked told roots wanted [] binds h)
+      ∙ append-nil before))
 
   pub joined_piece : (xs ys : List Pair) (old mid new : List Bind) →
       AddsPiece told roots wanted after count xs old mid → AddsPiece told roots wanted after count ys mid new →
@@ -74,14 +75,17 @@ module _ (told : List ℕ → Record) (roots : List (Fpr × ℕ)) (wanted : ℕ)
   one_few pair sum false = omega arith
 
   -- the list of one pair
-  one_is : (pair : Pair) (binds : List Bind) → (h : IsListed told roots wanted (pair ∷ []) binds) →
-      binds ≡ with_bind wanted pair (amount_of h.paths) []
-  one_is pair binds h = h.whole ∙ ap (with_bind wanted pair (amount_of h.paths)) h.listed
+  one_is : (pair : Pair) (binds : List Bind) → IsListed told roots wanted (pair ∷ []) binds →
+      (sum : ℕ) × (binds ≡ with_bind wanted pair sum [])
+  one_is pair binds h =
+      let w = walked told roots wanted (pair ∷ []) binds h in
+      (amount_of w.paths, w.whole ∙ ap (with_bind wanted pair (amount_of w.paths)) w.listed)
 
   missed_none : (pair : Pair) (binds : List Bind) → comes_after after pair ≡ false →
       IsListed told roots wanted (pair ∷ []) binds → binds_after after binds ≡ []
-  missed_none pair binds off h = ap (binds_after after) (one_is pair binds h) ∙ one_missed pair (amount_of h.paths) off
-      (nat_le wanted (amount_of h.paths))
+  missed_none pair binds off h =
+      let (sum, is) = one_is pair binds h in
+      ap (binds_after after) is ∙ one_missed pair sum off (nat_le wanted sum)
 
   same_piece : (before more : List Bind) → binds_after after more ≡ [] →
       piece_of after count before ≡ piece_of after count (before ++ more)
@@ -98,12 +102,11 @@ module _ (told : List ℕ → Record) (roots : List (Fpr × ℕ)) (wanted : ℕ)
   pub taken_piece : (pair : Pair) (old new : List Bind) → comes_after after pair ≡ true → length old < count →
       AddsListed told roots wanted (pair ∷ []) old new → AddsPiece told roots wanted after count (pair ∷ []) old new
   taken_piece pair old new on lt a before binds e h =
-      let b = nat_le wanted (amount_of h.paths) in
-      let is = one_is pair binds h in
-      let same : binds_after after binds ≡ binds = ap (binds_after after) is ∙ one_taken pair (amount_of h.paths) on b
+      let (sum_is, is) = one_is pair binds h in
+      let b = nat_le wanted sum_is in
+      let same : binds_after after binds ≡ binds = ap (binds_after after) is ∙ one_taken pair sum_is on b
       ∙ sym is in
-      let few : length binds ≤ 1 = subst (λ (bs : List Bind). length bs ≤ 1) (sym is)
-      (one_few pair (amount_of h.paths) b) in
+      let few : length binds ≤ 1 = subst (λ (bs : List Bind). length bs ≤ 1) (sym is) (one_few pair sum_is b) in
       let long = length-take count (binds_after after before) in
       let short : length (piece_of after count before) < count = subst (λ (bs : List Bind). length bs < count) e lt in
       let whole : piece_of after count before ≡ binds_after after before = take_all count (binds_after after before)
@@ -156,7 +159,7 @@ module _ (told : List ℕ → Record) (roots : List (Fpr × ℕ)) (wanted : ℕ)
 
   missed_all : (fpr : Fpr) (uids : List Component) (binds : List Bind) → is_from (fpr_at after) fpr ≡ false →
       IsListed told roots wanted (map (pair_of fpr) uids) binds → binds_after after binds ≡ []
-  missed_all fpr [] binds off h = ap (binds_after after) h
+  missed_all fpr [] binds off h = ap (binds_after after) (walked told roots wanted [] binds h)
   missed_all fpr (uid ∷ uids) binds off h =
       let s = split told roots wanted (pair_of fpr uid ∷ []) (map (pair_of fpr) uids) binds h in
       ap (binds_after after) s.4 ∙ after_joined s.0 s.1

@@ -1,15 +1,16 @@
 -- The bindings of fingerprints and user IDs that are authenticated to an amount.
-use Rattle.std.specs.Prelude.{◌≡◌, ◌≤◌, ℕ, length, nat_le, if◌then◌else◌, List, [], ◌∷◌, ◌++◌, map}
+use Rattle.std.specs.Prelude.{◌≡◌, ◌≤◌, ℕ, Bool, length, nat_le, List, [], ◌∷◌, ◌++◌, map, filter}
+use Rattle.std.specs.List.{AllByRecursion}
 use Rattle.wot_types.specs.declared.fpr.Fpr.{Fpr}
 use Rattle.wot_verdict.specs.Verdicts.{Entries}
-use Rattle.wot_cert.specs.Certificate.{Component, Certificate}
+use Rattle.wot_part.specs.Certificate.{Component, Certificate}
 use Rattle.wot_edge.specs.Answer.{IsAnswer, amount_of}
-use Rattle.wot_edge.specs.Path.{Question, asks}
+use Rattle.wot_edge.specs.Path.{asks}
 use Rattle.wot_edge.specs.Record.{IsRecord, Record}
 use Rattle.wot_edge.specs.declared.path.Path.{Path}
-use Rattle.wot_keyring.specs.Keyring.{Certificates, Keyring, certificates_in}
+use Rattle.wot_held.specs.Keyring.{Certificates, Keyring, certificates_in}
 use Rattle.wot_network.specs.Told.{record_of}
-use Rattle.wot_search.specs.Reach.{IsReach}
+use Rattle.wot_reach.specs.Reach.{IsReach}
 use Rattle.wot_standing.specs.Standing.{own}
 use Rattle.wot_explain.specs.declared.bind.Bind.{Bind}
 use Rattle.wot_explain.specs.declared.sought.Sought.{Sought}
@@ -27,25 +28,26 @@ abbrev pub pairs_in : Certificates → List Pair
 pairs_in [] = []
 pairs_in (e ∷ certs) = map (pair_of e.0) e.1.user_ids ++ pairs_in certs
 
--- the list with the binding in front, if its sum reaches the wanted amount
-abbrev pub with_bind : ℕ → Pair → ℕ → List Bind → List Bind
-with_bind wanted pair sum binds =
-    if nat_le wanted sum then record { sum = sum; fpr = pair.0; uid = pair.1 } ∷ binds else binds
+-- the pair that a binding is about
+abbrev pub pair_in : Bind → Pair
+pair_in bind = (bind.fpr, bind.uid)
 
--- An answer for the first pair, then the list of the others.
-pub record IsWithFirst (q : Question) (wanted : ℕ) (pair : Pair) (Others : List Bind → Type 0) (binds : List Bind)
-    : Type 0 where
-  pub paths : List Path
-  pub others : List Bind
-  pub answer : IsAnswer q wanted paths
-  pub listed : Others others
-  pub whole : binds ≡ with_bind wanted pair (amount_of paths) others
+-- Its sum is that of an answer to the question about its pair.
+abbrev pub IsSummed : (List ℕ → Record) → List (Fpr × ℕ) → ℕ → Bind → Type 0
+IsSummed told roots wanted bind =
+    (paths : List Path) × IsAnswer (asks (told bind.uid) roots bind.fpr) wanted paths × (bind.sum ≡ amount_of paths)
 
--- These are the bindings among the pairs whose answer reaches the wanted amount, in order, each with its answer's sum.
-abbrev pub IsListed : (List ℕ → Record) → List (Fpr × ℕ) → ℕ → List Pair → List Bind → Type 0
-IsListed told roots wanted [] binds = binds ≡ []
-IsListed told roots wanted (pair ∷ pairs) binds =
-    IsWithFirst (asks (told pair.1) roots pair.0) wanted pair (IsListed told roots wanted pairs) binds
+-- It is authenticated to the wanted amount: its sum reaches it.
+abbrev pub is_authenticated_to : ℕ → Bind → Bool
+is_authenticated_to wanted bind = nat_le wanted bind.sum
+
+-- Each pair has the sum of its answer, and the list is those, in order, that reach the wanted amount.
+pub record IsListed (told : List ℕ → Record) (roots : List (Fpr × ℕ)) (wanted : ℕ) (pairs : List Pair)
+    (binds : List Bind) : Type 0 where
+  pub sums : List Bind
+  pub each : map pair_in sums ≡ pairs
+  pub summed : AllByRecursion (IsSummed told roots wanted) sums
+  pub chosen : binds ≡ filter (is_authenticated_to wanted) sums
 
 -- That holds for all pairs, records, roots and amounts.
 abbrev pub IsOfEachList : ((List ℕ → Record) → List (Fpr × ℕ) → ℕ → List Pair → Type 0) → Type 0

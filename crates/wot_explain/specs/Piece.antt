@@ -2,7 +2,6 @@
 use Rattle.std.specs.Prelude.{◌≡◌, ℕ, Bool, true, List, ◌++◌, filter, take, Option, Some, None, Vec}
 use Rattle.std.specs.declared.alloc.Global.{Global}
 use Rattle.std.specs.Cmp.Lexicographic.{slice_cmp}
-use Rattle.std.specs.Borrow.{Bor}
 use Rattle.std.specs.Option.{option_copied, option_map}
 use Rattle.std.specs.Ordering.{is_gt, nat_cmp, ordering_then}
 use Rattle.wot_types.specs.Fpr.{fpr_cmp}
@@ -10,10 +9,10 @@ use Rattle.wot_types.specs.declared.fpr.Fpr.{Fpr}
 use Rattle.wot_types.specs.declared.place.Place.{Place}
 use Rattle.wot_verdict.specs.Verdicts.{Entries}
 use Rattle.wot_edge.specs.Record.{Record}
-use Rattle.wot_keyring.specs.Keyring.{Certificates, Keyring, certificates_in}
+use Rattle.wot_held.specs.Keyring.{Certificates, Keyring, certificates_in}
 use Rattle.wot_network.specs.Told.{record_of}
 use Rattle.wot_explain.specs.declared.bind.Bind.{Bind}
-use Rattle.wot_explain.specs.declared.sought.Sought.{Sought}
+use Rattle.wot_explain.specs.declared.sought.Page.{Page}
 use Rattle.wot_explain.specs.Listing.{IsListed, Pair, pairs_in}
 use Rattle.wot_explain.specs.Usable.{AreRoadsOf}
 
@@ -40,11 +39,11 @@ AddsPiece told roots wanted after count pairs old new =
     (before binds : List Bind) → old ≡ piece_of after count before → IsListed told roots wanted pairs binds
     → new ≡ piece_of after count (before ++ binds)
 
--- The same for those pairs that are asked for.
-abbrev pub GoesOn : (List ℕ → Record) → Sought → Option (Bor Place) → ℕ → List Pair
-    → Vec Bind Global → Vec Bind Global → Type 0
-GoesOn told sought after count pairs old new =
-    AddsPiece told sought.roots.now sought.wanted (option_copied after) count pairs old.items new.items
+-- The piece that is wanted goes on so with these pairs.
+abbrev pub GoesOn : (List ℕ → Record) → Page → List Pair → Vec Bind Global → Vec Bind Global → Type 0
+GoesOn told page pairs old new =
+    AddsPiece told page.sought.roots.now page.sought.wanted (option_copied page.after) page.count pairs
+    old.items new.items
 
 -- the fingerprint of a place
 abbrev pub fpr_at : Option Place → Option Fpr
@@ -69,3 +68,12 @@ IsPieceHere told k roots wanted after count binds =
 abbrev pub IsPieceThen : (List ℕ → Record) → Keyring → List (Fpr × ℕ) → ℕ → Option Place → ℕ → Vec Bind Global → Type 0
 IsPieceThen told k roots wanted after count binds =
     (t : ℕ) → AreRoadsOf told k t → IsPieceOf (certificates_in k) k.verdicts t roots wanted after count binds.items
+
+-- They are the page that is wanted, here and then.
+abbrev pub IsPageHere : (List ℕ → Record) → Keyring → Page → Vec Bind Global → Type 0
+IsPageHere told k page binds =
+    IsPieceHere told k page.sought.roots.now page.sought.wanted (option_copied page.after) page.count binds
+
+abbrev pub IsPageThen : (List ℕ → Record) → Keyring → Page → Vec Bind Global → Type 0
+IsPageThen told k page binds =
+    IsPieceThen told k page.sought.roots.now page.sought.wanted (option_copied page.after) page.count binds

@@ -8,18 +8,19 @@ use Rattle.wot_types.specs.declared.fpr.Fpr.{Fpr}
 use Rattle.wot_types.specs.declared.number.SigNumber.{SigNumber}
 use Rattle.wot_verdict.specs.Verdicts.{Entries, verdict_at}
 use Rattle.wot_verdict.specs.declared.verdict.Verdict.{Verdict}
-use Rattle.wot_cert.specs.Certificate.{Signature, Component, Certificate, sig_cmp}
+use Rattle.wot_part.specs.Certificate.{Signature, Component, Certificate, sig_cmp}
 use Rattle.wot_cert.specs.Issuer.{allows, good_by}
-use Rattle.wot_cert.specs.Judged.{is_sound, is_true_of}
+use Rattle.wot_part.specs.Judged.{is_sound, is_true_of}
 use Rattle.wot_cert.specs.Revoked.{is_unrevoked}
 use Rattle.wot_cert.specs.Time.{is_live, made_of}
 use Rattle.wot_edge.specs.Path.{step_of}
 use Rattle.wot_edge.specs.declared.path.Step.{Step}
-use Rattle.wot_keyring.specs.Keyring.{Certificates, Keyring, certificates_in, is_fpr}
+use Rattle.wot_held.specs.Keyring.{Certificates, Keyring, certificates_in, is_fpr}
 use Rattle.wot_live.specs.Edge.{edge_by}
 use Rattle.wot_standing.specs.Standing.{newest_certification, standing_of}
 use Rattle.wot_standing.specs.Usable.{is_after}
 use Rattle.wot_standing.specs.declared.status.Standing.{Standing}
+use Rattle.wot_explain.specs.declared.words.Certification.{Certification}
 use Rattle.wot_explain.specs.Words.{Word, first_word, is_so}
 
 -- ---- the issuer, by the verdict
@@ -137,3 +138,12 @@ reason_with s word step = (s.number, word, if word == 0 then step else None)
 abbrev pub reason_of : Entries → Certificates → ℕ → Fpr → ℕ → Component → Signature → Reason
 reason_of verdicts certs t target place uid s =
     reason_with s (reason_word verdicts certs t uid s) (step_by verdicts target place uid s)
+
+-- ---- of a certification, with the keyring and the time that it is looked at
+
+abbrev pub word_of : Certification → ℕ
+word_of on = reason_word on.keyring.now.verdicts (certificates_in on.keyring.now) on.t on.uid.now on.sig.now
+
+abbrev pub told_reason : Certification → Fpr → ℕ → Reason
+told_reason on target place =
+    reason_of on.keyring.now.verdicts (certificates_in on.keyring.now) on.t target place on.uid.now on.sig.now

@@ -21,4 +21,5 @@ pub use bind::Bind;
 pub use explained::{ExplainFault, Explained, Reason, ReasonList};
 pub use explaining::explain;
 pub use listing::list;
-pub use piece::{list_after, list_after_within};
+pub use piece::{list_after, list_page};
+pub use sought::{Page, Sought};

@@ -4,12 +4,12 @@
 ghost use Rattle.std.specs.Prelude.{◌≡◌, ◌≤◌, ◌∷◌, [], length, map, IfOk, OnOk};
 ghost use Rattle.std.specs.Option.{option_copied};
 ghost use Rattle.wot_explain.specs.Listing.{IsSought, pair_of, pairs_of, pairs_of_all};
-ghost use Rattle.wot_explain.specs.Piece.{GoesOn, IsPieceHere, IsPieceThen, comes_after as comes_after_spec, fpr_at};
-ghost use Rattle.wot_search.specs.Reach.{IsReach};
+ghost use Rattle.wot_explain.specs.Piece.{GoesOn, IsPageHere, IsPageThen, IsPieceHere, IsPieceThen};
+ghost use Rattle.wot_explain.specs.Piece.{comes_after as comes_after_spec, fpr_at};
 
 use crate::Bind;
 use crate::listing::list_pair;
-use crate::sought::Sought;
+use crate::sought::{Page, Sought};
 use std::alloc::Global;
 use std::cmp::Ordering;
 use wot_cert::{Cert, Part};
@@ -44,44 +44,40 @@ fn start(after: Option<&Place>) -> Option<Fpr>
 fn piece_pair<R: Roads>(
     alloc: Global,
     roads: &R,
-    sought: &Sought,
-    after: Option<&Place>,
-    count: u32,
+    page: &Page<'_>,
     fpr: &Fpr,
     uid: &[u8],
     out: &mut Vec<Bind>,
 ) -> Result<(), Memory>
-    requires sought { IsSought (R.told roads.now) sought.now }
-    ensures { OnOk result (GoesOn (R.told roads.now) sought.now after.entry count
+    requires sought { IsSought (R.told roads.now) page.now.sought }
+    ensures { OnOk result (GoesOn (R.told roads.now) page.now
         ((fpr.now, uid.now) ∷ []) out.old out.new) }
 {
-    if out.len() >= count as usize {
+    if out.len() >= page.count as usize {
         return Ok(());
     }
-    if !comes_after(fpr, uid, after) {
+    if !comes_after(fpr, uid, page.after) {
         return Ok(());
     }
-    list_pair(alloc, roads, sought, fpr, uid, out)?;
+    list_pair(alloc, roads, &page.sought, fpr, uid, out)?;
     Ok(())
 }
 
 fn piece_user_ids<R: Roads>(
     alloc: Global,
     roads: &R,
-    sought: &Sought,
-    after: Option<&Place>,
-    count: u32,
+    page: &Page<'_>,
     fpr: &Fpr,
     user_ids: &[Part],
     out: &mut Vec<Bind>,
 ) -> Result<(), Memory>
-    requires sought { IsSought (R.told roads.now) sought.now }
-    ensures { OnOk result (GoesOn (R.told roads.now) sought.now after.entry count
+    requires sought { IsSought (R.told roads.now) page.now.sought }
+    ensures { OnOk result (GoesOn (R.told roads.now) page.now
         (map (pair_of fpr.now) user_ids.now) out.old out.new) }
 {
     let mut rest = user_ids;
     'rest: while let Some((uid, others)) = rest.split_first() {
-        piece_pair(alloc, roads, sought, after, count, fpr, uid.body(), out)?;
+        piece_pair(alloc, roads, page, fpr, uid.body(), out)?;
         rest = others;
     }
     Ok(())
@@ -90,47 +86,34 @@ fn piece_user_ids<R: Roads>(
 fn piece_cert<R: Roads>(
     alloc: Global,
     roads: &R,
-    sought: &Sought,
-    after: Option<&Place>,
-    count: u32,
+    page: &Page<'_>,
     cert: &Cert,
     out: &mut Vec<Bind>,
 ) -> Result<(), Memory>
-    requires sought { IsSought (R.told roads.now) sought.now }
-    ensures { OnOk result (GoesOn (R.told roads.now) sought.now after.entry count
+    requires sought { IsSought (R.told roads.now) page.now.sought }
+    ensures { OnOk result (GoesOn (R.told roads.now) page.now
         (pairs_of cert.now) out.old out.new) }
 {
-    piece_user_ids(
-        alloc,
-        roads,
-        sought,
-        after,
-        count,
-        &cert.fpr(),
-        cert.user_ids(),
-        out,
-    )
+    piece_user_ids(alloc, roads, page, &cert.fpr(), cert.user_ids(), out)
 }
 
 /// Appends bindings until the piece is full.
 fn piece_certs<R: Roads>(
     alloc: Global,
     roads: &R,
-    sought: &Sought,
-    after: Option<&Place>,
-    count: u32,
+    page: &Page<'_>,
     certs: CertsFrom<'_>,
     out: &mut Vec<Bind>,
 ) -> Result<(), Memory>
-    requires sought { IsSought (R.told roads.now) sought.now }
-    ensures { OnOk result (GoesOn (R.told roads.now) sought.now after.entry count
+    requires sought { IsSought (R.told roads.now) page.now.sought }
+    ensures { OnOk result (GoesOn (R.told roads.now) page.now
         (pairs_of_all certs.entry) out.old out.new) }
 {
     'certs: for cert in certs {
-        if out.len() >= count as usize {
+        if out.len() >= page.count as usize {
             return Ok(());
         }
-        piece_cert(alloc, roads, sought, after, count, cert, out)?;
+        piece_cert(alloc, roads, page, cert, out)?;
     }
     Ok(())
 }
@@ -154,35 +137,32 @@ pub fn list_after<R: Roads>(
         (IsPieceThen (R.told roads.now) keyring.now roots.now wanted (option_copied after.entry) count) }
 {
     let reach = Reach::everywhere(alloc);
-    list_after_within(alloc, keyring, roads, roots, &reach, wanted, after, count)
+    let sought = Sought {
+        roots,
+        reach: &reach,
+        wanted,
+    };
+    let page = Page {
+        sought,
+        after,
+        count,
+    };
+    list_page(alloc, keyring, roads, &page)
 }
 
-/// As [`list_after`], with a table of how far issuers reach that serves all pieces of a list.
-pub fn list_after_within<R: Roads>(
+/// As [`list_after`], with a table of how far issuers reach that serves all pages of a list.
+pub fn list_page<R: Roads>(
     alloc: Global,
     keyring: &Keyring,
     roads: &R,
-    roots: &Roots,
-    reach: &Reach,
-    wanted: u32,
-    after: Option<&Place>,
-    count: u32,
+    page: &Page<'_>,
 ) -> Result<Vec<Bind>, Memory>
-    requires wanted { 1 ≤ wanted }
-    requires few { length roots.now ≤ 64 }
-    requires reach { IsReach (R.told roads.now) roots.now reach.now }
-    ensures piece { IfOk result
-        (IsPieceHere (R.told roads.now) keyring.now roots.now wanted (option_copied after.entry) count) }
-    ensures list { IfOk result
-        (IsPieceThen (R.told roads.now) keyring.now roots.now wanted (option_copied after.entry) count) }
+    requires sought { IsSought (R.told roads.now) page.now.sought }
+    ensures piece { IfOk result (IsPageHere (R.told roads.now) keyring.now page.now) }
+    ensures list { IfOk result (IsPageThen (R.told roads.now) keyring.now page.now) }
 {
-    let sought = Sought {
-        roots,
-        reach,
-        wanted,
-    };
     let mut binds = Vec::new(alloc);
-    let certs = keyring.certs_from(start(after));
-    piece_certs(alloc, roads, &sought, after, count, certs, &mut binds)?;
+    let certs = keyring.certs_from(start(page.after));
+    piece_certs(alloc, roads, page, certs, &mut binds)?;
     Ok(binds)
 }

@@ -2,16 +2,16 @@
 //! a usable edge. Each issuer's newest certification is found once for all of them.
 ghost use Rattle.std.specs.Prelude.{◌≡◌, ℕ, List, IfOk};
 ghost use Rattle.std.specs.Option.{option_map};
-ghost use Rattle.wot_cert.specs.Certificate.{Signature};
+ghost use Rattle.wot_part.specs.Certificate.{Signature};
 ghost use Rattle.wot_edge.specs.Path.{step_of as step_of_spec};
 ghost use Rattle.wot_live.specs.Edge.{edge_by, edge_facts};
 ghost use Rattle.wot_explain.specs.Explaining.{reasons_on};
-ghost use Rattle.wot_explain.specs.Reasons.{reason_of, reason_with, step_by};
-ghost use Rattle.wot_keyring.specs.Keyring.{certificates_in};
+ghost use Rattle.wot_explain.specs.Reasons.{reason_with, step_by, told_reason};
+ghost use Rattle.wot_held.specs.Keyring.{certificates_in};
 ghost use Rattle.wot_live.specs.Found.{HasFew};
 ghost use Rattle.wot_standing.specs.Certifiers.{KeepsNewest};
 
-use crate::words::reason_word;
+use crate::words::{Certification, reason_word};
 use crate::{Reason, ReasonList};
 use std::alloc::Global;
 use std::cmp::Ordering;
@@ -70,21 +70,13 @@ fn reason_told(sig: &Sig, word: u8, step: Option<Step>) -> Reason
     }
 }
 
-fn reason(
-    sig: &Sig,
-    uid: &Part,
-    keyring: &Keyring,
-    t: u32,
-    certifiers: &Certifiers,
-    target: Fpr,
-    place: u32,
-) -> Reason
-    requires newest { KeepsNewest keyring.now.verdicts t uid.now certifiers.now }
-    ensures { result ≡ reason_of keyring.now.verdicts (certificates_in keyring.now) t target place uid.now sig.now }
+fn reason(on: &Certification<'_>, target: Fpr, place: u32) -> Reason
+    requires newest { KeepsNewest on.now.keyring.now.verdicts on.now.t on.now.uid.now on.now.certifiers.now }
+    ensures { result ≡ told_reason on.now target place }
 {
-    let word = reason_word(sig, uid, keyring, t, certifiers);
-    let step = step(sig, uid, keyring.verdicts(), target, place);
-    reason_told(sig, word, step)
+    let word = reason_word(on);
+    let step = step(on.sig, on.uid, on.keyring.verdicts(), target, place);
+    reason_told(on.sig, word, step)
 }
 
 /// The reasons of the certifications on the user ID at this place.
@@ -105,7 +97,14 @@ pub(crate) fn reasons(
     let mut rest = uid.sigs();
     'rest: while let Some((sig, others)) = rest.split_first() {
         if is_certification(sig) {
-            items.push(reason(sig, uid, keyring, t, &certifiers, target, place))?;
+            let on = Certification {
+                sig,
+                uid,
+                keyring,
+                t,
+                certifiers: &certifiers,
+            };
+            items.push(reason(&on, target, place))?;
         }
         rest = others;
     }

@@ -2,11 +2,11 @@
 //! reason is a row there, a test here, and a word in wot_script.
 ghost use Rattle.std.specs.Prelude.{◌≡◌, not};
 ghost use Rattle.std.specs.Ordering.{is_eq};
-ghost use Rattle.wot_cert.specs.Certificate.{sig_cmp};
-ghost use Rattle.wot_explain.specs.Reasons.{counted_words, good_words, issuer_words};
-ghost use Rattle.wot_explain.specs.Reasons.{reason_word as reason_word_spec, standing_by as standing_by_spec};
+ghost use Rattle.wot_part.specs.Certificate.{sig_cmp};
+ghost use Rattle.wot_explain.specs.Reasons.{counted_words, good_words, issuer_words, standing_by as standing_by_spec};
+ghost use Rattle.wot_explain.specs.Reasons.{word_of};
 ghost use Rattle.wot_explain.specs.Words.{first_word, is_so};
-ghost use Rattle.wot_keyring.specs.Keyring.{certificates_in};
+ghost use Rattle.wot_held.specs.Keyring.{certificates_in};
 ghost use Rattle.wot_standing.specs.Certifiers.{KeepsNewest, kept_for};
 ghost use Rattle.wot_standing.specs.Standing.{standing_of};
 
@@ -20,6 +20,17 @@ use wot_standing::kinds::{is_live, made};
 use wot_standing::{Certifiers, Standing, standing};
 use wot_types::Fpr;
 use wot_verdict::{Verdict, Verdicts};
+
+/// A certification on a user ID, and what its reason depends on: the keyring, the time, and each issuer's newest
+/// certification there.
+#[derive(Clone, Copy)]
+pub(crate) struct Certification<'a> {
+    pub(crate) sig: &'a Sig,
+    pub(crate) uid: &'a Part,
+    pub(crate) keyring: &'a Keyring,
+    pub(crate) t: u32,
+    pub(crate) certifiers: &'a Certifiers,
+}
 
 fn standing_at(cert: &Cert, verdicts: &Verdicts, t: u32) -> Standing
     ensures { result ≡ standing_of verdicts.now cert.now t }
@@ -72,17 +83,17 @@ fn is_older(sig: &Sig, uid: &Part, certifiers: &Certifiers, issuer: &Fpr) -> boo
 }
 
 /// The word of a certification that counts for its issuer.
-fn counting_word(
-    sig: &Sig,
-    uid: &Part,
-    keyring: &Keyring,
-    t: u32,
-    certifiers: &Certifiers,
-    issuer: &Fpr,
-) -> u8
-    requires newest { KeepsNewest keyring.now.verdicts t uid.now certifiers.now }
-    ensures { result ≡ first_word (counted_words keyring.now t uid.now sig.now issuer.now) }
+fn counting_word(on: &Certification<'_>, issuer: &Fpr) -> u8
+    requires newest { KeepsNewest on.now.keyring.now.verdicts on.now.t on.now.uid.now on.now.certifiers.now }
+    ensures { result ≡ first_word (counted_words on.now.keyring.now on.now.t on.now.uid.now on.now.sig.now issuer.now) }
 {
+    let Certification {
+        sig,
+        uid,
+        keyring,
+        t,
+        certifiers,
+    } = *on;
     if t < made(sig) {
         return 6;
     }
@@ -99,44 +110,31 @@ fn counting_word(
 }
 
 /// The word of a valid certification whose verdict is good by this issuer.
-fn good_word(
-    sig: &Sig,
-    uid: &Part,
-    keyring: &Keyring,
-    t: u32,
-    certifiers: &Certifiers,
-    issuer: &Fpr,
-) -> u8
-    requires newest { KeepsNewest keyring.now.verdicts t uid.now certifiers.now }
-    ensures { result ≡ first_word (good_words keyring.now t uid.now sig.now issuer.now) }
+fn good_word(on: &Certification<'_>, issuer: &Fpr) -> u8
+    requires newest { KeepsNewest on.now.keyring.now.verdicts on.now.t on.now.uid.now on.now.certifiers.now }
+    ensures { result ≡ first_word (good_words on.now.keyring.now on.now.t on.now.uid.now on.now.sig.now issuer.now) }
 {
-    if names_other(sig, issuer) {
+    if names_other(on.sig, issuer) {
         return 4;
     }
-    if !sig.admitted() {
+    if !on.sig.admitted() {
         return 5;
     }
-    counting_word(sig, uid, keyring, t, certifiers, issuer)
+    counting_word(on, issuer)
 }
 
 /// The number of the word of a certification on a user ID: the first reason why it isn't a usable edge, or 0 if it is
 /// one.
-pub(crate) fn reason_word(
-    sig: &Sig,
-    uid: &Part,
-    keyring: &Keyring,
-    t: u32,
-    certifiers: &Certifiers,
-) -> u8
-    requires newest { KeepsNewest keyring.now.verdicts t uid.now certifiers.now }
-    ensures word { result ≡ reason_word_spec keyring.now.verdicts (certificates_in keyring.now) t uid.now sig.now }
+pub(crate) fn reason_word(on: &Certification<'_>) -> u8
+    requires newest { KeepsNewest on.now.keyring.now.verdicts on.now.t on.now.uid.now on.now.certifiers.now }
+    ensures word { result ≡ word_of on.now }
 {
-    if !is_sound(sig) {
+    if !is_sound(on.sig) {
         return 1;
     }
-    match keyring.verdicts().get(&sig.number()) {
+    match on.keyring.verdicts().get(&on.sig.number()) {
         None => 2,
         Some(Verdict::Bad) => 3,
-        Some(Verdict::Good(issuer)) => good_word(sig, uid, keyring, t, certifiers, &issuer),
+        Some(Verdict::Good(issuer)) => good_word(on, &issuer),
     }
 }

@@ -3,22 +3,22 @@ use Rattle.std.proofs.Common.{◌≡◌, ◌≤◌, ◌+◌, inl, ℕ, Bool, tru
 use Rattle.std.proofs.Common.{ap, ◌∙◌, subst}
 use Rattle.std.specs.List.{AllByRecursion}
 use Rattle.wot_policy.specs.declared.rows.PolicyRows.{PolicyRows}
-use Rattle.wot_cert.specs.Certificate.{Certificate, unite}
-use Rattle.wot_cert.specs.Counts.{items_of}
-use Rattle.wot_cert.specs.Judged.{judged, sound_of}
-use Rattle.wot_cert.specs.Whole.{IsCertificate}
-use Rattle.wot_keyring.specs.declared.staging.Fault.{Fault}
-use Rattle.wot_keyring.specs.declared.staging.Fault.TheVariants.{Clash, Memory}
-use Rattle.wot_keyring.specs.declared.tally.Weight.{Weight}
-use Rattle.wot_keyring.specs.Import.{with_certs, holding, IsOneChange}
-use Rattle.wot_keyring.specs.Importing.{MayUnite, AnswersUnited, asked_for}
-use Rattle.wot_keyring.specs.Later.{IsLater}
-use Rattle.wot_keyring.specs.Keyring.{Entries, Keyring, certificates_in}
-use Rattle.wot_keyring.specs.Kept.{AreSortedByFpr, IsKeyring, AreTotals}
-use Rattle.wot_keyring.specs.Staging.{kept_all, clash_in, weigh_kept, IsTally, AskedUpTo, IsClashTold}
-use Rattle.wot_keyring.proofs.Accepting.{answered, held, changed_once, keyring_after, totals_after, asked_all}
-use Rattle.wot_keyring.proofs.Accepting.{asked_some}
-use Rattle.wot_keyring.proofs.Clashes.{clashes_told}
+use Rattle.wot_part.specs.Certificate.{Certificate, unite}
+use Rattle.wot_part.specs.Counts.{items_of}
+use Rattle.wot_part.specs.Judged.{judged, sound_of}
+use Rattle.wot_part.specs.Whole.{IsCertificate}
+use Rattle.wot_merge.specs.declared.staging.Fault.{Fault}
+use Rattle.wot_merge.specs.declared.staging.Fault.TheVariants.{Clash}
+use Rattle.wot_merge.specs.declared.tally.Weight.{Weight}
+use Rattle.wot_held.specs.Import.{with_certs, holding, IsOneChange}
+use Rattle.wot_held.specs.Importing.{MayUnite, AnswersUnited, asked_for}
+use Rattle.wot_held.specs.Later.{IsLater}
+use Rattle.wot_held.specs.Keyring.{Entries, Keyring, certificates_in}
+use Rattle.wot_held.specs.Kept.{AreSortedByFpr, IsKeyring, AreTotals}
+use Rattle.wot_merge.specs.Staging.{kept_all, clash_in, weigh_kept, IsTally, IsClashTold}
+use Rattle.wot_keyring.proofs.ImportEffects.{answered, held, changed_once, keyring_after, totals_after, asked_all}
+use Rattle.wot_keyring.proofs.ImportEffects.{asked_some}
+use Rattle.wot_merge.proofs.Clashes.{clashes_told}
 
 true_false : (b : Bool) → b ≡ true → b ≡ false → ⊥
 true_false b h k = let e : true ≡ false = sym h ∙ k in cc
@@ -34,19 +34,17 @@ module _ (rows : PolicyRows) (k now : Keyring) (v : k ≡ now) (stamp : ℕ) (st
   may_before : MayUnite now.limits (certificates_in now) cs → MayUnite k.limits (certificates_in k) cs
   may_before may = subst (λ (z : Keyring). MayUnite z.limits (certificates_in z) cs) (sym v) may
 
-  pub asked_now : (n : ℕ) → weigh_kept sound_of k.certs + n ≡ weigh_kept sound_of (kept_all rows stamp k.certs list) →
+  pub asked_now : (n : ℕ) → n + weigh_kept sound_of k.certs ≡ weigh_kept sound_of (kept_all rows stamp k.certs list) →
       n ≡ asked_for rows now cs
   asked_now n e = asked_all rows (k.changes + 1) k.certs cs n (e ∙ ap (weigh_kept sound_of) steps)
       ∙ ap (λ (z : Keyring). asked_for rows z cs) v
 
-  pub asked_by_now : (n : ℕ) (fault : Fault) → fault ≡ Memory → AskedUpTo fault (weigh_kept sound_of k.certs)
-      (weigh_kept sound_of (kept_all rows stamp k.certs list)) n → n ≤ asked_for rows now cs
-  asked_by_now n fault is told =
-      let e = subst (λ (f : Fault). AskedUpTo f (weigh_kept sound_of k.certs)
-      (weigh_kept sound_of (kept_all rows stamp k.certs list)) n) is told in
+  pub asked_by_now : (n : ℕ) → n + weigh_kept sound_of k.certs ≤ weigh_kept sound_of
+      (kept_all rows stamp k.certs list) → n ≤ asked_for rows now cs
+  asked_by_now n e =
       subst (λ (z : Keyring). n ≤ asked_for rows z cs) v
       (asked_some rows (k.changes + 1) k.certs cs n
-      (subst (λ (es : Entries). weigh_kept sound_of k.certs + n ≤ weigh_kept sound_of es) steps e))
+      (subst (λ (es : Entries). n + weigh_kept sound_of k.certs ≤ weigh_kept sound_of es) steps e))
 
   pub no_clash : MayUnite now.limits (certificates_in now) cs → (fault : Fault) → fault ≡ Clash →
       IsClashTold fault (clash_in rows stamp k.certs list) → ⊥

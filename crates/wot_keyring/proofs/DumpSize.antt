@@ -3,29 +3,29 @@ use Rattle.std.proofs.Common.{◌≡◌, ℕ, ◌+◌, ◌*◌, ◌≤◌, List,
 use Rattle.std.proofs.lemmas.List.{length-map}
 use Rattle.wot_types.specs.declared.fpr.Fpr.{Fpr}
 use Rattle.wot_types.specs.declared.number.SigNumber.{SigNumber}
-use Rattle.wot_script.specs.declared.command.Command.{Command}
-use Rattle.wot_script.specs.Spelling.{most_octets, spelling}
+use Rattle.wot_words.specs.StateLine.{most_octets, spelling}
+use Rattle.wot_words.specs.declared.state_line.StateLine.{StateLine}
 use Rattle.wot_verdict.specs.declared.verdict.Verdict.{Verdict}
 use Rattle.wot_verdict.specs.declared.verdict.Verdict.TheVariants.{Good, Bad}
-use Rattle.wot_cert.specs.Certificate.{Certificate}
-use Rattle.wot_cert.specs.Counts.{sum_of}
-use Rattle.wot_cert.specs.Text.{size_of}
-use Rattle.wot_keyring.specs.declared.kept.Kept.{Kept}
-use Rattle.wot_keyring.specs.Keyring.{Certificates, Keyring, certificates_in}
-use Rattle.wot_keyring.specs.Held.{held_of}
-use Rattle.wot_keyring.specs.Import.{weigh}
-use Rattle.wot_keyring.specs.Kept.{IsKeyring}
+use Rattle.wot_part.specs.Certificate.{Certificate}
+use Rattle.wot_part.specs.Counts.{sum_of}
+use Rattle.wot_part.specs.Text.{size_of}
+use Rattle.wot_held.specs.declared.kept.Kept.{Kept}
+use Rattle.wot_held.specs.Keyring.{Certificates, Keyring, certificates_in}
+use Rattle.wot_held.specs.Held.{held_of}
+use Rattle.wot_held.specs.Import.{weigh}
+use Rattle.wot_held.specs.Kept.{IsKeyring}
 use Rattle.wot_keyring.specs.Dump.{AreLines, command_line_of, commands_of, import_of, lines_of, most_dumped, setting}
 use Rattle.wot_keyring.specs.Dump.{setting_of}
 
 -- the longest line of a command, with its line feed
-abbrev line_most : Command → ℕ
+abbrev line_most : StateLine → ℕ
 line_most c = most_octets c + 1
 
-abbrev lines_most : List Command → ℕ
+abbrev lines_most : List StateLine → ℕ
 lines_most commands = sum_of line_most commands
 
-lines_fit : (commands : List Command) → AreLines commands → length (lines_of commands) ≤ lines_most commands
+lines_fit : (commands : List StateLine) → AreLines commands → length (lines_of commands) ≤ lines_most commands
 lines_fit [] lines = omega arith
 lines_fit (c ∷ commands) lines =
     omega (
@@ -36,7 +36,7 @@ lines_fit (c ∷ commands) lines =
       lines_fit commands lines.1,
     )
 
-most-append : (first last : List Command) → lines_most (first ++ last) ≡ lines_most first + lines_most last
+most-append : (first last : List StateLine) → lines_most (first ++ last) ≡ lines_most first + lines_most last
 most-append [] last = omega arith
 most-append (c ∷ first) last = omega (arith, most-append first last)
 

@@ -1,27 +1,38 @@
 -- Lines that are appended one by one.
-use Rattle.std.proofs.Common.{◌≡◌, ℕ, ◌≤◌, List, [], ◌∷◌, ◌++◌, map, refl, sym, ap, subst, ◌∙◌, append_assoc}
+use Rattle.std.proofs.Common.{◌≡◌, ℕ, ◌≤◌, List, [], ◌∷◌, ◌++◌, map, refl, sym, ap, subst, ◌∙◌, append_assoc, arith}
 use Rattle.std.specs.List.{AllByRecursion}
 use Rattle.std.proofs.lemmas.Grind.{flat_map-append}
-use Rattle.wot_script.specs.declared.command.Command.{Command}
+use Rattle.wot_words.specs.StateLine.{IsPrinted, most_octets}
+use Rattle.wot_words.specs.declared.state_line.StateLine.{StateLine}
 use Rattle.wot_types.specs.declared.fpr.Fpr.{Fpr}
 use Rattle.wot_verdict.specs.Verdicts as verdicts
-use Rattle.wot_cert.specs.Certificate.{Certificate}
-use Rattle.wot_cert.specs.Text.{size_of}
-use Rattle.wot_keyring.specs.declared.kept.Kept.{Kept}
-use Rattle.wot_keyring.specs.Keyring.{Entries, Keyring, stripped}
-use Rattle.wot_keyring.specs.Held.{held_of}
-use Rattle.wot_keyring.specs.Kept.{AreSized}
+use Rattle.wot_part.specs.Certificate.{Certificate}
+use Rattle.wot_part.specs.Text.{size_of}
+use Rattle.wot_held.specs.declared.kept.Kept.{Kept}
+use Rattle.wot_held.specs.Keyring.{Entries, Keyring, stripped}
+use Rattle.wot_held.specs.Held.{held_of}
+use Rattle.wot_held.specs.Kept.{AreSized}
 use Rattle.wot_keyring.specs.Dump.{AreLines, IsLine, commands_of, import_of, command_line_of, lines_of, setting_of}
 use Rattle.wot_keyring.specs.Dump.{text_import}
 
+-- a printed line that is short
+pub is_line : (line : StateLine) → IsPrinted line → most_octets line ≤ 16777216 → IsLine line
+is_line line printed short = record {
+  no_feed = printed.one_line.no_feed;
+  heard = printed.one_line.heard;
+  short = omega (arith, printed.one_line.short, short);
+  fits = printed.one_line.short;
+  read = printed.read;
+}
+
 -- The lines of all these commands except the rest were appended.
-pub record PutSoFar (before now : List ℕ) (all rest : List Command) : Type 0 where
+pub record PutSoFar (before now : List ℕ) (all rest : List StateLine) : Type 0 where
   pub made : List ℕ
   pub text : now ≡ before ++ made
   pub left : made ++ lines_of rest ≡ lines_of all
   pub lined : AreLines rest → AreLines all
 
-pub one_put : (before now next : List ℕ) (all : List Command) (c : Command) (rest : List Command) →
+pub one_put : (before now next : List ℕ) (all : List StateLine) (c : StateLine) (rest : List StateLine) →
     PutSoFar before now all (c ∷ rest)
     → next ≡ now ++ command_line_of c → IsLine c → PutSoFar before next all rest
 one_put before now next all c rest so_far added line = record {
@@ -44,12 +55,12 @@ sizes_of limit (e ∷ es) sized = (sized.0, sizes_of limit es sized.1)
 
 imports_of : (es : Entries) → map text_import (cert_list es) ≡ map import_of (stripped es)
 imports_of [] = refl
-imports_of (e ∷ es) = ap (λ (rest : List Command). text_import e.1.cert ∷ rest) (imports_of es)
+imports_of (e ∷ es) = ap (λ (rest : List StateLine). text_import e.1.cert ∷ rest) (imports_of es)
 
-lines-append : (cs ds : List Command) → lines_of (cs ++ ds) ≡ lines_of cs ++ lines_of ds
+lines-append : (cs ds : List StateLine) → lines_of (cs ++ ds) ≡ lines_of cs ++ lines_of ds
 lines-append cs ds = flat_map-append command_line_of cs ds
 
-both_lines : (cs ds : List Command) → AreLines cs → AreLines ds → AreLines (cs ++ ds)
+both_lines : (cs ds : List StateLine) → AreLines cs → AreLines ds → AreLines (cs ++ ds)
 both_lines [] ds h k = k
 both_lines (c ∷ cs) ds h k = (h.0, both_lines cs ds h.1 k)
 
@@ -65,7 +76,7 @@ module _ (k : Keyring) (certs : List Certificate) (said : verdicts.Entries) (lis
       now ≡ mid ++ lines_of (map setting_of said)
       → now ≡ before ++ lines_of (commands_of (held_of k))
   dumped before mid now first last =
-      let Both : List Command → List Command → List ℕ = λ cs ds. before ++ (lines_of cs ++ lines_of ds) in
+      let Both : List StateLine → List StateLine → List ℕ = λ cs ds. before ++ (lines_of cs ++ lines_of ds) in
       last
       ∙ ap (λ text. text ++ lines_of (map setting_of said)) first
       ∙ append_assoc before (lines_of (map text_import certs)) (lines_of (map setting_of said))

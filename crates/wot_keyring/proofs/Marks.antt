@@ -8,17 +8,17 @@ use Rattle.wot_types.specs.declared.fpr.Fpr.{Fpr}
 use Rattle.wot_types.specs.PlainLaws.{all_then}
 use Rattle.wot_key.specs.Key.{fpr_of}
 use Rattle.wot_policy.specs.declared.rows.PolicyRows.{PolicyRows}
-use Rattle.wot_cert.specs.Certificate.{Certificate, unite}
-use Rattle.wot_cert.specs.Counts.{items_of}
-use Rattle.wot_cert.specs.Judged.{judged}
-use Rattle.wot_keyring.specs.declared.kept.Kept.{Kept}
-use Rattle.wot_keyring.specs.Import.{stamp_for, stamped, with_certs}
-use Rattle.wot_keyring.specs.Keyring.{Entries, Keyring, is_fpr, kept_at, certificates_in, stripped}
-use Rattle.wot_keyring.specs.Kept.{AreSortedByFpr, AreStamped}
-use Rattle.wot_keyring.specs.Staging.{found_for, found_by, kept_as, kept_with, kept_all}
-use Rattle.wot_keyring.proofs.Inserts.{put_at, found_at, found_each, still_present}
-use Rattle.wot_keyring.proofs.Transport.{certs_all}
-use Rattle.wot_keyring.proofs.Unchanged.{not_below}
+use Rattle.wot_part.specs.Certificate.{Certificate, unite}
+use Rattle.wot_part.specs.Counts.{items_of}
+use Rattle.wot_part.specs.Judged.{judged}
+use Rattle.wot_held.specs.declared.kept.Kept.{Kept}
+use Rattle.wot_held.specs.Import.{stamp_for, stamped, with_certs}
+use Rattle.wot_held.specs.Keyring.{Entries, Keyring, is_fpr, kept_at, certificates_in, stripped}
+use Rattle.wot_held.specs.Kept.{AreSortedByFpr, AreStamped}
+use Rattle.wot_merge.specs.Staging.{found_for, found_by, kept_as, kept_with, kept_all}
+use Rattle.wot_held.proofs.Inserts.{put_at, found_at, found_each, still_present}
+use Rattle.wot_merge.proofs.Transport.{certs_all}
+use Rattle.wot_merge.proofs.Unchanged.{not_below}
 
 -- The stamp follows from what was kept before, and is at least as high.
 record Marked (k : Keyring) (fpr : Fpr) (x : Kept) : Type 0 where

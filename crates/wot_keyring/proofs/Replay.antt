@@ -1,6 +1,6 @@
 -- Run in a fresh keyring, the commands of a dump restore what was dumped.
 use Rattle.std.proofs.Common.{◌≡◌, ℕ, ◌<◌, ◌≤◌, Bool, false, List, [], ◌∷◌, ◌++◌, length, map, Option, Some, None, Ok}
-use Rattle.std.proofs.Common.{Err, refl, sym, ap, ◌∙◌, subst, arith, append_assoc, append-nil, length-append}
+use Rattle.std.proofs.Common.{Result, refl, sym, ap, ◌∙◌, subst, arith, append_assoc, append-nil, length-append}
 use Rattle.std.specs.Prelude.{◌&&◌, ◌||◌, nat_eq, nat_lt, nat_le, not, is_none, if◌then◌else◌}
 use Rattle.std.specs.declared.cmp.Ordering.TheVariants.{Less, Greater}
 use Rattle.std.specs.Cmp.{IsTotalOrder}
@@ -8,7 +8,7 @@ use Rattle.std.specs.Ordering.{ordering_reverse}
 use Rattle.std.specs.Cmp.Lexicographic.{on_texts, pointwise}
 use Rattle.std.specs.BTreeMap.{insert_entry}
 use Rattle.std.specs.Map.{lookup}
-use Rattle.std.specs.Option.{option_map_or}
+use Rattle.std.specs.Option.{option_map, option_map_or}
 use Rattle.std.specs.List.{AllByRecursion, list_any}
 use Rattle.std.proofs.lemmas.List.{map-append}
 use Rattle.std.proofs.lemmas.Bool.{le-ltb, lt-leb, and_right}
@@ -24,31 +24,33 @@ use Rattle.wot_types.specs.PlainLaws.{all_prefix}
 use Rattle.wot_key.specs.Key.{fpr_of}
 use Rattle.wot_packet.specs.Spelling.{Spelled}
 use Rattle.wot_packet.specs.Reading.{packets_of}
+use Rattle.wot_packet.specs.declared.packet.PacketFault.{PacketFault}
 use Rattle.wot_policy.specs.declared.rows.PolicyRows.{PolicyRows}
-use Rattle.wot_script.specs.declared.command.Command.{Command}
-use Rattle.wot_script.specs.declared.command.Command.TheVariants as commands
+use Rattle.wot_words.specs.declared.state_line.StateLine.{StateLine}
+use Rattle.wot_words.specs.declared.state_line.StateLine.TheVariants as lines
 use Rattle.wot_verdict.specs.declared.verdict.Verdict.{Verdict}
 use Rattle.wot_verdict.specs.declared.verdict.Verdict.TheVariants.{Good, Bad}
 use Rattle.wot_verdict.specs.Verdicts as verdicts
 use Rattle.wot_verdict.specs.Verdicts.{AreSortedByNumber, with_verdict}
 use Rattle.wot_cert.specs.Assembly.{certificates_of, skipped_in}
-use Rattle.wot_cert.specs.Certificate.{Certificate, unmarked}
-use Rattle.wot_cert.specs.Counts.{signatures_of}
+use Rattle.wot_part.specs.Certificate.{Certificate, unmarked}
+use Rattle.wot_part.specs.Counts.{signatures_of}
+use Rattle.wot_cert.specs.declared.fault.CertFault.{CertFault}
 use Rattle.wot_cert.specs.Fault.{first_fault}
-use Rattle.wot_cert.specs.Judged.{judged}
+use Rattle.wot_part.specs.Judged.{judged}
 use Rattle.wot_cert.specs.ReadBack.{ReadBack}
-use Rattle.wot_cert.specs.Text.{size_of, text_of}
-use Rattle.wot_cert.specs.Whole.{IsCertificate}
-use Rattle.wot_keyring.specs.declared.import.Imported.{Imported}
-use Rattle.wot_keyring.specs.declared.kept.Kept.{Kept}
-use Rattle.wot_keyring.specs.declared.refusal.Refusal.TheVariants.{Clash}
-use Rattle.wot_keyring.specs.Keyring.{Keyring, Entries, Certificates, is_fpr, stripped}
-use Rattle.wot_keyring.specs.Import.{answer_read, answer_to, answer_united, any, any_clash, clash, first_full, fresh_in}
-use Rattle.wot_keyring.specs.Import.{has_greater, of_packets, merged_into, united_in, unless_fault, unless_full, weigh}
-use Rattle.wot_keyring.specs.Import.{with_cert, with_certs}
-use Rattle.wot_keyring.specs.Verdict.{is_over}
-use Rattle.wot_keyring.specs.Kept.{AreSortedByFpr, AreNamed, IsNamed, AreSized, AreWhole, IsKeyring}
-use Rattle.wot_keyring.specs.Held.{Held, nothing, is_verdict, verdict_set}
+use Rattle.wot_part.specs.Text.{size_of, text_of}
+use Rattle.wot_part.specs.Whole.{IsCertificate}
+use Rattle.wot_held.specs.declared.imported.Imported.{Imported}
+use Rattle.wot_held.specs.declared.kept.Kept.{Kept}
+use Rattle.wot_held.specs.declared.refusal.Refusal.TheVariants.{Clash, Cert, Full}
+use Rattle.wot_held.specs.Keyring.{Keyring, Entries, Certificates, is_fpr, stripped}
+use Rattle.wot_held.specs.Import.{answer_to, answer_united, any_clash, clash, first_full, fresh_in, has_greater}
+use Rattle.wot_held.specs.Import.{of_packets, merged_into, united_in, weigh, with_cert, with_certs, ◌>>=◌, ◌>>◌}
+use Rattle.wot_held.specs.Import.{refuse_if, packets_or_refusal}
+use Rattle.wot_held.specs.Verdict.{is_over}
+use Rattle.wot_held.specs.Kept.{AreSortedByFpr, AreNamed, IsNamed, AreSized, AreWhole, IsKeyring}
+use Rattle.wot_held.specs.Held.{Held, nothing, is_verdict, verdict_set}
 use Rattle.wot_keyring.specs.Dump.{after, after_all, import_of, judged_anew, setting, setting_of, text_import}
 use Rattle.wot_keyring.specs.Dump.{unless_over, unless_refused, IsRestored}
 use Rattle.wot_keyring.specs.Behind.{AreBelow, all_at, below_next, none_before, put_behind}
@@ -109,7 +111,7 @@ put_last laws rows certs e named before =
 
 -- the answer to one certificate that clashes with none and exceeds no limit
 counted : (clashing : Bool) (full : Option Limit) (counts : Imported) → clashing ≡ false → full ≡ None
-    → (if clashing then Err Clash else unless_full full counts) ≡ Ok counts
+    → (refuse_if clashing Clash >> (option_map Full full >> Ok counts)) ≡ Ok counts
 counted clashing full counts none fits = rw (none, fits) refl
 
 never_with : (b : Bool) → b ≡ false → (b || false) ≡ false
@@ -136,7 +138,7 @@ import_one : (rows : PolicyRows) (l : Limits) (old : Held) (octets : List ℕ) (
     → packets_of octets ≡ Ok packets → first_fault packets ≡ None → certificates_of packets ≡ c ∷ []
     → list_any (clash c) (map (λ (e : Fpr × Certificate). e.1) old.certs) ≡ false
     → with_cert rows old.certs c ≡ certs → first_full l certs ≡ None
-    → after rows l (commands.Import octets) old ≡ Some (record old { certs = certs })
+    → after rows l (lines.Import octets) old ≡ Some (record old { certs = certs })
 import_one rows l old octets packets c certs read sound one none last fits =
     let counts : Imported = record {
       taken = 1;
@@ -146,8 +148,10 @@ import_one rows l old octets packets c certs read sound one none last fits =
     } in
     let fits' : first_full l (with_cert rows old.certs c) ≡ None = ap (first_full l) last ∙ fits in
     let answer : answer_to rows l old.certs octets ≡ Ok counts =
-    ap (answer_read any rows l old.certs) read
-    ∙ ap (λ f. unless_fault f (answer_united rows l old.certs (certificates_of packets) (skipped_in packets))) sound
+    ap (λ (r : Result (List Spelled) PacketFault). packets_or_refusal r >>= (λ ps. option_map Cert (first_fault ps)
+    >> answer_united rows l old.certs (certificates_of ps) (skipped_in ps))) read
+    ∙ ap (λ (f : Option CertFault). option_map Cert f >> answer_united rows l old.certs (certificates_of packets)
+    (skipped_in packets)) sound
     ∙ ap (λ cs. answer_united rows l old.certs cs (skipped_in packets)) one
     ∙ one_united rows l old.certs c (skipped_in packets) none fits' in
     let image : united_in rows old.certs octets ≡ certs =
@@ -322,7 +326,7 @@ settings rows l certs all order few prefix (e ∷ rest) parts =
 
 -- ---- both
 
-after_both : (rows : PolicyRows) (l : Limits) (cs ds : List Command) (o : Option Held)
+after_both : (rows : PolicyRows) (l : Limits) (cs ds : List StateLine) (o : Option Held)
     → after_all (after rows l) (cs ++ ds) o ≡ after_all (after rows l) ds (after_all (after rows l) cs o)
 after_both rows l [] ds o = refl
 after_both rows l (c ∷ cs) [] None = refl

@@ -1,5 +1,5 @@
 -- What follows for an import if two lists have the same effect.
-use Rattle.std.proofs.Common.{◌≡◌, ◌-◌, ◌||◌, inl, inr, ℕ, Bool, true, false, cond, if◌then◌else◌, List, [], ◌∷◌}
+use Rattle.std.proofs.Common.{◌≡◌, ◌-◌, ◌||◌, inl, inr, ℕ, Bool, true, false, cond, List, [], ◌∷◌}
 use Rattle.std.proofs.Common.{length, Option, Some, None, Result, Ok, Err, sym, ap, ◌∙◌, subst, refl}
 use Rattle.std.specs.Option.{option_map}
 use Rattle.std.specs.Map.{lookup}
@@ -7,22 +7,22 @@ use Rattle.std.proofs.lemmas.Map.Made.{lookup-map_values}
 use Rattle.wot_key.specs.Key.{fpr_of}
 use Rattle.wot_policy.specs.declared.rows.PolicyRows.{PolicyRows}
 use Rattle.wot_types.specs.declared.limits.Limit.{Limit}
-use Rattle.wot_cert.specs.Certificate.{Certificate}
-use Rattle.wot_keyring.specs.declared.import.Imported.{Imported}
-use Rattle.wot_keyring.specs.declared.kept.Kept.{Kept}
-use Rattle.wot_keyring.specs.declared.refusal.Refusal.{Refusal}
-use Rattle.wot_keyring.specs.declared.refusal.Refusal.TheVariants.{Packet, Cert, Clash, Full, Misfiled, Memory}
-use Rattle.wot_keyring.specs.Gather.{clashes_with, taken_all, AreAllWhole, DoTheSame, ComeToNothing}
-use Rattle.wot_cert.specs.Judged.{sound_of}
-use Rattle.wot_keyring.specs.Import.{any_clash, weigh, with_cert, with_certs, first_full, fresh_in, holding}
-use Rattle.wot_keyring.specs.Import.{unless_full, answer_united}
-use Rattle.wot_keyring.specs.Importing.{alone, TellsUnion, AnswersUnited, asked_for}
-use Rattle.wot_keyring.specs.Keyring.{Entries, Certificates, Keyring, is_fpr, stripped, certificates_in}
-use Rattle.wot_keyring.specs.Kept.{AreWhole, IsKeyring}
-use Rattle.wot_keyring.specs.Staging.{found_for, kept_with, clash_at, clash_in}
-use Rattle.wot_keyring.proofs.Clashes.{clashes_told}
-use Rattle.wot_keyring.proofs.Taking.{none_stays}
-use Rattle.wot_keyring.proofs.Transport.{certs_all}
+use Rattle.wot_part.specs.Certificate.{Certificate}
+use Rattle.wot_held.specs.declared.imported.Imported.{Imported}
+use Rattle.wot_held.specs.declared.kept.Kept.{Kept}
+use Rattle.wot_held.specs.declared.refusal.Refusal.{Refusal}
+use Rattle.wot_held.specs.declared.refusal.Refusal.TheVariants.{Packet, Cert, Clash, Full, Misfiled, Memory}
+use Rattle.wot_merge.specs.Gather.{clashes_with, taken_all, AreAllWhole, DoTheSame, ComeToNothing}
+use Rattle.wot_part.specs.Judged.{sound_of}
+use Rattle.wot_held.specs.Import.{any_clash, weigh, with_cert, with_certs, first_full, fresh_in, holding, answer_united}
+use Rattle.wot_held.specs.Import.{◌>>◌, refuse_if}
+use Rattle.wot_held.specs.Importing.{alone, TellsUnion, AnswersUnited, asked_for}
+use Rattle.wot_held.specs.Keyring.{Entries, Certificates, Keyring, is_fpr, stripped, certificates_in}
+use Rattle.wot_held.specs.Kept.{AreWhole, IsKeyring}
+use Rattle.wot_merge.specs.Staging.{found_for, kept_with, clash_at, clash_in}
+use Rattle.wot_merge.proofs.Clashes.{clashes_told}
+use Rattle.wot_merge.proofs.MergedInTurn.{none_stays}
+use Rattle.wot_merge.proofs.Transport.{certs_all}
 
 -- ---- the effect and the merge
 
@@ -80,6 +80,10 @@ abbrev pub counted_as : ℕ → Result Imported Refusal → Result Imported Refu
 counted_as taken (Ok done) = Ok (record { taken = taken; skipped = done.skipped; fresh = done.fresh })
 counted_as taken (Err refusal) = Err refusal
 
+-- the counts, unless a limit is exceeded
+abbrev unless_full : Option Limit → Imported → Result Imported Refusal
+unless_full o counts = option_map Full o >> Ok counts
+
 full_counted : (o : Option Limit) (taken others skipped fresh : ℕ) →
     unless_full o (record { taken = taken; skipped = skipped; fresh = fresh }) ≡ counted_as taken
     (unless_full o (record { taken = others; skipped = skipped; fresh = fresh }))
@@ -100,7 +104,7 @@ module _ (rows : PolicyRows) (k : Keyring) (h : IsKeyring k) where
   nothing_answered list skipped none =
       let clash : any_clash (alone (certificates_in k)) list ≡ true =
       none_of _ _ (sym (taken_so list) ∙ none rows (Some (certificates_in k)) (whole_stripped k.certs h.whole)) in
-      inl (sym (ap (λ b. if b then Err Clash else unless_full
+      inl (sym (ap (λ b. refuse_if b Clash >> unless_full
       (first_full k.limits (with_certs rows (certificates_in k) list)) (record {
         taken = length list;
         skipped =
@@ -132,10 +136,10 @@ module _ (rows : PolicyRows) (k : Keyring) (h : IsKeyring k) where
     same_answer : (skipped : ℕ) → answer_united rows k.limits (certificates_in k) list skipped ≡ counted_as
         (length list) (answer_united rows k.limits (certificates_in k) other skipped)
     same_answer skipped =
-        ap (λ b. if b then Err Clash else answer_on skipped (with_certs rows (certificates_in k) list)) same_clash
+        ap (λ b. refuse_if b Clash >> answer_on skipped (with_certs rows (certificates_in k) list)) same_clash
         ∙ (elim (any_clash (alone (certificates_in k)) other) as (λ b. any_clash (alone (certificates_in k)) other ≡ b →
-        (if b then Err Clash else answer_on skipped (with_certs rows (certificates_in k) list)) ≡ counted_as
-        (length list) (if b then Err Clash else unless_full
+        (refuse_if b Clash >> answer_on skipped (with_certs rows (certificates_in k) list)) ≡ counted_as
+        (length list) (refuse_if b Clash >> unless_full
         (first_full k.limits (with_certs rows (certificates_in k) other)) (record {
           taken = length other;
           skipped =

@@ -1,4 +1,4 @@
--- The commands that rebuild what is held, and their text.
+-- The lines that rebuild what is held, and what they do.
 use Rattle.std.specs.Prelude.{◌≡◌, ◌≢◌, ◌≤◌, ◌+◌, ◌*◌, ℕ, if◌then◌else◌, List, [], ◌∷◌, ◌++◌, map, length}
 use Rattle.std.specs.Prelude.{Option, Some, None, Result, Ok, Err}
 use Rattle.std.specs.List.{AllByRecursion, flat_map}
@@ -6,57 +6,55 @@ use Rattle.wot_types.specs.declared.fpr.Fpr.{Fpr}
 use Rattle.wot_types.specs.declared.limits.Limits.{Limits}
 use Rattle.wot_types.specs.declared.number.SigNumber.{SigNumber}
 use Rattle.wot_policy.specs.declared.rows.PolicyRows.{PolicyRows}
-use Rattle.wot_script.specs.declared.command.Command.{Command}
-use Rattle.wot_script.specs.declared.command.Command.TheVariants as commands
-use Rattle.wot_script.specs.Grammar.{command_of}
-use Rattle.wot_script.specs.Spelling.{IsHeard, most_octets, spelling}
+use Rattle.wot_words.specs.StateLine.{IsHeard, most_octets, spelling, state_line_of}
+use Rattle.wot_words.specs.declared.state_line.StateLine.{StateLine}
+use Rattle.wot_words.specs.declared.state_line.StateLine.TheVariants as lines
 use Rattle.wot_verdict.specs.declared.verdict.Verdict.{Verdict}
 use Rattle.wot_verdict.specs.declared.verdict.Verdict.TheVariants.{Good, Bad}
-use Rattle.wot_cert.specs.Certificate.{Certificate}
-use Rattle.wot_cert.specs.Judged.{judged}
-use Rattle.wot_cert.specs.Text.{text_of}
-use Rattle.wot_keyring.specs.declared.import.Imported.{Imported}
-use Rattle.wot_keyring.specs.declared.refusal.Refusal.{Refusal}
-use Rattle.wot_keyring.specs.Keyring.{Keyring}
-use Rattle.wot_keyring.specs.Held.{Held, nothing, held_of, verdict_set}
-use Rattle.wot_keyring.specs.Import.{answer_to, importing}
-use Rattle.wot_keyring.specs.Verdict.{is_over}
+use Rattle.wot_part.specs.Certificate.{Certificate}
+use Rattle.wot_part.specs.Judged.{judged}
+use Rattle.wot_part.specs.Text.{text_of}
+use Rattle.wot_held.specs.declared.imported.Imported.{Imported}
+use Rattle.wot_held.specs.declared.refusal.Refusal.{Refusal}
+use Rattle.wot_held.specs.Keyring.{Keyring}
+use Rattle.wot_held.specs.Held.{Held, nothing, held_of, verdict_set}
+use Rattle.wot_held.specs.Import.{answer_to, importing}
+use Rattle.wot_held.specs.Verdict.{is_over}
 
 -- the import of a certificate's text
-abbrev pub text_import : Certificate → Command
-text_import c = commands.Import (text_of c)
+abbrev pub text_import : Certificate → StateLine
+text_import c = lines.Import (text_of c)
 
-abbrev pub import_of : Fpr × Certificate → Command
+abbrev pub import_of : Fpr × Certificate → StateLine
 import_of e = text_import e.1
 
-abbrev pub setting : SigNumber → Verdict → Command
-setting number (Good fpr) = commands.Good number fpr
-setting number Bad = commands.Bad number
+abbrev pub setting : SigNumber → Verdict → StateLine
+setting number (Good fpr) = lines.Good number fpr
+setting number Bad = lines.Bad number
 
-abbrev pub setting_of : SigNumber × Verdict → Command
+abbrev pub setting_of : SigNumber × Verdict → StateLine
 setting_of e = setting e.0 e.1
 
 -- the certificates by fingerprint, then the verdicts by number
-abbrev pub commands_of : Held → List Command
+abbrev pub commands_of : Held → List StateLine
 commands_of held = map import_of held.certs ++ map setting_of held.verdicts
 
--- the line of a command
-abbrev pub command_line_of : Command → List ℕ
+-- the text of a line, with its line feed
+abbrev pub command_line_of : StateLine → List ℕ
 command_line_of c = spelling c ++ 10 ∷ []
 
-abbrev pub lines_of : List Command → List ℕ
+abbrev pub lines_of : List StateLine → List ℕ
 lines_of commands = flat_map command_line_of commands
 
--- The line of a command is one line, isn't skipped, isn't too long, is no longer than the command's line can be, and is
--- read as this command.
-pub record IsLine (c : Command) : Type 0 where
+-- The text is one line, isn't skipped, isn't too long, is no longer than such a line can be, and is read back.
+pub record IsLine (c : StateLine) : Type 0 where
   pub no_feed : AllByRecursion (λ octet. octet ≢ 10) (spelling c)
   pub heard : IsHeard (spelling c)
   pub short : length (spelling c) ≤ 16777216
   pub fits : length (spelling c) ≤ most_octets c
-  pub read : command_of (spelling c) ≡ Some c
+  pub read : state_line_of (spelling c) ≡ Some c
 
-abbrev pub AreLines : List Command → Type 0
+abbrev pub AreLines : List StateLine → Type 0
 AreLines commands = AllByRecursion IsLine commands
 
 -- How many octets the lines are at most: two digits for each octet of a certificate, with `import`, a space and a line
@@ -76,15 +74,15 @@ unless_over l number verdict held =
     if is_over l held.verdicts number then None else Some (verdict_set number verdict held)
 
 -- what is held after a command; nothing if the command is refused or changes nothing that is held
-abbrev pub after : PolicyRows → Limits → Command → Held → Option Held
-after rows l (commands.Import octets) held =
+abbrev pub after : PolicyRows → Limits → StateLine → Held → Option Held
+after rows l (lines.Import octets) held =
     unless_refused (answer_to rows l held.certs octets) (importing rows octets held)
-after rows l (commands.Good number fpr) held = unless_over l number (Good fpr) held
-after rows l (commands.Bad number) held = unless_over l number Bad held
+after rows l (lines.Good number fpr) held = unless_over l number (Good fpr) held
+after rows l (lines.Bad number) held = unless_over l number Bad held
 after rows l _ held = None
 
 -- what is held after these commands, one after the other; nothing once one of them has no result
-abbrev pub after_all : {S : Type 0} → (Command → S → Option S) → List Command → Option S → Option S
+abbrev pub after_all : {S : Type 0} → (StateLine → S → Option S) → List StateLine → Option S → Option S
 after_all after [] o = o
 after_all after (command ∷ commands) None = None
 after_all after (command ∷ commands) (Some s) = after_all after commands (after command s)

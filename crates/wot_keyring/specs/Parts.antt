@@ -1,11 +1,11 @@
 -- How the parts of a keyring hold together.
 use Rattle.std.specs.Prelude.{ℕ}
-use Rattle.wot_keyring.specs.declared.index.Index.{Index}
-use Rattle.wot_keyring.specs.declared.log.Log.{Log}
-use Rattle.wot_keyring.specs.Index.{IsIndexOf}
-use Rattle.wot_keyring.specs.Keyring.{Keyring}
-use Rattle.wot_keyring.specs.Kept.{AreTotals, IsKeyring}
-use Rattle.wot_keyring.specs.Log.{IsLogOf}
+use Rattle.wot_index.specs.declared.index.Index.{Index}
+use Rattle.wot_index.specs.declared.log.Log.{Log}
+use Rattle.wot_index.specs.Index.{IsIndexOf}
+use Rattle.wot_held.specs.Keyring.{Keyring}
+use Rattle.wot_held.specs.Kept.{AreTotals, IsKeyring}
+use Rattle.wot_index.specs.Log.{IsLogOf}
 
 -- The totals, the index and the log are those of what is held.
 abbrev pub HoldTogether : Keyring → ℕ → ℕ → Index → Log → Type 0

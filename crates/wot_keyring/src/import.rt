@@ -1,30 +1,19 @@
 //! The two ways in: `import` takes the octets of any certificates, `load` those of one directory entry. Both read with
-//! `importing`, and merge all or nothing through `Keyring::take`. What an import accepts, replies and asks of the
+//! wot_held, and merge all or nothing through `Keyring::take`. What an import accepts, replies and asks of the
 //! policy is on their contracts, so a change here reaches wot_cache and wot_machine.
 ghost use Rattle.std.specs.Prelude.{◌≡◌, ◌<◌, ◌^◌, ◌-◌, length, OnOk, OnErr};
 ghost use Rattle.wot_policy.specs.Kept.{IsFaithful, rows_of, asked_more};
-ghost use Rattle.wot_keyring.specs.Held.{held_of};
-ghost use Rattle.wot_keyring.specs.Import.{ImportReturns, ReturnsUnder, AsksFor, IsOneChange};
-ghost use Rattle.wot_keyring.specs.Import.{imported, importing, is_entry};
-ghost use Rattle.wot_keyring.specs.Kept.{IsJudgedBy};
-ghost use Rattle.wot_keyring.specs.Later.{IsLater};
+ghost use Rattle.wot_held.specs.Held.{held_of};
+ghost use Rattle.wot_held.specs.Import.{ImportReturns, ReturnsUnder, AsksFor, IsOneChange};
+ghost use Rattle.wot_held.specs.Import.{imported, importing, is_entry};
+ghost use Rattle.wot_held.specs.Kept.{IsJudgedBy};
+ghost use Rattle.wot_held.specs.Later.{IsLater};
 
-use crate::importing::{is_entry, read_certs};
-use crate::{Keyring, Refusal};
+use crate::Keyring;
 use std::alloc::Global;
+use wot_held::{Imported, Refusal, is_entry, read_certs};
 use wot_policy::{Ask, Policy};
 use wot_types::Name;
-
-/// What an import took in, as the reply reports it.
-#[derive(Clone, Copy)]
-pub struct Imported {
-    /// The parseable keys among the packets.
-    pub taken: u64,
-    /// The keys that can't be parsed.
-    pub skipped: u64,
-    /// The keys, components and signatures that are new.
-    pub fresh: u64,
-}
 
 impl Keyring {
     /// Merges the certificates in these octets (RFC 9580, sections 4 and 10.1) with the kept ones: all of them, or none

@@ -3,14 +3,14 @@
 //! and in `Keyring::take`.
 ghost use Rattle.std.specs.Prelude.{◌≡◌, ◌<◌, ◌^◌, ◌+◌, length, IfOk, OnOk, OnErr};
 ghost use Rattle.wot_policy.specs.Kept.{IsFaithful, rows_of};
-ghost use Rattle.wot_cert.specs.Counts.{items_of};
-ghost use Rattle.wot_keyring.specs.Import.{any_clash, is_entry, stands_under};
-ghost use Rattle.wot_keyring.specs.Entry.{TellsEntry, TellsParts};
-ghost use Rattle.wot_keyring.specs.Importing.{alone, IsFirstFull, TellsRead};
-ghost use Rattle.wot_keyring.specs.Index.{stands_among, Notes, NotesNothing};
-ghost use Rattle.wot_keyring.specs.Kept.{AreSortedByFpr, AreJudged, AreNamed};
-ghost use Rattle.wot_keyring.specs.Keyring.{stripped};
-ghost use Rattle.wot_keyring.specs.Staging.{kept_all, clash_in, full_by, weigh_kept, AsksForAll, IsTally, TellsClash};
+ghost use Rattle.wot_part.specs.Counts.{items_of};
+ghost use Rattle.wot_held.specs.Import.{any_clash, is_entry, stands_under};
+ghost use Rattle.wot_held.specs.Entry.{TellsEntry, TellsParts};
+ghost use Rattle.wot_held.specs.Importing.{alone, IsFirstFull, TellsRead};
+ghost use Rattle.wot_index.specs.Index.{stands_among, Notes, NotesNothing};
+ghost use Rattle.wot_held.specs.Kept.{AreSortedByFpr, AreJudged, AreNamed};
+ghost use Rattle.wot_held.specs.Keyring.{stripped};
+ghost use Rattle.wot_merge.specs.Staging.{kept_all, clash_in, full_by, weigh_kept, AsksForAll, IsTally, TellsClash};
 
 use crate::index::Index;
 use crate::kept::Kept;

@@ -2,56 +2,41 @@
 //! Each change raises the count of changes by one, stamps what it altered and logs that, so that the network above
 //! makes only these edges again. The calls here are the contract of the crate: wot_network, wot_cache and wot_machine
 //! use them.
-ghost use Rattle.std.specs.Prelude.{◌≡◌, ◌≢◌, ◌<◌, ◌≤◌, ◌^◌, ◌+◌, ◌-◌, ◌++◌, nat_lt, if◌then◌else◌, map, Some};
-ghost use Rattle.std.specs.Prelude.{true, Ok, is_ok, is_some, IsSomeAnd, length, IfOk, MatchBool, OnOk, OnErr};
+ghost use Rattle.std.specs.Prelude.{◌≡◌, ◌≢◌, ◌<◌, ◌≤◌, ◌^◌, ◌+◌, ◌-◌, ◌++◌, map, Some};
+ghost use Rattle.std.specs.Prelude.{Ok, is_ok, is_some, IsSomeAnd, length, IfOk, MatchBool, OnOk, OnErr};
 ghost use Rattle.std.specs.Option.{option_copied, IfSome, MatchOption};
-ghost use Rattle.std.specs.Map.{lookup, remove_entry};
 ghost use Rattle.wot_types.specs.declared.fpr.Fpr.{Fpr as TheFpr};
 ghost use Rattle.wot_key.specs.Key.{fpr_of};
 ghost use Rattle.wot_types.specs.Limits.{standard_limits};
-ghost use Rattle.std.specs.List.{AllByRecursion};
-ghost use Rattle.wot_cert.specs.Text.{size_of, text_of};
-ghost use Rattle.wot_cert.specs.Whole.{IsCertificate};
-ghost use Rattle.wot_keyring.specs.declared.kept.Kept.{Kept as TheKept};
-ghost use Rattle.wot_keyring.specs.From.{entries_from};
-ghost use Rattle.wot_keyring.specs.Keyring.{empty, certificates_in, cert_at, stamp_at, verdict_on, is_fpr, TellsAbsent};
-ghost use Rattle.wot_keyring.specs.Kept.{AreSortedByFpr, AreNamed, AreSized, AreSmall, AreStamped, IsJudgedBy};
-ghost use Rattle.wot_keyring.specs.Kept.{IsKeyring, StaysJudged};
+ghost use Rattle.wot_part.specs.Text.{size_of, text_of};
+ghost use Rattle.wot_held.specs.declared.kept.Kept.{Kept as TheKept};
+ghost use Rattle.wot_held.specs.From.{entries_from};
+ghost use Rattle.wot_held.specs.Keyring.{empty, cert_at, stamp_at, verdict_on, TellsAbsent};
+ghost use Rattle.wot_held.specs.Kept.{AreSortedByFpr, AreNamed, AreSized, AreSmall, AreStamped, StaysJudged};
 ghost use Rattle.wot_policy.specs.declared.rows.PolicyRows.{PolicyRows as Rows};
-ghost use Rattle.wot_policy.specs.Kept.{IsFaithful, rows_of};
 ghost use Rattle.wot_keyring.specs.Dump.{commands_of, lines_of, most_dumped, AreLines, IsRestored};
-ghost use Rattle.wot_keyring.specs.Import.{IsOneChange, with_united};
-ghost use Rattle.wot_keyring.specs.Held.{held_of, removing, verdict_set, verdict_cleared};
-ghost use Rattle.wot_keyring.specs.Later.{IsLater};
-ghost use Rattle.wot_keyring.specs.Log.{HasChangedSince};
-ghost use Rattle.wot_keyring.specs.Importing.{AnswersUnited, AsksUniting, MayUnite, TellsUnion};
-ghost use Rattle.wot_keyring.specs.Pending.{pending_in};
-ghost use Rattle.wot_keyring.specs.Staging.{IsTally};
-ghost use Rattle.wot_keyring.specs.Removal.{without_cert};
-ghost use Rattle.wot_keyring.specs.Verdict.{without_verdict_on, would_pass, counted_at, SetsVerdict, TellsFull};
+ghost use Rattle.wot_held.specs.Import.{IsOneChange};
+ghost use Rattle.wot_held.specs.Held.{held_of, removing, verdict_set, verdict_cleared};
+ghost use Rattle.wot_held.specs.Later.{IsLater};
+ghost use Rattle.wot_index.specs.Log.{HasChangedSince};
+ghost use Rattle.wot_held.specs.Pending.{pending_in};
+ghost use Rattle.wot_held.specs.Removal.{without_cert};
+ghost use Rattle.wot_held.specs.Verdict.{without_verdict_on, would_pass, counted_at, SetsVerdict, TellsFull};
 ghost use Rattle.wot_verdict.specs.Verdicts.{AreSortedByNumber};
 
-use crate::certs::CertsIter;
-use crate::certs_from::{CertsFrom, certs_from};
+mod merge;
+
 use crate::dump::{put_certs, put_verdicts, replayed};
-use crate::forgetting::forget_cert;
-use crate::gather::gathered;
-use crate::importing::{try_all, unite_all};
-use crate::index::Index;
-use crate::kept::Kept;
-use crate::log::{self, Log};
-use crate::pending::{Pending, waiting};
-use crate::restamp::restamp_noted;
-use crate::room::{has_room, only};
-use crate::staging::{Fault, Terms};
-use crate::tally::Weight;
-use crate::{Absent, ExportFault, Imported, Refusal};
 use std::alloc::Global;
 use std::collections::BTreeMap;
 use std::marker::Model;
-use wot_cert::laws::{marks_weigh_nothing, nothing_added, united_grows, united_whole};
-use wot_cert::{Assembled, Cert};
-use wot_policy::{Ask, Policy};
+use wot_cert::Cert;
+use wot_held::{
+    Absent, CertsFrom, CertsIter, ExportFault, Kept, Pending, Refusal, certs_of, find, listed_from,
+    take_out, waiting,
+};
+use wot_index::log::{self, Log};
+use wot_index::{Index, forget_cert, restamp_noted};
 use wot_types::{Fpr, Limit, Limits, Memory, SigNumber};
 use wot_verdict::{Verdict, Verdicts};
 
@@ -74,7 +59,7 @@ pub struct Keyring {
 }
 
 impl Model for Keyring {
-    ghost use Rattle.wot_keyring.specs.Keyring.{Keyring, of_parts};
+    ghost use Rattle.wot_held.specs.Keyring.{Keyring, of_parts};
     ghost use Rattle.wot_keyring.specs.Parts.{HoldTogether};
 
     ghost Value = { Keyring };
@@ -130,9 +115,7 @@ impl Keyring {
         ensures sorted { AreSortedByFpr self.now.certs }
         ensures sizes { AreSized standard_limits.certificate self.now.certs }
     {
-        CertsIter {
-            entries: self.certs.iter(),
-        }
+        certs_of(&self.certs)
     }
 
     /// The number of certificates.
@@ -150,7 +133,7 @@ impl Keyring {
         ensures certs { result ≡ map (λ (e : TheFpr × TheKept). e.1.cert) (entries_from from self.now.certs) }
         ensures named { AreNamed self.now.certs }
     {
-        certs_from(&self.certs, from)
+        listed_from(&self.certs, from)
     }
 
     /// All verdicts, by signature number.
@@ -286,163 +269,6 @@ impl Keyring {
         }
     }
 
-    /// Merges certificates that were read with the kept ones. Those of one key are first merged with each other, so
-    /// that a kept certificate is copied once, however often its key was read.
-    pub(crate) fn take<F: Fn(Ask) -> bool>(
-        &mut self,
-        alloc: Global,
-        read: &Assembled,
-        policy: &mut Policy<F>,
-    ) -> Result<Imported, Refusal>
-        requires countable { self.old.changes < 2 ^ 64 - 1 }
-        requires judged { IsJudgedBy (rows_of policy.old) self.old }
-        requires faithful { IsFaithful F.Fn policy.old }
-        ensures answer { AnswersUnited result (rows_of policy.old) self.old read.now.certs read.now.skipped }
-        ensures united { OnOk result (self.new ≡ with_united (rows_of policy.old) self.old read.now.certs) }
-        ensures kept { OnErr result (self.new ≡ self.old) }
-        ensures asked { AsksUniting result policy.old policy.new self.old read.now.certs }
-        ensures counted { IsOneChange self.old self.new }
-        ensures later { IsLater self.old self.new }
-        ensures judged { IsJudgedBy (rows_of policy.old) self.new }
-        ensures faithful { IsFaithful F.Fn policy.new }
-    {
-        self.lawful();
-        let certs = read.certs.as_slice();
-        let list = match gathered(alloc, certs) {
-            Ok(list) => list,
-            Err(Fault::Clash) => return Err(Refusal::Clash),
-            Err(Fault::Memory) => return Err(Refusal::Memory),
-        };
-        if let Some(refusal) = self.refusal(alloc, list.as_slice()) {
-            return Err(refusal);
-        }
-        match self.accept(alloc, list.as_slice(), read.skipped, policy) {
-            Ok(done) => Ok(Imported {
-                taken: certs.len() as u64,
-                skipped: done.skipped,
-                fresh: done.fresh,
-            }),
-            Err(refusal) => Err(refusal),
-        }
-    }
-
-    /// Whether these certificates fit even if everything in them is new. Only answered for a single certificate.
-    fn has_room_for(&self, list: &[Cert]) -> bool
-        ensures { result ≡ true → MayUnite self.now.limits (certificates_in self.now) list.now }
-    {
-        united_grows();
-        marks_weigh_nothing();
-        match only(list) {
-            Some(cert) => has_room(&self.certs, &self.total(), cert, &self.limits),
-            None => false,
-        }
-    }
-
-    /// Why these certificates can't be merged with the kept ones. Nothing changes, and no policy of the caller is
-    /// asked.
-    fn refusal(&mut self, alloc: Global, list: &[Cert]) -> Option<Refusal>
-        requires countable { self.old.changes < 2 ^ 64 - 1 }
-        ensures told { TellsUnion result self.old.limits (certificates_in self.old) list.now }
-        ensures same { self.new ≡ self.old }
-    {
-        if self.has_room_for(list) {
-            return None;
-        }
-        let terms = self.terms();
-        let total = self.total();
-        match try_all(alloc, &mut self.certs, total, list, &terms, &self.limits) {
-            Ok(Some(limit)) => Some(Refusal::Full(limit)),
-            Ok(None) => None,
-            Err(Fault::Clash) => Some(Refusal::Clash),
-            Err(Fault::Memory) => Some(Refusal::Memory),
-        }
-    }
-
-    /// Merges certificates that clash with nothing and exceed no limit.
-    fn accept<F: Fn(Ask) -> bool>(
-        &mut self,
-        alloc: Global,
-        list: &[Cert],
-        skipped: u64,
-        policy: &mut Policy<F>,
-    ) -> Result<Imported, Refusal>
-        requires countable { self.old.changes < 2 ^ 64 - 1 }
-        requires judged { IsJudgedBy (rows_of policy.old) self.old }
-        requires faithful { IsFaithful F.Fn policy.old }
-        requires whole { AllByRecursion IsCertificate list.now }
-        requires may { MayUnite self.old.limits (certificates_in self.old) list.now }
-        ensures answer { AnswersUnited result (rows_of policy.old) self.old list.now skipped }
-        ensures united { OnOk result (self.new ≡ with_united (rows_of policy.old) self.old list.now) }
-        ensures kept { OnErr result (self.new ≡ self.old) }
-        ensures asked { AsksUniting result policy.old policy.new self.old list.now }
-        ensures counted { IsOneChange self.old self.new }
-        ensures later { IsLater self.old self.new }
-        ensures judged { IsJudgedBy (rows_of policy.old) self.new }
-        ensures faithful { IsFaithful F.Fn policy.new }
-    {
-        united_grows();
-        united_whole();
-        nothing_added();
-        let terms = self.terms();
-        let total = self.total();
-        log::make_room(&mut self.log, list.len(), self.certs.len());
-        match unite_all(
-            alloc,
-            &mut self.certs,
-            &mut self.index,
-            total,
-            list,
-            &terms,
-            policy,
-        ) {
-            Ok(tally) => {
-                self.octets = tally.total.octets;
-                self.signatures = tally.total.signatures;
-                self.changes = raised(self.changes, tally.fresh);
-                log::log_union(&mut self.log, tally.fresh, terms.stamp, list);
-                Ok(Imported {
-                    taken: list.len() as u64,
-                    skipped,
-                    fresh: tally.fresh,
-                })
-            }
-            Err(Fault::Clash) => Err(Refusal::Clash),
-            Err(Fault::Memory) => Err(Refusal::Memory),
-        }
-    }
-
-    /// The stamp of the next change, and the limit on a certificate's size.
-    fn terms(&self) -> Terms
-        requires countable { self.now.changes < 2 ^ 64 - 1 }
-        ensures stamp { result.stamp ≡ self.now.changes + 1 }
-        ensures limit { result.limit ≡ self.now.limits.certificate }
-    {
-        Terms {
-            stamp: self.changes + 1,
-            limit: self.limits.certificate,
-        }
-    }
-
-    /// A law: what holds for every keyring.
-    fn lawful(&self)
-        ensures keyring { IsKeyring self.now }
-    {
-        let _ = &self.limits;
-    }
-
-    /// The totals of what is held.
-    fn total(&self) -> Weight
-        ensures total { IsTally self.now.limits.certificate self.now.certs result }
-        ensures keyring { IsKeyring self.now }
-        ensures none_long { result.long ≡ 0 }
-    {
-        Weight {
-            octets: self.octets,
-            signatures: self.signatures,
-            long: 0,
-        }
-    }
-
     /// Appends a line for each certificate and each verdict: the commands that rebuild this keyring. Returns the number
     /// of lines. On `Memory` `out` is unchanged.
     pub fn dump(&self, alloc: Global, out: &mut Vec<u8>) -> Result<u64, Memory>
@@ -503,27 +329,4 @@ impl Keyring {
         let stamp = self.changes;
         restamp_noted(&mut self.certs, &self.index, &mut self.log, number, stamp);
     }
-}
-
-/// The count of changes after a change that added this many items.
-fn raised(changes: u64, fresh: u64) -> u64
-    requires countable { changes < 2 ^ 64 - 1 }
-    ensures raised { result ≡ (if nat_lt 0 fresh then changes + 1 else changes) }
-{
-    if fresh > 0 { changes + 1 } else { changes }
-}
-
-/// The certificate of a fingerprint, with its stamp.
-pub(crate) fn find<'a>(certs: &'a BTreeMap<Fpr, Kept, Global>, fpr: &Fpr) -> Option<&'a Kept>
-    ensures found { option_copied result ≡ lookup (is_fpr fpr.now) certs.now.entries }
-{
-    certs.get(fpr)
-}
-
-/// Removes the certificate of a fingerprint.
-pub(crate) fn take_out(certs: &mut BTreeMap<Fpr, Kept, Global>, fpr: &Fpr)
-    ensures out { certs.new.entries ≡ remove_entry (is_fpr fpr.now) certs.old.entries }
-    ensures sorted { AreSortedByFpr certs.new.entries }
-{
-    let _ = certs.remove(fpr);
 }

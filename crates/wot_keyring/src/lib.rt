@@ -1,35 +1,16 @@
 //! The keyring: certificates by fingerprint, verdicts by signature number, limits, stamps, and the dump. It stands on
-//! wot_cert, which assembles and merges certificates, on wot_verdict, and on the commands of wot_script for the dump.
-//! wot_network reads certificates and stamps, and wot_cache owns the keyring, so a changed contract of `Keyring`
-//! reaches both.
+//! its three rooms, wot_held, wot_index and wot_merge, and on the lines of wot_words for the dump. wot_network reads
+//! certificates and stamps, and wot_cache owns the keyring, so a changed contract of `Keyring` reaches both.
 #![tactic(auto)]
 
-mod certs;
-mod certs_from;
 mod dump;
-mod forgetting;
-mod gather;
 mod import;
-mod importing;
-mod in_place;
-mod index;
-mod kept;
 mod keyring;
 pub mod laws;
-mod log;
-mod noting;
-mod pending;
-mod refusal;
-mod restamp;
-mod room;
-mod staging;
-mod tally;
+mod uniting;
 
-pub use certs::CertsIter;
-pub use certs_from::CertsFrom;
 pub use dump::put_line;
-pub use import::Imported;
-pub use importing::read_entry;
 pub use keyring::Keyring;
-pub use pending::Pending;
-pub use refusal::{Absent, ExportFault, Refusal};
+pub use wot_held::{
+    Absent, CertsFrom, CertsIter, ExportFault, Imported, Pending, Refusal, read_entry,
+};

@@ -1,6 +1,6 @@
--- The edges into a certificate are those of each issuer and user ID.
+-- The edges that are found are those of each issuer and user ID.
 use Rattle.std.proofs.Common.{◌≡◌, ℕ, zero, suc, ◌+◌, Bool, true, false, cond, ◌&&◌, ◌||◌, List, [], ◌∷◌, ◌++◌, Option}
-use Rattle.std.proofs.Common.{Some, None, Ordering, inl, inr, ◌≤◌, refl, sym, ap, subst, ◌∙◌, arith}
+use Rattle.std.proofs.Common.{Some, None, Ordering, ◌≤◌, refl, sym, ap, subst, ◌∙◌, arith}
 use Rattle.std.specs.declared.cmp.Ordering.TheVariants.{Less, Equal, Greater}
 use Rattle.std.specs.Prelude.{◌==◌}
 use Rattle.std.specs.List.{AllByRecursion, cons_option, filter_map, list_any, slice_get}
@@ -12,28 +12,26 @@ use Rattle.wot_types.specs.Fpr.{same_fpr}
 use Rattle.wot_types.specs.FprLaws.{same_fpr-true, same_fpr-sym}
 use Rattle.wot_signature.specs.declared.facts.SigFacts.{SigFacts}
 use Rattle.wot_verdict.specs.Verdicts.{Entries}
-use Rattle.wot_cert.specs.Certificate.{Signature, Component, Certificate, said_by}
+use Rattle.wot_part.specs.Certificate.{Signature, Component, Certificate, said_by}
 use Rattle.wot_cert.specs.Issuer.{issuer_of, counts_by}
-use Rattle.wot_cert.specs.Ranked.{placed}
+use Rattle.wot_part.specs.Ranked.{placed}
 use Rattle.wot_edge.specs.declared.edge.EdgeFacts.{EdgeFacts}
 use Rattle.wot_edge.specs.Order.{edge_cmp}
-use Rattle.wot_edge.specs.Record.{Has}
 use Rattle.wot_standing.specs.Standing.{own, newest_certification}
 use Rattle.wot_live.specs.Edge.{edge_facts, edge_by, edge_on, signature_place}
-use Rattle.wot_live.specs.Found.{with_edge}
-use Rattle.wot_live.specs.Rows.{one_of_both, in_edge_order, is_edge_of, edge_at, edge_with, edges_on, edges_from}
-use Rattle.wot_live.specs.Rows.{edges_of, AreRows, AreInto}
+use Rattle.wot_live.specs.Found.{with_edge, one_of_both, in_edge_order, edge_with, edges_on, edges_from, found_edges}
+use Rattle.wot_live.specs.Rows.{AreRows, edge_at, is_edge_of}
 use Rattle.wot_live.proofs.Orders.{edge_exact, edge_tied}
-use Rattle.wot_live.proofs.Putting.{all_united, sorted_united}
+use Rattle.wot_live.proofs.EdgesInserted.{sorted_united}
 
 -- ---- an edge of a list in order
 
-equal-true : (a b : ℕ) → (a == b) ≡ true → a ≡ b
+pub equal-true : (a b : ℕ) → (a == b) ≡ true → a ≡ b
 equal-true a b e = grind (arith, nat_tests)
 
 -- Two edges of one issuer and user ID compare as equal.
-tied : (issuer : Fpr) (uid : ℕ) (e y : EdgeFacts) → is_edge_of issuer uid e ≡ true → is_edge_of issuer uid y ≡ true →
-    edge_cmp e y ≡ Equal
+pub tied : (issuer : Fpr) (uid : ℕ) (e y : EdgeFacts) → is_edge_of issuer uid e ≡ true →
+    is_edge_of issuer uid y ≡ true → edge_cmp e y ≡ Equal
 tied issuer uid e y f g =
     let a = and_parts (same_fpr e.issuer issuer) (e.uid == uid) f in
     let b = and_parts (same_fpr y.issuer issuer) (y.uid == uid) g in
@@ -87,7 +85,7 @@ pub record IsEdge (issuer target : Fpr) (uid : ℕ) (e : EdgeFacts) : Type 0 whe
   pub target_is : e.target ≡ target
   pub uid_is : e.uid ≡ uid
 
-edge_by-is : (issuer target : Fpr) (uid : ℕ) (sigs : List Signature) (o : Option Signature) (e : EdgeFacts) →
+pub edge_by-is : (issuer target : Fpr) (uid : ℕ) (sigs : List Signature) (o : Option Signature) (e : EdgeFacts) →
     option_and_then (edge_by issuer target uid sigs) o ≡ Some e → IsEdge issuer target uid e
 edge_by-is issuer target uid sigs None e h = absurd cc
 edge_by-is issuer target uid sigs (Some s) e h = by (said_by s) h
@@ -97,7 +95,7 @@ edge_by-is issuer target uid sigs (Some s) e h = by (said_by s) h
     by None g = absurd cc
     by (Some f) g = record { issuer_is = cc; target_is = cc; uid_is = cc }
 
-all_filter_map : {A : Type 0} (P : EdgeFacts → Type 0) (f : A → Option EdgeFacts) →
+pub all_filter_map : {A : Type 0} (P : EdgeFacts → Type 0) (f : A → Option EdgeFacts) →
     ((x : A) (e : EdgeFacts) → f x ≡ Some e → P e) → (xs : List A) → AllByRecursion P (filter_map f xs)
 all_filter_map P f h [] = tt
 all_filter_map P f h (x ∷ xs) = by (f x) refl (all_filter_map P f h xs)
@@ -129,13 +127,13 @@ all_on verdicts target t uid p =
     all_filter_map (IsOn target uid) (edge_with verdicts target t uid p) (λ s e h. let i =
     edge_with-is verdicts target t uid p s e h in (i.1.target_is, i.1.uid_is)) p.sigs
 
-all_append : (P Q : EdgeFacts → Type 0) → ((e : EdgeFacts) → Q e → P e) → (es fs : List EdgeFacts) →
+pub all_append : (P Q : EdgeFacts → Type 0) → ((e : EdgeFacts) → Q e → P e) → (es fs : List EdgeFacts) →
     AllByRecursion Q es → AllByRecursion P fs → AllByRecursion P (es ++ fs)
 all_append P Q f [] fs h g = g
 all_append P Q f (e ∷ es) fs h g = (f e h.0, all_append P Q f es fs h.1 g)
 
-all_then : (P Q : EdgeFacts → Type 0) → ((e : EdgeFacts) → P e → Q e) → (es : List EdgeFacts) → AllByRecursion P es →
-    AllByRecursion Q es
+pub all_then : (P Q : EdgeFacts → Type 0) → ((e : EdgeFacts) → P e → Q e) → (es : List EdgeFacts) →
+    AllByRecursion P es → AllByRecursion Q es
 all_then P Q f [] h = tt
 all_then P Q f (e ∷ es) h = (f e h.0, all_then P Q f es h.1)
 
@@ -154,17 +152,6 @@ all_from verdicts target t uid (p ∷ ps) =
     (all_then (IsFrom target (uid + 1)) (IsFrom target uid) (from_later target uid)
     (edges_from verdicts target t (uid + 1) ps) (all_from verdicts target t (uid + 1) ps))
 
-all_has : (P : EdgeFacts → Type 0) (es : List EdgeFacts) → AllByRecursion P es → (e : EdgeFacts) → Has es e → P e
-all_has P [] h e i = absurd i
-all_has P (y ∷ ys) h e (inl same) = subst P (sym same) h.0
-all_has P (y ∷ ys) h e (inr later) = all_has P ys h.1 e later
-
-pub edges_into : (verdicts : Entries) (c : Certificate) (t : ℕ) → AreInto (own c) (edges_of verdicts c t)
-edges_into verdicts c t e i =
-    (all_has (IsFrom (own c) 0) (edges_of verdicts c t)
-    (all_united (IsFrom (own c) 0) (edges_from verdicts (own c) t 0 c.user_ids)
-    (all_from verdicts (own c) t 0 c.user_ids)) e i).0
-
 -- ---- the edge of an issuer and a user ID
 
 -- An issuer for whom no signature on a user ID counts has no certification there.
@@ -180,10 +167,10 @@ and_false : (b : Bool) → (b && false) ≡ false
 and_false true = refl
 and_false false = refl
 
-equal-refl : (n : ℕ) → (n == n) ≡ true
+pub equal-refl : (n : ℕ) → (n == n) ≡ true
 equal-refl n = grind (arith, nat_tests)
 
-none_of : (b : Bool) (o : Option EdgeFacts) → o ≡ None → cond b o None ≡ None
+pub none_of : (b : Bool) (o : Option EdgeFacts) → o ≡ None → cond b o None ≡ None
 none_of true o e = e
 none_of false o e = refl
 
@@ -253,7 +240,7 @@ none_at issuer uid (e ∷ es) h =
     ∙ ap (λ b. cond b (Some e) (edge_at es issuer uid)) (and_false (same_fpr e.issuer issuer))
     ∙ none_at issuer uid es h.1
 
-at_append : (issuer : Fpr) (uid : ℕ) (es fs : List EdgeFacts) → edge_at (es ++ fs) issuer uid ≡ option_or
+pub at_append : (issuer : Fpr) (uid : ℕ) (es fs : List EdgeFacts) → edge_at (es ++ fs) issuer uid ≡ option_or
     (edge_at es issuer uid) (edge_at fs issuer uid)
 at_append issuer uid [] fs = refl
 at_append issuer uid (e ∷ es) fs =
@@ -302,9 +289,9 @@ at_from verdicts target t issuer only uid first (p ∷ ps) (suc k) h =
     (all_on verdicts target t first p)))
     ∙ at_from verdicts target t issuer only uid (first + 1) ps k (omega arith)
 
-pub edges_rows : (verdicts : Entries) (c : Certificate) (t : ℕ) → OnlyCounting verdicts t →
-    AreRows verdicts c t (edges_of verdicts c t)
-edges_rows verdicts c t only = record {
+pub found_rows : (verdicts : Entries) (c : Certificate) (t : ℕ) → OnlyCounting verdicts t →
+    AreRows verdicts c t (found_edges verdicts c t)
+found_rows verdicts c t only = record {
   sorted = sorted_united (edges_from verdicts (own c) t 0 c.user_ids);
   exact = λ issuer uid. at_united issuer uid (edges_from verdicts (own c) t 0 c.user_ids)
       ∙ at_from verdicts (own c) t issuer only uid 0 c.user_ids uid (omega arith);

@@ -1,7 +1,10 @@
 pub mod Orders
-pub mod Putting
+pub mod EdgesInserted
 pub mod Exact
-pub mod Counting
+pub mod OneList
+pub mod IssuersInOrder
+pub mod EdgesAreRows
+pub mod EdgesBounded
 pub mod Places
 pub mod Through
 pub mod Worked

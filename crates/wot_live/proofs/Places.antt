@@ -10,14 +10,13 @@ use Rattle.std.proofs.lemmas.Cmp.{nat_list_cmp_total, on_total, tied_itself}
 use Rattle.wot_types.specs.declared.fpr.Fpr.{Fpr}
 use Rattle.wot_signature.specs.declared.facts.SigFacts.{SigFacts}
 use Rattle.wot_verdict.specs.Verdicts.{Entries}
-use Rattle.wot_cert.specs.Certificate.{Signature, Component, said_by, sig_cmp}
+use Rattle.wot_part.specs.Certificate.{Signature, Component, said_by, sig_cmp}
 use Rattle.wot_cert.specs.Issuer.{issuer_of}
-use Rattle.wot_cert.specs.Ranked.{IsRising, IsBelow}
+use Rattle.wot_part.specs.Ranked.{IsRising, IsBelow}
 use Rattle.wot_edge.specs.declared.edge.EdgeFacts.{EdgeFacts}
 use Rattle.wot_standing.specs.Certifiers.{KeepsNewest, kept_for}
 use Rattle.wot_live.specs.Edge.{signature_place, edge_facts, edge_by, edge_on}
-use Rattle.wot_live.specs.Found.{edge_at_place, edge_kept}
-use Rattle.wot_live.specs.Rows.{edge_with}
+use Rattle.wot_live.specs.Found.{edge_at_place, edge_kept, edge_with}
 
 sig_total : IsTotalOrder sig_cmp
 sig_total = on_total (λ s. s.body) nat_list_cmp_total

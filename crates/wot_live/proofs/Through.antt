@@ -1,52 +1,46 @@
 -- The edges into a certificate stay the same throughout a span.
-use Rattle.std.proofs.Common.{◌≡◌, ℕ, ◌+◌, ◌++◌, List, [], ◌∷◌, Option, Some, None, refl, ap, ◌∙◌}
-use Rattle.std.specs.List.{AllByRecursion, filter_map}
+use Rattle.std.proofs.Common.{◌≡◌, ℕ, zero, suc, ◌+◌, List, [], ◌∷◌, Option, refl, ap}
+use Rattle.std.specs.List.{AllByRecursion, filter_map, flat_map, slice_get}
 use Rattle.std.specs.Option.{option_and_then}
 use Rattle.wot_types.specs.declared.fpr.Fpr.{Fpr}
 use Rattle.wot_verdict.specs.Verdicts.{Entries}
-use Rattle.wot_cert.specs.Certificate.{Signature, Component, Certificate}
-use Rattle.wot_cert.specs.Issuer.{issuer_of}
-use Rattle.wot_edge.specs.declared.edge.EdgeFacts.{EdgeFacts}
+use Rattle.wot_part.specs.Certificate.{Component, Certificate}
 use Rattle.wot_standing.specs.Own.{is_own_revoked}
 use Rattle.wot_standing.specs.Standing.{own}
 use Rattle.wot_standing.specs.Steady.{SameBy}
-use Rattle.wot_live.specs.Edge.{edge_by, edge_on}
-use Rattle.wot_live.specs.Rows.{edge_with, edges_on, edges_from, edges_of, in_edge_order, places_where, revoked_of}
+use Rattle.wot_live.specs.Edge.{edge_by, edge_of, edge_on}
+use Rattle.wot_live.specs.Rows.{edges_by, edges_of, issuers_of, places_where, revoked_of, user_id_places}
 
 on_same : (verdicts : Entries) (target : Fpr) (t u : ℕ) (issuer : Fpr) (uid : ℕ) (p : Component) →
     SameBy verdicts issuer t u p → edge_on verdicts target t issuer uid p ≡ edge_on verdicts target u issuer uid p
 on_same verdicts target t u issuer uid p h = ap (option_and_then (edge_by issuer target uid p.sigs)) h.certification
-
-with_same : (verdicts : Entries) (target : Fpr) (t u uid : ℕ) (p : Component) →
-    ((issuer : Fpr) → SameBy verdicts issuer t u p) → (s : Signature)
-    → edge_with verdicts target t uid p s ≡ edge_with verdicts target u uid p s
-with_same verdicts target t u uid p h s =
-    elim (issuer_of verdicts s) as (λ o. option_and_then (λ issuer. edge_on verdicts target t issuer uid p)
-    o ≡ option_and_then (λ issuer. edge_on verdicts target u issuer uid p) o) [
-      | Some issuer ↦ on_same verdicts target t u issuer uid p (h issuer)
-      | None ↦ refl
-    ]
 
 filter_map_same : {A B : Type 0} (f g : A → Option B) → ((x : A) → f x ≡ g x) → (xs : List A) →
     filter_map f xs ≡ filter_map g xs
 filter_map_same f g h [] = refl
 filter_map_same f g h (x ∷ xs) = rw (h x, filter_map_same f g h xs) refl
 
-from_same : (verdicts : Entries) (target : Fpr) (t u uid : ℕ) (ps : List Component) →
-    ((issuer : Fpr) → AllByRecursion (SameBy verdicts issuer t u) ps)
-    → edges_from verdicts target t uid ps ≡ edges_from verdicts target u uid ps
-from_same verdicts target t u uid [] h = refl
-from_same verdicts target t u uid (p ∷ ps) h =
-    ap (λ (es : List EdgeFacts). es ++ edges_from verdicts target t (uid + 1) ps)
-    (filter_map_same (edge_with verdicts target t uid p) (edge_with verdicts target u uid p)
-    (with_same verdicts target t u uid p (λ issuer. (h issuer).0)) p.sigs)
-    ∙ ap (λ (es : List EdgeFacts). edges_on verdicts target u uid p ++ es) (from_same verdicts target t u (uid + 1) ps
-    (λ issuer. (h issuer).1))
+flat_map_same : {A B : Type 0} (f g : A → List B) → ((x : A) → f x ≡ g x) → (xs : List A) →
+    flat_map f xs ≡ flat_map g xs
+flat_map_same f g h [] = refl
+flat_map_same f g h (x ∷ xs) = rw (h x, flat_map_same f g h xs) refl
+
+of_same : (verdicts : Entries) (target : Fpr) (t u : ℕ) (issuer : Fpr) (uid : ℕ) (ps : List Component) (k : ℕ) →
+    AllByRecursion (SameBy verdicts issuer t u) ps
+    → option_and_then (edge_on verdicts target t issuer uid) (slice_get ps k) ≡ option_and_then
+    (edge_on verdicts target u issuer uid) (slice_get ps k)
+of_same verdicts target t u issuer uid [] k h = refl
+of_same verdicts target t u issuer uid (p ∷ ps) zero h = on_same verdicts target t u issuer uid p h.0
+of_same verdicts target t u issuer uid (p ∷ ps) (suc k) h = of_same verdicts target t u issuer uid ps k h.1
 
 pub edges_same : (verdicts : Entries) (c : Certificate) (t u : ℕ) →
     ((issuer : Fpr) → AllByRecursion (SameBy verdicts issuer t u) c.user_ids) →
     edges_of verdicts c t ≡ edges_of verdicts c u
-edges_same verdicts c t u h = ap in_edge_order (from_same verdicts (own c) t u 0 c.user_ids h)
+edges_same verdicts c t u h =
+    flat_map_same (edges_by verdicts c t) (edges_by verdicts c u)
+    (λ issuer. filter_map_same (edge_of verdicts c t issuer) (edge_of verdicts c u issuer)
+    (λ uid. of_same verdicts (own c) t u issuer uid c.user_ids uid (h issuer)) (user_id_places c))
+    (issuers_of verdicts c)
 
 places_same : (verdicts : Entries) (fpr : Fpr) (t u place : ℕ) (ps : List Component) →
     AllByRecursion (SameBy verdicts fpr t u) ps

@@ -1,6 +1,8 @@
 -- A worked certificate: an issuer certified its user ID with the amount 60 at 2000, and with 120 at 3000 for 100
 -- seconds.
-use Rattle.std.proofs.Common.{◌≡◌, ℕ, true, false, List, [], ◌∷◌, refl}
+use Rattle.std.proofs.Common.{◌≡◌, ℕ, true, false, List, [], ◌∷◌, Option, refl}
+use Rattle.std.specs.List.{filter_map, flat_map, slice_get}
+use Rattle.std.specs.Option.{option_and_then}
 use Rattle.wot_types.specs.declared.fpr.Fpr.{Fpr}
 use Rattle.wot_types.specs.declared.fpr.Fpr.TheVariants.{V4}
 use Rattle.wot_types.specs.declared.number.SigNumber.{SigNumber}
@@ -8,10 +10,12 @@ use Rattle.wot_subpacket.specs.Area.{subpackets_of}
 use Rattle.wot_signature.specs.Signature.{facts_of, read_body_of}
 use Rattle.wot_verdict.specs.declared.verdict.Verdict.TheVariants.{Good}
 use Rattle.wot_verdict.specs.Verdicts.{Entries}
-use Rattle.wot_cert.specs.Certificate.{Signature, Certificate}
+use Rattle.wot_part.specs.Certificate.{Signature, Certificate}
 use Rattle.wot_cert.specs.Span.{span_of}
 use Rattle.wot_edge.specs.declared.edge.EdgeFacts.{EdgeFacts}
-use Rattle.wot_live.specs.Rows.{edges_from, in_edge_order}
+use Rattle.wot_standing.specs.Standing.{own}
+use Rattle.wot_live.specs.Edge.{edge_on}
+use Rattle.wot_live.specs.Rows.{edges_of, issuers_of, user_id_places}
 
 abbrev R : Fpr
 R = V4 (1 ∷ [])
@@ -42,9 +46,21 @@ certificate = record {
 abbrev verdicts : Entries
 verdicts = (number 0, Good T) ∷ (number 1, Good R) ∷ (number 2, Good R) ∷ []
 
--- the edges into it
+-- The edges into it at t by the definition, with this fingerprint for its own, which is a hash and isn't evaluated here.
+abbrev edge_into : Fpr → ℕ → Fpr → ℕ → Option EdgeFacts
+edge_into target t issuer uid =
+    option_and_then (edge_on verdicts target t issuer uid) (slice_get certificate.user_ids uid)
+
+abbrev edges_into : Fpr → ℕ → List EdgeFacts
+edges_into target t =
+    flat_map (λ (issuer : Fpr). filter_map (edge_into target t issuer) (user_id_places certificate))
+    (issuers_of verdicts certificate)
+
+is_definition : (t : ℕ) → edges_of verdicts certificate t ≡ edges_into (own certificate) t
+is_definition t = refl
+
 abbrev at : ℕ → List EdgeFacts
-at t = in_edge_order (edges_from verdicts T t 0 certificate.user_ids)
+at t = edges_into T t
 
 abbrev edge : ℕ → ℕ → ℕ → EdgeFacts
 edge sig made amount = record {

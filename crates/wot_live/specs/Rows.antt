@@ -1,49 +1,43 @@
 -- All edges into a certificate, and the user IDs that its own key revoked.
-use Rattle.std.specs.Prelude.{◌≡◌, ℕ, ◌+◌, ◌==◌, Bool, ◌&&◌, if◌then◌else◌, List, [], ◌∷◌, ◌++◌, Option, Some, None}
-use Rattle.std.specs.List.{filter_map}
+use Rattle.std.specs.Prelude.{◌≡◌, ℕ, ◌+◌, ◌==◌, Bool, ◌&&◌, if◌then◌else◌, List, [], ◌∷◌, length, Option, Some, None}
+use Rattle.std.specs.BTreeSet.{insert_key}
+use Rattle.std.specs.List.{filter_map, flat_map, range_with_len}
 use Rattle.std.specs.List.Sorted.{IsStrictlySortedBy}
-use Rattle.std.specs.Option.{option_and_then}
 use Rattle.wot_types.specs.declared.fpr.Fpr.{Fpr}
-use Rattle.wot_types.specs.Fpr.{same_fpr}
+use Rattle.wot_types.specs.Fpr.{fpr_cmp, same_fpr}
 use Rattle.wot_verdict.specs.Verdicts.{Entries}
-use Rattle.wot_cert.specs.Certificate.{Signature, Component, Certificate}
+use Rattle.wot_part.specs.Certificate.{Certificate}
+use Rattle.wot_part.specs.Counts.{sigs_on}
 use Rattle.wot_cert.specs.Issuer.{issuer_of}
-use Rattle.wot_cert.specs.Ranked.{united}
 use Rattle.wot_edge.specs.declared.edge.EdgeFacts.{EdgeFacts}
 use Rattle.wot_edge.specs.Order.{edge_cmp}
 use Rattle.wot_edge.specs.Record.{Has}
 use Rattle.wot_standing.specs.Own.{is_own_revoked}
 use Rattle.wot_standing.specs.Standing.{own}
-use Rattle.wot_live.specs.Edge.{edge_on, edge_of}
+use Rattle.wot_live.specs.Edge.{edge_of}
 
 -- ---- the edges
 
--- the edge that the issuer of a signature has on the user ID
-abbrev pub edge_with : Entries → Fpr → ℕ → ℕ → Component → Signature → Option EdgeFacts
-edge_with verdicts target t uid p s =
-    option_and_then (λ issuer. edge_on verdicts target t issuer uid p) (issuer_of verdicts s)
+-- these fingerprints in order, each once
+abbrev pub fprs_in_order : List Fpr → List Fpr
+fprs_in_order [] = []
+fprs_in_order (fpr ∷ fprs) = insert_key fpr_cmp (fprs_in_order fprs) fpr
 
--- the edges of all signatures on the user ID; an issuer of several signatures has its edge there several times
-abbrev pub edges_on : Entries → Fpr → ℕ → ℕ → Component → List EdgeFacts
-edges_on verdicts target t uid p = filter_map (edge_with verdicts target t uid p) p.sigs
+-- the issuers for whom signatures on the user IDs count
+abbrev pub issuers_of : Entries → Certificate → List Fpr
+issuers_of verdicts c = fprs_in_order (filter_map (issuer_of verdicts) (sigs_on c.user_ids))
 
--- the edges on these user IDs, the first of which is at this place
-abbrev pub edges_from : Entries → Fpr → ℕ → ℕ → List Component → List EdgeFacts
-edges_from verdicts target t uid [] = []
-edges_from verdicts target t uid (p ∷ ps) =
-    edges_on verdicts target t uid p ++ edges_from verdicts target t (uid + 1) ps
+-- the places of the user IDs
+abbrev pub user_id_places : Certificate → List ℕ
+user_id_places c = range_with_len 0 (length c.user_ids)
 
--- Two edges of one issuer and user ID are equal, so either will do.
-abbrev pub one_of_both : EdgeFacts → EdgeFacts → EdgeFacts
-one_of_both old new = new
+-- the edges of an issuer, in the order of user IDs
+abbrev pub edges_by : Entries → Certificate → ℕ → Fpr → List EdgeFacts
+edges_by verdicts c t issuer = filter_map (edge_of verdicts c t issuer) (user_id_places c)
 
--- These edges in the order of issuer and user ID, each once.
-abbrev pub in_edge_order : List EdgeFacts → List EdgeFacts
-in_edge_order edges = united edge_cmp one_of_both [] edges
-
--- all edges into a certificate at t, in the order of issuer and user ID, each once
+-- The edges into a certificate at t: the edge of each issuer and each user ID, in this order.
 abbrev pub edges_of : Entries → Certificate → ℕ → List EdgeFacts
-edges_of verdicts c t = in_edge_order (edges_from verdicts (own c) t 0 c.user_ids)
+edges_of verdicts c t = flat_map (edges_by verdicts c t) (issuers_of verdicts c)
 
 -- ---- what they are
 

@@ -1,12 +1,11 @@
 //! Finds the edges of all issuers into one certificate, in the order of issuer and user ID. It walks over the
-//! signatures once and asks wot_standing for each issuer's newest certification. Which edges are found is fixed by
-//! `edges_of`.
+//! signatures once and asks wot_standing for each issuer's newest certification. What is found is `found_edges`, and by
+//! the law `found_are_edges` it is `edges_of`.
 ghost use Rattle.std.specs.Prelude.{◌≡◌, ◌<◌, ◌^◌, [], length, OnOk, IfOk};
 ghost use Rattle.std.specs.List.{AllByRecursion, cons_option};
 ghost use Rattle.wot_standing.specs.Certifiers.{StandsAt};
-ghost use Rattle.wot_live.specs.Found.{Becomes, Gains, HasFew, by_place, edge_kept, with_edge};
+ghost use Rattle.wot_live.specs.Found.{Becomes, Gains, HasFew, by_place, edge_kept, edges_on, found_edges, with_edge};
 ghost use Rattle.wot_live.specs.Found.{edge_at_place as edge_at_place_spec};
-ghost use Rattle.wot_live.specs.Rows.{edges_of, edges_on};
 
 use crate::terms::terms;
 use std::alloc::Global;
@@ -22,6 +21,14 @@ use wot_verdict::Verdicts;
 pub(crate) struct EdgePlace {
     issuer: Fpr,
     uid: u32,
+}
+
+/// The certificate into which edges lead, and what decides about them.
+#[derive(Clone, Copy)]
+struct Target<'a> {
+    fpr: Fpr,
+    verdicts: &'a Verdicts,
+    t: u32,
 }
 
 pub(crate) type Found = BTreeMap<EdgePlace, EdgeFacts, Global>;
@@ -52,16 +59,15 @@ fn edge_with(
     at: u32,
     part: &Part,
     uid: u32,
-    target: Fpr,
-    verdicts: &Verdicts,
+    to: &Target<'_>,
     certifiers: &Certifiers,
 ) -> Option<EdgeFacts>
-    requires stands { StandsAt verdicts.now certifiers.now at sig.now }
-    ensures { result ≡ edge_kept verdicts.now target uid part.now certifiers.now sig.now }
+    requires stands { StandsAt to.now.verdicts.now certifiers.now at sig.now }
+    ensures { result ≡ edge_kept to.now.verdicts.now to.now.fpr uid part.now certifiers.now sig.now }
 {
-    let issuer = certifiers.issuer(sig, at, verdicts)?;
+    let issuer = certifiers.issuer(sig, at, to.verdicts)?;
     let place = certifiers.place(&issuer)?;
-    edge_at_place(part, place, issuer, target, uid)
+    edge_at_place(part, place, issuer, to.fpr, uid)
 }
 
 fn put_some(found: &mut Found, edge: Option<EdgeFacts>) -> Result<(), Memory>
@@ -79,19 +85,18 @@ fn put_edges_on(
     found: &mut Found,
     part: &Part,
     uid: u32,
-    target: Fpr,
-    verdicts: &Verdicts,
-    t: u32,
+    to: &Target<'_>,
 ) -> Result<(), Memory>
     requires few { HasFew part.now }
-    ensures { OnOk result (Gains (edges_on verdicts.now target t uid part.now) found.old.entries found.new.entries) }
+    ensures { OnOk result (Gains (edges_on to.now.verdicts.now to.now.fpr to.now.t uid part.now)
+        found.old.entries found.new.entries) }
 {
-    let certifiers = Certifiers::new(alloc, part, verdicts, t)?;
+    let certifiers = Certifiers::new(alloc, part, to.verdicts, to.t)?;
     let mut rest = part.sigs();
     'back: while let Some((sig, prefix)) = rest.split_last() {
         rest = prefix;
         let at = prefix.len() as u32;
-        let edge = edge_with(sig, at, part, uid, target, verdicts, &certifiers);
+        let edge = edge_with(sig, at, part, uid, to, &certifiers);
         put_some(found, edge)?;
     }
     Ok(())
@@ -106,22 +111,18 @@ pub(crate) fn find_edges(
 ) -> Result<Found, Memory>
     requires few { AllByRecursion HasFew cert.now.user_ids }
     requires count { length cert.now.user_ids < 2 ^ 32 }
-    ensures { IfOk result (λ found. found.entries ≡ by_place (edges_of verdicts.now cert.now t)) }
+    ensures { IfOk result (λ found. found.entries ≡ by_place (found_edges verdicts.now cert.now t)) }
 {
     let mut found = BTreeMap::new(alloc);
-    let target = cert.fpr();
+    let target = Target {
+        fpr: cert.fpr(),
+        verdicts,
+        t,
+    };
     let mut rest = cert.user_ids();
     'back: while let Some((part, prefix)) = rest.split_last() {
         rest = prefix;
-        put_edges_on(
-            alloc,
-            &mut found,
-            part,
-            prefix.len() as u32,
-            target,
-            verdicts,
-            t,
-        )?;
+        put_edges_on(alloc, &mut found, part, prefix.len() as u32, &target)?;
     }
     Ok(found)
 }

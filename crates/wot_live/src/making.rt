@@ -4,9 +4,9 @@
 ghost use Rattle.std.specs.Prelude.{◌≡◌, ◌<◌, ◌≤◌, ◌+◌, ◌^◌, min, length, IfOk};
 ghost use Rattle.std.specs.BTreeMap.{btree_map_len, values};
 ghost use Rattle.std.specs.List.Sorted.{IsStrictlySortedBy};
-ghost use Rattle.wot_cert.specs.Counts.{signatures_of};
+ghost use Rattle.wot_part.specs.Counts.{signatures_of};
 ghost use Rattle.wot_cert.specs.Span.{span_of};
-ghost use Rattle.wot_cert.specs.Text.{size_of};
+ghost use Rattle.wot_part.specs.Text.{size_of};
 ghost use Rattle.wot_edge.specs.Order.{edge_cmp};
 ghost use Rattle.wot_standing.specs.Standing.{own};
 ghost use Rattle.wot_standing.specs.Throughout.{IsThroughout};
@@ -14,7 +14,7 @@ ghost use Rattle.wot_live.specs.Rows.{AreInto, AreRows, edges_of, revoked_of};
 
 use crate::Rows;
 use crate::found::{Found, find_edges};
-use crate::laws::edges_are_rows;
+use crate::laws::{edges_are_rows, found_are_edges};
 use crate::revoked::revoked_places;
 use std::alloc::Global;
 use wot_cert::{Cert, Span};
@@ -70,5 +70,6 @@ pub fn rows(
     let revoked = revoked_places(alloc, cert, verdicts, t)?;
     let edges = make_edges(alloc, &found, steps)?;
     edges_are_rows();
+    found_are_edges();
     Ok((Rows { edges, revoked }, steady_span(cert, t)))
 }

@@ -1,5 +1,5 @@
-pub mod Running
+pub mod CommandsInLines
 pub mod Unchanged
 mod Reported
-mod Dumping
+mod DumpLine
 mod Worded

@@ -8,7 +8,7 @@ use Rattle.wot_machine.specs.Stepped.{TellsBehind}
 use Rattle.wot_step.specs.Made.{TellingMakes, WatchesMake}
 use Rattle.wot_step.specs.Session.{Session}
 use Rattle.wot_step.specs.Watching.{AreLines}
-use Rattle.wot_watching.proofs.Asking.{watches_as}
+use Rattle.wot_watching.proofs.WatchEdges.{watches_as}
 
 -- if no watch has a line, nothing is reported
 pub tells_nothing : (whole : Session) (had : List ℕ) → AreLines whole.state whole.watches [] →

@@ -1,6 +1,6 @@
 -- What leaves the state unchanged leaves the whole engine unchanged except for marks.
 use Rattle.std.proofs.Common.{◌≡◌, inl, inr, ap}
-use Rattle.wot_keyring.specs.Import.{IsOneChange}
+use Rattle.wot_held.specs.Import.{IsOneChange}
 use Rattle.wot_cache.specs.State.{Engine, State, StaysButMarks, state_of}
 
 pub unchanged : (old new : Engine) → IsOneChange old.keyring new.keyring →

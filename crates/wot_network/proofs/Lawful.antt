@@ -4,14 +4,14 @@ use Rattle.std.specs.List.{AllByRecursion}
 use Rattle.wot_types.specs.declared.fpr.Fpr.{Fpr}
 use Rattle.wot_key.specs.Key.{fpr_of}
 use Rattle.wot_verdict.specs.Verdicts.{Entries}
-use Rattle.wot_cert.specs.Certificate.{Certificate}
+use Rattle.wot_part.specs.Certificate.{Certificate}
 use Rattle.wot_edge.specs.Lawful.{AreEntries, AreRows}
-use Rattle.wot_keyring.specs.Keyring.{Certificates}
+use Rattle.wot_held.specs.Keyring.{Certificates}
 use Rattle.wot_live.specs.Rows.{edges_of, AreInto}
 use Rattle.wot_live.specs.Rows as live
 use Rattle.wot_standing.specs.Standing.{own}
 use Rattle.wot_network.specs.Told.{entry_of, record_of}
-use Rattle.wot_network.proofs.Looking.{edges_kept}
+use Rattle.wot_network.proofs.LookupsAgree.{edges_kept}
 
 module _
     (rows : (verdicts : Entries) (c : Certificate) (t : ℕ) → live.AreRows verdicts c t (edges_of verdicts c t))

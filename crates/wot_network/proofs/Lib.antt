@@ -1,4 +1,4 @@
-pub mod Agreeing
+pub mod RecordsAgree
 pub mod Few
 pub mod Fprs
 pub mod Current
@@ -11,6 +11,6 @@ pub mod Later
 pub mod Settled
 pub mod Places
 pub mod Lawful
-pub mod Looking
+pub mod LookupsAgree
 pub mod Verdicts
-pub mod Certifying
+pub mod EdgesAreCertified

@@ -1,21 +1,22 @@
 -- What verdicts make of a certificate depends only on the verdicts on its signatures.
-use Rattle.std.proofs.Common.{◌≡◌, ℕ, ◌+◌, Bool, false, List, [], ◌∷◌, ◌++◌, map, Option, Some, None, refl, ap, ◌∙◌}
+use Rattle.std.proofs.Common.{◌≡◌, ℕ, zero, suc, ◌+◌, Bool, false, List, [], ◌∷◌, ◌++◌, map, Option}
+use Rattle.std.proofs.Common.{refl, ap, subst, ◌∙◌}
 use Rattle.std.specs.Prelude.{◌&&◌, ◌||◌, not, nat_lt, filter, is_some}
-use Rattle.std.specs.List.{AllByRecursion, list_all, list_any, filter_map}
+use Rattle.std.specs.List.{AllByRecursion, list_all, list_any, filter_map, flat_map, slice_get}
 use Rattle.std.specs.Option.{option_or, option_map_or, option_and_then}
+use Rattle.std.proofs.lemmas.Grind.{flat_map-append}
 use Rattle.wot_types.specs.declared.fpr.Fpr.{Fpr}
 use Rattle.wot_types.specs.Fpr.{same_fpr}
 use Rattle.wot_types.specs.PlainLaws.{all_prefix, all_back, all_each}
 use Rattle.wot_verdict.specs.Verdicts.{Entries}
 use Rattle.wot_verdict.specs.declared.verdict.Verdict.{Verdict}
-use Rattle.wot_cert.specs.Certificate.{Signature, Component, Certificate, said_by}
-use Rattle.wot_cert.specs.Counts.{all_sigs, parts_in, sigs_on}
+use Rattle.wot_part.specs.Certificate.{Signature, Component, Certificate, said_by}
+use Rattle.wot_part.specs.Counts.{all_sigs, parts_in, sigs_on}
 use Rattle.wot_cert.specs.Issuer.{good_by, issuer_with, issuer_of, counts_by}
-use Rattle.wot_cert.specs.Ranked.{greatest}
+use Rattle.wot_part.specs.Ranked.{greatest}
 use Rattle.wot_cert.specs.Revoked.{has_kind, revokes_by, is_unrevoked, is_revocable}
 use Rattle.wot_cert.specs.Span.{created_of}
 use Rattle.wot_cert.specs.Time.{is_live, made_of, newness}
-use Rattle.wot_edge.specs.declared.edge.EdgeFacts.{EdgeFacts}
 use Rattle.wot_standing.specs.declared.status.Standing.{Standing}
 use Rattle.wot_standing.specs.Kinds.{is_certification, is_soft}
 use Rattle.wot_standing.specs.Own.{is_own_revoked}
@@ -23,9 +24,9 @@ use Rattle.wot_standing.specs.Standing.{own, primacy, newest_certification, prim
 use Rattle.wot_standing.specs.Standing.{is_hard_revocation, is_hard_revoked, is_soft_revocation, least_of, soft_moment}
 use Rattle.wot_standing.specs.Standing.{standing_of}
 use Rattle.wot_standing.specs.Usable.{is_key_in_order, is_in_order}
-use Rattle.wot_live.specs.Edge.{edge_by, edge_on}
-use Rattle.wot_live.specs.Rows.{edge_with, edges_on, edges_from, in_edge_order, edges_of, places_where, revoked_of}
-use Rattle.wot_keyring.specs.Later.{SaysSame}
+use Rattle.wot_live.specs.Edge.{edge_by, edge_on, edge_of}
+use Rattle.wot_live.specs.Rows.{edges_of, places_where, revoked_of, edges_by, fprs_in_order, issuers_of, user_id_places}
+use Rattle.wot_held.specs.Later.{SaysSame}
 use Rattle.wot_network.specs.Standings.{GiveSame}
 
 -- ---- lists
@@ -49,6 +50,15 @@ filter_map_same : {A B : Type 0} (P : A → Type 0) (p q : A → Option B) → (
     AllByRecursion P xs → filter_map p xs ≡ filter_map q xs
 filter_map_same P p q f [] h = refl
 filter_map_same P p q f (x ∷ xs) h = rw (f x h.0, filter_map_same P p q f xs h.1) refl
+
+map_each : {A B : Type 0} (p q : A → Option B) → ((x : A) → p x ≡ q x) → (xs : List A) →
+    filter_map p xs ≡ filter_map q xs
+map_each p q f [] = refl
+map_each p q f (x ∷ xs) = rw (f x, map_each p q f xs) refl
+
+join_each : {A B : Type 0} (p q : A → List B) → ((x : A) → p x ≡ q x) → (xs : List A) → flat_map p xs ≡ flat_map q xs
+join_each p q f [] = refl
+join_each p q f (x ∷ xs) = rw (f x, join_each p q f xs) refl
 
 -- the newest valid signature of some types at a place: of certifications, and of direct key signatures
 abbrev is_valid : Entries → (Signature → Bool) → Fpr → ℕ → List Signature → Signature → Bool
@@ -163,25 +173,18 @@ module _ (v w : Entries) where
   edge_on_same target t issuer uid p h = ap (option_and_then (edge_by issuer target uid p.sigs))
       (newest_same is_certification issuer t p.sigs h)
 
-  edge_with_same : (target : Fpr) (t uid : ℕ) (p : Component) → SameOn p → (s : Signature) → Same s →
-      edge_with v target t uid p s ≡ edge_with w target t uid p s
-  edge_with_same target t uid p h s e =
-      ap (option_and_then (λ issuer. edge_on v target t issuer uid p)) (issuer_same s e)
-      ∙ by (issuer_of w s)
-    where
-      by : (o : Option Fpr) → option_and_then (λ issuer. edge_on v target t issuer uid p) o ≡ option_and_then
-          (λ issuer. edge_on w target t issuer uid p) o
-      by None = refl
-      by (Some issuer) = edge_on_same target t issuer uid p h
+  edge_at_same : (target : Fpr) (t : ℕ) (issuer : Fpr) (uid : ℕ) (ps : List Component) (k : ℕ) →
+      AllByRecursion SameOn ps → option_and_then (edge_on v target t issuer uid) (slice_get ps k) ≡ option_and_then
+      (edge_on w target t issuer uid) (slice_get ps k)
+  edge_at_same target t issuer uid [] k h = refl
+  edge_at_same target t issuer uid (p ∷ ps) zero h = edge_on_same target t issuer uid p h.0
+  edge_at_same target t issuer uid (p ∷ ps) (suc k) h = edge_at_same target t issuer uid ps k h.1
 
-  edges_from_same : (target : Fpr) (t uid : ℕ) (ps : List Component) → AllByRecursion SameOn ps →
-      edges_from v target t uid ps ≡ edges_from w target t uid ps
-  edges_from_same target t uid [] h = refl
-  edges_from_same target t uid (p ∷ ps) h =
-      ap (λ (es : List EdgeFacts). es ++ edges_from v target t (uid + 1) ps)
-      (filter_map_same Same (edge_with v target t uid p) (edge_with w target t uid p)
-      (edge_with_same target t uid p h.0) p.sigs h.0)
-      ∙ ap (λ (es : List EdgeFacts). edges_on w target t uid p ++ es) (edges_from_same target t (uid + 1) ps h.1)
+  edges_by_same : (c : Certificate) (t : ℕ) → AllByRecursion SameOn c.user_ids → (issuer : Fpr) →
+      edges_by v c t issuer ≡ edges_by w c t issuer
+  edges_by_same c t h issuer =
+      map_each (edge_of v c t issuer) (edge_of w c t issuer)
+      (λ uid. edge_at_same (own c) t issuer uid c.user_ids uid h) (user_id_places c)
 
   -- ---- of a certificate with these verdicts on all its signatures
 
@@ -194,12 +197,25 @@ module _ (v w : Entries) where
       (all_back Same c.direct (sigs_on (parts_in c)) h) in
       all_prefix SameOn c.user_ids c.attributes (all_prefix SameOn (c.user_ids ++ c.attributes) c.subkeys parts)
 
+  uid_sigs_in : (c : Certificate) → AllByRecursion Same (all_sigs c) → AllByRecursion Same (sigs_on c.user_ids)
+  uid_sigs_in c h =
+      let sigs : Component → List Signature = λ p. p.sigs in
+      let in_parts = subst (AllByRecursion Same) (flat_map-append sigs (c.user_ids ++ c.attributes) c.subkeys)
+      (all_back Same c.direct (sigs_on (parts_in c)) h) in
+      let in_front = all_prefix Same (sigs_on (c.user_ids ++ c.attributes)) (sigs_on c.subkeys) in_parts in
+      all_prefix Same (sigs_on c.user_ids) (sigs_on c.attributes)
+      (subst (AllByRecursion Same) (flat_map-append sigs c.user_ids c.attributes) in_front)
+
   pub standing_same : (c : Certificate) (t : ℕ) → AllByRecursion Same (all_sigs c) →
       standing_of v c t ≡ standing_of w c t
   standing_same c t h = standing_parts c t (direct_in c h) (uids_in c h)
 
   pub edges_same : (c : Certificate) (t : ℕ) → AllByRecursion Same (all_sigs c) → edges_of v c t ≡ edges_of w c t
-  edges_same c t h = ap in_edge_order (edges_from_same (own c) t 0 c.user_ids (uids_in c h))
+  edges_same c t h =
+      join_each (edges_by v c t) (edges_by w c t) (edges_by_same c t (uids_in c h)) (issuers_of v c)
+      ∙ ap (λ (ss : List Fpr). flat_map (edges_by w c t) (fprs_in_order ss))
+      (filter_map_same Same (issuer_of v) (issuer_of w) issuer_same (sigs_on c.user_ids)
+      (uid_sigs_in c h))
 
   places_same : (fpr : Fpr) (t place : ℕ) (uids : List Component) → AllByRecursion SameOn uids →
       places_where (is_own_revoked v fpr t) place uids ≡ places_where (is_own_revoked w fpr t) place uids

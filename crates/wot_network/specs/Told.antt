@@ -1,6 +1,6 @@
 -- The certification network: what certificates and verdicts make of a user ID U at a time t.
-use Rattle.std.specs.Prelude.{◌≡◌, ℕ, suc, Bool, false, not, ◌||◌, if◌then◌else◌, List, [], ◌∷◌, map, Option, Some}
-use Rattle.std.specs.Prelude.{None}
+use Rattle.std.specs.Prelude.{◌≡◌, ◌⊎◌, ℕ, suc, Bool, false, not, ◌||◌, if◌then◌else◌, List, [], ◌∷◌, map, Option}
+use Rattle.std.specs.Prelude.{Some, None}
 use Rattle.std.specs.List.{AllByRecursion, slice_get}
 use Rattle.std.specs.Option.{option_map, option_map_or}
 use Rattle.std.specs.Map.{lookup}
@@ -10,12 +10,13 @@ use Rattle.wot_types.specs.declared.fpr.Fpr.{Fpr}
 use Rattle.wot_key.specs.Key.{fpr_of}
 use Rattle.wot_verdict.specs.Verdicts.{Entries}
 use Rattle.wot_signature.specs.Signature.{scopes_of}
-use Rattle.wot_cert.specs.Certificate.{Signature, Component, Certificate}
+use Rattle.wot_part.specs.Certificate.{Signature, Component, Certificate}
 use Rattle.wot_edge.specs.declared.edge.EdgeFacts.{EdgeFacts}
 use Rattle.wot_edge.specs.Lawful.{AreEntries}
 use Rattle.wot_edge.specs.Record.{Row, Entry, Record}
-use Rattle.wot_keyring.specs.Keyring.{Certificates, is_fpr}
+use Rattle.wot_held.specs.Keyring.{Certificates, is_fpr}
 use Rattle.wot_scope.specs.Deciding.{scope_holds}
+use Rattle.wot_scope.specs.Scope.{ScopeHolds}
 use Rattle.wot_standing.specs.Standing.{standing_of}
 use Rattle.wot_standing.specs.Usable.{is_usable, is_in_order}
 use Rattle.wot_live.specs.Rows.{edges_of}
@@ -28,8 +29,8 @@ is_usable_by verdicts certs t issuer made =
     option_map_or (λ (c : Certificate). is_usable (standing_of verdicts c t) made) (lookup (is_fpr issuer) certs) false
 
 -- ---- scope
--- Here a scope is decided by a test. By wot_scope's law `scope_is_told` the test is the relation `ScopeHolds`, which
--- says what a scope means by the grammar and the meaning of regular expressions.
+-- A record has truth values, so a scope is decided by a test here. By the law `scopes_are_decided` the test is the
+-- relation `IsInScope`, which says what a scope means by the grammar and the meaning of regular expressions.
 
 abbrev pub body_in : ℕ → Component → List ℕ
 body_in sig uid = option_map_or (λ (s : Signature). s.body) (slice_get uid.sigs sig) []
@@ -41,6 +42,10 @@ body_at user_ids uid sig = option_map_or (body_in sig) (slice_get user_ids uid) 
 -- The edge has no scope, or the scope of its signature on one of these user IDs covers U.
 abbrev pub is_in_scope : List Component → List ℕ → EdgeFacts → Bool
 is_in_scope user_ids u edge = not edge.scoped || scope_holds (scopes_of (body_at user_ids edge.uid edge.sig)) u
+
+abbrev pub IsInScope : List Component → List ℕ → EdgeFacts → Type 0
+IsInScope user_ids u edge =
+    (edge.scoped ≡ false) ⊎ ScopeHolds (scopes_of (body_at user_ids edge.uid edge.sig)) u
 
 -- ---- the user ID
 

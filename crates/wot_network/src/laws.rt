@@ -1,18 +1,21 @@
 //! Laws of the definitions. Each function does nothing: its contract is the law. They carry the facts about a whole
 //! record (sorted, local, resting on trust signatures) from the definitions to wot_cache and wot_machine.
-ghost use Rattle.std.specs.Prelude.{◌≤◌, ℕ, List};
+ghost use Rattle.std.specs.Prelude.{◌≤◌, ◌↔◌, ℕ, List, IsTrue};
 ghost use Rattle.wot_verdict.specs.Verdicts.{Entries};
+ghost use Rattle.wot_part.specs.Certificate.{Component};
+ghost use Rattle.wot_edge.specs.declared.edge.EdgeFacts.{EdgeFacts as TheEdge};
 ghost use Rattle.wot_edge.specs.Record.{IsRecord};
-ghost use Rattle.wot_keyring.specs.Keyring.{Certificates, Keyring};
-ghost use Rattle.wot_keyring.specs.Later.{IsLater};
+ghost use Rattle.wot_held.specs.Keyring.{Certificates, Keyring};
+ghost use Rattle.wot_held.specs.Later.{IsLater};
 ghost use Rattle.wot_network.specs.Certified.{RestsOnCertifications, RestsOnTrust};
 ghost use Rattle.wot_network.specs.Local.{IsLocal};
 ghost use Rattle.wot_network.specs.Net.{Marks, Net, Fits, signatures_in, stale_signatures};
 ghost use Rattle.wot_network.specs.Standings.{DecideStandings, DecideUserIds};
-ghost use Rattle.wot_network.specs.Told.{AreOwn, TellsRows, record_of};
+ghost use Rattle.wot_network.specs.Told.{AreOwn, IsInScope, TellsRows, is_in_scope, record_of};
 
 use wot_edge::laws::entries_are_record;
 use wot_live::laws::edges_are_rows;
+use wot_scope::laws::scope_is_told;
 
 /// A network that fits a keyring fits every later one.
 pub fn fits_later()
@@ -34,6 +37,14 @@ pub fn record_is_lawful()
 {
     entries_are_record();
     edges_are_rows();
+}
+
+/// An edge is in scope for a user ID exactly if it has no scope, or the scope of its signature holds for the user ID.
+pub fn scopes_are_decided()
+    ensures exact { (uids : List Component) (u : List ℕ) (edge : TheEdge)
+        → IsTrue (is_in_scope uids u edge) ↔ IsInScope uids u edge }
+{
+    scope_is_told();
 }
 
 /// What certificates and verdicts make of a set of fingerprints depends only on the certificates of the set and on the

@@ -2,7 +2,7 @@
 //! keyring at `t` and that only stale certificates cost anything. wot_cache stands on these two facts.
 ghost use Rattle.std.specs.Prelude.{◌≡◌, ◌≤◌, ◌+◌, ℕ, List, min, [], OnOk, OnErr};
 ghost use Rattle.std.specs.Option.{option_copied};
-ghost use Rattle.wot_keyring.specs.Keyring.{Keyring as KeyringOf, certificates_in};
+ghost use Rattle.wot_held.specs.Keyring.{Keyring as KeyringOf, certificates_in};
 ghost use Rattle.wot_network.specs.Local.{IsLocal};
 ghost use Rattle.wot_edge.specs.Lawful.{AreEntries};
 ghost use Rattle.wot_edge.specs.Record.{IsRecord};
@@ -11,7 +11,7 @@ ghost use Rattle.wot_network.specs.Net.{line_at, marks_of, stale_edges, stale_si
 
 use crate::laws::{record_is_lawful, records_agree};
 use crate::line::NetLine;
-use crate::refreshing::{look_at_stale, ordered, settle};
+use crate::refreshing::{Moment, look_at_stale, ordered, settle};
 use crate::roads::NetRoads;
 use crate::table::{Table, find};
 use std::alloc::Global;
@@ -97,8 +97,7 @@ impl Network {
             &mut self.lines,
             &mut self.window,
             self.count,
-            keyring,
-            t,
+            &Moment { keyring, t },
             steps,
         )?;
         settle(&mut self.lines, keyring, t);

@@ -4,8 +4,8 @@
 ghost use Rattle.std.specs.Prelude.{◌<◌, OnOk, IfSome};
 ghost use Rattle.wot_types.specs.declared.fpr.Fpr.{Fpr as TheFpr};
 ghost use Rattle.wot_cert.specs.Span.{InSpan};
-ghost use Rattle.wot_keyring.specs.Kept.{AreNamed, AreSortedByFpr, AreStamped};
-ghost use Rattle.wot_keyring.specs.Log.{HasChangedSince, is_listed};
+ghost use Rattle.wot_held.specs.Kept.{AreNamed, AreSortedByFpr, AreStamped};
+ghost use Rattle.wot_index.specs.Log.{HasChangedSince, is_listed};
 ghost use Rattle.wot_network.specs.Net.{AreKnown};
 ghost use Rattle.wot_network.specs.Refreshing.{Advances, AreDone, AreDoneBut, AreKept, IsDone, IsProgress};
 ghost use Rattle.wot_network.specs.Refreshing.{KeepsPresent};
@@ -16,6 +16,13 @@ use std::alloc::Global;
 use wot_cert::Span;
 use wot_keyring::Keyring;
 use wot_types::{Fpr, Memory, Steps};
+
+/// A keyring, and the time for which the network is made.
+#[derive(Clone, Copy)]
+pub(crate) struct Moment<'a> {
+    pub(crate) keyring: &'a Keyring,
+    pub(crate) t: u32,
+}
 
 /// A law: the certificates of a keyring are under their own fingerprints, and sorted.
 pub(crate) fn ordered(keyring: &Keyring)
@@ -31,29 +38,29 @@ fn look_at(
     alloc: Global,
     lines: &mut Table,
     window: &mut Span,
-    keyring: &Keyring,
+    at: &Moment<'_>,
     fpr: &Fpr,
-    t: u32,
     steps: &mut Steps,
 ) -> Result<(), Memory>
-    requires sorted { AreSortedByFpr keyring.now.certs }
-    requires kept { AreKept keyring.now window.old lines.old.entries }
-    ensures kept { AreKept keyring.now window.new lines.new.entries }
-    ensures progress { IsProgress keyring.now t lines.old.entries lines.new.entries steps.old.made steps.new.made }
+    requires sorted { AreSortedByFpr at.now.keyring.now.certs }
+    requires kept { AreKept at.now.keyring.now window.old lines.old.entries }
+    ensures kept { AreKept at.now.keyring.now window.new lines.new.entries }
+    ensures progress { IsProgress at.now.keyring.now at.now.t
+        lines.old.entries lines.new.entries steps.old.made steps.new.made }
     ensures advances { OnOk result
-        (Advances keyring.now t lines.old.entries lines.new.entries steps.old.made steps.new.made) }
-    ensures done { OnOk result (IsDone keyring.now t lines.new.entries fpr.now) }
+        (Advances at.now.keyring.now at.now.t lines.old.entries lines.new.entries steps.old.made steps.new.made) }
+    ensures done { OnOk result (IsDone at.now.keyring.now at.now.t lines.new.entries fpr.now) }
 {
-    let stamp = keyring.stamp(fpr);
-    let Some(cert) = keyring.get(fpr) else {
+    let stamp = at.keyring.stamp(fpr);
+    let Some(cert) = at.keyring.get(fpr) else {
         rises(lines);
         forget(lines, fpr);
         return Ok(());
     };
-    if is_done(lines, fpr, stamp, t) {
+    if is_done(lines, fpr, stamp, at.t) {
         return Ok(());
     }
-    let line = make(alloc, cert, keyring.verdicts(), stamp, t, steps)?;
+    let line = make(alloc, cert, at.keyring.verdicts(), stamp, at.t, steps)?;
     let span = line.span();
     put(lines, *fpr, line)?;
     *window = narrow(*window, span);
@@ -65,21 +72,21 @@ fn look_at_all(
     alloc: Global,
     lines: &mut Table,
     window: &mut Span,
-    keyring: &Keyring,
-    t: u32,
+    at: &Moment<'_>,
     steps: &mut Steps,
 ) -> Result<(), Memory>
-    requires sorted { AreSortedByFpr keyring.now.certs }
-    requires named { AreNamed keyring.now.certs }
-    requires kept { AreKept keyring.now window.old lines.old.entries }
-    ensures kept { AreKept keyring.now window.new lines.new.entries }
-    ensures progress { IsProgress keyring.now t lines.old.entries lines.new.entries steps.old.made steps.new.made }
+    requires sorted { AreSortedByFpr at.now.keyring.now.certs }
+    requires named { AreNamed at.now.keyring.now.certs }
+    requires kept { AreKept at.now.keyring.now window.old lines.old.entries }
+    ensures kept { AreKept at.now.keyring.now window.new lines.new.entries }
+    ensures progress { IsProgress at.now.keyring.now at.now.t
+        lines.old.entries lines.new.entries steps.old.made steps.new.made }
     ensures advances { OnOk result
-        (Advances keyring.now t lines.old.entries lines.new.entries steps.old.made steps.new.made) }
-    ensures done { OnOk result (AreDone keyring.now t lines.new.entries) }
+        (Advances at.now.keyring.now at.now.t lines.old.entries lines.new.entries steps.old.made steps.new.made) }
+    ensures done { OnOk result (AreDone at.now.keyring.now at.now.t lines.new.entries) }
 {
-    'certs: for cert in keyring.certs() {
-        look_at(alloc, lines, window, keyring, &cert.fpr(), t, steps)?;
+    'certs: for cert in at.keyring.certs() {
+        look_at(alloc, lines, window, at, &cert.fpr(), steps)?;
     }
     *window = window_of(lines);
     Ok(())
@@ -90,23 +97,24 @@ fn look_at_changed(
     alloc: Global,
     lines: &mut Table,
     window: &mut Span,
-    keyring: &Keyring,
+    at: &Moment<'_>,
     changed: &[(u64, Fpr)],
-    t: u32,
     steps: &mut Steps,
 ) -> Result<(), Memory>
-    requires sorted { AreSortedByFpr keyring.now.certs }
-    requires kept { AreKept keyring.now window.old lines.old.entries }
-    requires others { AreDoneBut keyring.now t lines.old.entries (λ (q : TheFpr). is_listed q changed.now) }
-    ensures kept { AreKept keyring.now window.new lines.new.entries }
-    ensures progress { IsProgress keyring.now t lines.old.entries lines.new.entries steps.old.made steps.new.made }
+    requires sorted { AreSortedByFpr at.now.keyring.now.certs }
+    requires kept { AreKept at.now.keyring.now window.old lines.old.entries }
+    requires others { AreDoneBut at.now.keyring.now at.now.t lines.old.entries
+        (λ (q : TheFpr). is_listed q changed.now) }
+    ensures kept { AreKept at.now.keyring.now window.new lines.new.entries }
+    ensures progress { IsProgress at.now.keyring.now at.now.t
+        lines.old.entries lines.new.entries steps.old.made steps.new.made }
     ensures advances { OnOk result
-        (Advances keyring.now t lines.old.entries lines.new.entries steps.old.made steps.new.made) }
-    ensures done { OnOk result (AreDone keyring.now t lines.new.entries) }
+        (Advances at.now.keyring.now at.now.t lines.old.entries lines.new.entries steps.old.made steps.new.made) }
+    ensures done { OnOk result (AreDone at.now.keyring.now at.now.t lines.new.entries) }
 {
     let mut left = changed;
     'left: while let Some((entry, rest)) = left.split_first() {
-        look_at(alloc, lines, window, keyring, &entry.1, t, steps)?;
+        look_at(alloc, lines, window, at, &entry.1, steps)?;
         left = rest;
     }
     Ok(())
@@ -135,24 +143,24 @@ pub(crate) fn look_at_stale(
     lines: &mut Table,
     window: &mut Span,
     count: u64,
-    keyring: &Keyring,
-    t: u32,
+    at: &Moment<'_>,
     steps: &mut Steps,
 ) -> Result<(), Memory>
-    requires sorted { AreSortedByFpr keyring.now.certs }
-    requires named { AreNamed keyring.now.certs }
-    requires kept { AreKept keyring.now window.old lines.old.entries }
-    requires stamped { AreStamped keyring.now.changes keyring.now.certs }
-    requires known { AreKnown keyring.now count lines.old.entries }
-    ensures kept { AreKept keyring.now window.new lines.new.entries }
-    ensures progress { IsProgress keyring.now t lines.old.entries lines.new.entries steps.old.made steps.new.made }
+    requires sorted { AreSortedByFpr at.now.keyring.now.certs }
+    requires named { AreNamed at.now.keyring.now.certs }
+    requires kept { AreKept at.now.keyring.now window.old lines.old.entries }
+    requires stamped { AreStamped at.now.keyring.now.changes at.now.keyring.now.certs }
+    requires known { AreKnown at.now.keyring.now count lines.old.entries }
+    ensures kept { AreKept at.now.keyring.now window.new lines.new.entries }
+    ensures progress { IsProgress at.now.keyring.now at.now.t
+        lines.old.entries lines.new.entries steps.old.made steps.new.made }
     ensures advances { OnOk result
-        (Advances keyring.now t lines.old.entries lines.new.entries steps.old.made steps.new.made) }
-    ensures done { OnOk result (AreDone keyring.now t lines.new.entries) }
+        (Advances at.now.keyring.now at.now.t lines.old.entries lines.new.entries steps.old.made steps.new.made) }
+    ensures done { OnOk result (AreDone at.now.keyring.now at.now.t lines.new.entries) }
 {
-    match may_be_stale(keyring, window, count, t) {
-        Some(changed) => look_at_changed(alloc, lines, window, keyring, changed, t, steps),
-        None => look_at_all(alloc, lines, window, keyring, t, steps),
+    match may_be_stale(at.keyring, window, count, at.t) {
+        Some(changed) => look_at_changed(alloc, lines, window, at, changed, steps),
+        None => look_at_all(alloc, lines, window, at, steps),
     }
 }
 

@@ -9,7 +9,7 @@ use Rattle.wot_packet.specs.Spelling.{AreShort, Spelled, SpellsFrom, Spells, spe
 use Rattle.wot_packet.specs.declared.packet.Packet.{Packet}
 use Rattle.wot_packet.proofs.Lengths.{IsOctet}
 use Rattle.wot_packet.proofs.Lists.{packet_length}
-use Rattle.wot_packet.proofs.Looping.{Bytes, octets_from}
+use Rattle.wot_packet.proofs.PacketByPacket.{Bytes, octets_from}
 
 number_bound : (a b c d n : ℕ) → AllByRecursion IsOctet (a ∷ b ∷ c ∷ d ∷ [])
     → n ≡ from_be_bytes w32 (a ∷ b ∷ c ∷ d ∷ []) → n < 2 ^ 32

@@ -1,9 +1,9 @@
 pub mod Bounds
 pub mod First
 pub mod Headers
-pub mod Joining
+pub mod TextsJoined
 pub mod Exact
 pub mod Lengths
 pub mod Lists
-pub mod Looping
+pub mod PacketByPacket
 pub mod Shortest

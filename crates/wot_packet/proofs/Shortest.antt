@@ -12,7 +12,7 @@ use Rattle.wot_packet.specs.Header.{IsOpenpgpLength, IsOpenpgpHeader}
 use Rattle.wot_packet.specs.Spelling.{AreOctets, Spelled, Spells, SpellsFrom, moved}
 use Rattle.wot_packet.specs.Writing.{shortest_length, shortest_header, written, CanBeWritten, written_all, placed}
 use Rattle.wot_packet.proofs.Lengths.{IsOctet}
-use Rattle.wot_packet.proofs.Joining.{spelled_from, joined, single}
+use Rattle.wot_packet.proofs.TextsJoined.{spelled_from, joined, single}
 
 pub shortest_is_length : (n : ℕ) → n < 2 ^ 32 → IsOpenpgpLength (shortest_length n) n
 shortest_is_length n h =

@@ -8,10 +8,11 @@ use Rattle.wot_pattern.specs.declared.flow.Flow.{Flow}
 use Rattle.wot_pattern.specs.Reading.{Atom, exactly, any, start, end, range, Reading, nothing, single, sequence, either}
 use Rattle.wot_pattern.specs.Reading.{star, plus, optional}
 use Rattle.wot_pattern.specs.Meaning.{Turns, InItems, Takes, OneTaken, AtomHolds, Holds}
-use Rattle.wot_pattern.specs.Passes.{flow, in_items, takes, holds_empty}
+use Rattle.wot_pattern.specs.MeaningTest.{in_items, takes}
+use Rattle.wot_pattern.specs.Passes.{flow, holds_empty}
 use Rattle.wot_pattern.proofs.Tests.{IsTestOf, tells_or, tells_and, tells_as, tells_always, tells_never}
 
-Turns-le :
+pub Turns-le :
     (R : ℕ → ℕ → Type 0) → ((i j : ℕ) → R i j → i ≤ j) → (n i j : ℕ) → Turns R n i j → i ≤ j
 Turns-le R f zero i j e = omega arith
 Turns-le R f (suc n) i j (k, r, more) =
@@ -35,7 +36,7 @@ tells_not : (b : Bool) (P : Type 0) → IsTestOf b P → IsTestOf (not b) (P →
 tells_not true P h = tells_never false (P → ⊥) refl (λ f. f (h.says refl))
 tells_not false P h = tells_always (P → ⊥) (λ p. false≢true (h.said p))
 
-takes_tells : (a : Atom) (c : ℕ) → IsTestOf (takes a c) (Takes a c)
+pub takes_tells : (a : Atom) (c : ℕ) → IsTestOf (takes a c) (Takes a c)
 takes_tells (exactly d) c = record { says = λ e. eqb-true c d e; said = λ e. eq-eqb c d e }
 takes_tells any c = tells_always (Unit {0}) tt
 takes_tells start c = tells_never false ⊥ refl (λ h. h)

@@ -1,12 +1,12 @@
-pub mod Building
+pub mod BuiltNodes
 pub mod Complete
-pub mod Deciding
+pub mod RelationsDecided
 pub mod Flows
 pub mod Law
 pub mod Loops
 pub mod Lists
-pub mod Marking
+pub mod SlotMarks
+pub mod MatchesMeaning
 pub mod Sound
-pub mod Telling
 pub mod Tests
 pub mod Walk

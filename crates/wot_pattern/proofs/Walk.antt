@@ -12,7 +12,7 @@ use Rattle.wot_pattern.specs.Meaning.{Holds, Matches}
 use Rattle.wot_pattern.specs.Passes.{no_flow, top, settled, advanced}
 use Rattle.wot_pattern.proofs.Tests.{IsTestOf, tells_never, tells_always}
 use Rattle.wot_pattern.proofs.Flows.{Holds-le, Ended, After, Right}
-use Rattle.wot_pattern.proofs.Marking.{Marked, Ready, Settling, settling, Advancing, advancing}
+use Rattle.wot_pattern.proofs.SlotMarks.{Marked, Ready, Settling, settling, Advancing, advancing}
 
 -- a match may begin at each position
 abbrev pub Everywhere : ℕ → Type 0

@@ -1,9 +1,8 @@
--- What a text says as a regular expression, and whether that matches, as functions. By the laws in `laws` they agree
--- with the relations `Says` and `Matches`, so that code can decide what rests on these.
-use Rattle.std.specs.Prelude.{ℕ, zero, suc, Bool, true, false, ◌==◌, ◌||◌, nat_le, List, [], ◌∷◌, length, Option, Some}
-use Rattle.std.specs.Prelude.{None, if◌then◌else◌, replicate}
+-- What a text says as a regular expression, as a function. By the law `reading_is_told` it agrees with the relation
+-- `Says`, so that code can decide what rests on it.
+use Rattle.std.specs.Prelude.{ℕ, zero, suc, Bool, true, false, ◌==◌, nat_le, List, [], ◌∷◌, length, Option, Some, None}
+use Rattle.std.specs.Prelude.{if◌then◌else◌}
 use Rattle.std.specs.Option.{option_map, option_and_then}
-use Rattle.wot_pattern.specs.declared.flow.Flow.{Flow}
 use Rattle.wot_pattern.specs.declared.item.Item.{Item}
 use Rattle.wot_pattern.specs.declared.mark.Mark.{Mark}
 use Rattle.wot_pattern.specs.declared.mark.Mark.TheVariants as m
@@ -11,8 +10,6 @@ use Rattle.wot_pattern.specs.Marks.{mark_of}
 use Rattle.wot_pattern.specs.Grammar.{item, first_item, closing_bracket, caret}
 use Rattle.wot_pattern.specs.Reading.{Reading, exactly, any, start, end, range, single, star, plus, optional}
 use Rattle.wot_pattern.specs.Reading as r
-use Rattle.wot_pattern.specs.Tokens.{Token, tokens}
-use Rattle.wot_pattern.specs.Passes.{no_flow, top, settled, advanced}
 use Rattle.wot_pattern.specs.Steps.{Level, Last, none, atom, piece, State, with_atom, entered, left, barred, with_piece}
 use Rattle.wot_pattern.specs.Steps.{level_so_far, fresh}
 
@@ -99,18 +96,3 @@ run_from (suc n) s (c ∷ text) = option_and_then (λ (far : Far). run_from n fa
 -- what a text says, if it is a regular expression
 unfoldable pub pattern_of : List ℕ → Option Reading
 pattern_of text = if nat_le (length text) 1024 then run_from (length text) (fresh 64 []) text else None
-
--- ---- matching
-
-abbrev pub is_through : Flow → Bool
-is_through through = through.empty || through.ended
-
-abbrev pub matches_from : List Token → Bool → List ℕ → List Flow → Bool
-matches_from nodes first [] slots = is_through (top (settled first true nodes slots []).1)
-matches_from nodes first (c ∷ text) slots =
-    is_through (top (settled first false nodes slots []).1)
-    || matches_from nodes false text (advanced c nodes (settled first false nodes slots []).0 (true ∷ [])).0
-
--- whether a regular expression matches a text
-unfoldable pub matches_in : Reading → List ℕ → Bool
-matches_in reading text = matches_from (tokens reading) true text (replicate (length (tokens reading)) no_flow)

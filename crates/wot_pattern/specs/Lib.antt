@@ -1,7 +1,8 @@
-pub mod Deciding
+pub mod RelationsDecided
 pub mod Grammar
 pub mod Marks
 pub mod Meaning
+pub mod MeaningTest
 pub mod Nodes
 pub mod Passes
 pub mod Reading

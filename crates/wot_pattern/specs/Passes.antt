@@ -1,10 +1,9 @@
--- The matcher's two passes over the nodes at one position of the text. Contracts of its private functions name this.
--- `Deciding` rests on it, and so do the public laws on what `Deciding` has, which lead to the meaning: a reader has to
--- believe the meaning alone.
-use Rattle.std.specs.Prelude.{ℕ, Bool, true, false, ◌&&◌, ◌||◌, not, List, [], ◌∷◌, ◌++◌, nat_le, ◌==◌}
-use Rattle.wot_pattern.specs.declared.item.Item.{Item}
+-- The matcher's two passes over the nodes at one position of the text. Contracts of its private functions name this,
+-- and no definition rests on it: a reader has to believe the meaning alone.
+use Rattle.std.specs.Prelude.{ℕ, Bool, true, false, ◌&&◌, ◌||◌, List, [], ◌∷◌, ◌++◌}
 use Rattle.wot_pattern.specs.declared.flow.Flow.{Flow}
-use Rattle.wot_pattern.specs.Reading.{Atom, exactly, any, start, end, range}
+use Rattle.wot_pattern.specs.MeaningTest.{takes}
+use Rattle.wot_pattern.specs.Reading.{Atom, start, end}
 use Rattle.wot_pattern.specs.Tokens.{Token, nothing, single, sequence, either, star, plus, optional}
 
 abbrev pub flow : Bool → Bool → Flow
@@ -27,19 +26,6 @@ top fs = top_or no_flow fs
 
 abbrev pub top_mark : List Bool → Bool
 top_mark bs = top_or false bs
-
-abbrev pub in_items : ℕ → List Item → Bool
-in_items c [] = false
-in_items c (x ∷ xs) = (nat_le x.from c && nat_le c x.to) || in_items c xs
-
--- the atom takes the character
-abbrev pub takes : Atom → ℕ → Bool
-takes (exactly d) c = c == d
-takes any c = true
-takes start c = false
-takes end c = false
-takes (range false items) c = in_items c items
-takes (range true items) c = not (in_items c items)
 
 -- the atom matches the empty text at a position, which may be the text's first or its last
 abbrev pub holds_empty : Bool → Bool → Atom → Bool

@@ -3,7 +3,8 @@
 //! It stands on `item` and on `specs/Meaning.antt`. Both passes of the matcher use it.
 ghost use Rattle.std.specs.Prelude.{◌≡◌};
 ghost use Rattle.wot_pattern.specs.Nodes.{atom_of};
-ghost use Rattle.wot_pattern.specs.Passes.{in_items, takes, holds_empty};
+ghost use Rattle.wot_pattern.specs.MeaningTest.{in_items, takes};
+ghost use Rattle.wot_pattern.specs.Passes.{holds_empty};
 
 use crate::item::Item;
 use crate::node::Leaf;

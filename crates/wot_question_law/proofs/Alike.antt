@@ -9,11 +9,11 @@ use Rattle.wot_script.specs.declared.command.Command.{Command}
 use Rattle.wot_script.specs.declared.reply.Reply.{Reply}
 use Rattle.wot_script.specs.declared.reply.Reply.TheVariants as replies
 use Rattle.wot_script.specs.Grammar.{command_of}
-use Rattle.wot_cert.specs.Certificate.{Certificate, unmarked}
-use Rattle.wot_cert.specs.Judged.{judged}
-use Rattle.wot_keyring.specs.Keyring.{Certificates}
+use Rattle.wot_part.specs.Certificate.{Certificate, unmarked}
+use Rattle.wot_part.specs.Judged.{judged}
+use Rattle.wot_held.specs.Keyring.{Certificates}
 use Rattle.wot_keyring.specs.Dump.{judged_anew, judged_by}
-use Rattle.wot_keyring.specs.Held.{Held}
+use Rattle.wot_held.specs.Held.{Held}
 use Rattle.wot_cache.specs.declared.view.View.{View}
 use Rattle.wot_cache.specs.State.{State}
 use Rattle.wot_cache.specs.Views.{view_at}

@@ -5,9 +5,9 @@ use Rattle.wot_types.specs.PlainLaws.{all_then}
 use Rattle.wot_policy.specs.declared.rows.PolicyRows.{PolicyRows}
 use Rattle.wot_script.specs.declared.command.Command.TheVariants.{Explain}
 use Rattle.wot_script.specs.declared.reply.Reply.{Reply}
-use Rattle.wot_cert.specs.Certificate.{Certificate, unmarked}
-use Rattle.wot_cert.specs.Counts.{all_sigs}
-use Rattle.wot_cert.specs.Judged.{judged}
+use Rattle.wot_part.specs.Certificate.{Certificate, unmarked}
+use Rattle.wot_part.specs.Counts.{all_sigs}
+use Rattle.wot_part.specs.Judged.{judged}
 use Rattle.wot_keyring.specs.Dump.{judged_by}
 use Rattle.wot_network.specs.Local.{AgreeAt}
 use Rattle.wot_network.specs.Told.{AreOwn}

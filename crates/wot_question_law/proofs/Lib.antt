@@ -1,5 +1,5 @@
 mod Alike
-mod Claiming
+mod ClaimsAccepted
 mod Explained
-mod Leading
+mod ProofsRestOnLeads
 mod Slices

@@ -12,16 +12,16 @@ use Rattle.wot_script.specs.declared.reply.AnswerLine.{AnswerLine}
 use Rattle.wot_script.specs.declared.reply.AnswerLine.TheVariants as lines
 use Rattle.wot_script.specs.declared.reply.Reply.{Reply}
 use Rattle.wot_script.specs.declared.reply.Reply.TheVariants as replies
-use Rattle.wot_cert.specs.Certificate.{Certificate, unmarked}
-use Rattle.wot_cert.specs.Judged.{judged}
+use Rattle.wot_part.specs.Certificate.{Certificate, unmarked}
+use Rattle.wot_part.specs.Judged.{judged}
 use Rattle.wot_edge.specs.declared.path.Path.{Path}
 use Rattle.wot_edge.specs.declared.path.Step.{Step}
 use Rattle.wot_edge.specs.Answer.{EachNext, IsAnswer, amount_of}
 use Rattle.wot_edge.specs.Path.{Chain, Question, Stands, start}
 use Rattle.wot_edge.specs.Record.{Has, IsRecord}
 use Rattle.wot_keyring.specs.Dump.{judged_by}
-use Rattle.wot_keyring.specs.Held.{Held, cert_in}
-use Rattle.wot_keyring.specs.Keyring.{Certificates, is_fpr}
+use Rattle.wot_held.specs.Held.{Held, cert_in}
+use Rattle.wot_held.specs.Keyring.{Certificates, is_fpr}
 use Rattle.wot_network.specs.Certified.{IsSlice, RestsOnTrust}
 use Rattle.wot_network.specs.Local.{IsLocal}
 use Rattle.wot_network.specs.Told.{AreOwn, record_of}

@@ -9,9 +9,9 @@ use Rattle.wot_step.specs.declared.class.StateCommand.TheVariants as kinds
 use Rattle.wot_step.specs.Classes.{class_of}
 use Rattle.wot_script.specs.declared.reply.Reply.{Reply}
 use Rattle.wot_script.specs.Grammar.{command_of}
-use Rattle.wot_cert.specs.Certificate.{Certificate, unmarked}
+use Rattle.wot_part.specs.Certificate.{Certificate, unmarked}
 use Rattle.wot_certd.specs.World.{World}
-use Rattle.wot_keyring.specs.Keyring.{Certificates}
+use Rattle.wot_held.specs.Keyring.{Certificates}
 use Rattle.wot_cache.specs.State.{State}
 use Rattle.wot_cache.specs.Views.{view_at}
 use Rattle.wot_step.specs.LineStep.{LineStep}

@@ -10,7 +10,7 @@ use Rattle.wot_script.specs.declared.reply.ClaimStepLine.{ClaimStepLine}
 use Rattle.wot_script.specs.declared.reply.LabelLine.{LabelLine}
 use Rattle.wot_script.specs.Grammar.{command_of}
 use Rattle.wot_edge.specs.Record.{Has}
-use Rattle.wot_keyring.specs.Held.{Held}
+use Rattle.wot_held.specs.Held.{Held}
 use Rattle.wot_network.specs.Certified.{HasCertifiers, HasIntroducers, LeadsTo}
 use Rattle.wot_cache.specs.State.{State}
 use Rattle.wot_cache.specs.Views.{view_at}

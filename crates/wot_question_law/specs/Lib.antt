@@ -1,3 +1,3 @@
 pub mod Depends
-pub mod Leading
+pub mod ProofsRestOnLeads
 pub mod Slices

@@ -9,14 +9,14 @@ use Rattle.wot_policy.specs.declared.rows.PolicyRows.{PolicyRows}
 use Rattle.wot_script.specs.declared.command.Command.TheVariants.{Ask, Explain}
 use Rattle.wot_script.specs.Grammar.{command_of}
 use Rattle.wot_verdict.specs.Verdicts.{verdict_at}
-use Rattle.wot_cert.specs.Certificate.{Certificate, Signature, unmarked}
-use Rattle.wot_cert.specs.Counts.{all_sigs}
+use Rattle.wot_part.specs.Certificate.{Certificate, Signature, unmarked}
+use Rattle.wot_part.specs.Counts.{all_sigs}
 use Rattle.wot_cert.specs.Issuer.{good_by}
 use Rattle.wot_edge.specs.declared.path.Path.{Path}
 use Rattle.wot_edge.specs.Answer.{IsAnswer}
 use Rattle.wot_edge.specs.Record.{Has}
-use Rattle.wot_keyring.specs.Held.{Held, cert_in}
-use Rattle.wot_keyring.specs.Later.{SaysSame}
+use Rattle.wot_held.specs.Held.{Held, cert_in}
+use Rattle.wot_held.specs.Later.{SaysSame}
 use Rattle.wot_network.specs.Certified.{IsSlice}
 use Rattle.wot_cache.specs.declared.view.View.{View}
 use Rattle.wot_cache.specs.Question.{question_in}

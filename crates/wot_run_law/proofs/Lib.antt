@@ -1,5 +1,5 @@
 pub mod Fit
-pub mod Hearing
+pub mod LineByCommand
 mod Marked
 pub mod Named
 pub mod Outcomes

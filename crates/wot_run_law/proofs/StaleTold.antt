@@ -26,7 +26,7 @@ use Rattle.wot_step.specs.Served.{Served}
 use Rattle.wot_step.specs.Watching.{LeavesWatches, Opens, TakesOff, Watching, is_watching, opened}
 use Rattle.wot_step.specs.Session.{Session}
 use Rattle.wot_run_law.specs.Numbers.{amount_in}
-use Rattle.wot_run_law.proofs.Hearing.{told_by}
+use Rattle.wot_run_law.proofs.LineByCommand.{told_by}
 use Rattle.wot_step.proofs.Paced.{paced_cases}
 use Rattle.wot_step.proofs.StateReplies.{IsStateReply, state_replies}
 use Rattle.wot_step.proofs.Watched.{watched_cases}

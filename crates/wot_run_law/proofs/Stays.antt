@@ -12,13 +12,13 @@ use Rattle.wot_types.specs.Limits.{standard_limits}
 use Rattle.wot_policy.specs.declared.rows.PolicyRows.{PolicyRows}
 use Rattle.wot_verdict.specs.Verdicts.{verdict_at, with_verdict}
 use Rattle.wot_verdict.specs.declared.verdict.Verdict.{Verdict}
-use Rattle.wot_cert.specs.Certificate.{Certificate}
-use Rattle.wot_keyring.specs.declared.import.Imported.{Imported}
-use Rattle.wot_keyring.specs.declared.refusal.Refusal.{Refusal}
-use Rattle.wot_keyring.specs.Keyring.{Certificates, is_fpr}
-use Rattle.wot_keyring.specs.Held.{cert_in, is_said, verdict_set, removing, verdict_cleared}
-use Rattle.wot_keyring.specs.Import.{answer_to, answer_under, is_entry, spelled_in, with_certs}
-use Rattle.wot_keyring.specs.Verdict.{is_over}
+use Rattle.wot_part.specs.Certificate.{Certificate}
+use Rattle.wot_held.specs.declared.imported.Imported.{Imported}
+use Rattle.wot_held.specs.declared.refusal.Refusal.{Refusal}
+use Rattle.wot_held.specs.Keyring.{Certificates, is_fpr}
+use Rattle.wot_held.specs.Held.{cert_in, is_said, verdict_set, removing, verdict_cleared}
+use Rattle.wot_held.specs.Import.{answer_to, answer_under, is_entry, spelled_in, with_certs}
+use Rattle.wot_held.specs.Verdict.{is_over}
 use Rattle.wot_script.specs.declared.command.Command.{Command}
 use Rattle.wot_script.specs.declared.reply.Reply.{Reply}
 use Rattle.wot_script.specs.declared.reply.Reply.TheVariants as replies

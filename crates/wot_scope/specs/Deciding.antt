@@ -3,7 +3,8 @@ use Rattle.std.specs.Prelude.{ℕ, Bool, true, false, ◌&&◌, List, [], ◌∷
 use Rattle.std.specs.List.{list_any}
 use Rattle.std.specs.Option.{option_map_or}
 use Rattle.std.specs.Str.{is_utf8, chars}
-use Rattle.wot_pattern.specs.Deciding.{pattern_of, matches_in}
+use Rattle.wot_pattern.specs.Deciding.{pattern_of}
+use Rattle.wot_pattern.specs.MeaningTest.{matches_in}
 use Rattle.wot_pattern.specs.Reading.{Reading}
 
 -- whether the octets are UTF-8 and a well-formed regular expression that matches this text

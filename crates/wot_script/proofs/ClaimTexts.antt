@@ -13,15 +13,15 @@ use Rattle.wot_script.specs.ClaimLaws.{IsClaimPrinted, IsLabelPrinted, IsStepPri
 use Rattle.wot_script.specs.Claims.{claim_of, claim_text, claim_with, claims_of, field_of, field_text, IsPathSpelled}
 use Rattle.wot_script.specs.Claims.{is_rising, items_of, items_text, label_of, label_text, labels_of, most_paths}
 use Rattle.wot_script.specs.Claims.{rising, step_of, step_text}
-use Rattle.wot_script.specs.Decimal.{decimal_up_to, positive_up_to}
-use Rattle.wot_script.specs.Fields.{◌>>=◌, cut_at}
+use Rattle.wot_words.specs.Decimal.{decimal_up_to, positive_up_to}
+use Rattle.wot_words.specs.Fields.{◌>>=◌, cut_at}
 use Rattle.wot_script.specs.declared.reply.ClaimLine.{ClaimLine}
 use Rattle.wot_script.specs.declared.reply.ClaimStepLine.{ClaimStepLine}
 use Rattle.wot_script.specs.declared.reply.LabelLine.{LabelLine}
 use Rattle.wot_script.proofs.Items.{all_follow, field_read, IsItem, items_read, lacks-append, lacks_field, lacks_items}
-use Rattle.wot_script.proofs.OneLine.{length-fpr_digits}
-use Rattle.wot_script.proofs.Readings.{bound}
-use Rattle.wot_script.proofs.Spaceless.{Lacks, cut_lacking, lacks_decimal, lacks_digits, lacks_test}
+use Rattle.wot_words.proofs.LineParts.{length-fpr_digits}
+use Rattle.wot_words.proofs.StateLines.{bound}
+use Rattle.wot_words.proofs.Spaceless.{Lacks, cut_lacking, lacks_decimal, lacks_digits, lacks_test}
 
 -- digits, a separator, a number
 parts_lack : (x middle : ℕ) (fpr : Fpr) (n : ℕ) → 0 < x → lacks_test x lower_digits ≡ true → (middle ≡ x → ⊥)

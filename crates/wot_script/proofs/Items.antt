@@ -9,8 +9,8 @@ use Rattle.std.specs.Str.{bytes_eq}
 use Rattle.std.proofs.lemmas.List.{take_all}
 use Rattle.std.proofs.lemmas.Option.{same_Some}
 use Rattle.wot_script.specs.Claims.{field_of, field_text, items_of, items_text}
-use Rattle.wot_script.specs.Fields.{cut_at}
-use Rattle.wot_script.proofs.Spaceless.{Lacks}
+use Rattle.wot_words.specs.Fields.{cut_at}
+use Rattle.wot_words.proofs.Spaceless.{Lacks}
 
 -- the parts between separators
 abbrev pub parts_of : ℕ → List ℕ → List (List ℕ)

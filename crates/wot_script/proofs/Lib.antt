@@ -1,12 +1,8 @@
-pub mod Pieced
 pub mod Items
 pub mod ClaimTexts
-pub mod Cutting
-pub mod Numerals
-pub mod Escapes
-pub mod Spaceless
 pub mod Readings
 pub mod Sizes
-pub mod Wanting
+pub mod ReadBounds
 pub mod OneLine
+pub mod WordLines
 pub mod ReadAgain

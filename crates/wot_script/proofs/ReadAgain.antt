@@ -10,8 +10,9 @@ use Rattle.wot_script.specs.Grammar.{command_of}
 use Rattle.wot_script.specs.Laws.{IsOldLine, PrintsClaim}
 use Rattle.wot_script.specs.Replies.{reply_text}
 use Rattle.wot_script.specs.Spelling.{spelling}
-use Rattle.wot_script.specs.Texts.{joined_line}
-use Rattle.wot_script.specs.Uid.{escaped}
+use Rattle.wot_words.specs.StateLine.{spelling as line_text}
+use Rattle.wot_words.specs.Texts.{joined_line}
+use Rattle.wot_words.specs.Uid.{escaped}
 use Rattle.wot_script.specs.declared.command.Command.{Command}
 use Rattle.wot_script.specs.declared.command.Command.TheVariants.{Import, Good, Bad, Time, Root, Check}
 
@@ -37,7 +38,7 @@ prints_claim _ e = tt
 
 pub old_is_read : (command : Command) → command_of (spelling command) ≡ Some command → (text : List ℕ)
     → IsOldLine command text → command_of text ≡ Some command
-unfolding spelling
+unfolding spelling line_text
 old_is_read (Import octets) e text h = ap command_of h ∙ e
 old_is_read (Good number (V4 octets)) e text h = ap command_of h ∙ e
 old_is_read (Bad number) e text h = ap command_of h ∙ e

@@ -1,123 +1,62 @@
 -- The lines of commands, joined from their fields, are read as these commands.
-use Rattle.std.proofs.Common.{◌≡◌, ℕ, true, List, [], ◌∷◌, ◌++◌, Option, Some, refl, ap, ◌∙◌, append-nil}
+use Rattle.std.proofs.Common.{◌≡◌, ℕ, true, List, [], ◌∷◌, ◌++◌, Some, refl, ap, ◌∙◌, append-nil}
 use Rattle.std.specs.Prelude.{codes}
 use Rattle.std.specs.Option.{option_map}
 use Rattle.wot_types.specs.Fpr.{fpr_of_digits}
-use Rattle.wot_types.specs.SigNumber.{number_of_digits}
 use Rattle.wot_types.specs.ViewName.{is_view_name, view_name_of}
 use Rattle.wot_types.specs.declared.fpr.Fpr.{Fpr}
 use Rattle.wot_types.specs.declared.name.Name.{Name}
-use Rattle.wot_types.specs.declared.number.SigNumber.{SigNumber}
 use Rattle.wot_script.specs.Claims.{claims_of, labels_of}
 use Rattle.wot_script.specs.declared.reply.ClaimLine.{ClaimLine}
 use Rattle.wot_script.specs.declared.reply.LabelLine.{LabelLine}
-use Rattle.wot_script.specs.Decimal.{decimal_up_to, positive_up_to}
-use Rattle.wot_script.specs.Fields.{◌>>=◌, cut, octets_of_hex}
-use Rattle.wot_script.specs.Grammar.{about_of, checked_of, command_of, drop_of, entry_of, explained_of, export_of}
-use Rattle.wot_script.specs.Grammar.{import_of, judgement_of, listed_of, load_of, question_of, root_of, setting_of}
-use Rattle.wot_script.specs.Grammar.{single_of, store_of, verdict_of, view_of, over_of, paced_of, watch_of, watched_of}
-use Rattle.wot_script.specs.Texts.{joined}
-use Rattle.wot_script.specs.Uid.{unescaped}
+use Rattle.wot_words.specs.Decimal.{positive_up_to}
+use Rattle.wot_words.specs.Fields.{◌>>=◌, cut}
+use Rattle.wot_script.specs.Grammar.{about_of, checked_of, command_for, command_of, drop_of, entry_of, explained_of}
+use Rattle.wot_script.specs.Grammar.{export_of, listed_of, load_of, other_of, question_of, store_of, view_of, over_of}
+use Rattle.wot_script.specs.Grammar.{paced_of, watch_of, watched_of}
+use Rattle.wot_words.specs.Texts.{joined}
+use Rattle.wot_words.specs.Uid.{unescaped}
 use Rattle.wot_script.specs.declared.command.Command.{Command}
-use Rattle.wot_script.specs.declared.command.Command.TheVariants.{Import, Load, Store, Remove, Good, Bad, Unjudge, Time}
-use Rattle.wot_script.specs.declared.command.Command.TheVariants.{Root, Close, Ask, Explain, Pending, Keys, Export}
-use Rattle.wot_script.specs.declared.command.Command.TheVariants.{Dump, Absence, Check, CursorOver, CursorNext}
+use Rattle.wot_script.specs.declared.command.Command.TheVariants.{Load, Store, Remove, Ask, Explain, Export}
+use Rattle.wot_script.specs.declared.command.Command.TheVariants.{Absence, Check, CursorOver, CursorNext}
 use Rattle.wot_script.specs.declared.command.Command.TheVariants.{CursorClose, WatchOn, WatchOff}
 use Rattle.wot_script.specs.declared.read.About.{About}
-use Rattle.wot_script.specs.declared.read.About.TheVariants.{Setting, Asked, Listed, Explained, Missed, Checked, Paced}
+use Rattle.wot_script.specs.declared.read.About.TheVariants.{Asked, Listed, Explained, Missed, Checked, Paced}
 use Rattle.wot_script.specs.declared.read.About.TheVariants.{Watched}
 use Rattle.wot_script.specs.declared.read.Question.{Question}
-use Rattle.wot_script.proofs.Spaceless.{Spaceless, cut_spaceless, spaceless_view_name}
+use Rattle.wot_words.specs.StateLine.{state_line_of, spelling as line_text}
+use Rattle.wot_words.specs.declared.state_line.StateLine.{StateLine}
+use Rattle.wot_words.proofs.Spaceless.{Spaceless, cut_spaceless, spaceless_view_name}
+use Rattle.wot_words.proofs.StateLines.{bound, name_reads}
 
--- a second reading after a first one that returned `a`
-pub bound : {A B : Type 0} (o : Option A) (a : A) (f : A → Option B) → o ≡ Some a → (o >>= f) ≡ f a
-bound o a f e = rw e refl
-
-pub import_reads : (digits octets : List ℕ) → octets_of_hex digits ≡ Some octets
-    → command_of (joined (codes "import " ∷ digits ∷ [])) ≡ Some (Import octets)
-unfolding command_of import_of
-import_reads digits octets e =
-    ap (λ text. option_map Import (octets_of_hex text)) (append-nil digits) ∙ ap (option_map Import) e
+-- a line that sets a part of the state is the command of what it sets
+pub set_reads : (line : StateLine) → state_line_of (line_text line) ≡ Some line
+    → command_of (line_text line) ≡ Some (command_for line)
+unfolding command_of
+set_reads line e = rw e refl
 
 pub load_reads : (text : List ℕ) (name : Name) → entry_of text ≡ Some name
     → command_of (joined (codes "load " ∷ text ∷ [])) ≡ Some (Load name)
-unfolding command_of load_of
+unfolding command_of other_of state_line_of load_of
 load_reads text name e = ap (λ rest. option_map Load (entry_of rest)) (append-nil text) ∙ ap (option_map Load) e
 
 pub store_reads : (digits : List ℕ) (fpr : Fpr) → fpr_of_digits digits ≡ Some fpr
     → command_of (joined (codes "store " ∷ digits ∷ [])) ≡ Some (Store fpr)
-unfolding command_of store_of
+unfolding command_of other_of state_line_of store_of
 store_reads digits fpr e =
     ap (λ text. option_map Store (fpr_of_digits text)) (append-nil digits) ∙ ap (option_map Store) e
 
 pub drop_reads : (digits : List ℕ) (fpr : Fpr) → fpr_of_digits digits ≡ Some fpr
     → command_of (joined (codes "drop " ∷ digits ∷ [])) ≡ Some (Remove fpr)
-unfolding command_of drop_of
+unfolding command_of other_of state_line_of drop_of
 drop_reads digits fpr e =
     ap (λ text. option_map Remove (fpr_of_digits text)) (append-nil digits) ∙ ap (option_map Remove) e
 
 pub export_reads : (digits : List ℕ) (fpr : Fpr) → fpr_of_digits digits ≡ Some fpr
     → command_of (joined (codes "export " ∷ digits ∷ [])) ≡ Some (Export fpr)
-unfolding command_of export_of
+unfolding command_of other_of state_line_of export_of
 export_reads digits fpr e =
     ap (λ text. option_map Export (fpr_of_digits text)) (append-nil digits) ∙ ap (option_map Export) e
-
-pub pending_reads : command_of (codes "pending") ≡ Some Pending
-unfolding command_of single_of
-pending_reads = refl
-
-pub keys_reads : command_of (codes "keys") ≡ Some Keys
-unfolding command_of single_of
-keys_reads = refl
-
-pub dump_reads : command_of (codes "dump") ≡ Some Dump
-unfolding command_of single_of
-dump_reads = refl
-
-verdict_reads : (digits text : List ℕ) (number : SigNumber) (command : Command) → Spaceless digits
-    → number_of_digits digits ≡ Some number → judgement_of number text ≡ Some command
-    → command_of (codes "verdict " ++ (digits ++ 32 ∷ text)) ≡ Some command
-unfolding command_of verdict_of
-verdict_reads digits text number command free number_is e =
-    bound (cut (digits ++ 32 ∷ text)) (digits, text)
-    (λ first. number_of_digits first.0 >>= (λ n. judgement_of n first.1))
-    (cut_spaceless digits text free)
-    ∙ bound (number_of_digits digits) number (λ n. judgement_of n text) number_is
-    ∙ e
-
-good_judged : (number : SigNumber) (digits : List ℕ) (fpr : Fpr) → fpr_of_digits digits ≡ Some fpr
-    → judgement_of number (codes "good " ++ (digits ++ [])) ≡ Some (Good number fpr)
-unfolding judgement_of
-good_judged number digits fpr e =
-    ap (λ text. option_map (Good number) (fpr_of_digits text)) (append-nil digits) ∙ ap (option_map (Good number)) e
-
-pub good_reads : (ns ds : List ℕ) (number : SigNumber) (fpr : Fpr) → Spaceless ns → number_of_digits ns ≡ Some number
-    → fpr_of_digits ds ≡ Some fpr
-    → command_of (joined (codes "verdict " ∷ ns ∷ codes " good " ∷ ds ∷ [])) ≡ Some (Good number fpr)
-good_reads ns ds number fpr free number_is fpr_is =
-    verdict_reads ns (codes "good " ++ (ds ++ [])) number (Good number fpr) free number_is
-    (good_judged number ds fpr fpr_is)
-
-bad_judged : (number : SigNumber) → judgement_of number (codes "bad") ≡ Some (Bad number)
-unfolding judgement_of
-bad_judged number = refl
-
-pub bad_reads : (ns : List ℕ) (number : SigNumber) → Spaceless ns → number_of_digits ns ≡ Some number
-    → command_of (joined (codes "verdict " ∷ ns ∷ codes " bad" ∷ [])) ≡ Some (Bad number)
-bad_reads ns number free number_is =
-    verdict_reads ns (codes "bad") number (Bad number) free number_is (bad_judged number)
-
-none_judged : (number : SigNumber) → judgement_of number (codes "none") ≡ Some (Unjudge number)
-unfolding judgement_of
-none_judged number = refl
-
-pub none_reads : (ns : List ℕ) (number : SigNumber) → Spaceless ns → number_of_digits ns ≡ Some number
-    → command_of (joined (codes "verdict " ∷ ns ∷ codes " none" ∷ [])) ≡ Some (Unjudge number)
-none_reads ns number free number_is =
-    verdict_reads ns (codes "none") number (Unjudge number) free number_is (none_judged number)
-
-name_is : (name : List ℕ) → is_view_name name ≡ true → view_name_of name ≡ Some name
-name_is name h = rw h refl
 
 view_reads : (about : About) (name text : List ℕ) (command : Command) → is_view_name name ≡ true
     → about_of about name text ≡ Some command → view_of about (name ++ 32 ∷ text) ≡ Some command
@@ -125,57 +64,8 @@ view_reads about name text command h e =
     bound (cut (name ++ 32 ∷ text)) (name, text)
     (λ first. view_name_of first.0 >>= (λ view. about_of about view first.1))
     (cut_spaceless name text (spaceless_view_name name h))
-    ∙ bound (view_name_of name) name (λ view. about_of about view text) (name_is name h)
+    ∙ bound (view_name_of name) name (λ view. about_of about view text) (name_reads name h)
     ∙ e
-
-setting_reads : (name text : List ℕ) (command : Command) → is_view_name name ≡ true
-    → setting_of name text ≡ Some command
-    → command_of (codes "view " ++ (name ++ 32 ∷ text)) ≡ Some command
-unfolding command_of
-setting_reads name text command h e = view_reads Setting name text command h e
-
-time_set : (name digits : List ℕ) (t : ℕ) → decimal_up_to 4294967295 digits ≡ Some t
-    → setting_of name (codes "time " ++ (digits ++ [])) ≡ Some (Time name t)
-unfolding setting_of
-time_set name digits t e =
-    ap (λ text. option_map (Time name) (decimal_up_to 4294967295 text)) (append-nil digits)
-    ∙ ap (option_map (Time name)) e
-
-pub time_reads : (name digits : List ℕ) (t : ℕ) → is_view_name name ≡ true → decimal_up_to 4294967295 digits ≡ Some t
-    → command_of (joined (codes "view " ∷ name ∷ codes " time " ∷ digits ∷ [])) ≡ Some (Time name t)
-time_reads name digits t h e =
-    setting_reads name (codes "time " ++ (digits ++ [])) (Time name t) h (time_set name digits t e)
-
-root_of_parts : (name ds text : List ℕ) (fpr : Fpr) (amount : ℕ) → Spaceless ds → fpr_of_digits ds ≡ Some fpr
-    → decimal_up_to 255 text ≡ Some amount → root_of name (ds ++ 32 ∷ text) ≡ Some (Root name fpr amount)
-unfolding root_of
-root_of_parts name ds text fpr amount free fpr_is amount_is =
-    bound (cut (ds ++ 32 ∷ text)) (ds, text)
-    (λ first. fpr_of_digits first.0 >>= (λ f. decimal_up_to 255 first.1 >>= (λ a. Some (Root name f a))))
-    (cut_spaceless ds text free)
-    ∙ bound (fpr_of_digits ds) fpr (λ f. decimal_up_to 255 text >>= (λ a. Some (Root name f a))) fpr_is
-    ∙ bound (decimal_up_to 255 text) amount (λ a. Some (Root name fpr a)) amount_is
-
-root_set : (name text : List ℕ) → setting_of name (codes "root " ++ text) ≡ root_of name text
-unfolding setting_of
-root_set name text = refl
-
-pub root_reads : (name ds an : List ℕ) (fpr : Fpr) (amount : ℕ) → is_view_name name ≡ true → Spaceless ds
-    → fpr_of_digits ds ≡ Some fpr → decimal_up_to 255 an ≡ Some amount
-    → command_of (joined (codes "view " ∷ name ∷ codes " root " ∷ ds ∷ codes " " ∷ an ∷ [])) ≡ Some
-    (Root name fpr amount)
-root_reads name ds an fpr amount h free fpr_is amount_is =
-    setting_reads name (codes "root " ++ (ds ++ 32 ∷ (an ++ []))) (Root name fpr amount) h
-    (root_set name (ds ++ 32 ∷ (an ++ []))
-    ∙ root_of_parts name ds (an ++ []) fpr amount free fpr_is (ap (decimal_up_to 255) (append-nil an) ∙ amount_is))
-
-close_set : (name : List ℕ) → setting_of name (codes "close") ≡ Some (Close name)
-unfolding setting_of
-close_set name = refl
-
-pub close_reads : (name : List ℕ) → is_view_name name ≡ true
-    → command_of (joined (codes "view " ∷ name ∷ codes " close" ∷ [])) ≡ Some (Close name)
-close_reads name h = setting_reads name (codes "close") (Close name) h (close_set name)
 
 abbrev pub question : Fpr → ℕ → List ℕ → Question
 question fpr wanted uid = record { fpr = fpr; wanted = wanted; uid = uid }
@@ -211,21 +101,21 @@ question_reads ds ws us uid fpr wanted free fpr_is free_too wanted_is uid_is =
 
 pub ask_reads : (name text : List ℕ) (q : Question) → is_view_name name ≡ true → question_of text ≡ Some q
     → command_of (codes "ask " ++ (name ++ 32 ∷ text)) ≡ Some (Ask name q.fpr q.wanted q.uid)
-unfolding command_of
+unfolding command_of other_of state_line_of
 ask_reads name text q h e =
     view_reads Asked name text (Ask name q.fpr q.wanted q.uid) h
     (ap (option_map (λ (o : Question). Ask name o.fpr o.wanted o.uid)) e)
 
 pub absence_reads : (name text : List ℕ) (q : Question) → is_view_name name ≡ true → question_of text ≡ Some q
     → command_of (codes "absence " ++ (name ++ 32 ∷ text)) ≡ Some (Absence name q.fpr q.wanted q.uid)
-unfolding command_of
+unfolding command_of other_of state_line_of
 absence_reads name text q h e =
     view_reads Missed name text (Absence name q.fpr q.wanted q.uid) h
     (ap (option_map (λ (o : Question). Absence name o.fpr o.wanted o.uid)) e)
 
 pub list_reads : (name ws : List ℕ) (wanted : ℕ) → is_view_name name ≡ true → positive_up_to 4294967295 ws ≡ Some wanted
     → command_of (joined (codes "list " ∷ name ∷ codes " " ∷ ws ∷ [])) ≡ Some (Command.List name wanted)
-unfolding command_of listed_of
+unfolding command_of other_of state_line_of listed_of
 list_reads name ws wanted h e =
     view_reads Listed name (ws ++ []) (Command.List name wanted) h
     (ap (λ text. option_map (Command.List name) (positive_up_to 4294967295 text)) (append-nil ws)
@@ -245,7 +135,7 @@ explained_reads name ds us uid fpr free fpr_is uid_is =
 pub explain_reads : (name ds us uid : List ℕ) (fpr : Fpr) → is_view_name name ≡ true → Spaceless ds
     → fpr_of_digits ds ≡ Some fpr → unescaped us ≡ Some uid
     → command_of (joined (codes "explain " ∷ name ∷ codes " " ∷ ds ∷ codes " " ∷ us ∷ [])) ≡ Some (Explain name fpr uid)
-unfolding command_of
+unfolding command_of other_of state_line_of
 explain_reads name ds us uid fpr h free fpr_is uid_is =
     view_reads Explained name (ds ++ 32 ∷ (us ++ [])) (Explain name fpr uid) h
     (explained_reads name ds (us ++ []) uid fpr free fpr_is (ap unescaped (append-nil us) ∙ uid_is))
@@ -272,7 +162,7 @@ pub check_reads : (name ds cs ls us uid : List ℕ) (fpr : Fpr) (claims : List C
     → command_of (joined
     (codes "check " ∷ name ∷ codes " " ∷ ds ∷ codes " " ∷ cs ∷ codes " " ∷ ls ∷ codes " " ∷ us ∷ []))
     ≡ Some (Check name fpr claims labels uid)
-unfolding command_of
+unfolding command_of other_of state_line_of
 check_reads name ds cs ls us uid fpr claims labels h df d cf c lf l u =
     view_reads Checked name (ds ++ 32 ∷ (cs ++ 32 ∷ (ls ++ 32 ∷ (us ++ [])))) (Check name fpr claims labels uid) h
     (checked_reads name ds cs ls (us ++ []) uid fpr claims labels df d cf c lf l (ap unescaped (append-nil us) ∙ u))
@@ -286,12 +176,12 @@ over_reads_of name view ws wanted h e =
     (λ first. view_name_of first.0 >>= (λ v. positive_up_to 4294967295 first.1 >>= (λ w. Some (CursorOver name v w))))
     (cut_spaceless view ws (spaceless_view_name view h))
     ∙ bound (view_name_of view) view (λ v. positive_up_to 4294967295 ws >>= (λ w. Some (CursorOver name v w)))
-    (name_is view h)
+    (name_reads view h)
     ∙ bound (positive_up_to 4294967295 ws) wanted (λ w. Some (CursorOver name view w)) e
 
 paced_reads : (name text : List ℕ) (command : Command) → is_view_name name ≡ true → paced_of name text ≡ Some command
     → command_of (codes "cursor " ++ (name ++ 32 ∷ text)) ≡ Some command
-unfolding command_of
+unfolding command_of other_of state_line_of
 paced_reads name text command h e = view_reads Paced name text command h e
 
 over_paced : (name text : List ℕ) → paced_of name (codes "over " ++ text) ≡ over_of name text
@@ -337,13 +227,13 @@ watch_reads name view text q h e =
     (λ v. question_of first.1 >>= (λ (o : Question). Some (WatchOn name v o.fpr o.wanted o.uid))))
     (cut_spaceless view text (spaceless_view_name view h))
     ∙ bound (view_name_of view) view
-    (λ v. question_of text >>= (λ (o : Question). Some (WatchOn name v o.fpr o.wanted o.uid))) (name_is view h)
+    (λ v. question_of text >>= (λ (o : Question). Some (WatchOn name v o.fpr o.wanted o.uid))) (name_reads view h)
     ∙ bound (question_of text) q (λ (o : Question). Some (WatchOn name view o.fpr o.wanted o.uid)) e
 
 watched_reads : (name text : List ℕ) (command : Command) → is_view_name name ≡ true
     → watched_of name text ≡ Some command
     → command_of (codes "watch " ++ (name ++ 32 ∷ text)) ≡ Some command
-unfolding command_of
+unfolding command_of other_of state_line_of
 watched_reads name text command h e = view_reads Watched name text command h e
 
 on_watched : (name text : List ℕ) → watched_of name (codes "on " ++ text) ≡ watch_of name text

@@ -7,8 +7,8 @@ use Rattle.std.specs.Option.{option_map}
 use Rattle.std.specs.Ordering.{is_lt}
 use Rattle.std.specs.Str.{bytes_eq}
 use Rattle.wot_types.specs.Fpr.{digits_of, fpr_cmp, fpr_of_digits}
-use Rattle.wot_script.specs.Decimal.{decimal_up_to, positive_up_to}
-use Rattle.wot_script.specs.Fields.{◌>>=◌, cut_at}
+use Rattle.wot_words.specs.Decimal.{decimal_up_to, positive_up_to}
+use Rattle.wot_words.specs.Fields.{◌>>=◌, cut_at}
 use Rattle.wot_script.specs.declared.reply.ClaimLine.{ClaimLine}
 use Rattle.wot_script.specs.declared.reply.ClaimStepLine.{ClaimStepLine}
 use Rattle.wot_script.specs.declared.reply.LabelLine.{LabelLine}

@@ -3,35 +3,43 @@ use Rattle.std.specs.Prelude.{ℕ, if◌then◌else◌, List, Option, Some, None
 use Rattle.std.specs.Str.{bytes_eq}
 use Rattle.std.specs.Option.{option_map}
 use Rattle.wot_types.specs.Fpr.{fpr_of_digits}
-use Rattle.wot_types.specs.SigNumber.{number_of_digits}
 use Rattle.wot_types.specs.ViewName.{view_name_of}
 use Rattle.wot_types.specs.declared.fpr.Fpr.{Fpr}
 use Rattle.wot_types.specs.declared.name.Name.{Name}
 use Rattle.wot_types.specs.declared.name.Name.TheVariants.{Cert, TrustRoot}
-use Rattle.wot_types.specs.declared.number.SigNumber.{SigNumber}
 use Rattle.wot_script.specs.Claims.{claims_of, labels_of}
-use Rattle.wot_script.specs.Decimal.{decimal_up_to, positive_up_to}
-use Rattle.wot_script.specs.Fields.{◌>>=◌, behind, cut, octets_of_hex}
-use Rattle.wot_script.specs.Uid.{unescaped}
+use Rattle.wot_words.specs.Decimal.{positive_up_to}
+use Rattle.wot_words.specs.Fields.{◌>>=◌, behind, cut, read_behind}
+use Rattle.wot_words.specs.StateLine.{state_line_of}
+use Rattle.wot_script.specs.OneWord.{named_among, one_words}
+use Rattle.wot_words.specs.Uid.{unescaped}
+use Rattle.wot_words.specs.declared.state_line.StateLine.{StateLine}
+use Rattle.wot_words.specs.declared.state_line.StateLine.TheVariants as lines
 use Rattle.wot_script.specs.declared.command.Command.{Command}
 use Rattle.wot_script.specs.declared.read.About.{About}
-use Rattle.wot_script.specs.declared.read.About.TheVariants.{Setting, Asked, Listed, Explained, Missed, Checked}
+use Rattle.wot_script.specs.declared.read.About.TheVariants.{Asked, Listed, Explained, Missed, Checked}
 use Rattle.wot_script.specs.declared.read.About.TheVariants.{Paced, Watched}
 use Rattle.wot_script.specs.declared.read.Question.{Question}
 use Rattle.wot_script.specs.declared.command.Command.TheVariants.{Import, Load, Store, Remove, Good, Bad, Unjudge, Time}
-use Rattle.wot_script.specs.declared.command.Command.TheVariants.{Root, Close, Ask, Explain, Pending, Keys}
-use Rattle.wot_script.specs.declared.command.Command.TheVariants.{Export, Dump, Absence, Check}
+use Rattle.wot_script.specs.declared.command.Command.TheVariants.{Root, Close, Ask, Explain}
+use Rattle.wot_script.specs.declared.command.Command.TheVariants.{Export, Absence, Check}
 use Rattle.wot_script.specs.declared.command.Command.TheVariants.{CursorOver, CursorNext, CursorClose}
 use Rattle.wot_script.specs.declared.command.Command.TheVariants.{WatchOn, WatchOff}
 
--- a text with this prefix is read so, any other text otherwise
-abbrev pub read_behind : Option (List ℕ) → (List ℕ → Option Command) → Option Command → Option Command
-read_behind (Some rest) read other = read rest
-read_behind None read other = other
+-- the command of a line that sets a part of the state
+abbrev pub command_for : StateLine → Command
+command_for (lines.Import octets) = Import octets
+command_for (lines.Good number fpr) = Good number fpr
+command_for (lines.Bad number) = Bad number
+command_for (lines.Unjudge number) = Unjudge number
+command_for (lines.Time view t) = Time view t
+command_for (lines.Root view fpr amount) = Root view fpr amount
+command_for (lines.Close view) = Close view
 
--- after `import `: HEX
-unfoldable pub import_of : List ℕ → Option Command
-import_of digits = option_map Import (octets_of_hex digits)
+-- the command of such a line, and otherwise the other
+abbrev pub set_or : Option StateLine → Option Command → Option Command
+set_or (Some line) other = Some (command_for line)
+set_or None other = other
 
 -- the name, by the fingerprint that the text may spell
 abbrev pub entry_else : List ℕ → Option Fpr → Option Name
@@ -53,36 +61,6 @@ store_of digits = option_map Store (fpr_of_digits digits)
 -- after `drop `: FPR
 unfoldable pub drop_of : List ℕ → Option Command
 drop_of digits = option_map Remove (fpr_of_digits digits)
-
--- after `verdict NUM `: `good FPR`, `bad` or `none`
-unfoldable pub judgement_of : SigNumber → List ℕ → Option Command
-judgement_of number text =
-    read_behind (behind (codes "good ") text) (λ digits. option_map (Good number) (fpr_of_digits digits)) (
-    if bytes_eq text (codes "bad") then Some (Bad number)
-    else if bytes_eq text (codes "none") then Some (Unjudge number)
-    else None)
-
--- after `verdict `: NUM and the rest
-unfoldable pub verdict_of : List ℕ → Option Command
-verdict_of text = do
-  first ← cut text
-  number ← number_of_digits first.0
-  judgement_of number first.1
-
--- after `view V root `: FPR A
-unfoldable pub root_of : List ℕ → List ℕ → Option Command
-root_of view text = do
-  first ← cut text
-  fpr ← fpr_of_digits first.0
-  amount ← decimal_up_to 255 first.1
-  Some (Root view fpr amount)
-
--- after `view V `: `time T`, `root FPR A` or `close`
-unfoldable pub setting_of : List ℕ → List ℕ → Option Command
-setting_of view text =
-    read_behind (behind (codes "time ") text) (λ digits. option_map (Time view) (decimal_up_to 4294967295 digits)) (
-    read_behind (behind (codes "root ") text) (root_of view) (
-    if bytes_eq text (codes "close") then Some (Close view) else None))
 
 -- FPR N UID; UID is the rest of the line
 unfoldable pub question_of : List ℕ → Option Question
@@ -158,7 +136,6 @@ watched_of watch text =
 
 -- what follows the name of a view, a cursor or a watch, by what the line is about
 abbrev pub about_of : About → List ℕ → List ℕ → Option Command
-about_of Setting view text = setting_of view text
 about_of Asked view text = asked_of view text
 about_of Listed view text = listed_of view text
 about_of Explained view text = explained_of view text
@@ -178,22 +155,15 @@ view_of about text = do
 unfoldable pub export_of : List ℕ → Option Command
 export_of digits = option_map Export (fpr_of_digits digits)
 
--- a line without any of these prefixes: `pending`, `keys` or `dump`
+-- a line without any of these prefixes: a command of one word
 unfoldable pub single_of : List ℕ → Option Command
-single_of line =
-    if bytes_eq line (codes "pending") then Some Pending
-    else if bytes_eq line (codes "keys") then Some Keys
-    else if bytes_eq line (codes "dump") then Some Dump
-    else None
+single_of line = named_among one_words line
 
--- the command that a line spells; None if it isn't a command
-unfoldable pub command_of : List ℕ → Option Command
-command_of line =
-    read_behind (behind (codes "import ") line) import_of (
+-- a line that sets no part of the state
+unfoldable pub other_of : List ℕ → Option Command
+other_of line =
     read_behind (behind (codes "load ") line) load_of (
     read_behind (behind (codes "drop ") line) drop_of (
-    read_behind (behind (codes "verdict ") line) verdict_of (
-    read_behind (behind (codes "view ") line) (view_of Setting) (
     read_behind (behind (codes "ask ") line) (view_of Asked) (
     read_behind (behind (codes "list ") line) (view_of Listed) (
     read_behind (behind (codes "explain ") line) (view_of Explained) (
@@ -203,4 +173,8 @@ command_of line =
     read_behind (behind (codes "cursor ") line) (view_of Paced) (
     read_behind (behind (codes "watch ") line) (view_of Watched) (
     read_behind (behind (codes "store ") line) store_of (
-    single_of line))))))))))))))
+    single_of line)))))))))))
+
+-- the command that a line spells; None if it isn't a command
+unfoldable pub command_of : List ℕ → Option Command
+command_of line = set_or (state_line_of line) (other_of line)

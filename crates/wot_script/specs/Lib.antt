@@ -1,14 +1,8 @@
 pub mod ClaimLaws
 pub mod Claims
-pub mod Decimal
-pub mod Fields
 pub mod Grammar
 pub mod Laws
-pub mod Pieces
+pub mod OneWord
 pub mod Replies
 pub mod Spelling
-pub mod Appends
-pub mod Texts
-pub mod Turned
-pub mod Uid
 pub mod Words

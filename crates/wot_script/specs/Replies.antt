@@ -1,5 +1,5 @@
 -- How a reply is printed.
-use Rattle.std.specs.Prelude.{ℕ, Bool, true, false, List, [], ◌∷◌, ◌++◌, codes}
+use Rattle.std.specs.Prelude.{ℕ, Bool, true, false, List, [], ◌∷◌, ◌++◌, Option, Some, None, codes}
 use Rattle.std.specs.Fmt.{decimal}
 use Rattle.std.specs.List.{AllByRecursion, flat_map}
 use Rattle.hex.specs.Hex.{encode_lower}
@@ -7,8 +7,8 @@ use Rattle.wot_types.specs.Fpr.{digits_of}
 use Rattle.wot_types.specs.Limits.{limit_word}
 use Rattle.wot_types.specs.SigNumber.{number_digits}
 use Rattle.wot_script.specs.Claims.{claim_text, field_text, label_text}
-use Rattle.wot_script.specs.Texts.{joined_line}
-use Rattle.wot_script.specs.Uid.{escaped}
+use Rattle.wot_words.specs.Texts.{joined_line}
+use Rattle.wot_words.specs.Uid.{escaped}
 use Rattle.wot_script.specs.Words.{IsWordOf, reason_words, target_words, word_at}
 use Rattle.wot_script.specs.declared.reply.AnswerLine.{AnswerLine}
 use Rattle.wot_script.specs.declared.reply.AnswerLine.TheVariants.{Path, Step}
@@ -75,12 +75,34 @@ refused words = joined_line (codes "refused " ∷ words)
 abbrev pub stale : List ℕ → ℕ → ℕ → List ℕ
 stale word was now = joined_line (codes "stale " ∷ word ∷ decimal was ∷ codes " " ∷ decimal now ∷ [])
 
+-- ---- replies of one line that ends with a number: a row of two lines for each, here and in `src/numbered.rt`
+
+-- the words before the number; no octets for any other reply
+abbrev pub words_before : Reply → List ℕ
+words_before (Stored octets) = codes "ok stored "
+words_before (Reached sum) = codes "absence reached "
+words_before (CheckedYes sum) = codes "checked yes "
+words_before _ = []
+
+-- the number; None for any other reply
+abbrev pub number_of : Reply → Option ℕ
+number_of (Stored octets) = Some octets
+number_of (Reached sum) = Some sum
+number_of (CheckedYes sum) = Some sum
+number_of _ = None
+
+-- the line with these words and this number
+abbrev pub number_line : List ℕ → Option ℕ → List ℕ
+number_line words (Some number) = joined_line (words ∷ decimal number ∷ [])
+number_line words None = []
+
+-- ---- all replies
+
 -- the octets of a reply, with its line feeds
 unfoldable pub reply_text : Reply → List ℕ
 reply_text (Taken taken skipped new) =
     joined_line (codes "ok taken " ∷ decimal taken ∷ codes " skipped " ∷ decimal skipped ∷ codes " new "
     ∷ decimal new ∷ [])
-reply_text (Stored octets) = joined_line (codes "ok stored " ∷ decimal octets ∷ [])
 reply_text Done = joined_line (codes "ok" ∷ [])
 reply_text (Amount sum paths lines) =
     joined_line (codes "amount " ∷ decimal sum ∷ codes " paths " ∷ decimal paths ∷ []) ++ flat_map answer_line lines
@@ -92,11 +114,9 @@ reply_text (Pending count lines) = joined_line (codes "pending " ∷ decimal cou
 reply_text (Keys count lines) = joined_line (codes "keys " ∷ decimal count ∷ []) ++ flat_map key_line lines
 reply_text (Export octets) = joined_line (codes "export " ∷ encode_lower octets ∷ [])
 reply_text (Dump count lines) = joined_line (codes "dump " ∷ decimal count ∷ []) ++ lines
-reply_text (Reached sum) = joined_line (codes "absence reached " ∷ decimal sum ∷ [])
 reply_text (Missed sum claims labels) =
     joined_line (codes "absence missed " ∷ decimal sum ∷ [])
     ++ joined_line (codes "claim " ∷ field_text claim_text claims ∷ codes " " ∷ field_text label_text labels ∷ [])
-reply_text (CheckedYes sum) = joined_line (codes "checked yes " ∷ decimal sum ∷ [])
 reply_text CheckedNoPaths = joined_line (codes "checked no paths" ∷ [])
 reply_text CheckedNoTable = joined_line (codes "checked no table" ∷ [])
 reply_text Long = refused (codes "long" ∷ [])
@@ -122,6 +142,7 @@ reply_text (WatchAmount watch sum) = joined_line (codes "watch " ∷ watch ∷ c
 reply_text (WatchGone watch) = joined_line (codes "watch " ∷ watch ∷ codes " gone" ∷ [])
 reply_text NoWatch = refused (codes "watch" ∷ [])
 reply_text FullWatches = refused (codes "full watches" ∷ [])
+reply_text reply = number_line (words_before reply) (number_of reply)
 
 -- ---- words
 
@@ -154,10 +175,14 @@ is_short (Missed sum claims labels) = false
 is_short (Piece count lines) = is_empty lines
 is_short _ = true
 
+-- there is no number
+abbrev pub is_unnumbered : Option ℕ → Bool
+is_unnumbered (Some number) = false
+is_unnumbered None = true
+
 -- a line that begins with `refused`
 abbrev pub is_refusal : Reply → Bool
 is_refusal (Taken taken skipped new) = false
-is_refusal (Stored octets) = false
 is_refusal Done = false
 is_refusal (Amount sum paths lines) = false
 is_refusal (Reply.List count lines) = false
@@ -166,9 +191,7 @@ is_refusal (Pending count lines) = false
 is_refusal (Keys count lines) = false
 is_refusal (Export octets) = false
 is_refusal (Dump count lines) = false
-is_refusal (Reached sum) = false
 is_refusal (Missed sum claims labels) = false
-is_refusal (CheckedYes sum) = false
 is_refusal CheckedNoPaths = false
 is_refusal CheckedNoTable = false
 is_refusal (Piece count lines) = false
@@ -177,4 +200,4 @@ is_refusal (StaleView was now) = false
 is_refusal (WatchAmount watch sum) = false
 is_refusal (WatchGone watch) = false
 is_refusal Shelf = false
-is_refusal _ = true
+is_refusal reply = is_unnumbered (number_of reply)

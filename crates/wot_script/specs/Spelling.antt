@@ -1,22 +1,22 @@
 -- How a command is printed.
-use Rattle.std.specs.Prelude.{ℕ, ◌≡◌, ◌≢◌, ◌<◌, ◌≤◌, ◌+◌, ◌*◌, List, [], ◌∷◌, length, Some, codes}
-use Rattle.std.specs.List.{AllByRecursion}
+use Rattle.std.specs.Prelude.{ℕ, ◌≡◌, ◌<◌, ◌≤◌, ◌+◌, ◌*◌, List, [], ◌∷◌, length, Some, codes}
 use Rattle.std.specs.Fmt.{decimal}
-use Rattle.hex.specs.Hex.{encode_lower}
 use Rattle.wot_types.specs.Fpr.{digits_of}
-use Rattle.wot_types.specs.SigNumber.{number_digits}
 use Rattle.wot_types.specs.declared.fpr.Fpr.{Fpr}
 use Rattle.wot_types.specs.declared.name.Name.{Name}
 use Rattle.wot_types.specs.declared.name.Name.TheVariants.{Cert, TrustRoot}
 use Rattle.wot_script.specs.Claims.{IsClaimSpelled, claim_text, field_text, label_text, most_paths}
 use Rattle.wot_script.specs.Grammar.{question_of}
-use Rattle.wot_script.specs.Texts.{joined}
-use Rattle.wot_script.specs.Uid.{escaped}
+use Rattle.wot_script.specs.OneWord.{word_of}
+use Rattle.wot_words.specs.StateLine.{IsOneLine, spelling as line_text, most_octets as most_of_line}
+use Rattle.wot_words.specs.Texts.{joined}
+use Rattle.wot_words.specs.Uid.{escaped}
+use Rattle.wot_words.specs.declared.state_line.StateLine.TheVariants as lines
 use Rattle.wot_script.specs.declared.command.Command.{Command}
 use Rattle.wot_script.specs.declared.read.Question.{Question}
 use Rattle.wot_script.specs.declared.command.Command.TheVariants.{Import, Load, Store, Remove, Good, Bad, Unjudge, Time}
-use Rattle.wot_script.specs.declared.command.Command.TheVariants.{Root, Close, Ask, Explain, Pending, Keys}
-use Rattle.wot_script.specs.declared.command.Command.TheVariants.{Export, Dump, Absence, Check}
+use Rattle.wot_script.specs.declared.command.Command.TheVariants.{Root, Close, Ask, Explain}
+use Rattle.wot_script.specs.declared.command.Command.TheVariants.{Export, Absence, Check}
 use Rattle.wot_script.specs.declared.command.Command.TheVariants.{CursorOver, CursorNext, CursorClose}
 use Rattle.wot_script.specs.declared.command.Command.TheVariants.{WatchOn, WatchOff}
 
@@ -57,17 +57,16 @@ asking word view fpr wanted uid = joined (word ∷ view ∷ codes " " ∷ questi
 
 -- the line of a command, without a line feed
 unfoldable pub spelling : Command → List ℕ
-spelling (Import octets) = joined (codes "import " ∷ encode_lower octets ∷ [])
+spelling (Import octets) = line_text (lines.Import octets)
 spelling (Load name) = joined (codes "load " ∷ entry_text name ∷ [])
 spelling (Store fpr) = joined (codes "store " ∷ digits_of fpr ∷ [])
 spelling (Remove fpr) = joined (codes "drop " ∷ digits_of fpr ∷ [])
-spelling (Good number fpr) = joined (codes "verdict " ∷ number_digits number ∷ codes " good " ∷ digits_of fpr ∷ [])
-spelling (Bad number) = joined (codes "verdict " ∷ number_digits number ∷ codes " bad" ∷ [])
-spelling (Unjudge number) = joined (codes "verdict " ∷ number_digits number ∷ codes " none" ∷ [])
-spelling (Time view t) = joined (codes "view " ∷ view ∷ codes " time " ∷ decimal t ∷ [])
-spelling (Root view fpr amount) =
-    joined (codes "view " ∷ view ∷ codes " root " ∷ digits_of fpr ∷ codes " " ∷ decimal amount ∷ [])
-spelling (Close view) = joined (codes "view " ∷ view ∷ codes " close" ∷ [])
+spelling (Good number fpr) = line_text (lines.Good number fpr)
+spelling (Bad number) = line_text (lines.Bad number)
+spelling (Unjudge number) = line_text (lines.Unjudge number)
+spelling (Time view t) = line_text (lines.Time view t)
+spelling (Root view fpr amount) = line_text (lines.Root view fpr amount)
+spelling (Close view) = line_text (lines.Close view)
 spelling (Ask view fpr wanted uid) = asking (codes "ask ") view fpr wanted uid
 spelling (Command.List view wanted) = joined (codes "list " ∷ view ∷ codes " " ∷ decimal wanted ∷ [])
 spelling (Explain view fpr uid) =
@@ -76,10 +75,7 @@ spelling (Absence view fpr wanted uid) = asking (codes "absence ") view fpr want
 spelling (Check view fpr claims labels uid) =
     joined (codes "check " ∷ view ∷ codes " " ∷ digits_of fpr ∷ codes " " ∷ field_text claim_text claims ∷ codes " "
     ∷ field_text label_text labels ∷ codes " " ∷ escaped uid ∷ [])
-spelling Pending = codes "pending"
-spelling Keys = codes "keys"
 spelling (Export fpr) = joined (codes "export " ∷ digits_of fpr ∷ [])
-spelling Dump = codes "dump"
 spelling (CursorOver cursor view wanted) =
     joined (codes "cursor " ∷ cursor ∷ codes " over " ∷ view ∷ codes " " ∷ decimal wanted ∷ [])
 spelling (CursorNext cursor count) = joined (codes "cursor " ∷ cursor ∷ codes " next " ∷ decimal count ∷ [])
@@ -87,13 +83,14 @@ spelling (CursorClose cursor) = joined (codes "cursor " ∷ cursor ∷ codes " c
 spelling (WatchOn watch view fpr wanted uid) =
     joined (codes "watch " ∷ watch ∷ codes " on " ∷ view ∷ codes " " ∷ question_parts fpr wanted uid)
 spelling (WatchOff watch) = joined (codes "watch " ∷ watch ∷ codes " off" ∷ [])
+spelling command = word_of command
 
 -- ---- lines
 
 -- the largest length of a command's line
 abbrev pub most_octets : Command → ℕ
-most_octets (Import octets) = 7 + 2 * length octets
-most_octets (Good number fpr) = 142
+most_octets (Import octets) = most_of_line (lines.Import octets)
+most_octets (Good number fpr) = most_of_line (lines.Good number fpr)
 most_octets (Ask view fpr wanted uid) = 128 + 4 * length uid
 most_octets (Explain view fpr uid) = 128 + 4 * length uid
 most_octets (Absence view fpr wanted uid) = 128 + 4 * length uid
@@ -101,13 +98,6 @@ most_octets (WatchOn watch view fpr wanted uid) = 192 + 4 * length uid
 most_octets (Check view fpr claims labels uid) = 128 + 4 * length uid + most_paths claims + 128 * length labels
 most_octets _ = 128
 
--- it isn't empty, and isn't a comment
-abbrev pub IsHeard : List ℕ → Type 0
-IsHeard [] = ⊥
-IsHeard (octet ∷ octets) = octet ≢ 35
-
 -- The text is one line, which isn't silent and is no longer than the line of the command can be.
-pub record IsLineFor (command : Command) (text : List ℕ) : Type 0 where
-  pub no_feed : AllByRecursion (λ octet. octet ≢ 10) text
-  pub heard : IsHeard text
-  pub short : length text ≤ most_octets command
+abbrev pub IsLineFor : Command → List ℕ → Type 0
+IsLineFor command text = IsOneLine (most_octets command) text

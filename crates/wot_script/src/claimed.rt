@@ -4,8 +4,8 @@ ghost use Rattle.std.specs.List.{AllByRecursion};
 ghost use Rattle.wot_script.specs.ClaimLaws.{IsClaimPrinted, IsLabelPrinted, IsStepPrinted};
 ghost use Rattle.wot_script.specs.Claims.{IsLabelSpelled, IsPathSpelled};
 
-use crate::spelled::{decimal_is_read, positive_is_read};
 use crate::{ClaimLine, ClaimStepLine, LabelLine};
+use wot_words::laws::{decimal_is_read, positive_is_read};
 
 /// A law: a printed step is read back.
 fn step_is_read(step: &ClaimStepLine)

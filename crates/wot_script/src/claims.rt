@@ -1,24 +1,22 @@
 //! Claims and tables of labels in a line: `claim PATHS TABLE` in the reply to `absence`, and the fields of `check`.
 //!
-//! It reads and prints them by `specs/Claims.antt`, and stands on `fields`, `decimal` and `piece`. `read`, `spell` and
+//! It reads and prints them by `specs/Claims.antt`, and stands on `wot_words`. `read`, `spell` and
 //! `tell` use it.
 ghost use Rattle.std.specs.Prelude.{◌≡◌, ◌++◌, ◌∷◌, ℕ, List, Option, IfOk};
 ghost use Rattle.std.specs.List.{flat_map};
 ghost use Rattle.std.specs.Option.{option_map};
-ghost use Rattle.wot_script.specs.Appends.{Appends};
+ghost use Rattle.wot_words.specs.Appends.{Appends};
 ghost use Rattle.wot_script.specs.Claims.{claim_of, claim_parts, claim_text, claims_of};
 ghost use Rattle.wot_script.specs.Claims.{field_of, field_text, is_rising};
 ghost use Rattle.wot_script.specs.Claims.{items_of, items_text, label_of, label_text, labels_of, step_of, step_text};
-ghost use Rattle.wot_script.specs.Pieces.{pieces_text};
+ghost use Rattle.wot_words.specs.Pieces.{pieces_text};
 
-use crate::decimal::{read_decimal, read_positive};
-use crate::fields::cut_at;
 use crate::lines::Printed;
-use crate::piece::{Piece, put_pieces};
 use crate::{ClaimLine, ClaimLines, ClaimStepLine, LabelLine, LabelLines, Lines};
 use std::alloc::Global;
 use std::cmp::Ordering;
 use wot_types::{Fpr, Memory, compare_fprs};
+use wot_words::{Piece, cut_at, put_pieces, read_decimal, read_positive};
 
 /// An item of a list in a line.
 pub trait Item: Drop {

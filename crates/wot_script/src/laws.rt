@@ -8,11 +8,14 @@ ghost use Rattle.wot_script.specs.Spelling.{HasSpelling};
 
 use crate::Command;
 use crate::spelled::spelling_is_read;
+use wot_words::laws::state_lines_fit;
 
 /// Every command that a line spells can be printed: a question wants at least 1.
 pub fn lines_spell_commands()
     ensures spelled { (line : List ℕ) (command : TheCommand) → command_of line ≡ Some command → HasSpelling command }
-{}
+{
+    state_lines_fit();
+}
 
 /// The text that `absence` prints after `claim `, put into a `check` line between the fingerprint and the user ID, is
 /// read as the paths and the table that it was printed from. So a printed claim can be checked by sending it back, if

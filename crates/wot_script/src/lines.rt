@@ -1,16 +1,16 @@
 //! The lines of replies that have several: paths and steps, bindings, reasons, pending signatures, keys.
 //!
-//! It prints them by `specs/Replies.antt` and stands on `piece`. `tell` puts the first line in front of them.
+//! It prints them by `specs/Replies.antt` and stands on `wot_words`. `tell` puts the first line in front of them.
 ghost use Rattle.std.specs.Prelude.{◌≡◌, ◌++◌, ℕ, List};
 ghost use Rattle.std.specs.List.{flat_map};
-ghost use Rattle.wot_script.specs.Appends.{Appends};
-ghost use Rattle.wot_script.specs.Pieces.{piece_text, pieces_text};
+ghost use Rattle.wot_words.specs.Appends.{Appends};
+ghost use Rattle.wot_words.specs.Pieces.{piece_text, pieces_text};
 ghost use Rattle.wot_script.specs.Replies.{answer_line, bind_line, hint_text, key_line, pending_line, reason_line};
 
-use crate::piece::{Piece, put_pieces};
 use crate::words::reason_word;
 use crate::{AnswerLine, BindLine, Hint, KeyLine, Lines, PendingLine, ReasonLine};
 use wot_types::{Fpr, Memory};
+use wot_words::{Piece, put_pieces};
 
 /// A line of a reply after its first.
 pub trait Printed {

@@ -1,26 +1,23 @@
 //! `read_line`: a line to its command.
 //!
-//! It stands on `fields`, `decimal`, `uid` and `claims`, and on `specs/Grammar.antt`, which it follows function by
-//! function. A new command is a function here and a clause there.
+//! It stands on `wot_words`, which reads the lines that set a part of the state, on `claims` and `one_word`, and on
+//! `specs/Grammar.antt`, which it follows function by function. A new command with fields is a function here and a
+//! clause there.
 ghost use Rattle.std.specs.Prelude.{◌≡◌, length, Some, None, IfOk, IsErrOf};
 ghost use Rattle.std.specs.Option.{option_map};
-ghost use Rattle.wot_types.specs.Fpr.{fpr_of_digits};
-ghost use Rattle.wot_script.specs.Fields.{octets_of_hex};
-ghost use Rattle.wot_script.specs.Decimal.{decimal_up_to, positive_up_to};
-ghost use Rattle.wot_script.specs.Grammar.{about_of, asked_of, checked_of, command_of, drop_of, entry_of};
-ghost use Rattle.wot_script.specs.Grammar.{explained_of, export_of, import_of, judgement_of, listed_of, load_of};
-ghost use Rattle.wot_script.specs.Grammar.{missed_of, over_of, paced_of, question_of, root_of, setting_of};
-ghost use Rattle.wot_script.specs.Grammar.{single_of, store_of, verdict_of, view_of, watch_of, watched_of};
+ghost use Rattle.wot_script.specs.Grammar.{about_of, asked_of, checked_of, command_for, command_of, drop_of, entry_of};
+ghost use Rattle.wot_script.specs.Grammar.{explained_of, export_of, listed_of, load_of, missed_of, other_of, over_of};
+ghost use Rattle.wot_script.specs.Grammar.{paced_of, question_of, store_of, view_of, watch_of, watched_of};
 ghost use Rattle.wot_script.specs.Spelling.{HasSpelling, FitsLine};
+ghost use Rattle.wot_words.specs.Decimal.{positive_up_to};
 
+use crate::Command;
 use crate::claims::{read_claims, read_labels};
-use crate::decimal::{read_decimal, read_positive};
-use crate::fields::{after_prefix, cut_field};
-use crate::uid::read_uid;
-use crate::{Command, Octets};
-use hex::FromHexError;
+use crate::one_word::read_single;
 use std::alloc::Global;
-use wot_types::{Fpr, Memory, Name, SigNumber, UserId, ViewName};
+use wot_types::{Fpr, Memory, Name, UserId, ViewName};
+use wot_words::laws::state_lines_fit;
+use wot_words::{StateLine, after_prefix, cut_field, read_positive, read_state_line, read_uid};
 
 /// Why a line is no command.
 #[derive(Clone, Copy)]
@@ -31,23 +28,18 @@ pub enum LineFault {
     Memory,
 }
 
-fn read_hex(alloc: Global, digits: &[u8]) -> Result<Option<Octets>, Memory>
-    ensures { IfOk result (λ octets. octets ≡ octets_of_hex digits.now) }
+/// The command of a line that sets a part of the state.
+fn command_for(line: StateLine) -> Command
+    ensures { result ≡ command_for line }
 {
-    match hex::decode(alloc, digits) {
-        Ok(octets) => Ok(Some(Octets::from_vec(octets))),
-        Err(FromHexError::OutOfMemory) => Err(Memory),
-        Err(_) => Ok(None),
-    }
-}
-
-#[tactic(auto, unfolding(crate::specs::Grammar::import_of))]
-fn read_import(alloc: Global, digits: &[u8]) -> Result<Option<Command>, Memory>
-    ensures { IfOk result (λ command. command ≡ import_of digits.now) }
-{
-    match read_hex(alloc, digits)? {
-        Some(octets) => Ok(Some(Command::Import(octets))),
-        None => Ok(None),
+    match line {
+        StateLine::Import(octets) => Command::Import(octets),
+        StateLine::Good(number, fpr) => Command::Good(number, fpr),
+        StateLine::Bad(number) => Command::Bad(number),
+        StateLine::Unjudge(number) => Command::Unjudge(number),
+        StateLine::Time(view, t) => Command::Time(view, t),
+        StateLine::Root(view, fpr, amount) => Command::Root(view, fpr, amount),
+        StateLine::Close(view) => Command::Close(view),
     }
 }
 
@@ -93,71 +85,6 @@ fn read_export(digits: &[u8]) -> Option<Command>
 {
     let fpr = Fpr::read(digits)?;
     Some(Command::Export(fpr))
-}
-
-fn read_good(number: SigNumber, digits: &[u8]) -> Option<Command>
-    ensures { result ≡ option_map (Command.Good number) (fpr_of_digits digits.now) }
-{
-    let fpr = Fpr::read(digits)?;
-    Some(Command::Good(number, fpr))
-}
-
-#[tactic(auto, unfolding(crate::specs::Grammar::judgement_of))]
-fn read_judgement(number: SigNumber, text: &[u8]) -> Option<Command>
-    ensures { result ≡ judgement_of number text.now }
-{
-    if let Some(digits) = after_prefix(b"good ", text) {
-        return read_good(number, digits);
-    }
-    if text == b"bad".as_slice() {
-        return Some(Command::Bad(number));
-    }
-    if text == b"none".as_slice() {
-        return Some(Command::Unjudge(number));
-    }
-    None
-}
-
-#[tactic(auto, unfolding(crate::specs::Grammar::verdict_of))]
-fn read_verdict(text: &[u8]) -> Option<Command>
-    ensures { result ≡ verdict_of text.now }
-{
-    let first = cut_field(text)?;
-    let number = SigNumber::read(first.field)?;
-    read_judgement(number, first.rest)
-}
-
-fn read_time(view: ViewName, digits: &[u8]) -> Option<Command>
-    ensures { result ≡ option_map (Command.Time view) (decimal_up_to 4294967295 digits.now) }
-{
-    let t = read_decimal(u32::MAX, digits)?;
-    Some(Command::Time(view, t))
-}
-
-#[tactic(auto, unfolding(crate::specs::Grammar::root_of))]
-fn read_root(view: ViewName, text: &[u8]) -> Option<Command>
-    ensures { result ≡ root_of view text.now }
-{
-    let first = cut_field(text)?;
-    let fpr = Fpr::read(first.field)?;
-    let amount = read_decimal(255, first.rest)?;
-    Some(Command::Root(view, fpr, amount as u8))
-}
-
-#[tactic(auto, unfolding(crate::specs::Grammar::setting_of))]
-fn read_setting(view: ViewName, text: &[u8]) -> Option<Command>
-    ensures { result ≡ setting_of view text.now }
-{
-    if let Some(digits) = after_prefix(b"time ", text) {
-        return read_time(view, digits);
-    }
-    if let Some(rest) = after_prefix(b"root ", text) {
-        return read_root(view, rest);
-    }
-    if text == b"close".as_slice() {
-        return Some(Command::Close(view));
-    }
-    None
 }
 
 /// A question to a view.
@@ -334,8 +261,6 @@ fn read_watched(alloc: Global, watch: ViewName, text: &[u8]) -> Result<Option<Co
 /// Which command a line with the name of a view, a cursor or a watch is.
 #[derive(Clone, Copy)]
 pub enum About {
-    /// It opens, changes or closes the view.
-    Setting,
     /// It asks for an answer.
     Asked,
     /// It asks for a list.
@@ -361,7 +286,6 @@ fn read_about(
     ensures { IfOk result (λ command. command ≡ about_of about view text.now) }
 {
     match about {
-        About::Setting => Ok(read_setting(view, text)),
         About::Asked => read_asked(alloc, view, text),
         About::Listed => Ok(read_listed(view, text)),
         About::Explained => read_explained(alloc, view, text),
@@ -384,40 +308,15 @@ fn read_view(alloc: Global, about: About, text: &[u8]) -> Result<Option<Command>
     read_about(alloc, about, view, first.rest)
 }
 
-#[tactic(auto, unfolding(crate::specs::Grammar::single_of))]
-fn read_single(line: &[u8]) -> Option<Command>
-    ensures { result ≡ single_of line.now }
+#[tactic(auto, unfolding(crate::specs::Grammar::other_of))]
+fn read_other(alloc: Global, line: &[u8]) -> Result<Option<Command>, Memory>
+    ensures { IfOk result (λ command. command ≡ other_of line.now) }
 {
-    if line == b"pending".as_slice() {
-        return Some(Command::Pending);
-    }
-    if line == b"keys".as_slice() {
-        return Some(Command::Keys);
-    }
-    if line == b"dump".as_slice() {
-        return Some(Command::Dump);
-    }
-    None
-}
-
-#[tactic(auto, unfolding(crate::specs::Grammar::command_of))]
-fn read_command(alloc: Global, line: &[u8]) -> Result<Option<Command>, Memory>
-    ensures { IfOk result (λ command. command ≡ command_of line.now) }
-{
-    if let Some(rest) = after_prefix(b"import ", line) {
-        return read_import(alloc, rest);
-    }
     if let Some(rest) = after_prefix(b"load ", line) {
         return Ok(read_load(rest));
     }
     if let Some(rest) = after_prefix(b"drop ", line) {
         return Ok(read_drop(rest));
-    }
-    if let Some(rest) = after_prefix(b"verdict ", line) {
-        return Ok(read_verdict(rest));
-    }
-    if let Some(rest) = after_prefix(b"view ", line) {
-        return read_view(alloc, About::Setting, rest);
     }
     if let Some(rest) = after_prefix(b"ask ", line) {
         return read_view(alloc, About::Asked, rest);
@@ -449,6 +348,16 @@ fn read_command(alloc: Global, line: &[u8]) -> Result<Option<Command>, Memory>
     Ok(read_single(line))
 }
 
+#[tactic(auto, unfolding(crate::specs::Grammar::command_of))]
+fn read_command(alloc: Global, line: &[u8]) -> Result<Option<Command>, Memory>
+    ensures { IfOk result (λ command. command ≡ command_of line.now) }
+{
+    match read_state_line(alloc, line)? {
+        Some(read) => Ok(Some(command_for(read))),
+        None => read_other(alloc, line),
+    }
+}
+
 /// Reads a line, without its line feed, as a command. Empty lines and comments are no commands. There is no limit on
 /// the length here.
 pub fn read_line(alloc: Global, line: &[u8]) -> Result<Command, LineFault>
@@ -459,6 +368,7 @@ pub fn read_line(alloc: Global, line: &[u8]) -> Result<Command, LineFault>
     // An import's octets have two digits each, and each path of a claim has octets of its own.
     ensures within { IfOk result (FitsLine (length line.now)) }
 {
+    state_lines_fit();
     match read_command(alloc, line) {
         Ok(Some(command)) => Ok(command),
         Ok(None) => Err(LineFault::Line),

@@ -6,6 +6,7 @@ ghost use Rattle.wot_script.specs.Replies.{is_short, reply_text};
 ghost use Rattle.wot_script.specs.Words.{target_words, word_at};
 
 use crate::Reply;
+use crate::numbered::reply_number;
 use crate::words::target_word;
 use wot_types::ViewName;
 
@@ -33,6 +34,10 @@ fn words_fit(word: u8)
 pub fn short_replies_fit(reply: &Reply)
     ensures { is_short reply.now ≡ true → length (reply_text reply.now) ≤ 128 }
 {
+    if let Some(number) = reply_number(reply) {
+        decimals_fit(number);
+        return;
+    }
     match reply {
         Reply::Taken(taken, skipped, new) => {
             decimals_fit(*taken);
@@ -61,8 +66,6 @@ pub fn short_replies_fit(reply: &Reply)
             decimals_fit(*offset as u64);
         }
         Reply::Order(offset) => decimals_fit(*offset as u64),
-        Reply::Stored(octets) => decimals_fit(*octets),
-        Reply::Reached(sum) | Reply::CheckedYes(sum) => decimals_fit(u64::from(*sum)),
         Reply::WatchAmount(watch, sum) => {
             names_fit(watch);
             decimals_fit(u64::from(*sum));

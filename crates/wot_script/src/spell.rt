@@ -1,53 +1,24 @@
 //! `print_command`: a command to its line.
 //!
-//! It stands on `piece` and on `specs/Spelling.antt`. Dumps and generated scripts are printed through it, and its
-//! contract says that `read_line` reads each line back.
-ghost use Rattle.std.specs.Prelude.{◌≡◌, ◌++◌, OnOk, OnErr};
-ghost use Rattle.wot_script.specs.Appends.{Appends};
+//! It stands on `wot_words` and `one_word`, and on `specs/Spelling.antt`. Generated scripts are printed through it, and
+//! its contract says that `read_line` reads each line back.
+ghost use Rattle.std.specs.Prelude.{◌≡◌, ◌++◌, true, OnOk, OnErr};
+ghost use Rattle.wot_words.specs.Appends.{Appends};
 ghost use Rattle.wot_script.specs.Grammar.{command_of};
-ghost use Rattle.wot_script.specs.Pieces.{piece_text};
+ghost use Rattle.wot_script.specs.OneWord.{has_word};
+ghost use Rattle.wot_words.specs.Pieces.{piece_text};
 ghost use Rattle.wot_script.specs.Spelling.{HasSpelling, IsLineFor, asking, entry_text, spelling};
 
 use crate::claims::put_claimed;
-use crate::piece::Piece::{Decimal, Hex, Key, Signature, Text, Uid};
-use crate::piece::{Piece, put_pieces};
+use crate::one_word::command_word;
 use crate::spelled::spelling_is_read;
 use crate::{ClaimLines, Command, LabelLines};
 use wot_types::{Fpr, Memory, Name, UserId, ViewName};
-
-#[tactic(auto, unfolding(crate::specs::Spelling::spelling))]
-fn put_time(view: &ViewName, t: u32, out: &mut Vec<u8>) -> Result<(), Memory>
-    ensures { Appends (spelling (Command.Time view.now t)) out.old out.new result }
-{
-    let view = Text(view.octets());
-    let t = Decimal(u64::from(t));
-    put_pieces(&[Text(b"view "), view, Text(b" time "), t], out)
-}
-
-#[tactic(auto, unfolding(crate::specs::Spelling::spelling))]
-fn put_root<'a>(
-    view: &'a ViewName,
-    fpr: &'a Fpr,
-    amount: u8,
-    out: &mut Vec<u8>,
-) -> Result<(), Memory>
-    ensures { Appends (spelling (Command.Root view.now fpr.now amount)) out.old out.new result }
-{
-    let view = Text(view.octets());
-    let fpr = Key(fpr);
-    let amount = Decimal(u64::from(amount));
-    put_pieces(
-        &[
-            Text(b"view "),
-            view,
-            Text(b" root "),
-            fpr,
-            Text(b" "),
-            amount,
-        ],
-        out,
-    )
-}
+use wot_words::Piece::{Decimal, Key, Text, Uid};
+use wot_words::{
+    Piece, put_bad, put_close, put_good, put_import, put_pieces, put_root, put_text, put_time,
+    put_unjudge,
+};
 
 /// Appends a question to a view, after a word.
 fn put_question<'a>(
@@ -201,30 +172,29 @@ fn entry_piece(name: &Name) -> Piece<'_>
     }
 }
 
+/// Appends the word of a command of one word.
+fn put_word(command: &Command, out: &mut Vec<u8>) -> Result<(), Memory>
+    requires { has_word command.now ≡ true }
+    ensures { Appends (spelling command.now) out.old out.new result }
+{
+    put_text(command_word(command), out)
+}
+
 #[tactic(auto, unfolding(crate::specs::Spelling::spelling))]
 fn put_command(command: &Command, out: &mut Vec<u8>) -> Result<(), Memory>
     ensures { Appends (spelling command.now) out.old out.new result }
 {
     match command {
-        Command::Import(octets) => put_pieces(&[Text(b"import "), Hex(octets.items())], out),
+        Command::Import(octets) => put_import(octets.items(), out),
         Command::Load(name) => put_pieces(&[Text(b"load "), entry_piece(name)], out),
         Command::Store(fpr) => put_pieces(&[Text(b"store "), Key(fpr)], out),
         Command::Remove(fpr) => put_pieces(&[Text(b"drop "), Key(fpr)], out),
-        Command::Good(number, fpr) => {
-            let number = Signature(number);
-            put_pieces(&[Text(b"verdict "), number, Text(b" good "), Key(fpr)], out)
-        }
-        Command::Bad(number) => {
-            put_pieces(&[Text(b"verdict "), Signature(number), Text(b" bad")], out)
-        }
-        Command::Unjudge(number) => {
-            put_pieces(&[Text(b"verdict "), Signature(number), Text(b" none")], out)
-        }
+        Command::Good(number, fpr) => put_good(number, fpr, out),
+        Command::Bad(number) => put_bad(number, out),
+        Command::Unjudge(number) => put_unjudge(number, out),
         Command::Time(view, t) => put_time(view, *t, out),
         Command::Root(view, fpr, amount) => put_root(view, fpr, *amount, out),
-        Command::Close(view) => {
-            put_pieces(&[Text(b"view "), Text(view.octets()), Text(b" close")], out)
-        }
+        Command::Close(view) => put_close(view, out),
         Command::Ask(view, fpr, wanted, uid) => put_question(b"ask ", view, fpr, *wanted, uid, out),
         Command::List(view, wanted) => put_list(view, *wanted, out),
         Command::Explain(view, fpr, uid) => put_explain(view, fpr, uid, out),
@@ -234,10 +204,7 @@ fn put_command(command: &Command, out: &mut Vec<u8>) -> Result<(), Memory>
         Command::Check(view, fpr, claims, labels, uid) => {
             put_check(view, fpr, claims, labels, uid, out)
         }
-        Command::Pending => put_pieces(&[Text(b"pending")], out),
-        Command::Keys => put_pieces(&[Text(b"keys")], out),
         Command::Export(fpr) => put_pieces(&[Text(b"export "), Key(fpr)], out),
-        Command::Dump => put_pieces(&[Text(b"dump")], out),
         Command::CursorOver(cursor, view, wanted) => put_cursor_over(cursor, view, *wanted, out),
         Command::CursorNext(cursor, count) => put_cursor_next(cursor, *count, out),
         Command::CursorClose(cursor) => put_pieces(
@@ -250,6 +217,7 @@ fn put_command(command: &Command, out: &mut Vec<u8>) -> Result<(), Memory>
         Command::WatchOff(watch) => {
             put_pieces(&[Text(b"watch "), Text(watch.octets()), Text(b" off")], out)
         }
+        _ => put_word(command, out),
     }
 }
 

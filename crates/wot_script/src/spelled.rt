@@ -3,46 +3,17 @@
 ghost use Rattle.std.specs.Prelude.{◌≡◌, ◌≢◌, ◌≤◌, ◌<◌, ◌^◌, true, length};
 ghost use Rattle.std.specs.Fmt.{decimal};
 ghost use Rattle.std.specs.List.{AllByRecursion};
-ghost use Rattle.hex.specs.Hex.{encode_lower};
 ghost use Rattle.wot_types.specs.Fpr.{digits_of, fpr_of_digits};
 ghost use Rattle.wot_types.specs.ViewName.{is_view_name};
-ghost use Rattle.wot_script.specs.Decimal.{decimal_up_to, positive_up_to};
-ghost use Rattle.wot_script.specs.Fields.{octets_of_hex};
+ghost use Rattle.wot_words.specs.Decimal.{positive_up_to};
 ghost use Rattle.wot_script.specs.Grammar.{command_of, entry_of};
+ghost use Rattle.wot_script.specs.OneWord.{has_word};
 ghost use Rattle.wot_script.specs.Spelling.{HasSpelling, IsLineFor, IsQuestionRead, entry_text, spelling};
-ghost use Rattle.wot_script.specs.Uid.{escaped, unescaped};
 
 use crate::Command;
 use crate::claimed::{claims_are_read, labels_are_read};
 use wot_types::{Fpr, Name, UserId, ViewName};
-
-/// A law: the digits of octets spell these octets.
-fn hex_is_read(octets: &[u8])
-    ensures { octets_of_hex (encode_lower octets.now) ≡ Some octets.now }
-{
-    let _octets = octets;
-}
-
-/// A law: a printed user ID is read back.
-fn uid_is_read(octets: &[u8])
-    ensures { unescaped (escaped octets.now) ≡ Some octets.now }
-{
-    let _octets = octets;
-}
-
-/// A law: a printed number is read back.
-pub fn decimal_is_read(most: u32, number: u32)
-    requires { number ≤ most }
-    ensures { decimal_up_to most (decimal number) ≡ Some number }
-{}
-
-/// A law: a printed number that isn't 0 is read back as such.
-pub fn positive_is_read(most: u32, number: u32)
-    requires some { 1 ≤ number }
-    requires within { number ≤ most }
-    ensures read { positive_up_to most (decimal number) ≡ Some number }
-    ensures small { number < 2 ^ 64 }
-{}
+use wot_words::laws::{decimal_is_read, hex_is_read, name_is_valid, positive_is_read, uid_is_read};
 
 /// A law: a printed name of an entry is read back, and is short.
 fn entry_is_read(name: &Name)
@@ -54,13 +25,6 @@ fn entry_is_read(name: &Name)
         Name::Cert(fpr) => fpr.printed_is_read(),
         Name::TrustRoot => {}
     }
-}
-
-/// A law: the name of a view, a cursor or a watch is spelled as such a name.
-fn name_is_valid(name: &ViewName)
-    ensures { is_view_name name.now ≡ true }
-{
-    let _octets = name.octets();
 }
 
 /// A law: a name and a number that isn't 0 are read back.
@@ -85,6 +49,15 @@ fn question_is_read(view: &ViewName, fpr: &Fpr, wanted: u32, uid: &UserId)
     fpr.printed_is_read();
     positive_is_read(u32::MAX, wanted);
     uid_is_read(uid.octets());
+}
+
+/// A law: the word of a command of one word is read back as that command, and is one line.
+fn word_is_read(command: &Command)
+    requires { has_word command.now ≡ true }
+    ensures read { command_of (spelling command.now) ≡ Some command.now }
+    ensures line { IsLineFor command.now (spelling command.now) }
+{
+    let _command = command;
 }
 
 /// A law: the line of a command is read back as that command, is one line, is neither empty nor a comment, and is no
@@ -130,10 +103,7 @@ pub fn spelling_is_read(command: &Command)
             labels_are_read(labels.items());
             uid_is_read(uid.octets());
         }
-        Command::Pending => {}
-        Command::Keys => {}
         Command::Export(fpr) => fpr.printed_is_read(),
-        Command::Dump => {}
         Command::CursorOver(cursor, view, wanted) => {
             let _cursor = cursor.octets();
             let _name = view.octets();
@@ -146,5 +116,6 @@ pub fn spelling_is_read(command: &Command)
             question_is_read(view, fpr, *wanted, uid);
         }
         Command::WatchOff(watch) => name_is_valid(watch),
+        _ => word_is_read(command),
     }
 }

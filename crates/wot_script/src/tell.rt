@@ -1,23 +1,24 @@
 //! `print_reply`: a reply to its octets.
 //!
-//! It stands on `piece`, `lines`, `claims` and `words`, and on `specs/Replies.antt`. Whatever a client reads is printed
-//! here; `docs/PROTOCOL.md` specifies it.
+//! It stands on `wot_words`, `lines`, `numbered`, `claims` and `words`, and on `specs/Replies.antt`. Whatever a client
+//! reads is printed here; `docs/PROTOCOL.md` specifies it.
 ghost use Rattle.std.specs.Prelude.{◌≡◌, ◌<◌, ◌≤◌, ◌+◌, ◌∷◌, [], ◌++◌, codes, length, vec_len, vec_capacity, true};
 ghost use Rattle.std.specs.Prelude.{OnOk, OnErr, IsOk};
 ghost use Rattle.std.specs.Fmt.{decimal};
-ghost use Rattle.wot_script.specs.Appends.{Appends};
+ghost use Rattle.wot_words.specs.Appends.{Appends};
 ghost use Rattle.wot_script.specs.Replies.{HasWords, is_refusal, is_short, refused, reply_text, stale};
-ghost use Rattle.wot_script.specs.Texts.{joined_line};
+ghost use Rattle.wot_words.specs.Texts.{joined_line};
 
 use crate::claims::put_claimed;
 use crate::lines::put_headed;
-use crate::piece::{Piece, put_pieces};
+use crate::numbered::{reply_number, reply_words};
 use crate::short::short_replies_fit;
 use crate::words::target_word;
 use crate::{
     AnswerLines, BindLines, ClaimLines, KeyLines, LabelLines, PendingLines, ReasonLines, Reply,
 };
 use wot_types::{Memory, ViewName};
+use wot_words::{Piece, put_pieces};
 
 #[tactic(auto, unfolding(crate::specs::Replies::reply_text))]
 fn put_amount(sum: u32, paths: u64, lines: &AnswerLines, out: &mut Vec<u8>) -> Result<(), Memory>
@@ -215,6 +216,9 @@ fn put_reply(reply: &Reply, out: &mut Vec<u8>) -> Result<(), Memory>
     ensures { Appends (reply_text reply.now) out.old out.new result }
 {
     use Piece::{Decimal, Hex, Text};
+    if let Some(number) = reply_number(reply) {
+        return put_number(reply_words(reply), number, out);
+    }
     match reply {
         Reply::Taken(taken, skipped, new) => {
             put_pieces(
@@ -230,7 +234,6 @@ fn put_reply(reply: &Reply, out: &mut Vec<u8>) -> Result<(), Memory>
                 out,
             )
         }
-        Reply::Stored(octets) => put_number(b"ok stored ", *octets, out),
         Reply::Done => put_pieces(&[Text(b"ok\n")], out),
         Reply::Amount(sum, paths, lines) => put_amount(*sum, *paths, lines, out),
         Reply::List(count, lines) => put_list(*count, lines, out),
@@ -252,9 +255,7 @@ fn put_reply(reply: &Reply, out: &mut Vec<u8>) -> Result<(), Memory>
                 out,
             )
         }
-        Reply::Reached(sum) => put_number(b"absence reached ", u64::from(*sum), out),
         Reply::Missed(sum, claims, labels) => put_missed(*sum, claims, labels, out),
-        Reply::CheckedYes(sum) => put_number(b"checked yes ", u64::from(*sum), out),
         Reply::CheckedNoPaths => put_pieces(&[Text(b"checked no paths\n")], out),
         Reply::CheckedNoTable => put_pieces(&[Text(b"checked no table\n")], out),
         Reply::Shelf => put_pieces(&[Text(b"fault shelf\n")], out),

@@ -7,10 +7,10 @@ use Rattle.wot_edge.specs.declared.path.Step.{Step}
 use Rattle.wot_edge.specs.Path.{Question, Use, IsNextPath, IsOpen, path_amount}
 use Rattle.wot_edge.specs.Record.{entry_at}
 use Rattle.wot_search.specs.Below.{IsNextAmount}
-use Rattle.wot_search.specs.declared.node.Goal.TheVariants.{Widest}
-use Rattle.wot_search.specs.Rooted.{IsFirst, IsGood}
-use Rattle.wot_search.proofs.Rooted.{widest_quest, first_open, valid_rooted}
-use Rattle.wot_search.proofs.Within.{Holds}
+use Rattle.wot_layer.specs.declared.node.Goal.TheVariants.{Widest}
+use Rattle.wot_layer.specs.Rooted.{IsFirst, IsGood}
+use Rattle.wot_layer.proofs.Rooted.{widest_quest, first_open, valid_rooted}
+use Rattle.wot_reach.proofs.Within.{Holds}
 
 module _ (reach : Fpr → ℕ) (q : Question) (used : Use) (holds : Holds reach q used)
     (ok : (entry_at q.told q.target).in_order ≡ true) (wide : List Step) (f : IsFirst (widest_quest reach q used) wide)

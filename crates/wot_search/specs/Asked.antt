@@ -8,7 +8,7 @@ use Rattle.wot_edge.specs.Record.{Record}
 use Rattle.wot_edge.specs.Sums.{Sums, use_in}
 use Rattle.wot_search.specs.Nexting.{IsNextWhereAgreed}
 use Rattle.wot_search.specs.Offers.{AreNextWhereAgreed, TakesWhereAgreed}
-use Rattle.wot_search.specs.Reach.{Table, IsReach, number_at}
+use Rattle.wot_reach.specs.Reach.{Table, IsReach, number_at}
 use Rattle.wot_search.specs.declared.asked.Asked.{Asked}
 
 -- the question, given what the network says

@@ -5,10 +5,10 @@ use Rattle.wot_types.specs.Fpr.{same_fpr}
 use Rattle.wot_edge.specs.declared.edge.EdgeFacts.{EdgeFacts}
 use Rattle.wot_edge.specs.Record.{entry_at}
 use Rattle.wot_edge.specs.Path.{Question, step_of, step_left}
-use Rattle.wot_search.specs.declared.node.Node.{Node}
-use Rattle.wot_search.specs.declared.node.Demand.{Demand}
-use Rattle.wot_search.specs.declared.node.Demand.TheVariants.{On, Before}
-use Rattle.wot_search.specs.Quest.{Quest}
+use Rattle.wot_layer.specs.declared.node.Node.{Node}
+use Rattle.wot_layer.specs.declared.node.Demand.{Demand}
+use Rattle.wot_layer.specs.declared.node.Demand.TheVariants.{On, Before}
+use Rattle.wot_layer.specs.Quest.{Quest}
 
 abbrev pub is_place : Option ℕ → ℕ → Bool
 is_place None uid = false

@@ -1,8 +1,8 @@
 //! A question to a search: roots, target, user ID, and the table of reach.
 //!
 //! `specs/Asked.antt` relates it to the question of `wot_edge`. Searches turn it into a `Quest`.
-use crate::reach::Reach;
 use wot_edge::Roots;
+use wot_reach::Reach;
 use wot_types::Fpr;
 
 /// A question to a search: paths from roots to a user ID of the target. Issuers are looked for within their reach only.

@@ -1,6 +1,7 @@
 //! The next path, or only its amount if that is enough: then the least path of this amount isn't looked for.
 //!
-//! It stands on `first`, `offered` and `offers`. `wot_auth` uses it when only the sum of an answer is wanted.
+//! It stands on `offered` and `offers`, and on the searches of `wot_layer`. `wot_auth` uses it when only the sum of an
+//! answer is wanted.
 ghost use Rattle.std.specs.Prelude.{IfOk, OnOk};
 ghost use Rattle.wot_edge.specs.Sums.{use_in};
 ghost use Rattle.wot_search.specs.Asked.{HasItsReach, question_of};
@@ -8,15 +9,12 @@ ghost use Rattle.wot_search.specs.Below.{IsNextBelow};
 ghost use Rattle.wot_search.specs.Offers.{AreOffersFor};
 
 use crate::asked::Asked;
-use crate::first::first;
 use crate::next::bound_amounts;
-use crate::node::Goal;
-use crate::notes::Unnoted;
 use crate::offered::{drop_spent, first_of, open_offer};
 use crate::offers::offers_by;
-use crate::quest::Quest;
 use std::alloc::Global;
 use wot_edge::{Path, Roads, Used};
+use wot_layer::{Goal, Quest, Unnoted, first};
 use wot_types::Memory;
 
 /// What comes next.

@@ -1,45 +1,19 @@
-//! The search for the next path: backwards from the target, in layers of shortest suffixes.
+//! The search for the next path: one search for the greatest amount, one for the least list, and offers that save both.
 //!
-//! It stands on `wot_edge`, whose definition of the next path it meets. `wot_auth` takes paths from it, and `wot_cache`
-//! keeps tables of reach and what was consulted. `docs/SEARCH.md` explains how it works.
+//! It stands on `wot_layer`, which does one search, and on `wot_edge`, whose definition of the next path it meets.
+//! `wot_auth` takes paths from it, and `wot_cache` keeps what was consulted. `docs/SEARCH.md` explains how it works.
 #![tactic(auto)]
 
 mod asked;
 mod below;
-mod checking;
-mod choose;
-mod collect;
-mod consider;
-mod consulted;
-mod demand;
-mod extend;
-mod first;
-mod grow;
-mod left;
-mod making;
-mod metered;
 mod next;
-mod node;
-mod notes;
-mod numbers;
 mod offered;
 mod offers;
-mod onward;
-mod quest;
-mod reach;
-mod reached;
-mod reaching;
-mod rows;
-mod slots;
-mod turn;
 
 pub use asked::Asked;
 pub use below::{Next, next_below};
-pub use consulted::{Consulted, ConsultedIter};
-pub use making::{Making, make_reach};
-pub use metered::{LookFault, Metered};
 pub use next::{next_path, next_path_within};
-pub use notes::{Notes, Unnoted};
 pub use offered::next_offered;
 pub use offers::next_paths_within;
-pub use reach::Reach;
+pub use wot_layer::{Consulted, ConsultedIter, LookFault, Metered, Notes, Unnoted};
+pub use wot_reach::{Making, Reach, make_reach};

@@ -1,7 +1,7 @@
 //! `next_path`: the next path after what earlier paths use.
 //!
-//! It stands on `first`, and its contract is the definition in `wot_edge/specs/Path.antt`. `wot_auth` makes answers of
-//! it; a faster search has to keep these clauses.
+//! It stands on the searches of `wot_layer`, and its contract is the definition in `wot_edge/specs/Path.antt`.
+//! `wot_auth` makes answers of it; a faster search has to keep these clauses.
 ghost use Rattle.std.specs.Prelude.{◌≤◌, IfOk};
 ghost use Rattle.wot_types.specs.declared.fpr.Fpr.{Fpr as Print};
 ghost use Rattle.wot_edge.specs.Answer.{IsNextOrSpent};
@@ -10,19 +10,15 @@ ghost use Rattle.wot_edge.specs.Path.{asks};
 ghost use Rattle.wot_edge.specs.Record.{IsRecord};
 ghost use Rattle.wot_edge.specs.Roots.{root_amount};
 ghost use Rattle.wot_edge.specs.Sums.{use_in};
-ghost use Rattle.wot_search.specs.Looked.{Gains, Widens};
+ghost use Rattle.wot_layer.specs.Looked.{Gains, Widens};
 ghost use Rattle.wot_search.specs.Asked.{IsNextLocally, HasItsReach, LeadsToAsked, question_of};
 ghost use Rattle.wot_search.specs.Nexting.{IsNextOfAgreeing};
 
 use crate::asked::Asked;
-use crate::consulted::Consulted;
-use crate::first::first;
-use crate::node::Goal;
-use crate::notes::Notes;
-use crate::quest::Quest;
-use crate::reach::Reach;
 use std::alloc::Global;
 use wot_edge::{Path, Roads, Roots, Used};
+use wot_layer::{Consulted, Goal, Notes, Quest, first};
+use wot_reach::Reach;
 use wot_types::{Fpr, Memory};
 
 /// A law: no root has more than 255.

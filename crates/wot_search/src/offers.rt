@@ -1,7 +1,7 @@
 //! Offers: the next paths of several roots, found by one search.
 //!
-//! It stands on `grow` and `collect`, and on `specs/Offers.antt`. `offered` takes paths from them while their amounts
-//! last.
+//! It stands on the searches of `wot_layer`, and on `specs/Offers.antt`. `offered` takes paths from them while their
+//! amounts last.
 ghost use Rattle.std.specs.Prelude.{◌≡◌, ℕ, List, nat_le, true, IfOk, OnOk};
 ghost use Rattle.std.specs.List.{list_all};
 ghost use Rattle.std.specs.Map.{values_of};
@@ -9,25 +9,21 @@ ghost use Rattle.wot_edge.specs.Record.{IsRecord};
 ghost use Rattle.wot_edge.specs.Roots.{NoneOver};
 ghost use Rattle.wot_edge.specs.Sums.{use_in};
 ghost use Rattle.wot_search.specs.Asked.{AreNextLocally, HasItsReach, LeadsToAsked, question_of};
-ghost use Rattle.wot_search.specs.Growth.{IsAfter};
-ghost use Rattle.wot_search.specs.Looked.{Gains, Widens};
+ghost use Rattle.wot_layer.specs.Growth.{IsAfter};
+ghost use Rattle.wot_layer.specs.Looked.{Gains, Widens};
 ghost use Rattle.wot_search.specs.Offers.{AddsOffer, AreFoundOffers, AreNextFor, AreOfferedBy, AreWide, IsOfferIf};
-ghost use Rattle.wot_search.specs.Quest.{LeadsOn, WhateverTold, quest_of};
-ghost use Rattle.wot_search.specs.Reached.{look};
+ghost use Rattle.wot_layer.specs.Quest.{LeadsOn, WhateverTold, quest_of};
+ghost use Rattle.wot_layer.specs.Reached.{look};
 
 use crate::asked::Asked;
-use crate::first::{begin, first, first_from};
-use crate::grow::advance;
-use crate::left::left_of_root;
 use crate::next::bound_amounts;
-use crate::node::{Choice, Goal, Node};
-use crate::notes::{Notes, Unnoted};
-use crate::quest::Quest;
-use crate::reached::{Reached, node_at};
-use crate::turn::path_from;
 use std::alloc::Global;
 use std::collections::BTreeMap;
 use wot_edge::{Path, Roads, Roots, Used};
+use wot_layer::{
+    Choice, Goal, Node, Notes, Quest, Reached, Unnoted, advance, begin, first, first_from,
+    left_of_root, node_at, path_from,
+};
 use wot_types::{Fpr, Memory};
 
 /// What a search finds in this many layers. What it looks at isn't noted.

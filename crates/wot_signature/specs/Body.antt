@@ -34,23 +34,24 @@ abbrev pub ends_v6 : List ℕ → Bool
 ends_v6 (high ∷ low ∷ size ∷ rest) = nat_le size (length rest)
 ends_v6 _ = false
 
-abbrev pub with_unhashed : (List ℕ → Bool) → ℕ → ℕ → List ℕ → Option (List ℕ × List ℕ) → Option Parts
-with_unhashed ends kind hash hashed None = None
-with_unhashed ends kind hash hashed (Some unhashed) =
-    if ends unhashed.1 then Some (record { kind = kind; hash = hash; hashed = hashed; unhashed = unhashed.0 }) else None
+-- a first reading, and a second one that uses its result
+infixl 10 ◌>>=◌
+abbrev pub ◌>>=◌ : {A B : Type 0} → Option A → (A → Option B) → Option B
+Some x >>= f = f x
+None >>= f = None
 
-abbrev pub with_hashed : (List ℕ → Option (List ℕ × List ℕ)) → (List ℕ → Bool) → ℕ → ℕ → Option (List ℕ × List ℕ)
-    → Option Parts
-with_hashed field_at ends kind hash None = None
-with_hashed field_at ends kind hash (Some hashed) = with_unhashed ends kind hash hashed.0 (field_at hashed.1)
+-- The hashed and the unhashed area, each in such a field, if what has to follow them does.
+abbrev pub areas : (List ℕ → Option (List ℕ × List ℕ)) → (List ℕ → Bool) → ℕ → ℕ → List ℕ → Option Parts
+areas field_at ends kind hash octets = do
+  hashed ← field_at octets
+  unhashed ← field_at hashed.1
+  if ends unhashed.1 then Some (record { kind = kind; hash = hash; hashed = hashed.0; unhashed = unhashed.0 }) else None
 
--- The hashed and the unhashed area of version 4, if what has to follow them does.
 abbrev pub areas_v4 : ℕ → ℕ → List ℕ → Option Parts
-areas_v4 kind hash rest = with_hashed short_field_at ends_v4 kind hash (short_field_at rest)
+areas_v4 kind hash octets = areas short_field_at ends_v4 kind hash octets
 
--- the hashed and the unhashed area of version 6, if what has to follow them does
 abbrev pub areas_v6 : ℕ → ℕ → List ℕ → Option Parts
-areas_v6 kind hash rest = with_hashed long_field_at ends_v6 kind hash (long_field_at rest)
+areas_v6 kind hash octets = areas long_field_at ends_v6 kind hash octets
 
 -- The parts of a body: the version, the signature type, the key algorithm, the hash algorithm, and the areas of its
 -- version. None if a part is missing or the version is neither 4 nor 6. The salt's length isn't compared with the hash.

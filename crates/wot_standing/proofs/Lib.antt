@@ -1,6 +1,6 @@
-pub mod Revoking
+pub mod RevokedByNumber
 pub mod SpanLaw
-pub mod Certifying
-pub mod Counting
-pub mod Naming
+pub mod NumbersByIssuer
+pub mod CountsAsIssuer
+pub mod OtherIssuerNamed
 pub mod Whose

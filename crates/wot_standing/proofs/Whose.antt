@@ -10,9 +10,9 @@ use Rattle.wot_types.specs.declared.fpr.Fpr.{Fpr}
 use Rattle.wot_types.specs.Fpr.{same_fpr}
 use Rattle.wot_types.specs.FprLaws.{same_fpr-true}
 use Rattle.wot_verdict.specs.Verdicts.{Entries}
-use Rattle.wot_cert.specs.Certificate.{Signature}
+use Rattle.wot_part.specs.Certificate.{Signature}
 use Rattle.wot_cert.specs.Issuer.{issuer_of}
-use Rattle.wot_cert.specs.Ranked.{greatest, higher, higher_of}
+use Rattle.wot_part.specs.Ranked.{greatest, higher, higher_of}
 use Rattle.wot_cert.specs.Revoked.{is_unrevoked}
 use Rattle.wot_cert.specs.Time.{is_live, newness}
 use Rattle.wot_standing.specs.declared.kinds.Binding.TheVariants.{Certification}

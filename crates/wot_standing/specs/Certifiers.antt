@@ -7,9 +7,9 @@ use Rattle.std.specs.Option.{option_map_or, option_and_then}
 use Rattle.wot_types.specs.declared.fpr.Fpr.{Fpr}
 use Rattle.wot_types.specs.Fpr.{fpr_cmp, same_fpr}
 use Rattle.wot_verdict.specs.Verdicts.{Entries}
-use Rattle.wot_cert.specs.Certificate.{Signature, Component}
+use Rattle.wot_part.specs.Certificate.{Signature, Component}
 use Rattle.wot_cert.specs.Issuer.{issuer_of}
-use Rattle.wot_cert.specs.Ranked.{higher_of}
+use Rattle.wot_part.specs.Ranked.{higher_of}
 use Rattle.wot_cert.specs.Revoked.{has_kind, revokes_by}
 use Rattle.wot_cert.specs.Time.{made_of, is_live, newness}
 use Rattle.wot_standing.specs.declared.kinds.Binding.TheVariants.{Certification}

@@ -5,9 +5,9 @@ ghost use Rattle.std.specs.Prelude.{◌≡◌, ◌<◌, ◌^◌, length, true, S
 ghost use Rattle.std.specs.List.{slice_get};
 ghost use Rattle.std.specs.Option.{option_and_then, option_copied};
 ghost use Rattle.wot_types.specs.declared.fpr.Fpr.{Fpr as TheFpr};
-ghost use Rattle.wot_cert.specs.Certificate.{said_by};
+ghost use Rattle.wot_part.specs.Certificate.{said_by};
 ghost use Rattle.wot_cert.specs.Issuer.{issuer_of as issuer_in};
-ghost use Rattle.wot_cert.specs.Ranked.{higher_of};
+ghost use Rattle.wot_part.specs.Ranked.{higher_of};
 ghost use Rattle.wot_cert.specs.Time.{newness};
 ghost use Rattle.wot_standing.specs.declared.kinds.Binding.TheVariants.{Certification};
 ghost use Rattle.wot_standing.specs.Certifiers.{certifier_of, kept_for, number_for, revoker_of};
@@ -27,6 +27,14 @@ use wot_types::{Fpr, Memory};
 use wot_verdict::Verdicts;
 
 type Numbers = BTreeMap<Fpr, u32, Global>;
+
+/// What decides whether a certification is valid: the verdicts, the time, and each issuer's latest revocation.
+#[derive(Clone, Copy)]
+struct Validity<'a> {
+    verdicts: &'a Verdicts,
+    t: u32,
+    latest: &'a Numbers,
+}
 
 /// The newest certification of each issuer on one user ID, by its place there.
 #[derive(Drop)]
@@ -178,18 +186,15 @@ fn newest_places(
         → kept_for places.entries sigs.now q ≡ newest_valid verdicts.now q t Certification sigs.now) }
 {
     let mut places = BTreeMap::new(alloc);
+    let validity = Validity {
+        verdicts,
+        t,
+        latest,
+    };
     let mut rest = sigs;
     'back: while let Some((sig, prefix)) = rest.split_last() {
         rest = prefix;
-        note_certification(
-            &mut places,
-            sigs,
-            prefix.len() as u32,
-            sig,
-            verdicts,
-            t,
-            latest,
-        )?;
+        note_certification(&mut places, sigs, prefix.len() as u32, sig, &validity)?;
     }
     Ok(places)
 }
@@ -200,18 +205,17 @@ fn note_certification(
     sigs: &[Sig],
     at: u32,
     sig: &Sig,
-    verdicts: &Verdicts,
-    t: u32,
-    latest: &Numbers,
+    validity: &Validity<'_>,
 ) -> Result<(), Memory>
     requires here { slice_get sigs.now at ≡ Some sig.now }
-    requires latest { KeepsLatest verdicts.now t sigs.now latest.now.entries }
-    ensures { OnOk result (TakesNewest verdicts.now t sigs.now sig.now places.old.entries places.new.entries) }
+    requires latest { KeepsLatest validity.now.verdicts.now validity.now.t sigs.now validity.now.latest.now.entries }
+    ensures { OnOk result (TakesNewest validity.now.verdicts.now validity.now.t sigs.now sig.now
+        places.old.entries places.new.entries) }
 {
-    let Some(issuer) = certifier(sig, verdicts, t) else {
+    let Some(issuer) = certifier(sig, validity.verdicts, validity.t) else {
         return Ok(());
     };
-    if !stays(sig, number(latest, &issuer)) {
+    if !stays(sig, number(validity.latest, &issuer)) {
         return Ok(());
     }
     if !is_newest(sig, kept(places, sigs, &issuer)) {

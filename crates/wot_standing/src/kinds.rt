@@ -3,7 +3,7 @@
 //! It stands on the facts of `wot_signature` and on `specs/Kinds.antt`. Everything else in this crate asks it.
 ghost use Rattle.std.specs.Prelude.{◌≡◌, ◌==◌, ◌&&◌, false};
 ghost use Rattle.std.specs.Option.{option_map_or};
-ghost use Rattle.wot_cert.specs.Certificate.{said_by};
+ghost use Rattle.wot_part.specs.Certificate.{said_by};
 ghost use Rattle.wot_cert.specs.Issuer.{allows, counts_by};
 ghost use Rattle.wot_cert.specs.Revoked.{has_kind as has_kind_spec, is_revocable as is_revocable_spec, revokes_by};
 ghost use Rattle.wot_cert.specs.Time.{made_of, facts_live, is_live as is_live_spec};

@@ -4,7 +4,7 @@
 //! decide by it.
 ghost use Rattle.std.specs.Prelude.{◌≡◌, filter};
 ghost use Rattle.std.specs.Option.{option_copied};
-ghost use Rattle.wot_cert.specs.Ranked.{greatest, higher as higher_of};
+ghost use Rattle.wot_part.specs.Ranked.{greatest, higher as higher_of};
 ghost use Rattle.wot_cert.specs.Time.{newness};
 ghost use Rattle.wot_standing.specs.Latest.{is_valid_after as is_valid_after_spec, stays as stays_spec};
 ghost use Rattle.wot_standing.specs.Standing.{primacy, primary_among};

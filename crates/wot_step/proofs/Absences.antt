@@ -26,7 +26,7 @@ use Rattle.wot_script.specs.declared.reply.Reply.{Reply}
 use Rattle.wot_script.specs.declared.reply.Reply.TheVariants as replies
 use Rattle.wot_network.specs.Net.{told_of}
 use Rattle.wot_network.specs.Roads.{present_of}
-use Rattle.wot_cache.specs.declared.parts.Parts.{Parts}
+use Rattle.wot_kept.specs.declared.parts.Parts.{Parts}
 use Rattle.wot_cache.specs.declared.view.View.{View}
 use Rattle.wot_cache.specs.Parts.{ArePartsOf}
 use Rattle.wot_cache.specs.Question.{question_in}

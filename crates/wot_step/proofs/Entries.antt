@@ -10,7 +10,7 @@ use Rattle.std.specs.Map.{lookup, remove_entry, set_value}
 use Rattle.std.specs.Ordering.{is_eq, match_ordering, ordering_reverse}
 use Rattle.std.proofs.lemmas.Cmp.{tied_itself}
 use Rattle.std.proofs.lemmas.Option.{same_Some}
-use Rattle.wot_cert.specs.Ranked.{IsBelow, IsRising}
+use Rattle.wot_part.specs.Ranked.{IsBelow, IsRising}
 
 -- ---- sorted lists
 

@@ -10,15 +10,15 @@ use Rattle.wot_explain.specs.declared.explained.ExplainFault.{ExplainFault}
 use Rattle.wot_explain.specs.declared.explained.ExplainFault.TheVariants as explains
 use Rattle.wot_watch.specs.declared.watches.PutFault.{PutFault}
 use Rattle.wot_watch.specs.declared.watches.PutFault.TheVariants as puts
-use Rattle.wot_cache.specs.declared.view.AskFault.{AskFault}
-use Rattle.wot_cache.specs.declared.view.AskFault.TheVariants as asks
+use Rattle.wot_kept.specs.declared.fault.AskFault.{AskFault}
+use Rattle.wot_kept.specs.declared.fault.AskFault.TheVariants as asks
 use Rattle.wot_cache.specs.declared.view.View.{View}
 use Rattle.wot_cache.specs.Marks.{IsRefreshed}
 use Rattle.wot_cache.specs.State.{Engine}
 use Rattle.wot_cache.specs.Views.{TellsOpen, view_at}
 use Rattle.wot_step.specs.declared.refusal.Refused.{Refused}
 use Rattle.wot_step.specs.Refused.{IsMemory, IsReplyTo, asking, explaining, putting, using_}
-use Rattle.wot_step.proofs.Making.{refreshed_fault, refreshed_unopened}
+use Rattle.wot_step.proofs.EdgesMadeByLine.{refreshed_fault, refreshed_unopened}
 
 told_as : (r : Result Reply Memory) (refused other : Refused) → refused ≡ other → IfOk r (IsReplyTo refused) →
     IfOk r (IsReplyTo other)

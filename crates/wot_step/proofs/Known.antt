@@ -11,8 +11,8 @@ use Rattle.wot_types.specs.declared.number.SigNumber.{SigNumber}
 use Rattle.wot_types.specs.Fpr.{octets_of}
 use Rattle.wot_verdict.specs.declared.verdict.Verdict.{Verdict}
 use Rattle.wot_verdict.specs.declared.verdict.Verdict.TheVariants.{Good, Bad}
-use Rattle.wot_cert.specs.Certificate.{Certificate, Component, Signature}
-use Rattle.wot_keyring.specs.Held.{Held}
+use Rattle.wot_part.specs.Certificate.{Certificate, Component, Signature}
+use Rattle.wot_held.specs.Held.{Held}
 use Rattle.wot_cache.specs.declared.view.View.{View}
 
 abbrev pub Known : Type 0 → Type 0

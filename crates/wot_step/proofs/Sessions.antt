@@ -1,9 +1,9 @@
 -- The counts after a step, and that they are unique.
 use Rattle.std.proofs.Common.{◌≡◌, ◌≢◌, inl, inr, ℕ, ◌+◌, ◌≤◌, List, refl, sym, ap, ◌∙◌, arith}
 use Rattle.std.specs.Prelude.{◌⊎◌}
-use Rattle.wot_keyring.specs.Held.{Held}
-use Rattle.wot_keyring.specs.Import.{IsOneChange}
-use Rattle.wot_keyring.specs.Keyring.{Keyring}
+use Rattle.wot_held.specs.Held.{Held}
+use Rattle.wot_held.specs.Import.{IsOneChange}
+use Rattle.wot_held.specs.Keyring.{Keyring}
 use Rattle.wot_cache.specs.State.{Engine, state_of}
 use Rattle.wot_cache.specs.Turns.{AreTurnsBy, Turns, turned, without_turn}
 use Rattle.wot_cache.specs.Views.{Views, view_at}

@@ -17,21 +17,21 @@ use Rattle.wot_verdict.specs.Verdicts.{Entries, verdict_at}
 use Rattle.wot_verdict.specs.declared.verdict.Verdict.{Verdict}
 use Rattle.wot_cert.specs.declared.fault.CertFault.{CertFault}
 use Rattle.wot_cert.specs.declared.fault.CertFault.TheVariants as certs
-use Rattle.wot_cert.specs.Certificate.{Component, Certificate, Signature}
+use Rattle.wot_part.specs.Certificate.{Component, Certificate, Signature}
 use Rattle.wot_edge.specs.declared.path.Path.{Path}
 use Rattle.wot_edge.specs.declared.path.Step.{Step}
 use Rattle.wot_edge.specs.Path.{Question}
 use Rattle.wot_check.specs.declared.checking.Checked.{Checked}
 use Rattle.wot_check.specs.declared.checking.Checked.TheVariants as answers
 use Rattle.wot_edge.specs.Answer.{amount_of}
-use Rattle.wot_keyring.specs.declared.import.Imported.{Imported}
-use Rattle.wot_keyring.specs.declared.refusal.Refusal.{Refusal}
-use Rattle.wot_keyring.specs.declared.refusal.Refusal.TheVariants as refusals
-use Rattle.wot_keyring.specs.Entry.{entry_in}
-use Rattle.wot_keyring.specs.Held.{cert_in, removing, verdict_set, verdict_cleared}
-use Rattle.wot_keyring.specs.Import.{answer_to, answer_under, is_entry}
-use Rattle.wot_keyring.specs.Keyring.{Certificates, is_fpr}
-use Rattle.wot_keyring.specs.Verdict.{is_over}
+use Rattle.wot_held.specs.declared.imported.Imported.{Imported}
+use Rattle.wot_held.specs.declared.refusal.Refusal.{Refusal}
+use Rattle.wot_held.specs.declared.refusal.Refusal.TheVariants as refusals
+use Rattle.wot_held.specs.Entry.{entry_in}
+use Rattle.wot_held.specs.Held.{cert_in, removing, verdict_set, verdict_cleared}
+use Rattle.wot_held.specs.Import.{answer_to, answer_under, is_entry}
+use Rattle.wot_held.specs.Keyring.{Certificates, is_fpr}
+use Rattle.wot_held.specs.Verdict.{is_over}
 use Rattle.wot_network.specs.Told.{user_id_place}
 use Rattle.wot_standing.specs.declared.status.Standing.{Standing}
 use Rattle.wot_standing.specs.Kinds.{is_certification}

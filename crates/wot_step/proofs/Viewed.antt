@@ -15,11 +15,11 @@ use Rattle.wot_types.specs.ViewName.{view_name_cmp}
 use Rattle.wot_policy.specs.declared.rows.PolicyRows.{PolicyRows}
 use Rattle.wot_verdict.specs.Verdicts.{verdict_at}
 use Rattle.wot_verdict.specs.declared.verdict.Verdict.{Verdict}
-use Rattle.wot_keyring.specs.declared.import.Imported.{Imported}
-use Rattle.wot_keyring.specs.declared.refusal.Refusal.{Refusal}
-use Rattle.wot_keyring.specs.Held.{cert_in, removing, verdict_cleared, verdict_set}
-use Rattle.wot_keyring.specs.Import.{answer_to, answer_under, is_entry}
-use Rattle.wot_keyring.specs.Verdict.{is_over}
+use Rattle.wot_held.specs.declared.imported.Imported.{Imported}
+use Rattle.wot_held.specs.declared.refusal.Refusal.{Refusal}
+use Rattle.wot_held.specs.Held.{cert_in, removing, verdict_cleared, verdict_set}
+use Rattle.wot_held.specs.Import.{answer_to, answer_under, is_entry}
+use Rattle.wot_held.specs.Verdict.{is_over}
 use Rattle.wot_types.specs.declared.limits.Limit.TheVariants as words
 use Rattle.wot_types.specs.declared.name.Name.{Name}
 use Rattle.wot_script.specs.declared.reply.Reply.{Reply}

@@ -8,12 +8,12 @@ use Rattle.std.proofs.lemmas.List.{append-nil, nil_from_length}
 use Rattle.std.proofs.lemmas.Option.{same_Some}
 use Rattle.wot_types.specs.declared.fpr.Fpr.{Fpr}
 use Rattle.wot_key.specs.Key.{fpr_of}
-use Rattle.wot_cert.specs.Certificate.{Certificate}
+use Rattle.wot_part.specs.Certificate.{Certificate}
 use Rattle.wot_edge.specs.declared.path.Path.{Path}
 use Rattle.wot_edge.specs.Answer.{IsAnswer, amount_of}
 use Rattle.wot_edge.specs.Path.{Question}
 use Rattle.wot_edge.specs.Record.{IsRecord}
-use Rattle.wot_keyring.specs.Keyring.{Certificates}
+use Rattle.wot_held.specs.Keyring.{Certificates}
 use Rattle.wot_network.specs.Told.{record_of}
 use Rattle.wot_policy.specs.declared.rows.PolicyRows.{PolicyRows}
 use Rattle.wot_script.specs.declared.reply.Reply.{Reply}

@@ -3,7 +3,7 @@ use Rattle.std.specs.Prelude.{◌≡◌, ℕ, List, [], ◌∷◌, length, map, 
 use Rattle.std.specs.List.{flat_map, slice_get}
 use Rattle.std.specs.Option.{option_map_or}
 use Rattle.wot_types.specs.declared.fpr.Fpr.{Fpr}
-use Rattle.wot_cert.specs.Certificate.{Component, Certificate}
+use Rattle.wot_part.specs.Certificate.{Component, Certificate}
 use Rattle.wot_edge.specs.declared.path.Path.{Path}
 use Rattle.wot_edge.specs.declared.path.Step.{Step}
 use Rattle.wot_edge.specs.Answer.{IsAnswer, amount_of}
@@ -12,7 +12,7 @@ use Rattle.wot_script.specs.declared.reply.AnswerLine.TheVariants as lines
 use Rattle.wot_script.specs.declared.reply.Reply.{Reply}
 use Rattle.wot_script.specs.declared.reply.Reply.TheVariants as replies
 use Rattle.wot_cache.specs.declared.view.View.{View}
-use Rattle.wot_keyring.specs.Held.{cert_in}
+use Rattle.wot_held.specs.Held.{cert_in}
 use Rattle.wot_cache.specs.State.{State}
 use Rattle.wot_cache.specs.Question.{question_in}
 

@@ -4,9 +4,9 @@ use Rattle.wot_types.specs.declared.fpr.Fpr.{Fpr}
 use Rattle.wot_types.specs.declared.number.SigNumber.{SigNumber}
 use Rattle.wot_edge.specs.Record.{Record}
 use Rattle.wot_edge.specs.declared.path.Step.{Step}
-use Rattle.wot_keyring.specs.Keyring.{Keyring, certificates_in}
-use Rattle.wot_keyring.specs.declared.pending.Pending.{Pending}
-use Rattle.wot_keyring.specs.Pending.{pending_in}
+use Rattle.wot_held.specs.Keyring.{Keyring, certificates_in}
+use Rattle.wot_held.specs.declared.pending.Pending.{Pending}
+use Rattle.wot_held.specs.Pending.{pending_in}
 use Rattle.wot_network.specs.Told.{record_of}
 use Rattle.wot_script.specs.declared.reply.BindLine.{BindLine}
 use Rattle.wot_script.specs.declared.reply.Hint.{Hint}

@@ -12,16 +12,15 @@ use Rattle.wot_verdict.specs.Verdicts.{verdict_at}
 use Rattle.wot_verdict.specs.declared.verdict.Verdict.{Verdict}
 use Rattle.wot_cert.specs.declared.fault.CertFault.{CertFault}
 use Rattle.wot_cert.specs.declared.fault.CertFault.TheVariants as certs
-use Rattle.wot_cert.specs.Certificate.{Certificate}
-use Rattle.wot_cert.specs.Counts.{signatures_of}
-use Rattle.wot_cert.specs.Text.{text_of}
-use Rattle.wot_keyring.specs.declared.import.Imported.{Imported}
-use Rattle.wot_keyring.specs.declared.refusal.Refusal.{Refusal}
-use Rattle.wot_keyring.specs.declared.refusal.Refusal.TheVariants as refusals
+use Rattle.wot_part.specs.Certificate.{Certificate}
+use Rattle.wot_part.specs.Counts.{signatures_of}
+use Rattle.wot_part.specs.Text.{text_of}
+use Rattle.wot_held.specs.declared.imported.Imported.{Imported}
+use Rattle.wot_held.specs.declared.refusal.Refusal.{Refusal, TheVariants as refusals}
 use Rattle.wot_keyring.specs.Dump.{lines_of}
-use Rattle.wot_keyring.specs.Held.{cert_in, removing, verdict_set, verdict_cleared}
-use Rattle.wot_keyring.specs.Import.{answer_to, answer_under, importing, is_entry}
-use Rattle.wot_keyring.specs.Verdict.{is_over}
+use Rattle.wot_held.specs.Held.{cert_in, removing, verdict_set, verdict_cleared}
+use Rattle.wot_held.specs.Import.{answer_to, answer_under, importing, is_entry}
+use Rattle.wot_held.specs.Verdict.{is_over}
 use Rattle.wot_certd.specs.World.{Answer}
 use Rattle.wot_script.specs.declared.reply.KeyLine.{KeyLine}
 use Rattle.wot_script.specs.declared.reply.Reply.{Reply}

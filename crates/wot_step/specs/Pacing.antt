@@ -9,10 +9,10 @@ use Rattle.wot_step.specs.declared.class.CursorCommand.{CursorCommand}
 use Rattle.wot_step.specs.declared.class.CursorCommand.TheVariants as paces
 use Rattle.wot_script.specs.declared.reply.Reply.{Reply}
 use Rattle.wot_script.specs.declared.reply.Reply.TheVariants as replies
-use Rattle.wot_keyring.specs.Keyring.{certificates_in}
+use Rattle.wot_held.specs.Keyring.{certificates_in}
 use Rattle.wot_network.specs.Net.{told_of}
 use Rattle.wot_network.specs.Roads.{present_of}
-use Rattle.wot_cache.specs.declared.parts.Parts.{Parts}
+use Rattle.wot_kept.specs.declared.parts.Parts.{Parts}
 use Rattle.wot_cache.specs.declared.view.View.{View}
 use Rattle.wot_cache.specs.Turns.{turn_at}
 use Rattle.wot_cache.specs.Views.{view_at}

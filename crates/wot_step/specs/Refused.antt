@@ -6,11 +6,11 @@ use Rattle.wot_cursor.specs.declared.cursors.BeginFault.{BeginFault}
 use Rattle.wot_cursor.specs.declared.cursors.BeginFault.TheVariants as begins
 use Rattle.wot_watch.specs.declared.watches.PutFault.{PutFault}
 use Rattle.wot_watch.specs.declared.watches.PutFault.TheVariants as puts
-use Rattle.wot_keyring.specs.declared.refusal.Refusal.TheVariants as refusals
+use Rattle.wot_held.specs.declared.refusal.Refusal.TheVariants as refusals
 use Rattle.wot_script.specs.declared.reply.Reply.{Reply}
 use Rattle.wot_script.specs.declared.reply.Reply.TheVariants as replies
-use Rattle.wot_cache.specs.declared.view.AskFault.{AskFault}
-use Rattle.wot_cache.specs.declared.view.AskFault.TheVariants as asks
+use Rattle.wot_kept.specs.declared.fault.AskFault.{AskFault}
+use Rattle.wot_kept.specs.declared.fault.AskFault.TheVariants as asks
 use Rattle.wot_cache.specs.declared.view.ViewFault.TheVariants as faults
 use Rattle.wot_explain.specs.declared.explained.ExplainFault.{ExplainFault}
 use Rattle.wot_explain.specs.declared.explained.ExplainFault.TheVariants as explains

@@ -7,12 +7,11 @@ use Rattle.wot_types.specs.declared.fpr.Fpr.{Fpr}
 use Rattle.wot_types.specs.declared.limits.Limit.TheVariants as limits
 use Rattle.wot_types.specs.declared.name.Name.TheVariants.{Cert}
 use Rattle.wot_types.specs.Limits.{standard_limits}
-use Rattle.wot_cert.specs.Certificate.{Certificate, unite}
-use Rattle.wot_cert.specs.Text.{size_of, text_of}
-use Rattle.wot_keyring.specs.declared.refusal.Refusal.{Refusal}
-use Rattle.wot_keyring.specs.declared.refusal.Refusal.TheVariants as refusals
-use Rattle.wot_keyring.specs.Entry.{entry_in}
-use Rattle.wot_keyring.specs.Held.{cert_in}
+use Rattle.wot_part.specs.Certificate.{Certificate, unite}
+use Rattle.wot_part.specs.Text.{size_of, text_of}
+use Rattle.wot_held.specs.declared.refusal.Refusal.{Refusal, TheVariants as refusals}
+use Rattle.wot_held.specs.Entry.{entry_in}
+use Rattle.wot_held.specs.Held.{cert_in}
 use Rattle.wot_certd.specs.World.{Answer}
 use Rattle.wot_script.specs.declared.reply.Reply.{Reply}
 use Rattle.wot_script.specs.declared.reply.Reply.TheVariants as replies

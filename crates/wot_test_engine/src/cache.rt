@@ -1,7 +1,7 @@
 //! Tests of wot_cache: dumps, answers at different times and after changes, the roads of a view, and the limits on
 //! views.
 ghost use Rattle.std.specs.Prelude.{◌≡◌};
-ghost use Rattle.wot_keyring.specs.Kept.{IsJudgedBy};
+ghost use Rattle.wot_held.specs.Kept.{IsJudgedBy};
 ghost use Rattle.wot_policy.specs.Kept.{IsFaithful, rows_of};
 
 use crate::assertion::expect_that;

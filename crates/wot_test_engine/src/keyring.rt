@@ -1,6 +1,6 @@
 //! Tests of wot_keyring: imports one after the other with their counts, refusals and stamps, and how a verdict finds
 //! its certificate.
-ghost use Rattle.wot_keyring.specs.Kept.{AreSmall, IsJudgedBy};
+ghost use Rattle.wot_held.specs.Kept.{AreSmall, IsJudgedBy};
 ghost use Rattle.wot_policy.specs.Kept.{IsFaithful, rows_of};
 
 mod loading;

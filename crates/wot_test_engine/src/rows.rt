@@ -1,6 +1,6 @@
 //! Tests that edges are kept: a change that touches no certificate, and a new question after it, make no edge again.
 ghost use Rattle.std.specs.Prelude.{◌≡◌};
-ghost use Rattle.wot_keyring.specs.Kept.{IsJudgedBy};
+ghost use Rattle.wot_held.specs.Kept.{IsJudgedBy};
 ghost use Rattle.wot_policy.specs.Kept.{IsFaithful, rows_of};
 
 use crate::assertion::expect_that;

@@ -1,7 +1,7 @@
 //! Tests of wot_search: first and second paths with and without a table of reach, what a search looks at, and the
 //! table. The paths come from a program that lists all simple paths.
 ghost use Rattle.wot_edge.specs.Plain.{told_of};
-ghost use Rattle.wot_search.specs.Reach.{IsReach};
+ghost use Rattle.wot_reach.specs.Reach.{IsReach};
 
 use crate::assertion::expect_that;
 use crate::roads::{A, B, C, Row, T, key, network, roots_of};

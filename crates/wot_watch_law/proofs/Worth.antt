@@ -14,7 +14,7 @@ use Rattle.wot_types.specs.ViewName.{view_name_cmp}
 use Rattle.wot_policy.specs.declared.rows.PolicyRows.{PolicyRows}
 use Rattle.wot_edge.specs.declared.path.Path.{Path}
 use Rattle.wot_edge.specs.Answer.{IsAnswer, amount_of}
-use Rattle.wot_cert.specs.Ranked.{IsRising}
+use Rattle.wot_part.specs.Ranked.{IsRising}
 use Rattle.wot_script.specs.Grammar.{command_of}
 use Rattle.wot_script.specs.Spelling.{HasSpelling}
 use Rattle.wot_script.specs.declared.command.Command.{Command}
@@ -48,9 +48,9 @@ use Rattle.wot_run_law.proofs.Reached.{reached_can_be}
 use Rattle.wot_step.proofs.Entries.{AllValues, all_found, all_put, all_without, apart, found_put, gone_without}
 use Rattle.wot_step.proofs.Entries.{other_put, other_without, rising_put, rising_without}
 use Rattle.wot_run_law.proofs.StaleTold.{untold}
-use Rattle.wot_watch_law.proofs.Telling.{AreByName, all_keep, all_order, behind, is_itself, last_behind, none_of}
-use Rattle.wot_watch_law.proofs.Telling.{other_way}
-use Rattle.wot_watch_law.proofs.Telling.{same_name, was_there}
+use Rattle.wot_watch_law.proofs.WatchLines.{AreByName, all_keep, all_order, behind, is_itself, last_behind, none_of}
+use Rattle.wot_watch_law.proofs.WatchLines.{other_way}
+use Rattle.wot_watch_law.proofs.WatchLines.{same_name, was_there}
 use Rattle.wot_step.proofs.Watched.{AnswerOne, Lawful, Tells-one, amount_has, lines_are_watch, plain_watching}
 use Rattle.wot_step.proofs.Watched.{watched_cases}
 

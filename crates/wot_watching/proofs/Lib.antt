@@ -1,2 +1,2 @@
-pub mod Asking
-pub mod Settling
+pub mod WatchEdges
+pub mod WatchesSettled

@@ -1,11 +1,12 @@
-//! How much an engine keeps of its answers. Kept answers change no answer and no contract names them; these clauses
-//! only bound them.
+//! What an engine keeps of its answers, and how much. Kept answers change no answer: these clauses, and `consulted` of
+//! `Engine::ask`, only bound them.
 ghost use Rattle.std.specs.Prelude.{◌≡◌, ◌≤◌, None, IfSome};
-ghost use Rattle.wot_cache.specs.Answers.{RestsOnLeads};
+ghost use Rattle.wot_kept.specs.Answers.{RestsOnLeads};
+ghost use Rattle.wot_cache.specs.Consulted.{IsKeptFor};
 ghost use Rattle.wot_cache.specs.Views.{view_at};
 
 use crate::Engine;
-use crate::answers::KeptAnswer;
+use wot_kept::{Asked, KeptAnswer};
 use wot_types::{Fpr, ViewName};
 
 impl Engine {
@@ -20,6 +21,7 @@ impl Engine {
             None => 0,
         }
     }
+
     /// The answer under the key of a question from a view, which may be another question's. It depends on no more than
     /// its search had to look at: every fingerprint led to the target.
     pub fn kept_answer(
@@ -30,9 +32,14 @@ impl Engine {
         uid: &[u8],
     ) -> Option<&KeptAnswer>
         ensures leads { IfSome result (λ kept. RestsOnLeads self.now.keyring kept.now) }
+        ensures kept { IfSome result (λ kept. IsKeptFor self.now view.now kept.now) }
     {
         match self.answers.get(view) {
-            Some(of_view) => of_view.kept(target, wanted, uid),
+            Some(of_view) => of_view.kept(&Asked {
+                target,
+                wanted,
+                uid,
+            }),
             None => None,
         }
     }

@@ -1,8 +1,8 @@
 //! Merges an entry of a certificate directory with what the engine's keyring holds.
 ghost use Rattle.std.specs.Prelude.{◌≡◌, ◌<◌, ◌-◌, ◌^◌, length, OnOk, OnErr};
 ghost use Rattle.wot_policy.specs.Kept.{IsFaithful, rows_of, asked_more};
-ghost use Rattle.wot_keyring.specs.Kept.{IsJudgedBy};
-ghost use Rattle.wot_keyring.specs.Import.{ReturnsUnder, AsksFor, IsOneChange, imported, importing, is_entry};
+ghost use Rattle.wot_held.specs.Kept.{IsJudgedBy};
+ghost use Rattle.wot_held.specs.Import.{ReturnsUnder, AsksFor, IsOneChange, imported, importing, is_entry};
 ghost use Rattle.wot_cache.specs.State.{IsStateAfter};
 
 use crate::Engine;

@@ -3,16 +3,16 @@
 ghost use Rattle.std.specs.Prelude.{◌≡◌, ◌≤◌, ◌+◌, false, true, IfOk, IfSome, OnErr};
 ghost use Rattle.wot_edge.specs.Answer.{IsAnswer, amount_of};
 ghost use Rattle.wot_network.specs.Net.{signatures_in};
-ghost use Rattle.wot_cache.specs.Basis.{CarriesOn, HasAmount, HasGrown, IsPresent, IsUndisturbed, RestsOn};
+ghost use Rattle.wot_cache.specs.Basis.{CarriesOn, HasAmount, HasGrown, IsPresent, IsRested, IsUndisturbed, RestsOn};
 ghost use Rattle.wot_cache.specs.Marks.{IsRefreshed};
 ghost use Rattle.wot_cache.specs.Question.{OfQuestion};
 ghost use Rattle.wot_cache.specs.Views.{view_at, TellsOpen};
 
 use crate::basis::{Basis, kept_sum};
 use crate::engine::Engine;
-use crate::view::AskFault;
 use crate::views;
 use wot_auth::Answer;
+use wot_kept::{AskFault, Asked};
 use wot_types::{Fpr, Steps, ViewName};
 
 impl Engine {
@@ -39,30 +39,29 @@ impl Engine {
         ensures never_less { steps.old.made ≤ steps.new.made }
     {
         match self.ask(view, target, wanted, uid, steps) {
-            Ok(answer) => Ok(self.rested(view, target, wanted, uid, &answer, basis)),
+            Ok(answer) => {
+                let asked = Asked {
+                    target,
+                    wanted,
+                    uid,
+                };
+                Ok(self.rested(view, &asked, &answer, basis))
+            }
             Err(fault) => Err(fault),
         }
     }
 
     /// The sum of this answer. The basis then depends on what the kept answer depends on, or on the whole keyring if
     /// none is kept.
-    fn rested(
-        &self,
-        view: &ViewName,
-        target: &Fpr,
-        wanted: u32,
-        uid: &[u8],
-        answer: &Answer,
-        basis: &mut Basis,
-    ) -> u32
+    fn rested(&self, view: &ViewName, asked: &Asked<'_>, answer: &Answer, basis: &mut Basis) -> u32
         requires present { IsPresent self.now basis.old }
-        requires answer { OfQuestion self.now view.now target.now uid.now (λ q. IsAnswer q wanted answer.now.paths) }
+        requires answer { OfQuestion self.now view.now asked.now.target.now asked.now.uid.now
+            (λ q. IsAnswer q asked.now.wanted answer.now.paths) }
         requires sum { answer.now.sum ≡ amount_of answer.now.paths }
-        ensures sum { OfQuestion self.now view.now target.now uid.now (HasAmount wanted result) }
-        ensures rests { RestsOn self.now basis.new view.now target.now wanted uid.now result }
+        ensures rested { IsRested self.now view.now asked.now basis.new result }
         ensures grown { HasGrown basis.old basis.new }
     {
-        match self.rest(view, target, wanted, uid, basis) {
+        match self.rest(view, asked, basis) {
             Some(sum) => sum,
             None => {
                 basis.rest_on_all();
@@ -73,33 +72,16 @@ impl Engine {
 
     /// The sum of the answer that is kept for a question, if everything that it depends on is unchanged. The basis then
     /// depends on that too.
-    fn rest(
-        &self,
-        view: &ViewName,
-        target: &Fpr,
-        wanted: u32,
-        uid: &[u8],
-        basis: &mut Basis,
-    ) -> Option<u32>
+    fn rest(&self, view: &ViewName, asked: &Asked<'_>, basis: &mut Basis) -> Option<u32>
         requires present { IsPresent self.now basis.old }
-        ensures sum { IfSome result (λ n. OfQuestion self.now view.now target.now uid.now (HasAmount wanted n)) }
-        ensures rests { IfSome result (λ n. RestsOn self.now basis.new view.now target.now wanted uid.now n) }
+        ensures rested { IfSome result (IsRested self.now view.now asked.now basis.new) }
         ensures grown { HasGrown basis.old basis.new }
     {
         let keyring = &self.networked.keyring;
         // Its contract says that stamps are at most the count of changes.
         let _count = keyring.len();
         match views::find(&self.networked.views, view) {
-            Some(from) => kept_sum(
-                &self.answers,
-                keyring,
-                view,
-                from,
-                target,
-                wanted,
-                uid,
-                basis,
-            ),
+            Some(from) => kept_sum(&self.answers, keyring, view, from, asked, basis),
             None => None,
         }
     }

@@ -1,5 +1,5 @@
 //! Tests of `Keyring::load`: entries of a certificate directory, and those that aren't what their name says.
-ghost use Rattle.wot_keyring.specs.Kept.{AreSmall};
+ghost use Rattle.wot_held.specs.Kept.{AreSmall};
 
 use crate::assertion::expect_that;
 use crate::keyring::{Answer, FIRST_KEY, REFUSED, WITH_DIRECT};

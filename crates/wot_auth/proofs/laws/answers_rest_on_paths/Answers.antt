@@ -1,4 +1,4 @@
-use Rattle.wot_auth.proofs.Slicing.{within_alike}
+use Rattle.wot_auth.proofs.SlicesSuffice.{within_alike}
 use Rattle.wot_auth.proofs.laws.answers_rest_on_paths.Goals as goal
 
 pub returns : goal.returns

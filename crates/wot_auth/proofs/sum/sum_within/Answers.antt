@@ -5,9 +5,9 @@ use Rattle.wot_edge.specs.Answer.{EachNext, amount_of, but_last}
 use Rattle.wot_edge.specs.Sums.{use_in}
 use Rattle.wot_search.specs.Below.{IsNextBelow, IsNextAmount}
 use Rattle.wot_search.specs.Offers.{AreOffers}
-use Rattle.wot_auth.proofs.Taking.{each_more, short_more, use_none, use_more, pair_fits, root_fits, amount_more}
-use Rattle.wot_auth.proofs.Taking.{more_small, later_more, offers_later, root_small}
-use Rattle.wot_auth.proofs.Summing.{next_here, sum_of, enough_sum}
+use Rattle.wot_auth.proofs.OnePathMore.{each_more, short_more, use_none, use_more, pair_fits, root_fits, amount_more}
+use Rattle.wot_auth.proofs.OnePathMore.{more_small, later_more, offers_later, root_small}
+use Rattle.wot_auth.proofs.SumWithOneMore.{next_here, sum_of, enough_sum}
 use Rattle.wot_auth.proofs.sum.sum_within.Goals as goal
 
 pub paths-init : goal.paths-init

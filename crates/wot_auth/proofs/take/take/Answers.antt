@@ -4,8 +4,8 @@ use Rattle.wot_edge.specs.Path.{asks, use_of}
 use Rattle.wot_edge.specs.Answer.{EachNext, amount_of, but_last}
 use Rattle.wot_edge.specs.Sums.{use_in}
 use Rattle.wot_search.specs.Offers.{AreOffers}
-use Rattle.wot_auth.proofs.Taking.{each_more, short_more, use_none, use_more, pair_fits, root_fits, amount_more}
-use Rattle.wot_auth.proofs.Taking.{next_found, more_small, spent_answer, full_answer, later_more, offers_later}
+use Rattle.wot_auth.proofs.OnePathMore.{each_more, short_more, use_none, use_more, pair_fits, root_fits, amount_more}
+use Rattle.wot_auth.proofs.OnePathMore.{next_found, more_small, spent_answer, full_answer, later_more, offers_later}
 use Rattle.wot_auth.proofs.take.take.Goals as goal
 
 pub paths-init : goal.paths-init

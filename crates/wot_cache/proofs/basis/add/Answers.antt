@@ -1,4 +1,4 @@
-use Rattle.wot_cache.proofs.Resting.{updated_more}
+use Rattle.wot_cache.proofs.BasisStaysTrue.{updated_more}
 use Rattle.wot_cache.proofs.basis.add.Goals as goal
 
 pub returns-in-Ok : goal.returns-in-Ok

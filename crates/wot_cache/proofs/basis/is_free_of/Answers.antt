@@ -1,5 +1,5 @@
 use Rattle.std.proofs.Common.{sym}
-use Rattle.wot_cache.proofs.Resting.{free_more}
+use Rattle.wot_cache.proofs.BasisStaysTrue.{free_more}
 use Rattle.wot_cache.proofs.basis.is_free_of.Goals as goal
 
 pub rest-preserved : goal.rest-preserved

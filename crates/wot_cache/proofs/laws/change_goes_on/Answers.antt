@@ -1,4 +1,4 @@
-use Rattle.wot_cache.proofs.Resting.{change_on}
+use Rattle.wot_cache.proofs.BasisStaysTrue.{change_on}
 use Rattle.wot_cache.proofs.laws.change_goes_on.Goals as goal
 
 pub returns : goal.returns

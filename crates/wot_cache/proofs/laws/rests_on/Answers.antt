@@ -1,4 +1,4 @@
-use Rattle.wot_cache.proofs.Resting.{rests_grown, rests_later}
+use Rattle.wot_cache.proofs.BasisStaysTrue.{rests_grown, rests_later}
 use Rattle.wot_cache.proofs.laws.rests_on.Goals as goal
 
 pub returns : goal.returns

@@ -1,6 +1,6 @@
 use Rattle.std.proofs.Common.{sym}
 use Rattle.wot_verdict.specs.Verdicts.{verdict_at}
-use Rattle.wot_cert.specs.Certificate.{said_by}
+use Rattle.wot_part.specs.Certificate.{said_by}
 use Rattle.wot_cert.specs.Issuer.{good_by}
 use Rattle.wot_cert.proofs.Uncounted.{uncounted}
 use Rattle.wot_cert.proofs.issuer.issuer_of.Goals as goal

@@ -1,4 +1,4 @@
-use Rattle.wot_cert.proofs.Uniting.{associates, commutes, itself}
+use Rattle.wot_cert.proofs.UnionLaws.{associates, commutes, itself}
 use Rattle.wot_cert.proofs.laws.united_in_any_order.Goals as goal
 
 pub returns : goal.returns

@@ -1,5 +1,5 @@
 use Rattle.wot_edge.specs.Path.{asks}
-use Rattle.wot_check.proofs.Judging.{checked_yes, checked_bad_paths, checked_bad_table, accepts_spent}
+use Rattle.wot_check.proofs.CheckResults.{checked_yes, checked_bad_paths, checked_bad_table, accepts_spent}
 use Rattle.wot_check.proofs.checking.check.Goals as goal
 
 pub returns-clause-yes : goal.returns-clause-yes

@@ -3,8 +3,8 @@ use Rattle.std.proofs.lemmas.Bool.{eqb-true, eq-eqb, false≢true}
 use Rattle.wot_edge.specs.Path.{asks}
 use Rattle.wot_edge.specs.Sums.{Sums}
 use Rattle.wot_check.specs.Trace.{AreUsedBy}
-use Rattle.wot_check.proofs.Judging.{accepted, rejected, disordered_bad, disordered_yes}
-use Rattle.wot_check.proofs.Showing.{none_is}
+use Rattle.wot_check.proofs.CheckResults.{accepted, rejected, disordered_bad, disordered_yes}
+use Rattle.wot_check.proofs.ShownPaths.{none_is}
 use Rattle.wot_check.proofs.checking.judge.Goals as goal
 
 pub returns-then-is_empty-clause-checked : goal.returns-then-is_empty-clause-checked

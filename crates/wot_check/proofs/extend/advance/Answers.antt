@@ -3,7 +3,7 @@ use Rattle.std.proofs.lemmas.Result.{on_ok_weaker}
 use Rattle.wot_types.specs.declared.fpr.Fpr.{Fpr}
 use Rattle.wot_check.specs.declared.growth.Growth.{Growth}
 use Rattle.wot_check.specs.Asked.{question_of, used_in}
-use Rattle.wot_check.proofs.Layering.{advanced}
+use Rattle.wot_check.proofs.AfterALayer.{advanced}
 use Rattle.wot_check.proofs.extend.advance.Goals as goal
 
 pub returns : goal.returns

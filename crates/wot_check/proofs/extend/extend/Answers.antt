@@ -1,10 +1,10 @@
 use Rattle.std.proofs.Common.{◌+◌, List, ℕ, subst}
 use Rattle.wot_edge.specs.Record.{EachRow, Has, Row, edges_into}
-use Rattle.wot_check.specs.declared.demand.Demand.{Demand}
+use Rattle.wot_edge.specs.declared.demand.Demand.{Demand}
 use Rattle.wot_check.specs.Asked.{question_of, used_in}
 use Rattle.wot_check.specs.Growth.{GivesIf, is_new}
 use Rattle.wot_check.proofs.Rows.{all_into, into_own, into_target, within_first, within_later}
-use Rattle.wot_check.proofs.Growing.{grew_begin, grew_more, grew_end}
+use Rattle.wot_check.proofs.LabelsGiven.{grew_begin, grew_more, grew_end}
 use Rattle.wot_check.proofs.extend.extend.Goals as goal
 
 pub rest-init : goal.rest-init

@@ -2,7 +2,7 @@ use Rattle.std.proofs.Common.{suc, length}
 use Rattle.wot_check.specs.Asked.{question_of, used_in}
 use Rattle.wot_check.specs.Growth.{Leads, IsLayered}
 use Rattle.wot_check.proofs.Rows.{AreInto}
-use Rattle.wot_check.proofs.Growing.{GrewInto}
+use Rattle.wot_check.proofs.LabelsGiven.{GrewInto}
 use Rattle.wot_check.proofs.extend.extend.Given as goal
 
 abbrev pub invariant-rest : goal.invariant-rest

@@ -1,7 +1,7 @@
 use Rattle.std.proofs.Common.{inr}
 use Rattle.wot_check.specs.Asked.{question_of, used_in}
 use Rattle.wot_check.proofs.Rows.{within_first, within_later}
-use Rattle.wot_check.proofs.Growing.{advances_refl, grew_by_more, grew_by_end}
+use Rattle.wot_check.proofs.LabelsGiven.{advances_refl, grew_by_more, grew_by_end}
 use Rattle.wot_check.proofs.extend.extend_all.Goals as goal
 
 pub rest-init : goal.rest-init

@@ -2,7 +2,7 @@ use Rattle.std.proofs.Common.{suc, length}
 use Rattle.wot_check.specs.Asked.{question_of, used_in}
 use Rattle.wot_check.specs.Growth.{LeadsFromLayer, IsLayered}
 use Rattle.wot_check.proofs.Rows.{Within}
-use Rattle.wot_check.proofs.Growing.{GrewBy}
+use Rattle.wot_check.proofs.LabelsGiven.{GrewBy}
 use Rattle.wot_check.proofs.extend.extend_all.Given as goal
 
 abbrev pub invariant-rest : goal.invariant-rest

@@ -1,4 +1,4 @@
-use Rattle.wot_check.proofs.Judging.{accepts_spent}
+use Rattle.wot_check.proofs.CheckResults.{accepts_spent}
 use Rattle.wot_check.proofs.laws.accepted_paths_leave_nothing.Goals as goal
 
 pub returns : goal.returns

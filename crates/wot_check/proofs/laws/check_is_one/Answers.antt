@@ -1,5 +1,5 @@
-use Rattle.wot_check.proofs.Deciding.{check_some}
-use Rattle.wot_check.proofs.Judging.{check_one}
+use Rattle.wot_check.proofs.ChecksDecide.{check_some}
+use Rattle.wot_check.proofs.CheckResults.{check_one}
 use Rattle.wot_check.proofs.laws.check_is_one.Goals as goal
 
 pub returns-clause-some : goal.returns-clause-some

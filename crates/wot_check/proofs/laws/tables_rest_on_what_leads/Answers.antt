@@ -1,4 +1,4 @@
-use Rattle.wot_check.proofs.Leading.{leading_shared, tables_agree, valid_from}
+use Rattle.wot_check.proofs.LeastTableOfLeads.{leading_shared, tables_agree, valid_from}
 use Rattle.wot_check.proofs.laws.tables_rest_on_what_leads.Goals as goal
 
 pub returns : goal.returns

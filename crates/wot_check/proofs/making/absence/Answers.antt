@@ -2,7 +2,7 @@ use Rattle.std.proofs.Common.{inl, inr, [], Some, refl, sym, subst, arith}
 use Rattle.wot_edge.specs.Path.{Use, asks, use_of}
 use Rattle.wot_check.specs.Absence.{RootsSpent}
 use Rattle.wot_check.specs.Growth.{IsSettled, IsRooted}
-use Rattle.wot_check.proofs.Layering.{made_disordered, made_spent, made_none, rooted_left, each_next_shows}
+use Rattle.wot_check.proofs.AfterALayer.{made_disordered, made_spent, made_none, rooted_left, each_next_shows}
 use Rattle.wot_check.proofs.making.absence.Goals as goal
 
 pub returns-then-not-in_order-clause-made : goal.returns-then-not-in_order-clause-made

@@ -3,7 +3,7 @@ use Rattle.std.proofs.lemmas.Bool.{eqb-true}
 use Rattle.std.specs.Prelude.{vec_len}
 use Rattle.wot_check.specs.Asked.{question_of, used_in}
 use Rattle.wot_check.specs.Growth.{IsAfter}
-use Rattle.wot_check.proofs.Layering.{begun, settled}
+use Rattle.wot_check.proofs.AfterALayer.{begun, settled}
 use Rattle.wot_check.proofs.making.settle.Goals as goal
 
 pub layers-init : goal.layers-init

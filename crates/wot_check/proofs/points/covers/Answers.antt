@@ -2,11 +2,12 @@ use Rattle.std.proofs.Common.{◌≡◌, ◌+◌, inr, true, false, List, ℕ, r
 use Rattle.std.proofs.lemmas.Bool.{false≢true}
 use Rattle.wot_edge.specs.declared.edge.EdgeFacts.{EdgeFacts}
 use Rattle.wot_edge.specs.Record.{EachRow, Has, Row, edges_into}
-use Rattle.wot_check.specs.declared.demand.Demand.{Demand}
+use Rattle.wot_edge.specs.declared.demand.Demand.{Demand}
 use Rattle.wot_check.specs.Asked.{question_of, used_in}
 use Rattle.wot_check.specs.Demand.{is_covered}
-use Rattle.wot_check.proofs.Rows.{all_into, into_own, into_target, row_edge, within_first, within_later}
-use Rattle.wot_check.proofs.Testing.{covered_more, covered_fails, covered_all}
+use Rattle.wot_edge.specs.RowLaws.{row_edge}
+use Rattle.wot_check.proofs.Rows.{all_into, into_own, into_target, within_first, within_later}
+use Rattle.wot_check.proofs.ThreePoints.{covered_more, covered_fails, covered_all}
 use Rattle.wot_check.proofs.points.covers.Goals as goal
 
 pub rest-init : goal.rest-init

@@ -1,6 +1,6 @@
 use Rattle.std.proofs.Common.{length}
 use Rattle.wot_check.specs.Asked.{question_of, used_in}
-use Rattle.wot_check.proofs.Testing.{CoveredSoFar}
+use Rattle.wot_check.proofs.ThreePoints.{CoveredSoFar}
 use Rattle.wot_check.proofs.Rows.{AreInto}
 use Rattle.wot_check.proofs.points.covers.Given as goal
 

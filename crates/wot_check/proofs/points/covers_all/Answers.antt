@@ -3,7 +3,7 @@ use Rattle.std.proofs.lemmas.Bool.{false≢true}
 use Rattle.wot_check.specs.Asked.{question_of, used_in}
 use Rattle.wot_check.specs.Table.{Labels}
 use Rattle.wot_check.proofs.Rows.{within_first, within_later}
-use Rattle.wot_check.proofs.Testing.{LabelsSoFar, labels_more, labels_all, labels_fail}
+use Rattle.wot_check.proofs.ThreePoints.{LabelsSoFar, labels_more, labels_all, labels_fail}
 use Rattle.wot_check.proofs.points.covers_all.Goals as goal
 
 pub returns-then-not-branch : goal.returns-then-not-branch

@@ -1,5 +1,5 @@
 use Rattle.wot_check.specs.Asked.{question_of, used_in}
-use Rattle.wot_check.proofs.Testing.{LabelsSoFar}
+use Rattle.wot_check.proofs.ThreePoints.{LabelsSoFar}
 use Rattle.wot_check.proofs.Rows.{Within}
 use Rattle.wot_check.proofs.points.covers_all.Given as goal
 

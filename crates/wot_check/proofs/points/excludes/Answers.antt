@@ -4,7 +4,7 @@ use Rattle.std.proofs.lemmas.Bool.{false≢true}
 use Rattle.std.proofs.lemmas.Result.{IfOk-weaker}
 use Rattle.wot_check.specs.Absence.{Excludes, OthersLabelled}
 use Rattle.wot_check.specs.Asked.{question_of, used_in}
-use Rattle.wot_check.proofs.Testing.{rooted_unspent, three_points, last_covered}
+use Rattle.wot_check.proofs.ThreePoints.{rooted_unspent, three_points, last_covered}
 use Rattle.wot_check.proofs.points.excludes.Goals as goal
 
 pub returns-then-not-roots_spent : goal.returns-then-not-roots_spent

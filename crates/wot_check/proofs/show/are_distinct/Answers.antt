@@ -1,7 +1,7 @@
 use Rattle.std.proofs.Common.{List, refl, sym, subst}
 use Rattle.wot_edge.specs.declared.path.Step.{Step}
 use Rattle.wot_edge.specs.Path.{Distinct, issuers}
-use Rattle.wot_check.proofs.Showing.{none_distinct}
+use Rattle.wot_check.proofs.ShownPaths.{none_distinct}
 use Rattle.wot_check.proofs.show.are_distinct.Goals as goal
 
 pub rest-preserved : goal.rest-preserved

@@ -3,7 +3,7 @@ use Rattle.std.proofs.lemmas.Bool.{false≢true}
 use Rattle.wot_edge.specs.declared.path.Step.{Step}
 use Rattle.wot_edge.specs.Path.{issuers}
 use Rattle.wot_edge.specs.Record.{Has}
-use Rattle.wot_check.proofs.Showing.{no_issuers}
+use Rattle.wot_check.proofs.ShownPaths.{no_issuers}
 use Rattle.wot_check.proofs.show.has_issuer.Goals as goal
 
 pub rest-preserved : goal.rest-preserved

@@ -3,7 +3,7 @@ use Rattle.wot_edge.specs.declared.path.Step.{Step}
 use Rattle.wot_edge.specs.Path.{Distinct, issuers, start, path_amount}
 use Rattle.wot_check.specs.Asked.{question_of, used_in}
 use Rattle.wot_check.specs.Trace.{IsShown}
-use Rattle.wot_check.proofs.Showing.{no_steps, nothing_left, other_amount, twice, shown, none_is}
+use Rattle.wot_check.proofs.ShownPaths.{no_steps, nothing_left, other_amount, twice, shown, none_is}
 use Rattle.wot_check.proofs.show.path_by.Goals as goal
 
 pub returns-in-None : goal.returns-in-None

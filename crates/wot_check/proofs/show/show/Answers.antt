@@ -3,8 +3,8 @@ use Rattle.wot_edge.specs.declared.path.Step.{Step}
 use Rattle.wot_check.specs.declared.claimed.ClaimedStep.{ClaimedStep}
 use Rattle.wot_check.specs.Asked.{question_of, used_in}
 use Rattle.wot_check.specs.Trace.{IsTrace, IsShown, Traces}
-use Rattle.wot_check.proofs.Showing.{untraced}
-use Rattle.wot_check.proofs.Tracing.{traces_long}
+use Rattle.wot_check.proofs.ShownPaths.{untraced}
+use Rattle.wot_check.proofs.ClaimedSteps.{traces_long}
 use Rattle.wot_check.proofs.show.show.Goals as goal
 
 pub returns-in-None : goal.returns-in-None

@@ -3,7 +3,7 @@ use Rattle.wot_edge.specs.declared.path.Path.{Path}
 use Rattle.wot_edge.specs.Path.{asks}
 use Rattle.wot_edge.specs.Sums.{use_in}
 use Rattle.wot_check.specs.Trace.{IsShown}
-use Rattle.wot_check.proofs.Showing.{shown_none, shown_more, shown_stop, shown_end}
+use Rattle.wot_check.proofs.ShownPaths.{shown_none, shown_more, shown_stop, shown_end}
 use Rattle.wot_check.proofs.show.show_all.Goals as goal
 
 pub rest-init : goal.rest-init

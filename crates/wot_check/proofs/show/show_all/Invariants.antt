@@ -1,6 +1,6 @@
 use Rattle.std.proofs.Common.{length}
 use Rattle.wot_edge.specs.Path.{asks}
-use Rattle.wot_check.proofs.Showing.{SomeShown}
+use Rattle.wot_check.proofs.ShownPaths.{SomeShown}
 use Rattle.wot_check.proofs.show.show_all.Given as goal
 
 abbrev pub invariant-rest : goal.invariant-rest

@@ -2,7 +2,7 @@ use Rattle.std.proofs.Common.{◌≡◌, inl, inr, true, false, sym, subst, ◌�
 use Rattle.wot_edge.specs.declared.edge.EdgeFacts.{EdgeFacts}
 use Rattle.wot_check.specs.Trace.{has_name}
 use Rattle.wot_check.proofs.Rows.{within_first, within_later, first_or_later, none_left}
-use Rattle.wot_check.proofs.Tracing.{has_name-true, true-has_name}
+use Rattle.wot_check.proofs.ClaimedSteps.{has_name-true, true-has_name}
 use Rattle.wot_check.proofs.trace.find.Goals as goal
 
 pub returns-then-names : goal.returns-then-names

@@ -4,12 +4,14 @@ use Rattle.wot_edge.specs.declared.edge.EdgeFacts.{EdgeFacts}
 use Rattle.wot_edge.specs.declared.path.Step.{Step}
 use Rattle.wot_edge.specs.Record.{Has, edges_into, rows_into}
 use Rattle.wot_edge.specs.Path.{step_of}
-use Rattle.wot_check.specs.declared.demand.Demand.{Demand}
+use Rattle.wot_edge.specs.declared.demand.Demand.{Demand}
 use Rattle.wot_check.specs.Asked.{question_of, used_in}
-use Rattle.wot_check.specs.Demand.{demand_of, may_stand}
+use Rattle.wot_edge.specs.Demand.{demand_of}
+use Rattle.wot_check.specs.Demand.{may_stand}
 use Rattle.wot_check.specs.Trace.{IsNamed, IsFollower}
-use Rattle.wot_check.proofs.Rows.{into_own, into_target, row_there}
-use Rattle.wot_check.proofs.Tracing.{none_named, row_follows, row_fails}
+use Rattle.wot_edge.specs.RowLaws.{row_there}
+use Rattle.wot_check.proofs.Rows.{into_own, into_target}
+use Rattle.wot_check.proofs.ClaimedSteps.{none_named, row_follows, row_fails}
 use Rattle.wot_check.proofs.trace.follow.Goals as goal
 
 pub stands-requires : goal.stands-requires

@@ -2,7 +2,7 @@ use Rattle.std.proofs.Common.{◌≡◌, ◌∷◌, length, Option, ap, subst, a
 use Rattle.wot_edge.specs.declared.path.Step.{Step}
 use Rattle.wot_check.specs.Asked.{question_of, used_in}
 use Rattle.wot_check.specs.Trace.{IsFollower}
-use Rattle.wot_check.proofs.Tracing.{traced_none, traced_more, traced_stop, traced_end}
+use Rattle.wot_check.proofs.ClaimedSteps.{traced_none, traced_more, traced_stop, traced_end}
 use Rattle.wot_check.proofs.trace.trace.Goals as goal
 
 pub rest-init : goal.rest-init

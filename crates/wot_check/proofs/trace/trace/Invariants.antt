@@ -1,6 +1,6 @@
 use Rattle.std.proofs.Common.{◌≤◌, length}
 use Rattle.wot_check.specs.Asked.{question_of, used_in}
-use Rattle.wot_check.proofs.Tracing.{Traced}
+use Rattle.wot_check.proofs.ClaimedSteps.{Traced}
 use Rattle.wot_check.proofs.trace.trace.Given as goal
 
 abbrev pub invariant-rest : goal.invariant-rest

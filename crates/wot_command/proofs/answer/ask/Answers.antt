@@ -7,7 +7,7 @@ use Rattle.wot_cache.specs.Views.{view_at}
 use Rattle.wot_script.specs.declared.reply.Reply.{Reply}
 use Rattle.wot_step.specs.Answer.{Asks}
 use Rattle.wot_step.proofs.Faults.{refreshed_refused, unopened}
-use Rattle.wot_step.proofs.Making.{refreshed_as}
+use Rattle.wot_step.proofs.EdgesMadeByLine.{refreshed_as}
 use Rattle.wot_command.proofs.Short.{answer_short}
 use Rattle.wot_command.proofs.answer.ask.Goals as goal
 

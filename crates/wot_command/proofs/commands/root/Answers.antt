@@ -3,7 +3,7 @@ use Rattle.wot_types.specs.Limits.{standard_limits}
 use Rattle.wot_cache.specs.State.{state_of, rooting}
 use Rattle.wot_cache.specs.Views.{root_fault, view_at}
 use Rattle.wot_step.proofs.Results.{if_ok}
-use Rattle.wot_command.proofs.Refusing.{view_gives}
+use Rattle.wot_command.proofs.RefusedReplies.{view_gives}
 use Rattle.wot_command.proofs.commands.root.Goals as goal
 
 pub returns-in-Err-clause-gives : goal.returns-in-Err-clause-gives

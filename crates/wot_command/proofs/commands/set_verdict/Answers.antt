@@ -1,5 +1,5 @@
 use Rattle.wot_step.proofs.Results.{if_ok}
-use Rattle.wot_command.proofs.Refusing.{judge_gives}
+use Rattle.wot_command.proofs.RefusedReplies.{judge_gives}
 use Rattle.wot_command.proofs.commands.set_verdict.Goals as goal
 
 pub returns-in-Err-clause-gives : goal.returns-in-Err-clause-gives

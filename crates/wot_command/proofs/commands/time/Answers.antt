@@ -3,7 +3,7 @@ use Rattle.wot_types.specs.Limits.{standard_limits}
 use Rattle.wot_cache.specs.State.{state_of, timing}
 use Rattle.wot_cache.specs.Views.{time_fault}
 use Rattle.wot_step.proofs.Results.{if_ok}
-use Rattle.wot_command.proofs.Refusing.{view_gives}
+use Rattle.wot_command.proofs.RefusedReplies.{view_gives}
 use Rattle.wot_command.proofs.commands.time.Goals as goal
 
 pub returns-in-Err-clause-gives : goal.returns-in-Err-clause-gives

@@ -1,7 +1,7 @@
 use Rattle.wot_policy.specs.Kept.{rows_of}
-use Rattle.wot_command.proofs.Judging.{asked_new, asked_refused}
+use Rattle.wot_command.proofs.PolicyAskedByLine.{asked_new, asked_refused}
 use Rattle.wot_step.proofs.Results.{if_ok}
-use Rattle.wot_command.proofs.Refusing.{load_gives}
+use Rattle.wot_command.proofs.RefusedReplies.{load_gives}
 use Rattle.wot_command.proofs.load.enter.Goals as goal
 
 pub returns-in-Err-clause-gives : goal.returns-in-Err-clause-gives

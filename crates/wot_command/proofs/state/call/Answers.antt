@@ -1,4 +1,4 @@
-use Rattle.wot_keyring.specs.Held.{cert_in}
+use Rattle.wot_held.specs.Held.{cert_in}
 use Rattle.wot_policy.specs.Kept.{rows_of}
 use Rattle.wot_cache.specs.State.{state_of}
 use Rattle.wot_command.proofs.Calling.{none_kept}

@@ -3,10 +3,10 @@ use Rattle.wot_policy.specs.Kept.{rows_of}
 use Rattle.wot_cache.specs.State.{state_of}
 use Rattle.wot_step.specs.Entry.{unused}
 use Rattle.wot_step.specs.declared.class.StateCommand.TheVariants as kinds
-use Rattle.wot_command.proofs.Judging.{always}
-use Rattle.wot_step.proofs.Making.{same_state}
+use Rattle.wot_command.proofs.PolicyAskedByLine.{always}
+use Rattle.wot_step.proofs.EdgesMadeByLine.{same_state}
 use Rattle.wot_step.proofs.Results.{any_err}
-use Rattle.wot_command.proofs.Putting.{puts_still}
+use Rattle.wot_command.proofs.DirectoryAfterFailure.{puts_still}
 use Rattle.wot_step.proofs.Results.{if_ok}
 use Rattle.wot_command.proofs.Calling.{uncalled}
 use Rattle.wot_command.proofs.state.obey.Goals as goal

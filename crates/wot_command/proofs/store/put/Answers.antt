@@ -1,7 +1,7 @@
 use Rattle.std.proofs.Common.{refl}
 use Rattle.wot_step.proofs.Faults.{failed, for_memory}
-use Rattle.wot_command.proofs.Storing.{put_failed}
-use Rattle.wot_command.proofs.Putting.{replaced_may}
+use Rattle.wot_command.proofs.StoredOrRefused.{put_failed}
+use Rattle.wot_command.proofs.DirectoryAfterFailure.{replaced_may}
 use Rattle.wot_command.proofs.store.put.Goals as goal
 
 pub returns-in-Err-clause-puts : goal.returns-in-Err-clause-puts

@@ -8,7 +8,7 @@ use Rattle.wot_command.specs.CommandRun.{Seen}
 use Rattle.wot_command.specs.Stored.{answer_of}
 use Rattle.wot_step.proofs.Faults.{failed}
 use Rattle.wot_step.proofs.Results.{any_err}
-use Rattle.wot_command.proofs.Putting.{on_err_as, puts_none, stored_may}
+use Rattle.wot_command.proofs.DirectoryAfterFailure.{on_err_as, puts_none, stored_may}
 use Rattle.wot_step.proofs.Results.{if_ok}
 use Rattle.wot_command.proofs.Calling.{given_is, never_fault, stores_put, stores_told, told_so}
 use Rattle.wot_command.proofs.store.store_kept.Goals as goal

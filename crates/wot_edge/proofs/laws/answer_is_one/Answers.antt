@@ -1,4 +1,4 @@
-use Rattle.wot_edge.proofs.Answering.{answer_exists, answer_one}
+use Rattle.wot_edge.proofs.AnswerByPaths.{answer_exists, answer_one}
 use Rattle.wot_edge.proofs.laws.answer_is_one.Goals as goal
 
 pub returns : goal.returns

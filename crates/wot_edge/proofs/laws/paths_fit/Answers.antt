@@ -1,5 +1,5 @@
 use Rattle.std.proofs.Common.{[]}
-use Rattle.wot_edge.proofs.Fitting.{each_fit, roots_fit, sum_fits}
+use Rattle.wot_edge.proofs.PathsFit.{each_fit, roots_fit, sum_fits}
 use Rattle.wot_edge.proofs.laws.paths_fit.Goals as goal
 
 pub returns : goal.returns

@@ -1,4 +1,4 @@
-use Rattle.wot_edge.proofs.Answering.{zero_spent, spent_zero}
+use Rattle.wot_edge.proofs.AnswerByPaths.{zero_spent, spent_zero}
 use Rattle.wot_edge.proofs.laws.zero_is_no_path.Goals as goal
 
 pub returns : goal.returns

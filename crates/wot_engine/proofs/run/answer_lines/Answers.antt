@@ -7,12 +7,12 @@ use Rattle.wot_io.specs.Sink.{Becomes, GainsPrefix}
 use Rattle.wot_io.specs.declared.lines.Line.TheVariants.{End, Long, Text}
 use Rattle.wot_policy.specs.declared.rows.PolicyRows.{PolicyRows}
 use Rattle.wot_policy.specs.Kept.{rows_of}
-use Rattle.wot_keyring.specs.Kept.{IsJudgedBy}
+use Rattle.wot_held.specs.Kept.{IsJudgedBy}
 use Rattle.wot_command.specs.Asked.{LineAsks}
 use Rattle.wot_step.specs.Entry.{MayPut}
 use Rattle.wot_machine.specs.Machine.{kept}
 use Rattle.wot_step.specs.Transcript.{AllTold, Begun}
-use Rattle.wot_step.proofs.Giving.{told_always}
+use Rattle.wot_step.proofs.DirectoryGives.{told_always}
 use Rattle.wot_engine.specs.Asking.{MayAsk, command_by, done}
 use Rattle.wot_engine.specs.Ended.{Reached}
 use Rattle.wot_engine.specs.Ends.{status_at}

@@ -1,7 +1,7 @@
 use Rattle.std.proofs.Common.{inr, [], refl, ap}
 use Rattle.wot_policy.specs.Kept.{rows_of}
 use Rattle.wot_step.specs.Session.{beginning}
-use Rattle.wot_step.proofs.Giving.{told_always}
+use Rattle.wot_step.proofs.DirectoryGives.{told_always}
 use Rattle.wot_engine.specs.Ends.{status_at}
 use Rattle.wot_engine.specs.declared.run.Stop.TheVariants.{Memory, Read, TooMuch, Write}
 use Rattle.wot_engine.proofs.Asking.{HasAsked-init, asks_between}

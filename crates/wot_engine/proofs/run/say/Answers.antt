@@ -14,8 +14,8 @@ use Rattle.wot_step.specs.Served.{unserved}
 use Rattle.wot_machine.specs.Stepped.{Stepped}
 use Rattle.wot_cache.specs.State.{state_of}
 use Rattle.wot_step.proofs.Results.{any_err}
-use Rattle.wot_command.proofs.Putting.{puts_still}
-use Rattle.wot_step.proofs.Stepping.{one_reply, too_long}
+use Rattle.wot_command.proofs.DirectoryAfterFailure.{puts_still}
+use Rattle.wot_step.proofs.StepsByKind.{one_reply, too_long}
 use Rattle.wot_engine.specs.Turn.{SaidBehind, use_by}
 use Rattle.wot_engine.proofs.Asking.{looked_at, passed_over}
 use Rattle.wot_engine.proofs.run.say.Goals as goal

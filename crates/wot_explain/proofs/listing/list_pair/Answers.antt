@@ -4,8 +4,8 @@ use Rattle.std.specs.Prelude.{nat_le}
 use Rattle.std.proofs.lemmas.Bool.Decides.{nat_tests}
 use Rattle.wot_edge.specs.Answer.{amount_of}
 use Rattle.wot_explain.specs.declared.bind.Bind.{Bind}
-use Rattle.wot_explain.specs.Listing.{Pair, with_bind}
-use Rattle.wot_explain.proofs.Listed.{one_added}
+use Rattle.wot_explain.specs.Listing.{Pair}
+use Rattle.wot_explain.proofs.Listed.{one_added, with_bind}
 use Rattle.wot_explain.proofs.listing.list_pair.Goals as goal
 
 reached : (wanted sum : ℕ) → wanted ≤ sum → nat_le wanted sum ≡ true

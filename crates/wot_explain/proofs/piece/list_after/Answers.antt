@@ -1,5 +1,10 @@
 use Rattle.wot_explain.proofs.piece.list_after.Goals as goal
 
-pub list_after_within-requires-clause-reach : goal.list_after_within-requires-clause-reach
-list_after_within-requires-clause-reach g c = c.everywhere-reach.ensures.reach (g.R.Roads.told c.args.roads.now)
-    c.args.roots.now
+pub list_page-requires : goal.list_page-requires
+list_page-requires g c = record {
+  sought = record {
+    wanted = c.requires.wanted;
+    few = c.requires.few;
+    reach = c.everywhere-reach.ensures.reach (g.R.Roads.told c.args.roads.now) c.args.roots.now;
+  };
+}

@@ -1,6 +1,6 @@
 use Rattle.std.proofs.Common.{◌≡◌, List, [], arith, sym, subst}
 use Rattle.std.specs.Option.{option_copied}
-use Rattle.wot_cert.specs.Certificate.{Certificate}
+use Rattle.wot_part.specs.Certificate.{Certificate}
 use Rattle.wot_explain.specs.Listing.{pairs_of_all}
 use Rattle.wot_explain.specs.Piece.{AddsPiece}
 use Rattle.wot_explain.proofs.Pieces.{cert_piece, none_piece, full_piece}
@@ -8,29 +8,29 @@ use Rattle.wot_explain.proofs.piece.piece_certs.Goals as goal
 
 pub certs-preserved : goal.certs-preserved
 certs-preserved g c end h =
-    c.certs.invariant end (cert_piece (g.R.Roads.told c.args.roads.now) c.args.sought.now.roots.now
-    c.args.sought.now.wanted (option_copied c.args.after) c.args.count
+    c.certs.invariant end (cert_piece (g.R.Roads.told c.args.roads.now) c.args.page.now.sought.roots.now
+    c.args.page.now.sought.wanted (option_copied c.args.page.now.after) c.args.page.now.count
     c.in-Some.cert.now c.next.new.self c.certs.cert-iterator
     c.certs.out.items c.piece_cert.new.out.items end c.in-Some.ensures.steps c.in_ok-piece_cert.ensures h)
 
 pub returns : goal.returns
 returns g c =
     let told = g.R.Roads.told c.args.roads.now in
-    let sought = c.args.sought.now in
+    let sought = c.args.page.now.sought in
     let out = c.certs.out.items in
     let none : c.certs.cert-iterator ≡ [] = c.in-None.ensures.steps.0 in
     c.certs.invariant out
-    (subst (λ (cs : List Certificate). AddsPiece told sought.roots.now sought.wanted (option_copied c.args.after)
-    c.args.count (pairs_of_all cs) out out) (sym none)
-    (none_piece told sought.roots.now sought.wanted (option_copied c.args.after) c.args.count out))
+    (subst (λ (cs : List Certificate). AddsPiece told sought.roots.now sought.wanted
+    (option_copied c.args.page.now.after) c.args.page.now.count (pairs_of_all cs) out out) (sym none)
+    (none_piece told sought.roots.now sought.wanted (option_copied c.args.page.now.after) c.args.page.now.count out))
 
-pub returns-then-len-count : goal.returns-then-len-count
-returns-then-len-count g c =
-    c.certs.invariant c.certs.out.items (full_piece (g.R.Roads.told c.args.roads.now) c.args.sought.now.roots.now
-    c.args.sought.now.wanted (option_copied c.args.after) c.args.count
+pub returns-then-len-page : goal.returns-then-len-page
+returns-then-len-page g c =
+    c.certs.invariant c.certs.out.items (full_piece (g.R.Roads.told c.args.roads.now) c.args.page.now.sought.roots.now
+    c.args.page.now.sought.wanted (option_copied c.args.page.now.after) c.args.page.now.count
     (pairs_of_all c.certs.cert-iterator) c.certs.out.items (omega (
       arith,
-      c.if-len-count.true,
+      c.if-len-page.true,
       c.len.ensures,
       c.certs.out.ok.0,
     )))

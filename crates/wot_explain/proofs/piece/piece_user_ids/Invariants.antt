@@ -7,9 +7,11 @@ use Rattle.wot_explain.proofs.piece.piece_user_ids.Given as goal
 
 abbrev pub invariant-rest : goal.invariant-rest
 invariant-rest g l = (end : List Bind)
-    → AddsPiece (g.R.Roads.told l.roads) l.sought.roots.now l.sought.wanted (option_copied l.after) l.count
+    → AddsPiece (g.R.Roads.told l.roads) l.page.sought.roots.now l.page.sought.wanted
+    (option_copied l.page.after) l.page.count
     (map (pair_of l.fpr) l.rest) l.out.items end
-    → AddsPiece (g.R.Roads.told l.roads) l.sought.roots.now l.sought.wanted (option_copied l.after) l.count
+    → AddsPiece (g.R.Roads.told l.roads) l.page.sought.roots.now l.page.sought.wanted
+    (option_copied l.page.after) l.page.count
     (map (pair_of l.fpr) l.user_ids) l.fn.out.items end
 
 abbrev pub decreases-rest : goal.decreases-rest

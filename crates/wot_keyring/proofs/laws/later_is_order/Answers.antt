@@ -1,4 +1,4 @@
-use Rattle.wot_keyring.proofs.Later.{later_itself, later_further}
+use Rattle.wot_index.proofs.Later.{later_itself, later_further}
 use Rattle.wot_keyring.proofs.laws.later_is_order.Goals as goal
 
 pub returns : goal.returns

@@ -3,7 +3,7 @@ use Rattle.std.specs.List.{AllByRecursion}
 use Rattle.wot_standing.specs.Standing.{own}
 use Rattle.wot_live.specs.Found.{HasFew}
 use Rattle.wot_types.specs.PlainLaws.{all_prefix, seam}
-use Rattle.wot_live.proofs.Putting.{more_found}
+use Rattle.wot_live.proofs.EdgesInserted.{more_found}
 use Rattle.wot_live.proofs.found.find_edges.Goals as goal
 
 pub back-preserved : goal.back-preserved
@@ -16,8 +16,8 @@ back-preserved c =
           c.back.invariant.all c.in-Some.ensures.cases.0;
       few = all_prefix HasFew c.in-Some.prefix.now (part ∷ []) (subst (AllByRecursion HasFew) c.in-Some.ensures.cases.0
           c.back.invariant.few);
-      found = more_found a.verdicts.now (own a.cert.now) c.fpr-target.result a.t (length c.in-Some.prefix.now)
+      found = more_found a.verdicts.now (own a.cert.now) c.fpr.result a.t (length c.in-Some.prefix.now)
           (length c.in-Some.prefix.now) (length c.back.rest.now) part c.back.invariant.seen
-          c.back.found.entries c.put_edges_on.new.found.entries c.fpr-target.ensures.fpr refl c.in-Some.ensures.cases.1
+          c.back.found.entries c.put_edges_on.new.found.entries c.fpr.ensures.fpr refl c.in-Some.ensures.cases.1
           c.back.invariant.found c.in_ok-put_edges_on.ensures;
     }

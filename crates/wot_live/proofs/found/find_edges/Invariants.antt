@@ -1,9 +1,8 @@
 use Rattle.std.proofs.Common.{◌≡◌, ◌++◌, List, length}
 use Rattle.std.specs.List.{AllByRecursion}
-use Rattle.wot_cert.specs.Certificate.{Component}
+use Rattle.wot_part.specs.Certificate.{Component}
 use Rattle.wot_standing.specs.Standing.{own}
-use Rattle.wot_live.specs.Found.{by_place, HasFew}
-use Rattle.wot_live.specs.Rows.{edges_from, in_edge_order}
+use Rattle.wot_live.specs.Found.{by_place, HasFew, edges_from, in_edge_order}
 use Rattle.wot_live.proofs.found.find_edges.Given as goal
 
 abbrev pub invariant-back : goal.invariant-back

@@ -4,7 +4,7 @@ use Rattle.wot_edge.specs.declared.edge.EdgeFacts.{EdgeFacts}
 use Rattle.wot_live.specs.declared.found.EdgePlace.{EdgePlace}
 use Rattle.wot_live.specs.Found.{place_cmp, edge_place}
 use Rattle.wot_live.proofs.Orders.{same_place_cmp}
-use Rattle.wot_live.proofs.Putting.{inserted}
+use Rattle.wot_live.proofs.EdgesInserted.{inserted}
 use Rattle.wot_live.proofs.found.put_edge.Goals as goal
 
 pub returns : goal.returns

@@ -4,15 +4,14 @@ use Rattle.std.specs.Option.{option_and_then}
 use Rattle.wot_types.specs.PlainLaws.{seam}
 use Rattle.wot_types.specs.declared.fpr.Fpr.{Fpr}
 use Rattle.wot_verdict.specs.Verdicts.{Entries}
-use Rattle.wot_cert.specs.Certificate.{Signature, Component}
+use Rattle.wot_part.specs.Certificate.{Signature, Component}
 use Rattle.wot_cert.specs.Issuer.{issuer_of}
 use Rattle.wot_edge.specs.declared.edge.EdgeFacts.{EdgeFacts}
 use Rattle.wot_standing.specs.Certifiers.{KeepsNewest}
 use Rattle.wot_live.specs.Edge.{edge_by}
-use Rattle.wot_live.specs.Found.{by_place, edge_kept, with_edges}
-use Rattle.wot_live.specs.Rows.{edge_with}
+use Rattle.wot_live.specs.Found.{by_place, edge_kept, with_edges, edge_with}
 use Rattle.wot_live.proofs.Places.{behind}
-use Rattle.wot_live.proofs.Putting.{with_edges-option}
+use Rattle.wot_live.proofs.EdgesInserted.{with_edges-option}
 use Rattle.wot_live.proofs.found.put_edges_on.Goals as goal
 
 -- the edge by the places that are kept is that by the newest certification
@@ -32,7 +31,7 @@ edge_with-edge-requires c =
     record {
       stands = record {
         uid = a.part.now;
-        t = a.t;
+        t = a.to.now.t;
         keeps = c.in_ok-certifiers.ensures.newest;
         here = ap (λ (ss : List Signature). slice_get ss (length prefix)) (seam a.part.now.sigs c.back.rest.now prefix
             seen sig c.back.invariant.all c.in-Some.ensures.cases.0) ∙ behind prefix seen sig;
@@ -44,7 +43,8 @@ back-preserved c =
     let a = c.args in
     let sig = c.in-Some.sig.now in
     let seen = c.back.invariant.seen in
-    let edge : Signature → Option EdgeFacts = edge_with a.verdicts.now a.target a.t a.uid a.part.now in
+    let target = a.to.now in
+    let edge : Signature → Option EdgeFacts = edge_with target.verdicts.now target.fpr target.t a.uid a.part.now in
     record {
       seen = sig ∷ seen;
       all = seam a.part.now.sigs c.back.rest.now c.in-Some.prefix.now seen sig c.back.invariant.all
@@ -53,6 +53,6 @@ back-preserved c =
           let before : List EdgeFacts = with_edges edges (filter_map edge seen) in
           c.in_ok-put_some.ensures before (c.back.invariant.found edges e)
           ∙ ap (λ (o : Option EdgeFacts). by_place (with_edges before (cons_option o []))) (c.edge_with-edge.ensures
-          ∙ kept_is a.verdicts.now a.target a.t a.uid a.part.now _ sig c.in_ok-certifiers.ensures.newest)
+          ∙ kept_is target.verdicts.now target.fpr target.t a.uid a.part.now _ sig c.in_ok-certifiers.ensures.newest)
           ∙ ap by_place (sym (with_edges-option edges (filter_map edge seen) (edge sig)));
     }

@@ -1,4 +1,4 @@
-use Rattle.wot_live.proofs.Exact.{edges_into, edges_rows}
+use Rattle.wot_live.proofs.EdgesAreRows.{edges_into, edges_rows}
 use Rattle.wot_live.proofs.laws.edges_are_rows.Goals as goal
 
 pub returns-clause-rows : goal.returns-clause-rows

@@ -3,9 +3,10 @@ use Rattle.std.specs.List.Sorted.{IsStrictlySortedBy}
 use Rattle.std.specs.Map.{values_of}
 use Rattle.wot_edge.specs.Order.{edge_cmp}
 use Rattle.wot_standing.specs.Standing.{own}
-use Rattle.wot_live.specs.Rows.{AreInto, AreRows, edges_of}
-use Rattle.wot_live.proofs.Counting.{few_user_ids, has_few, made_within}
-use Rattle.wot_live.proofs.Putting.{values_by_place}
+use Rattle.wot_live.specs.Found.{found_edges}
+use Rattle.wot_live.specs.Rows.{AreInto, AreRows}
+use Rattle.wot_live.proofs.EdgesBounded.{few_user_ids, has_few, made_within}
+use Rattle.wot_live.proofs.EdgesInserted.{values_by_place}
 use Rattle.wot_live.proofs.Through.{edges_same, revoked_same}
 use Rattle.wot_live.proofs.making.rows.Goals as goal
 
@@ -25,13 +26,15 @@ returns-in_err-edges-clause-made_most c =
 
 pub returns-clause-edges : goal.returns-clause-edges
 returns-clause-edges c = c.in_ok-edges.ensures.edges ∙ ap values_of c.in_ok-found.ensures
-    ∙ values_by_place (edges_of c.args.verdicts.now c.args.cert.now c.args.t)
+    ∙ values_by_place (found_edges c.args.verdicts.now c.args.cert.now c.args.t)
+    ∙ c.found_are_edges.ensures.all c.args.verdicts.now c.args.cert.now c.args.t
 
 pub returns-clause-exact : goal.returns-clause-exact
 returns-clause-exact c =
     let a = c.args in
     let same = c.in_ok-edges.ensures.edges ∙ ap values_of c.in_ok-found.ensures
-    ∙ values_by_place (edges_of a.verdicts.now a.cert.now a.t) in
+    ∙ values_by_place (found_edges a.verdicts.now a.cert.now a.t)
+    ∙ c.found_are_edges.ensures.all a.verdicts.now a.cert.now a.t in
     subst (AreRows a.verdicts.now a.cert.now a.t) (sym same) (c.edges_are_rows.ensures.rows a.verdicts.now a.cert.now
     a.t)
 
@@ -39,21 +42,24 @@ pub returns-clause-order : goal.returns-clause-order
 returns-clause-order c =
     let a = c.args in
     let same = c.in_ok-edges.ensures.edges ∙ ap values_of c.in_ok-found.ensures
-    ∙ values_by_place (edges_of a.verdicts.now a.cert.now a.t) in
+    ∙ values_by_place (found_edges a.verdicts.now a.cert.now a.t)
+    ∙ c.found_are_edges.ensures.all a.verdicts.now a.cert.now a.t in
     subst (IsStrictlySortedBy edge_cmp) (sym same) (c.edges_are_rows.ensures.rows a.verdicts.now a.cert.now a.t).sorted
 
 pub returns-clause-into : goal.returns-clause-into
 returns-clause-into c =
     let a = c.args in
     let same = c.in_ok-edges.ensures.edges ∙ ap values_of c.in_ok-found.ensures
-    ∙ values_by_place (edges_of a.verdicts.now a.cert.now a.t) in
+    ∙ values_by_place (found_edges a.verdicts.now a.cert.now a.t)
+    ∙ c.found_are_edges.ensures.all a.verdicts.now a.cert.now a.t in
     subst (AreInto (own a.cert.now)) (sym same) (c.edges_are_rows.ensures.into a.verdicts.now a.cert.now a.t)
 
 pub returns-clause-throughout : goal.returns-clause-throughout
 returns-clause-throughout c =
     let a = c.args in
     let same = c.in_ok-edges.ensures.edges ∙ ap values_of c.in_ok-found.ensures
-    ∙ values_by_place (edges_of a.verdicts.now a.cert.now a.t) in
+    ∙ values_by_place (found_edges a.verdicts.now a.cert.now a.t)
+    ∙ c.found_are_edges.ensures.all a.verdicts.now a.cert.now a.t in
     λ u h. sym (edges_same a.verdicts.now a.cert.now a.t u (c.steady_span.ensures.certifications u h a.verdicts.now))
     ∙ sym same
 

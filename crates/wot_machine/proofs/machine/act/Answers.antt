@@ -5,12 +5,12 @@ use Rattle.wot_script.specs.Replies.{is_short}
 use Rattle.wot_cache.specs.State.{StaysButMarks, state_of}
 use Rattle.wot_step.specs.declared.class.Class.TheVariants.{State as OfState, Cursor as OfCursor, Watch as OfWatch}
 use Rattle.wot_step.specs.Entry.{use_by}
-use Rattle.wot_command.proofs.Judging.{asks_by_as}
-use Rattle.wot_step.proofs.Making.{makes_for_as, watch_makes_as}
+use Rattle.wot_command.proofs.PolicyAskedByLine.{asks_by_as}
+use Rattle.wot_step.proofs.EdgesMadeByLine.{makes_for_as, watch_makes_as}
 use Rattle.wot_step.proofs.Results.{any_err}
-use Rattle.wot_command.proofs.Putting.{puts_still}
+use Rattle.wot_command.proofs.DirectoryAfterFailure.{puts_still}
 use Rattle.wot_step.proofs.Results.{if_ok}
-use Rattle.wot_machine.proofs.Running.{few_turns, kept_told, on_err_told, on_ok_told, paced_ran, ran_told, still_turns, told_as, watched_told}
+use Rattle.wot_machine.proofs.CommandsInLines.{few_turns, kept_told, on_err_told, on_ok_told, paced_ran, ran_told, still_turns, told_as, watched_told}
 use Rattle.wot_machine.proofs.machine.act.Goals as goal
 
 -- ---- a command that leaves cursors and watches

@@ -7,13 +7,13 @@ use Rattle.wot_cache.specs.State.{state_of}
 use Rattle.wot_step.specs.Fresh.{IsMadeAnew}
 use Rattle.wot_step.specs.Pacing.{settled}
 use Rattle.wot_step.specs.Session.{watched, session_of}
-use Rattle.wot_command.proofs.Judging.{asks_not}
-use Rattle.wot_machine.proofs.Dumping.{on_dump, dump_is_read}
+use Rattle.wot_command.proofs.PolicyAskedByLine.{asks_not}
+use Rattle.wot_machine.proofs.DumpLine.{on_dump, dump_is_read}
 use Rattle.wot_command.proofs.EdgeLines.{none_marks}
 use Rattle.wot_step.specs.Entry.{use_of}
-use Rattle.wot_command.proofs.Putting.{puts_still}
+use Rattle.wot_command.proofs.DirectoryAfterFailure.{puts_still}
 use Rattle.wot_step.proofs.Results.{if_ok}
-use Rattle.wot_machine.proofs.Running.{ran_told_line}
+use Rattle.wot_machine.proofs.CommandsInLines.{ran_told_line}
 use Rattle.wot_machine.proofs.Worded.{obeys_worded}
 use Rattle.wot_machine.proofs.machine.answer.Goals as goal
 

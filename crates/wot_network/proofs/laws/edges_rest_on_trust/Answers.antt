@@ -1,4 +1,4 @@
-use Rattle.wot_network.proofs.Certifying.{rests_on_certifications, rests_on_trust}
+use Rattle.wot_network.proofs.EdgesAreCertified.{rests_on_certifications, rests_on_trust}
 use Rattle.wot_network.proofs.laws.edges_rest_on_trust.Goals as goal
 
 pub returns : goal.returns

@@ -1,4 +1,4 @@
-use Rattle.wot_network.proofs.Agreeing.{records_agree}
+use Rattle.wot_network.proofs.RecordsAgree.{records_agree}
 use Rattle.wot_network.proofs.laws.records_agree.Goals as goal
 
 pub returns : goal.returns

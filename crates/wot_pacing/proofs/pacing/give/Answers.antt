@@ -1,7 +1,7 @@
 use Rattle.std.proofs.Common.{rules, ◌≤◌, ap, inl, arith}
 use Rattle.std.specs.Prelude.{is_ok}
 use Rattle.wot_cache.specs.Marks.{IsRefreshed}
-use Rattle.wot_step.proofs.Making.{refreshed_as}
+use Rattle.wot_step.proofs.EdgesMadeByLine.{refreshed_as}
 use Rattle.wot_pacing.proofs.Pieces.{gives_piece}
 use Rattle.wot_pacing.proofs.pacing.give.Goals as goal
 

@@ -3,7 +3,7 @@ use Rattle.wot_packet.specs.Reading.{first_of}
 use Rattle.wot_packet.specs.Spelling.{IsFirstFault, spelled_all}
 use Rattle.wot_packet.proofs.Bounds.{packet_bounds, packets_short, packets_few}
 use Rattle.wot_packet.proofs.Exact.{one_list, one_fault, never_both, list_read, fault_read}
-use Rattle.wot_packet.proofs.Looping.{one_more, all_read, fault_here}
+use Rattle.wot_packet.proofs.PacketByPacket.{one_more, all_read, fault_here}
 use Rattle.wot_packet.proofs.read.read_packets.Goals as goal
 use Rattle.wot_packet.proofs.read.read_packets.Goals.{After-drop-packets}
 

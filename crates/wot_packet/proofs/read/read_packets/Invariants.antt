@@ -1,5 +1,5 @@
 use Rattle.std.proofs.Common.{length, ◌-◌}
-use Rattle.wot_packet.proofs.Looping.{ReadSoFar}
+use Rattle.wot_packet.proofs.PacketByPacket.{ReadSoFar}
 use Rattle.wot_packet.proofs.read.read_packets.Given as goal
 
 abbrev pub invariant-packets : goal.invariant-packets

@@ -1,4 +1,4 @@
-use Rattle.wot_pattern.proofs.Telling.{matching_tells}
+use Rattle.wot_pattern.proofs.MatchesMeaning.{matching_tells}
 use Rattle.wot_pattern.proofs.laws.matching_is_told.Goals as goal
 
 pub returns : goal.returns

@@ -1,4 +1,4 @@
-use Rattle.wot_pattern.proofs.Deciding.{reading_says, reading_told}
+use Rattle.wot_pattern.proofs.RelationsDecided.{reading_says, reading_told}
 use Rattle.wot_pattern.proofs.laws.reading_is_told.Goals as goal
 
 pub returns : goal.returns

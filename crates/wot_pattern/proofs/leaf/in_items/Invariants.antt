@@ -1,5 +1,5 @@
 use Rattle.std.proofs.Common.{◌≡◌, drop}
-use Rattle.wot_pattern.specs.Passes.{in_items}
+use Rattle.wot_pattern.specs.MeaningTest.{in_items}
 use Rattle.wot_pattern.proofs.leaf.in_items.Given as goal
 
 abbrev pub invariant-loop-item : goal.invariant-loop-item

@@ -1,5 +1,5 @@
 use Rattle.wot_run_law.proofs.Reached.{reached_can_be}
-use Rattle.wot_question_law.proofs.Leading.{check_replied}
+use Rattle.wot_question_law.proofs.ProofsRestOnLeads.{check_replied}
 use Rattle.wot_question_law.proofs.laws.checks_rest_on_slices.Goals as goal
 
 pub returns : goal.returns

@@ -1,5 +1,5 @@
 use Rattle.wot_cache.specs.Question.{question_in}
-use Rattle.wot_question_law.proofs.Claiming.{told_accepted, yes_spent}
+use Rattle.wot_question_law.proofs.ClaimsAccepted.{told_accepted, yes_spent}
 use Rattle.wot_question_law.proofs.laws.claims_of_absence_hold.Goals as goal
 
 pub returns-clause-accepted : goal.returns-clause-accepted

@@ -1,4 +1,4 @@
-use Rattle.wot_scope.proofs.Deciding.{scope_told}
+use Rattle.wot_scope.proofs.ScopeDecided.{scope_told}
 use Rattle.wot_scope.proofs.laws.scope_is_told.Goals as goal
 
 pub returns : goal.returns

@@ -1,5 +1,5 @@
 use Rattle.std.proofs.Common.{◌∷◌}
-use Rattle.wot_script.proofs.Pieced.{none_put}
+use Rattle.wot_words.proofs.Pieced.{none_put}
 use Rattle.wot_script.proofs.claims.put_others.Goals as goal
 
 pub returns-in-Err : goal.returns-in-Err

@@ -1,6 +1,6 @@
 use Rattle.std.proofs.Common.{take, vec_capacity, ◌∷◌}
 use Rattle.std.specs.List.{flat_map}
-use Rattle.wot_script.proofs.Pieced.{PutSoFar}
+use Rattle.wot_words.proofs.Pieced.{PutSoFar}
 use Rattle.wot_script.proofs.claims.put_others.Given as goal
 
 abbrev pub invariant-loop-item : goal.invariant-loop-item

@@ -1,5 +1,5 @@
 use Rattle.std.proofs.Common.{sym, ◌∙◌, arith}
-use Rattle.wot_script.proofs.Cutting.{cut_short}
+use Rattle.wot_words.proofs.FirstSeparator.{cut_short}
 use Rattle.wot_script.proofs.Items.{last_read, none_read, none_read_last, one_read}
 use Rattle.wot_script.proofs.claims.read_items.Goals as goal
 

@@ -1,4 +1,4 @@
-use Rattle.wot_script.proofs.Pieced.{none_put}
+use Rattle.wot_words.proofs.Pieced.{none_put}
 use Rattle.wot_script.proofs.lines.put_lines.Goals as goal
 
 pub returns-in-Err : goal.returns-in-Err

@@ -1,4 +1,4 @@
-use Rattle.wot_script.proofs.OneLine.{length-view_name}
+use Rattle.wot_words.proofs.LineParts.{length-view_name}
 use Rattle.wot_script.proofs.short.names_fit.Goals as goal
 
 pub returns : goal.returns

@@ -1,7 +1,7 @@
 use Rattle.std.proofs.Common.{arith, refl}
 use Rattle.std.specs.Prelude.{codes}
-use Rattle.wot_script.proofs.OneLine.{fpr_digits}
-use Rattle.wot_script.proofs.Spaceless.{lacks_from_test, lacks_test}
+use Rattle.wot_words.proofs.LineParts.{fpr_digits}
+use Rattle.wot_words.proofs.Spaceless.{lacks_from_test, lacks_test}
 use Rattle.wot_script.proofs.spelled.entry_is_read.Goals as goal
 
 pub returns-in-Cert : goal.returns-in-Cert

@@ -1,8 +1,8 @@
 use Rattle.wot_types.specs.Fpr.{digits_of, octets_of}
 use Rattle.std.specs.Fmt.{decimal}
-use Rattle.wot_script.specs.Uid.{escaped}
+use Rattle.wot_words.specs.Uid.{escaped}
 use Rattle.wot_script.proofs.Readings.{question_reads}
-use Rattle.wot_script.proofs.Spaceless.{spaceless_decimal, spaceless_digits}
+use Rattle.wot_words.proofs.Spaceless.{spaceless_decimal, spaceless_digits}
 use Rattle.wot_script.proofs.spelled.question_is_read.Goals as goal
 
 pub returns-clause-read : goal.returns-clause-read

@@ -1,33 +1,32 @@
 use Rattle.std.proofs.Common.{arith}
 use Rattle.wot_types.specs.Fpr.{digits_of, octets_of}
-use Rattle.wot_types.specs.SigNumber.{number_digits}
 use Rattle.std.specs.Fmt.{decimal}
-use Rattle.hex.specs.Hex.{encode_lower}
 use Rattle.wot_script.specs.Claims.{IsClaimSpelled, claim_text, field_text, label_text}
 use Rattle.wot_script.proofs.ClaimTexts.{claims_field, labels_field}
 use Rattle.wot_script.specs.Spelling.{entry_text, question_parts, spelling}
-use Rattle.wot_script.specs.Texts.{joined}
+use Rattle.wot_words.specs.Texts.{joined}
 use Rattle.wot_script.specs.declared.read.Question.{Question}
-use Rattle.wot_script.specs.Uid.{escaped}
-use Rattle.wot_script.proofs.Spaceless.{spaceless_digits}
-use Rattle.wot_script.proofs.Readings.{absence_reads, ask_reads, bad_reads, check_reads, close_reads, drop_reads}
-use Rattle.wot_script.proofs.Readings.{dump_reads, explain_reads, export_reads, good_reads, import_reads, keys_reads}
-use Rattle.wot_script.proofs.Readings.{list_reads, load_reads, none_reads, pending_reads, question, root_reads}
-use Rattle.wot_script.proofs.Readings.{store_reads, time_reads, end_reads, next_reads, over_reads, off_reads, on_reads}
-use Rattle.wot_script.proofs.OneLine.{absence_line, ask_line, bad_line, check_line, close_line, dump_line, explain_line}
-use Rattle.wot_script.proofs.OneLine.{export_line, fpr_digits, good_line, import_line, keys_line, list_line, load_line}
-use Rattle.wot_script.proofs.OneLine.{name_is, number_digits_are, numeral, pending_line, remove_line, root_line}
-use Rattle.wot_script.proofs.OneLine.{store_line, time_line, unjudge_line, end_line, next_line, over_line, off_line}
+use Rattle.wot_words.specs.Uid.{escaped}
+use Rattle.wot_words.proofs.Spaceless.{spaceless_digits}
+use Rattle.wot_words.specs.StateLine.{IsPrinted}
+use Rattle.wot_words.specs.declared.state_line.StateLine.TheVariants as lines
+use Rattle.wot_words.proofs.LineParts.{fpr_digits, name_is, numeral}
+use Rattle.wot_words.proofs.StateLines.{bad_printed, close_printed, good_printed, import_printed, root_printed}
+use Rattle.wot_words.proofs.StateLines.{time_printed, unjudge_printed}
+use Rattle.wot_script.proofs.Readings.{absence_reads, ask_reads, check_reads, drop_reads, explain_reads, export_reads}
+use Rattle.wot_script.proofs.Readings.{list_reads, load_reads, question, set_reads, store_reads, end_reads, next_reads}
+use Rattle.wot_script.proofs.Readings.{over_reads, off_reads, on_reads}
+use Rattle.wot_script.proofs.OneLine.{absence_line, ask_line, check_line, explain_line, export_line, list_line}
+use Rattle.wot_script.proofs.OneLine.{load_line, remove_line, store_line, end_line, next_line, over_line, off_line}
 use Rattle.wot_script.proofs.OneLine.{on_line}
 use Rattle.wot_script.proofs.spelled.spelling_is_read.Goals as goal
 
 pub returns-in-Import : goal.returns-in-Import
 unfolding spelling
-returns-in-Import c = rw c.in-Import.is (record {
-  read = import_reads (encode_lower c.in-Import.octets) c.in-Import.octets
-      (rw c.items.ensures.whole at c.hex_is_read.ensures);
-  line = import_line c.in-Import.octets;
-})
+returns-in-Import c =
+    let p : IsPrinted (lines.Import c.in-Import.octets) =
+    import_printed c.in-Import.octets (rw c.items.ensures.whole at c.hex_is_read.ensures) in
+    rw c.in-Import.is (record { read = set_reads (lines.Import c.in-Import.octets) p.read; line = p.one_line })
 
 pub returns-in-Load : goal.returns-in-Load
 unfolding spelling
@@ -55,59 +54,47 @@ returns-in-Remove c = rw c.in-Remove.is (record {
 
 pub returns-in-Good : goal.returns-in-Good
 unfolding spelling
-returns-in-Good c = rw c.in-Good.is (record {
-  read = good_reads (number_digits c.in-Good.number) (digits_of c.in-Good.fpr) c.in-Good.number c.in-Good.fpr
-      (spaceless_digits c.in-Good.number.0) c.printed_is_read-in-Good.ensures.read_back
-      c.printed_is_read-in-Good-2.ensures.read_back;
-  line = good_line c.in-Good.number c.in-Good.fpr (number_digits c.in-Good.number) (digits_of c.in-Good.fpr)
-      (number_digits_are c.in-Good.number c.printed_is_read-in-Good.ensures.read_back)
-      (fpr_digits c.in-Good.fpr c.printed_is_read-in-Good-2.ensures.read_back);
-})
+returns-in-Good c =
+    let p : IsPrinted (lines.Good c.in-Good.number c.in-Good.fpr) =
+    good_printed c.in-Good.number c.in-Good.fpr c.printed_is_read-in-Good.ensures.read_back
+    c.printed_is_read-in-Good-2.ensures.read_back in
+    rw c.in-Good.is (record { read = set_reads (lines.Good c.in-Good.number c.in-Good.fpr) p.read; line = p.one_line })
 
 pub returns-in-Bad : goal.returns-in-Bad
 unfolding spelling
-returns-in-Bad c = rw c.in-Bad.is (record {
-  read = bad_reads (number_digits c.in-Bad.number) c.in-Bad.number (spaceless_digits c.in-Bad.number.0)
-      c.printed_is_read-in-Bad.ensures.read_back;
-  line = bad_line c.in-Bad.number (number_digits c.in-Bad.number)
-      (number_digits_are c.in-Bad.number c.printed_is_read-in-Bad.ensures.read_back);
-})
+returns-in-Bad c =
+    let p : IsPrinted (lines.Bad c.in-Bad.number) =
+    bad_printed c.in-Bad.number c.printed_is_read-in-Bad.ensures.read_back in
+    rw c.in-Bad.is (record { read = set_reads (lines.Bad c.in-Bad.number) p.read; line = p.one_line })
 
 pub returns-in-Unjudge : goal.returns-in-Unjudge
 unfolding spelling
-returns-in-Unjudge c = rw c.in-Unjudge.is (record {
-  read = none_reads (number_digits c.in-Unjudge.number) c.in-Unjudge.number (spaceless_digits c.in-Unjudge.number.0)
-      c.printed_is_read-in-Unjudge.ensures.read_back;
-  line = unjudge_line c.in-Unjudge.number (number_digits c.in-Unjudge.number)
-      (number_digits_are c.in-Unjudge.number c.printed_is_read-in-Unjudge.ensures.read_back);
-})
+returns-in-Unjudge c =
+    let p : IsPrinted (lines.Unjudge c.in-Unjudge.number) =
+    unjudge_printed c.in-Unjudge.number c.printed_is_read-in-Unjudge.ensures.read_back in
+    rw c.in-Unjudge.is (record { read = set_reads (lines.Unjudge c.in-Unjudge.number) p.read; line = p.one_line })
 
 pub returns-in-Time : goal.returns-in-Time
 unfolding spelling
-returns-in-Time c = rw c.in-Time.is (record {
-  read = time_reads c.in-Time.view (decimal c.in-Time.t) c.in-Time.t c.octets-name.ensures.name
-      c.decimal_is_read.ensures;
-  line = time_line c.in-Time.view c.in-Time.t (decimal c.in-Time.t) (name_is c.in-Time.view c.octets-name.ensures.name)
-      (numeral c.in-Time.t (omega arith));
-})
+returns-in-Time c =
+    let p : IsPrinted (lines.Time c.in-Time.view c.in-Time.t) =
+    time_printed c.in-Time.view c.in-Time.t c.octets-name.ensures.name c.decimal_is_read.ensures (omega arith) in
+    rw c.in-Time.is (record { read = set_reads (lines.Time c.in-Time.view c.in-Time.t) p.read; line = p.one_line })
 
 pub returns-in-Root : goal.returns-in-Root
 unfolding spelling
-returns-in-Root c = rw c.in-Root.is (record {
-  read = root_reads c.in-Root.view (digits_of c.in-Root.fpr) (decimal c.in-Root.amount) c.in-Root.fpr c.in-Root.amount
-      c.octets-name-in-Root.ensures.name (spaceless_digits (octets_of c.in-Root.fpr))
-      c.printed_is_read-in-Root.ensures.read_back (rw c.from.ensures at c.decimal_is_read-in-Root.ensures);
-  line = root_line c.in-Root.view c.in-Root.fpr c.in-Root.amount (digits_of c.in-Root.fpr) (decimal c.in-Root.amount)
-      (name_is c.in-Root.view c.octets-name-in-Root.ensures.name)
-      (fpr_digits c.in-Root.fpr c.printed_is_read-in-Root.ensures.read_back) (numeral c.in-Root.amount (omega arith));
-})
+returns-in-Root c =
+    let p : IsPrinted (lines.Root c.in-Root.view c.in-Root.fpr c.in-Root.amount) =
+    root_printed c.in-Root.view c.in-Root.fpr c.in-Root.amount c.octets-name-in-Root.ensures.name
+    c.printed_is_read-in-Root.ensures.read_back (rw c.from.ensures at c.decimal_is_read-in-Root.ensures) (omega arith) in
+    rw c.in-Root.is (record { read = set_reads (lines.Root c.in-Root.view c.in-Root.fpr c.in-Root.amount) p.read; line = p.one_line })
 
 pub returns-in-Close : goal.returns-in-Close
 unfolding spelling
-returns-in-Close c = rw c.in-Close.is (record {
-  read = close_reads c.in-Close.view c.name_is_valid.ensures;
-  line = close_line c.in-Close.view (name_is c.in-Close.view c.name_is_valid.ensures);
-})
+returns-in-Close c =
+    let p : IsPrinted (lines.Close c.in-Close.view) =
+    close_printed c.in-Close.view c.name_is_valid.ensures in
+    rw c.in-Close.is (record { read = set_reads (lines.Close c.in-Close.view) p.read; line = p.one_line })
 
 pub returns-in-Ask : goal.returns-in-Ask
 unfolding spelling
@@ -141,33 +128,12 @@ returns-in-Explain c = rw c.in-Explain.is (record {
       (fpr_digits c.in-Explain.fpr c.printed_is_read-in-Explain.ensures.read_back);
 })
 
-pub returns-in-Pending : goal.returns-in-Pending
-unfolding spelling
-returns-in-Pending c = rw c.in-Pending.is (record {
-  read = pending_reads;
-  line = pending_line;
-})
-
-pub returns-in-Keys : goal.returns-in-Keys
-unfolding spelling
-returns-in-Keys c = rw c.in-Keys.is (record {
-  read = keys_reads;
-  line = keys_line;
-})
-
 pub returns-in-Export : goal.returns-in-Export
 unfolding spelling
 returns-in-Export c = rw c.in-Export.is (record {
   read = export_reads (digits_of c.in-Export.fpr) c.in-Export.fpr c.printed_is_read-in-Export.ensures.read_back;
   line = export_line c.in-Export.fpr (digits_of c.in-Export.fpr)
       (fpr_digits c.in-Export.fpr c.printed_is_read-in-Export.ensures.read_back);
-})
-
-pub returns-in-Dump : goal.returns-in-Dump
-unfolding spelling
-returns-in-Dump c = rw c.in-Dump.is (record {
-  read = dump_reads;
-  line = dump_line;
 })
 
 pub returns-in-Absence : goal.returns-in-Absence

@@ -3,15 +3,15 @@ use Rattle.wot_edge.specs.declared.path.Path.{Path}
 use Rattle.wot_edge.specs.Path.{asks}
 use Rattle.wot_edge.specs.Answer.{IsNextOrSpent}
 use Rattle.wot_edge.specs.Sums.{use_in}
-use Rattle.wot_search.specs.Growth.{IsResult}
+use Rattle.wot_layer.specs.Growth.{IsResult}
 use Rattle.wot_search.specs.Offers.{first_path}
-use Rattle.wot_search.specs.Reach.{number_at}
+use Rattle.wot_reach.specs.Reach.{number_at}
 use Rattle.wot_search.proofs.Ahead.{is_next_amount}
-use Rattle.wot_search.proofs.Nexting.{spent_next, unordered_next}
+use Rattle.wot_search.proofs.NextOfTwo.{spent_next, unordered_next}
 use Rattle.wot_search.proofs.OfRoots.{found_offers}
-use Rattle.wot_search.proofs.Opening.{next_first, next_offers}
-use Rattle.wot_search.proofs.Rooted.{widest_quest}
-use Rattle.wot_search.proofs.Within.{reach_holds}
+use Rattle.wot_search.proofs.TakenOffer.{next_first, next_offers}
+use Rattle.wot_layer.proofs.Rooted.{widest_quest}
+use Rattle.wot_reach.proofs.Within.{reach_holds}
 use Rattle.wot_search.proofs.below.search_below.Goals as goal
 
 pub returns-in-None-clause-next : goal.returns-in-None-clause-next

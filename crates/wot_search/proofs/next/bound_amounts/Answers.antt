@@ -1,4 +1,4 @@
-use Rattle.wot_search.proofs.Nexting.{amounts_small}
+use Rattle.wot_search.proofs.NextOfTwo.{amounts_small}
 use Rattle.wot_search.proofs.next.bound_amounts.Goals as goal
 
 pub returns : goal.returns

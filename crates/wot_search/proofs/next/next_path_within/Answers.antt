@@ -3,12 +3,12 @@ use Rattle.wot_edge.specs.declared.path.Path.{Path}
 use Rattle.wot_edge.specs.Path.{asks}
 use Rattle.wot_edge.specs.Record.{Has}
 use Rattle.wot_edge.specs.Sums.{use_in}
-use Rattle.wot_search.specs.Growth.{IsResult, IsLookedBy}
-use Rattle.wot_search.specs.Reach.{number_at}
-use Rattle.wot_search.proofs.Layers.{looked_grows}
-use Rattle.wot_search.proofs.Nexting.{both_next, both_local, spent_next, spent_local, unordered_next, unordered_local}
-use Rattle.wot_search.proofs.Rooted.{widest_quest}
-use Rattle.wot_search.proofs.Within.{reach_holds}
+use Rattle.wot_layer.specs.Growth.{IsResult, IsLookedBy}
+use Rattle.wot_reach.specs.Reach.{number_at}
+use Rattle.wot_layer.proofs.Layers.{looked_grows}
+use Rattle.wot_search.proofs.NextOfTwo.{both_next, both_local, spent_next, spent_local, unordered_next, unordered_local}
+use Rattle.wot_layer.proofs.Rooted.{widest_quest}
+use Rattle.wot_reach.proofs.Within.{reach_holds}
 use Rattle.wot_search.proofs.next.next_path_within.Goals as goal
 
 pub returns-in-None-clause-next : goal.returns-in-None-clause-next

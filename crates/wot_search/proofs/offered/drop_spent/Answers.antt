@@ -1,7 +1,7 @@
 use Rattle.std.proofs.Common.{ap, sym, subst, ◌∙◌}
 use Rattle.wot_edge.specs.Sums.{use_in}
 use Rattle.wot_search.specs.Offers.{AreOffers, is_first_spent}
-use Rattle.wot_search.proofs.Opening.{dropped}
+use Rattle.wot_search.proofs.TakenOffer.{dropped}
 use Rattle.wot_search.proofs.offered.drop_spent.Goals as goal
 
 pub spent-preserved : goal.spent-preserved

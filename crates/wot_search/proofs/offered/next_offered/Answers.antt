@@ -2,7 +2,7 @@ use Rattle.std.proofs.Common.{inl, ap, sym, subst, ◌∙◌}
 use Rattle.wot_edge.specs.Path.{asks}
 use Rattle.wot_edge.specs.Sums.{use_in}
 use Rattle.wot_search.specs.Offers.{AreOffers, IsNextIfSome, first_path}
-use Rattle.wot_search.proofs.Opening.{next_first, next_offers}
+use Rattle.wot_search.proofs.TakenOffer.{next_first, next_offers}
 use Rattle.wot_search.proofs.offered.next_offered.Goals as goal
 
 pub returns-clause-local : goal.returns-clause-local

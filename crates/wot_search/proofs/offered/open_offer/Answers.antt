@@ -1,7 +1,7 @@
 use Rattle.std.proofs.Common.{◌≡◌, true, sym, ◌∙◌, arith}
 use Rattle.wot_edge.specs.Sums.{use_in}
 use Rattle.wot_search.specs.Offers.{is_left}
-use Rattle.wot_search.proofs.Opening.{opened}
+use Rattle.wot_search.proofs.TakenOffer.{opened}
 use Rattle.wot_search.proofs.offered.open_offer.Goals as goal
 
 pub returns : goal.returns

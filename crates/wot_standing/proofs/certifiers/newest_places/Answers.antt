@@ -2,13 +2,13 @@ use Rattle.std.proofs.Common.{◌≡◌, ◌++◌, ◌∷◌, ap, sym, ◌∙◌
 use Rattle.std.proofs.lemmas.List.{nil_from_length}
 use Rattle.std.specs.Prelude.{filter}
 use Rattle.wot_types.specs.PlainLaws.{seam}
-use Rattle.wot_cert.specs.Ranked.{greatest}
+use Rattle.wot_part.specs.Ranked.{greatest}
 use Rattle.wot_cert.specs.Time.{newness}
 use Rattle.wot_standing.specs.declared.kinds.Binding.TheVariants.{Certification}
 use Rattle.wot_standing.specs.Certifiers.{newer_by}
 use Rattle.wot_standing.specs.Latest.{revoked_at, is_valid_after}
-use Rattle.wot_standing.proofs.Certifying.{greatest_more}
-use Rattle.wot_standing.proofs.Revoking.{newest-latest}
+use Rattle.wot_standing.proofs.NumbersByIssuer.{greatest_more}
+use Rattle.wot_standing.proofs.RevokedByNumber.{newest-latest}
 use Rattle.wot_standing.proofs.certifiers.newest_places.Goals as goal
 
 pub back-preserved : goal.back-preserved

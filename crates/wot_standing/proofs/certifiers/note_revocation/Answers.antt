@@ -1,7 +1,7 @@
 use Rattle.std.proofs.Common.{ℕ, Option, Some, sym}
 use Rattle.wot_types.specs.declared.fpr.Fpr.{Fpr}
 use Rattle.wot_standing.specs.Certifiers.{later_by, number_for}
-use Rattle.wot_standing.proofs.Certifying.{changed, none_later, others_later, is_later}
+use Rattle.wot_standing.proofs.NumbersByIssuer.{changed, none_later, others_later, is_later}
 use Rattle.wot_standing.proofs.certifiers.note_revocation.Goals as goal
 
 pub returns-in_default : goal.returns-in_default

@@ -1,8 +1,8 @@
 use Rattle.std.proofs.Common.{sym}
-use Rattle.wot_cert.specs.Certificate.{said_by}
+use Rattle.wot_part.specs.Certificate.{said_by}
 use Rattle.wot_verdict.specs.Verdicts.{verdict_at}
 use Rattle.wot_cert.specs.Issuer.{good_by}
-use Rattle.wot_standing.proofs.Naming.{not_by}
+use Rattle.wot_standing.proofs.OtherIssuerNamed.{not_by}
 use Rattle.wot_standing.proofs.kinds.counts.Goals as goal
 
 pub returns-then-not-may_be_by : goal.returns-then-not-may_be_by

@@ -1,4 +1,4 @@
-use Rattle.wot_standing.proofs.Counting.{only_counting}
+use Rattle.wot_standing.proofs.CountsAsIssuer.{only_counting}
 use Rattle.wot_standing.proofs.laws.certifications_count.Goals as goal
 
 pub returns : goal.returns

@@ -1,9 +1,9 @@
 use Rattle.std.proofs.Common.{◌∙◌, ap}
 use Rattle.std.specs.Prelude.{filter}
-use Rattle.wot_cert.specs.Ranked.{greatest}
+use Rattle.wot_part.specs.Ranked.{greatest}
 use Rattle.wot_cert.specs.Time.{newness}
 use Rattle.wot_standing.specs.Latest.{is_valid_after}
-use Rattle.wot_standing.proofs.Revoking.{newest-latest}
+use Rattle.wot_standing.proofs.RevokedByNumber.{newest-latest}
 use Rattle.wot_standing.proofs.newest.newest_valid.Goals as goal
 
 pub returns : goal.returns

@@ -1,6 +1,6 @@
 use Rattle.std.proofs.Common.{sym}
 use Rattle.wot_subpacket.specs.Seen.{seen}
-use Rattle.wot_subpacket.proofs.Reading.{decided_more, decided_at_end, subpackets-err, behind_is_shorter}
+use Rattle.wot_subpacket.proofs.ReadFromStart.{decided_more, decided_at_end, subpackets-err, behind_is_shorter}
 use Rattle.wot_subpacket.proofs.area.check.Goals as goal
 
 pub walk-preserved : goal.walk-preserved

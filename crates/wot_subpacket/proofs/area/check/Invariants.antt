@@ -1,5 +1,5 @@
 use Rattle.std.proofs.Common.{length}
-use Rattle.wot_subpacket.proofs.Reading.{Decided}
+use Rattle.wot_subpacket.proofs.ReadFromStart.{Decided}
 use Rattle.wot_subpacket.proofs.area.check.Given as goal
 
 abbrev pub invariant-walk : goal.invariant-walk

@@ -1,5 +1,5 @@
 use Rattle.std.proofs.Common.{ℕ, ap, ◌∙◌}
-use Rattle.wot_keyring.specs.Keyring.{Keyring, certificates_in}
+use Rattle.wot_held.specs.Keyring.{Keyring, certificates_in}
 use Rattle.wot_network.specs.Roads.{present_of}
 use Rattle.wot_network.specs.Told.{record_of}
 use Rattle.wot_test_engine.proofs.explain.explained.Goals as goal

@@ -1,5 +1,5 @@
 use Rattle.wot_policy.specs.Kept.{IsFaithful, rows_of}
-use Rattle.wot_keyring.specs.Kept.{IsJudgedBy}
+use Rattle.wot_held.specs.Kept.{IsJudgedBy}
 use Rattle.wot_test_engine.proofs.keyring.import_all.Given as goal
 
 abbrev pub invariant-loop-packets : goal.invariant-loop-packets

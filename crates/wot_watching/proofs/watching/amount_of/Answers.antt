@@ -2,8 +2,8 @@ use Rattle.std.proofs.Common.{ap, arith}
 use Rattle.std.specs.Prelude.{is_ok}
 use Rattle.wot_cache.specs.State.{state_of}
 use Rattle.wot_cache.specs.Views.{view_at}
-use Rattle.wot_step.proofs.Making.{refreshed_as, refreshed_fault, refreshed_unopened}
-use Rattle.wot_watching.proofs.Settling.{sum_has}
+use Rattle.wot_step.proofs.EdgesMadeByLine.{refreshed_as, refreshed_fault, refreshed_unopened}
+use Rattle.wot_watching.proofs.WatchesSettled.{sum_has}
 use Rattle.wot_watching.proofs.watching.amount_of.Goals as goal
 
 pub returns-in-Ok-clause-amount : goal.returns-in-Ok-clause-amount

@@ -1,6 +1,6 @@
 use Rattle.wot_cache.specs.Basis.{Basis}
 use Rattle.wot_watching.specs.Settled.{AllSettled}
-use Rattle.wot_watching.proofs.Settling.{all_carried, nothing_told}
+use Rattle.wot_watching.proofs.WatchesSettled.{all_carried, nothing_told}
 use Rattle.wot_watching.proofs.watching.are_settled.Goals as goal
 
 pub returns-then-stands-clause-quiet : goal.returns-then-stands-clause-quiet

@@ -7,7 +7,7 @@ use Rattle.wot_cache.specs.declared.view.View.{View}
 use Rattle.wot_cursor.specs.Cursors.{Cursors}
 use Rattle.wot_step.specs.Watching.{Opens}
 use Rattle.wot_step.proofs.Faults.{refreshed_refused, unopened}
-use Rattle.wot_step.proofs.Making.{refreshed_as}
+use Rattle.wot_step.proofs.EdgesMadeByLine.{refreshed_as}
 use Rattle.wot_step.proofs.Results.{if_ok}
 use Rattle.wot_step.proofs.Watched.{opens_answered}
 use Rattle.wot_watching.proofs.watching.on.Goals as goal

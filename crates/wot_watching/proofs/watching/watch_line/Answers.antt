@@ -1,5 +1,5 @@
 use Rattle.std.proofs.Common.{refl}
-use Rattle.wot_watching.proofs.Asking.{made_for}
+use Rattle.wot_watching.proofs.WatchEdges.{made_for}
 use Rattle.wot_watching.proofs.watching.watch_line.Goals as goal
 
 pub returns-then-amount-told-clause-makes : goal.returns-then-amount-told-clause-makes

@@ -6,10 +6,10 @@ use Rattle.wot_cache.specs.State.{State, state_of}
 use Rattle.wot_watch.specs.Watches.{Watch, Watches}
 use Rattle.wot_watching.specs.Settled.{IsSettled}
 use Rattle.wot_step.specs.Watching.{IsLine, IsWatchLine}
-use Rattle.wot_watching.proofs.Asking.{MakesSoFar, never_ok, so_far_done, so_far_failed, so_far_more}
-use Rattle.wot_step.proofs.Making.{same_state}
-use Rattle.wot_watching.proofs.Settling.{SettlesSoFar, all_later, present_grown, settled_before, settles_all}
-use Rattle.wot_watching.proofs.Settling.{settles_not, settles_still, stays_back}
+use Rattle.wot_watching.proofs.WatchEdges.{MakesSoFar, never_ok, so_far_done, so_far_failed, so_far_more}
+use Rattle.wot_step.proofs.EdgesMadeByLine.{same_state}
+use Rattle.wot_watching.proofs.WatchesSettled.{SettlesSoFar, all_later, present_grown, settled_before, settles_all}
+use Rattle.wot_watching.proofs.WatchesSettled.{settles_not, settles_still, stays_back}
 use Rattle.wot_step.proofs.Watched.{AreSoFar, all_more, line_is_watch, so_far_all, so_far_line, so_far_still}
 use Rattle.wot_watching.proofs.watching.watch_lines.Goals as goal
 

@@ -3,8 +3,8 @@ use Rattle.std.specs.List.{AllByRecursion}
 use Rattle.wot_cache.specs.Basis.{IsPresent}
 use Rattle.wot_cache.specs.State.{StaysButMarks, state_of}
 use Rattle.wot_step.specs.Watching.{IsWatchLine}
-use Rattle.wot_watching.proofs.Asking.{MakesSoFar}
-use Rattle.wot_watching.proofs.Settling.{SettlesSoFar}
+use Rattle.wot_watching.proofs.WatchEdges.{MakesSoFar}
+use Rattle.wot_watching.proofs.WatchesSettled.{SettlesSoFar}
 use Rattle.wot_step.proofs.Watched.{AreSoFar}
 use Rattle.wot_watching.proofs.watching.watch_lines.Given as goal
 

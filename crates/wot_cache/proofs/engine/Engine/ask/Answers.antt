@@ -1,10 +1,14 @@
-use Rattle.std.proofs.Common.{Ok, refl}
+use Rattle.std.proofs.Common.{Ok, refl, sym, subst}
 use Rattle.std.proofs.lemmas.Result.{err_from_is_err_and}
-use Rattle.wot_cache.specs.Marks.{marks_in}
+use Rattle.wot_held.specs.Keyring.{Keyring}
+use Rattle.wot_kept.specs.Answers.{AreAllRight}
+use Rattle.wot_cache.specs.Marks.{end_in}
 use Rattle.wot_cache.specs.Views.{view_at}
-use Rattle.wot_cache.proofs.Asking.{few_seen, if_ok, if_some, present_seen, right_kept, right_seen, seen_after}
-use Rattle.wot_cache.proofs.Asking.{told_seen}
-use Rattle.wot_cache.proofs.Marking.{answered_open, engine_after, err_less, left, made_as}
+use Rattle.wot_cache.proofs.PartsAnswer.{few_seen, present_seen, right_kept, right_seen, seen_after}
+use Rattle.wot_kept.specs.CaseLaws.{if_ok, if_some}
+use Rattle.wot_cache.proofs.PartsAnswer.{told_seen}
+use Rattle.wot_cache.proofs.ConsultsLeads.{consulted, keeps_itself}
+use Rattle.wot_cache.proofs.OpenViewsMarks.{answered_open, engine_after, err_less, left, made_as}
 use Rattle.wot_cache.proofs.engine.Engine.ask.Goals as goal
 
 pub answer-requires : goal.answer-requires
@@ -17,10 +21,12 @@ answer-requires c =
     c.self.view_is c.refresh.ensures.keyring
     c.refresh.ensures.views c.parts-parts.ensures.parts in
     record {
-      wanted = c.requires.wanted;
-      few = few_seen c.args.self.now k views c.self.inside.networked.networks.entries c.self.inside.answers.entries name
-          p c.self.view_is c.self.invariant seen;
-      present = present_seen c.args.self.now name p seen;
+      askable = record {
+        wanted = c.requires.wanted;
+        few = few_seen c.args.self.now k views c.self.inside.networked.networks.entries c.self.inside.answers.entries
+            name p c.self.view_is c.self.invariant seen;
+        present = present_seen c.args.self.now name p seen;
+      };
       lawful = c.parts-parts.ensures.lawful;
       right = right_seen c.args.self.now k views name p c.self.inside.answers.entries c.self.view_is seen
           c.self.invariant.right;
@@ -81,8 +87,8 @@ returns-clause-refreshed c =
     let name = c.args.view.now in
     let made = made_as (view_at c.self.inside.networked.views.entries name) (Ok tt) c.answer.result
     c.self.inside.networked.keyring
-    (marks_in c.self.inside.networked.networks.entries name) (marks_in c.refresh.new.self.networks.entries name)
-    c.args.steps.now.made c.refresh.new.steps.made
+    (end_in c.self.inside.networked.networks.entries name c.args.steps.now.made)
+    (end_in c.refresh.new.self.networks.entries name c.refresh.new.steps.made)
     (λ ok. refl) c.in_ok-refresh.ensures.made in
     left c.answer.result c.args.self.now c.self.inside.networked.keyring c.refresh.new.self.keyring
     c.self.inside.networked.views.entries
@@ -96,8 +102,9 @@ returns-in_err-refresh-clause-refreshed c =
     let p = err_from_is_err_and c.from_residual.result c.from_residual.ensures.1 in
     let made = made_as (view_at c.self.inside.networked.views.entries c.args.view.now) c.refresh.result
     c.from_residual.result
-    c.self.inside.networked.keyring (marks_in c.self.inside.networked.networks.entries c.args.view.now)
-    (marks_in c.refresh.new.self.networks.entries c.args.view.now) c.args.steps.now.made c.refresh.new.steps.made
+    c.self.inside.networked.keyring
+    (end_in c.self.inside.networked.networks.entries c.args.view.now c.args.steps.now.made)
+    (end_in c.refresh.new.self.networks.entries c.args.view.now c.refresh.new.steps.made)
     (err_less c.refresh.result c.from_residual.result p.0 p.1) c.refresh.ensures.made in
     left c.from_residual.result c.args.self.now c.self.inside.networked.keyring c.refresh.new.self.keyring
     c.self.inside.networked.views.entries
@@ -142,3 +149,28 @@ invariant_of-self-2 c =
           c.self.view_is c.refresh.ensures.keyring seen c.answer.ensures.right;
       turned = after.turned;
     }
+
+pub returns-clause-consulted : goal.returns-clause-consulted
+returns-clause-consulted c =
+    let name = c.args.view.now in
+    let k = c.self.inside.networked.keyring in
+    let views = c.self.inside.networked.views.entries in
+    let networks = c.self.inside.networked.networks.entries in
+    let p = c.parts-parts.result in
+    let seen = seen_after c.args.self.now k c.refresh.new.self.keyring views c.refresh.new.self.views.entries name p
+    c.self.view_is c.refresh.ensures.keyring
+    c.refresh.ensures.views c.parts-parts.ensures.parts in
+    consulted c.args.self.now k c.refresh.new.self.keyring views c.refresh.new.self.views.entries networks
+    c.refresh.new.self.networks.entries c.self.inside.answers.entries c.answer.new.answers.entries name c.self.view_is
+    (right_kept c.args.self.now k c.refresh.new.self.keyring views name p c.answer.new.answers.entries c.self.view_is
+    c.refresh.ensures.keyring seen c.answer.ensures.right) c.answer.ensures.others
+
+pub returns-in_err-refresh-clause-consulted : goal.returns-in_err-refresh-clause-consulted
+returns-in_err-refresh-clause-consulted c =
+    let k = c.self.inside.networked.keyring in
+    let answers = c.self.inside.answers.entries in
+    consulted c.args.self.now k c.refresh.new.self.keyring c.self.inside.networked.views.entries
+    c.refresh.new.self.views.entries c.self.inside.networked.networks.entries c.refresh.new.self.networks.entries
+    answers answers c.args.view.now c.self.view_is
+    (subst (λ (new : Keyring). AreAllRight new answers) (sym c.refresh.ensures.keyring) c.self.invariant.right)
+    (keeps_itself c.args.view.now answers)

@@ -1,5 +1,5 @@
 use Rattle.wot_policy.specs.Kept.{rows_of}
-use Rattle.wot_keyring.specs.Import.{importing}
+use Rattle.wot_held.specs.Import.{importing}
 use Rattle.wot_cache.proofs.Changes.{held_state}
 use Rattle.wot_cache.proofs.Inside.{engine_on}
 use Rattle.wot_cache.proofs.engine.Engine.load.Goals as goal

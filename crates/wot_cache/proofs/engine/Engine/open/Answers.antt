@@ -6,8 +6,8 @@ use Rattle.wot_cache.specs.State.{Engine}
 use Rattle.wot_cache.specs.Turns.{AreTurnsOf, IsOneTurn, Turns, turned}
 use Rattle.wot_cache.specs.Views.{Views, view_at}
 use Rattle.wot_cache.proofs.Inside.{opened_within}
-use Rattle.wot_cache.proofs.Marking.{opened_open}
-use Rattle.wot_cache.proofs.Turning.{opened_turns, opening}
+use Rattle.wot_cache.proofs.OpenViewsMarks.{opened_open}
+use Rattle.wot_cache.proofs.TurnsOfViews.{opened_turns, opening}
 use Rattle.wot_cache.proofs.engine.Engine.open.Goals as goal
 
 pub invariant_of-self-in-Ok : goal.invariant_of-self-in-Ok

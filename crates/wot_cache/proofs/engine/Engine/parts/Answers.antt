@@ -4,12 +4,12 @@ use Rattle.std.proofs.lemmas.Result.{err_from_is_err_and}
 use Rattle.wot_network.specs.Net.{signatures_in}
 use Rattle.wot_network.specs.Roads.{present_of}
 use Rattle.wot_cache.specs.declared.view.View.{View}
-use Rattle.wot_cache.specs.Marks.{marks_in}
+use Rattle.wot_cache.specs.Marks.{end_in}
 use Rattle.wot_cache.specs.Question.{IsLocalTo}
 use Rattle.wot_cache.specs.State.{Engine}
 use Rattle.wot_cache.specs.Views.{view_at}
-use Rattle.wot_cache.proofs.Asking.{few_seen, same_engine, seen_after}
-use Rattle.wot_cache.proofs.Marking.{engine_after, err_less, if_err, left, made_as}
+use Rattle.wot_cache.proofs.PartsAnswer.{few_seen, same_engine, seen_after}
+use Rattle.wot_cache.proofs.OpenViewsMarks.{engine_after, err_less, if_err, left, made_as}
 use Rattle.wot_cache.proofs.engine.Engine.parts.Goals as goal
 
 pub returns : goal.returns
@@ -24,8 +24,8 @@ returns c =
     name p c.self.view_is
     c.refresh.ensures.keyring c.refresh.ensures.views c.parts.ensures.parts in
     let made = made_as (view_at c.self.inside.networked.views.entries name) (Ok tt) _ c.self.inside.networked.keyring
-    (marks_in c.self.inside.networked.networks.entries name) (marks_in c.refresh.new.self.networks.entries name)
-    c.args.steps.now.made c.refresh.new.steps.made
+    (end_in c.self.inside.networked.networks.entries name c.args.steps.now.made)
+    (end_in c.refresh.new.self.networks.entries name c.refresh.new.steps.made)
     (λ ok. refl) c.in_ok-refresh.ensures.made in (
       (
         refl,
@@ -58,8 +58,9 @@ returns-in_err-refresh c =
     let p = err_from_is_err_and c.from_residual.result c.from_residual.ensures.1 in
     let made = made_as (view_at c.self.inside.networked.views.entries c.args.view.now) c.refresh.result
     c.from_residual.result
-    c.self.inside.networked.keyring (marks_in c.self.inside.networked.networks.entries c.args.view.now)
-    (marks_in c.refresh.new.self.networks.entries c.args.view.now) c.args.steps.now.made c.refresh.new.steps.made
+    c.self.inside.networked.keyring
+    (end_in c.self.inside.networked.networks.entries c.args.view.now c.args.steps.now.made)
+    (end_in c.refresh.new.self.networks.entries c.args.view.now c.refresh.new.steps.made)
     (err_less c.refresh.result c.from_residual.result p.0 p.1) c.refresh.ensures.made in (
       (
         refl,

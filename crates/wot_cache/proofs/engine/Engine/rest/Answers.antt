@@ -1,18 +1,17 @@
-use Rattle.wot_cache.proofs.Resting.{found_now, found_rests}
+use Rattle.wot_kept.specs.CaseLaws.{both_some}
+use Rattle.wot_cache.proofs.BasisStaysTrue.{found_now, found_rests}
 use Rattle.wot_cache.proofs.engine.Engine.rest.Goals as goal
 
-pub returns-in-Some-clause-sum : goal.returns-in-Some-clause-sum
-returns-in-Some-clause-sum c =
-    found_now c.args.self.now c.self.inside.networked.keyring c.self.inside.networked.views.entries
-    c.self.inside.networked.networks.entries c.self.inside.turns
-    c.self.view_is c.args.view.now c.args.target.now c.args.wanted c.args.uid.now c.in-Some.from.now
-    c.in-Some.ensures.found c.kept_sum.result c.kept_sum.new.basis
-    c.len-count.ensures.stamped c.kept_sum.ensures.rests
-
-pub returns-in-Some-clause-rests : goal.returns-in-Some-clause-rests
-returns-in-Some-clause-rests c =
-    found_rests c.args.self.now c.self.inside.networked.keyring c.self.inside.networked.views.entries
-    c.self.inside.networked.networks.entries c.self.inside.turns
-    c.self.view_is c.args.view.now c.args.target.now c.args.wanted c.args.uid.now c.in-Some.from.now
-    c.in-Some.ensures.found c.kept_sum.result c.args.basis.now c.kept_sum.new.basis
-    c.kept_sum.ensures.grown c.requires.present c.kept_sum.ensures.rests
+pub returns-in-Some-clause-rested : goal.returns-in-Some-clause-rested
+returns-in-Some-clause-rested c =
+    let k = c.self.inside.networked.keyring in
+    let views = c.self.inside.networked.views.entries in
+    let networks = c.self.inside.networked.networks.entries in
+    let asked = c.args.asked.now in
+    let now = found_now c.args.self.now k views networks c.self.inside.turns c.self.view_is c.args.view.now
+    asked.target.now asked.wanted asked.uid.now c.in-Some.from.now c.in-Some.ensures.found c.kept_sum.result
+    c.kept_sum.new.basis c.len-count.ensures.stamped c.kept_sum.ensures.rests in
+    let rests = found_rests c.args.self.now k views networks c.self.inside.turns c.self.view_is c.args.view.now
+    asked.target.now asked.wanted asked.uid.now c.in-Some.from.now c.in-Some.ensures.found c.kept_sum.result
+    c.args.basis.now c.kept_sum.new.basis c.kept_sum.ensures.grown c.requires.present c.kept_sum.ensures.rests in
+    both_some c.kept_sum.result _ _ _ (λ n sum rests. record { sum = sum; rests = rests }) now rests

@@ -1,8 +1,8 @@
 use Rattle.std.proofs.Common.{◌≡◌, ◌≢◌, Some, OnOk, sym, subst}
-use Rattle.wot_keyring.specs.Held.{verdict_set}
-use Rattle.wot_keyring.specs.Keyring.{verdict_on}
-use Rattle.wot_keyring.specs.Kept.{IsJudgedBy}
-use Rattle.wot_keyring.specs.Verdict.{with_verdict_on}
+use Rattle.wot_held.specs.Held.{verdict_set}
+use Rattle.wot_held.specs.Keyring.{verdict_on}
+use Rattle.wot_held.specs.Kept.{IsJudgedBy}
+use Rattle.wot_held.specs.Verdict.{with_verdict_on}
 use Rattle.wot_cache.specs.State.{Engine}
 use Rattle.wot_cache.proofs.Changes.{held_state}
 use Rattle.wot_cache.proofs.Inside.{engine_on}

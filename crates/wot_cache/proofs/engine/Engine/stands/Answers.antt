@@ -1,5 +1,5 @@
 use Rattle.std.proofs.Common.{◌∙◌}
-use Rattle.wot_cache.proofs.Resting.{carried_on, moved_now, stands_now, still_now}
+use Rattle.wot_cache.proofs.BasisStaysTrue.{carried_on, moved_now, stands_now, still_now}
 use Rattle.wot_cache.proofs.engine.Engine.stands.Goals as goal
 
 pub returns : goal.returns

@@ -3,8 +3,8 @@ use Rattle.wot_auth.specs.declared.answer.Answer.{Answer}
 use Rattle.wot_edge.specs.Answer.{IsAnswer}
 use Rattle.wot_cache.specs.Basis.{HasAmount}
 use Rattle.wot_cache.specs.Views.{view_at}
-use Rattle.wot_cache.proofs.Resting.{grown_itself, open_as, present_still, question_before, refreshed_as, rests_before}
-use Rattle.wot_cache.proofs.Resting.{stays_back}
+use Rattle.wot_cache.proofs.BasisStaysTrue.{grown_itself, open_as, present_still, question_before, refreshed_as, rests_before}
+use Rattle.wot_cache.proofs.BasisStaysTrue.{stays_back}
 use Rattle.wot_cache.proofs.engine.Engine.sum.Goals as goal
 
 pub rested-requires : goal.rested-requires
@@ -23,13 +23,13 @@ pub returns-in-Ok-clause-sum : goal.returns-in-Ok-clause-sum
 returns-in-Ok-clause-sum c =
     question_before (HasAmount c.args.wanted c.rested.result) c.args.self.now c.ask.new.self c.args.view.now
     c.args.target.now c.args.uid.now
-    c.ask.ensures.refreshed.stays c.rested.ensures.sum
+    c.ask.ensures.refreshed.stays c.rested.ensures.rested.sum
 
 pub returns-in-Ok-clause-rests : goal.returns-in-Ok-clause-rests
 returns-in-Ok-clause-rests c =
     rests_before c.args.self.now c.ask.new.self c.rested.new.basis c.args.view.now c.args.target.now c.args.wanted
     c.args.uid.now c.rested.result
-    c.ask.ensures.refreshed.stays c.rested.ensures.rests
+    c.ask.ensures.refreshed.stays c.rested.ensures.rested.rests
 
 pub returns-in-Ok-clause-refreshed : goal.returns-in-Ok-clause-refreshed
 returns-in-Ok-clause-refreshed c =

@@ -1,11 +1,12 @@
-use Rattle.wot_cache.proofs.Inside.{all_right_without, within_closed, fit_without}
-use Rattle.wot_cache.proofs.Marking.{closed_open, gone_itself, none_shown, others_left, others_marked}
+use Rattle.wot_kept.specs.RightLaws.{all_right_without}
+use Rattle.wot_cache.proofs.Inside.{within_closed, fit_without}
+use Rattle.wot_cache.proofs.OpenViewsMarks.{closed_open, gone_itself, none_shown, others_left, others_marked}
 use Rattle.std.proofs.Common.{rules, ◌≡◌, true, subst, sym}
 use Rattle.std.specs.Prelude.{is_some}
 use Rattle.wot_cache.specs.State.{Engine}
 use Rattle.wot_cache.specs.Turns.{IsOneClosing, Turns}
 use Rattle.wot_cache.specs.Views.{view_at}
-use Rattle.wot_cache.proofs.Turning.{closed_turns, closing}
+use Rattle.wot_cache.proofs.TurnsOfViews.{closed_turns, closing}
 use Rattle.wot_cache.proofs.engine.Engine.view_close.Goals as goal
 
 pub invariant_of-self : goal.invariant_of-self

@@ -6,8 +6,8 @@ use Rattle.wot_cache.specs.State.{Engine}
 use Rattle.wot_cache.specs.Turns.{AreTurnsOf, IsOneTurn, Turns}
 use Rattle.wot_cache.specs.Views.{view_at, root_fault}
 use Rattle.wot_cache.proofs.Inside.{set_within}
-use Rattle.wot_cache.proofs.Marking.{set_open}
-use Rattle.wot_cache.proofs.Turning.{rooted_turns, rooting}
+use Rattle.wot_cache.proofs.OpenViewsMarks.{set_open}
+use Rattle.wot_cache.proofs.TurnsOfViews.{rooted_turns, rooting}
 use Rattle.wot_cache.proofs.engine.Engine.view_root.Goals as goal
 
 pub invariant_of-self-2 : goal.invariant_of-self-2

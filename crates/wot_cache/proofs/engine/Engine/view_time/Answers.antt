@@ -6,8 +6,8 @@ use Rattle.wot_cache.specs.State.{Engine, ViewMarks}
 use Rattle.wot_cache.specs.Turns.{AreTurnsOf, IsOneTurn, Turns, turned}
 use Rattle.wot_cache.specs.Views.{MovesTime, is_name, view_at}
 use Rattle.wot_cache.proofs.Inside.{moved_within}
-use Rattle.wot_cache.proofs.Marking.{moved_open, unmarked}
-use Rattle.wot_cache.proofs.Turning.{equal_there, moved_turns, moving, other_there, time_kept}
+use Rattle.wot_cache.proofs.OpenViewsMarks.{moved_open, unmarked}
+use Rattle.wot_cache.proofs.TurnsOfViews.{equal_there, moved_turns, moving, other_there, time_kept}
 use Rattle.wot_cache.proofs.engine.Engine.view_time.Goals as goal
 
 pub invariant_of-self : goal.invariant_of-self

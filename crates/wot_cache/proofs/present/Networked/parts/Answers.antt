@@ -1,7 +1,7 @@
 use Rattle.std.proofs.Common.{sym, ap, ◌∙◌}
 use Rattle.std.specs.Option.{option_copied}
 use Rattle.wot_network.specs.Roads.{present_of}
-use Rattle.wot_cache.proofs.Asking.{local_from}
+use Rattle.wot_cache.proofs.PartsAnswer.{local_from}
 use Rattle.wot_cache.proofs.present.Networked.parts.Goals as goal
 
 pub returns-clause-local : goal.returns-clause-local

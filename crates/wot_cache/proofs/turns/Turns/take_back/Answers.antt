@@ -1,5 +1,5 @@
 use Rattle.std.proofs.Common.{◌∙◌}
-use Rattle.wot_cache.proofs.Turning.{taken_back}
+use Rattle.wot_cache.proofs.TurnsOfViews.{taken_back}
 use Rattle.wot_cache.proofs.turns.Turns.take_back.Goals as goal
 
 pub returns : goal.returns

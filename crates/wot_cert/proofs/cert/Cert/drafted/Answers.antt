@@ -1,5 +1,5 @@
 use Rattle.wot_cert.specs.Drafting.{seen}
-use Rattle.wot_cert.proofs.Completing.{made-whole}
+use Rattle.wot_cert.proofs.CertificateWithKey.{made-whole}
 use Rattle.wot_cert.proofs.cert.Cert.drafted.Goals as goal
 
 pub whole-requires : goal.whole-requires

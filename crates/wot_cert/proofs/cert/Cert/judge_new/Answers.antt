@@ -1,5 +1,5 @@
 use Rattle.wot_cert.proofs.NewTotals.{lists_totals}
-use Rattle.wot_cert.proofs.NewWhole.{lists_whole}
+use Rattle.wot_part.proofs.NewWhole.{lists_whole}
 use Rattle.wot_cert.proofs.cert.Cert.judge_new.Goals as goal
 
 pub invariant_of-self : goal.invariant_of-self

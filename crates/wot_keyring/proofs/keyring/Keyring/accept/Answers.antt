@@ -1,11 +1,11 @@
 use Rattle.std.proofs.Common.{sym, subst, refl}
 use Rattle.wot_policy.specs.Kept.{rows_of}
-use Rattle.wot_keyring.specs.Index.{IsIndexOf}
-use Rattle.wot_keyring.specs.Keyring.{Entries}
+use Rattle.wot_index.specs.Index.{IsIndexOf}
+use Rattle.wot_held.specs.Keyring.{Entries}
 use Rattle.wot_keyring.proofs.Accepted.{asked_now, asked_by_now, no_clash, answered_now, held_now, counted_now}
 use Rattle.wot_keyring.proofs.Accepted.{keyring_now}
-use Rattle.wot_keyring.proofs.Noted.{indexed_all}
-use Rattle.wot_keyring.proofs.Restamping.{logged_now, united_later_now}
+use Rattle.wot_keyring.proofs.UnionNoted.{indexed_all}
+use Rattle.wot_keyring.proofs.ImportStamps.{logged_now, united_later_now}
 use Rattle.wot_keyring.proofs.keyring.Keyring.accept.Goals as goal
 
 pub invariant_of-self : goal.invariant_of-self
@@ -149,5 +149,5 @@ returns-in-Err-Memory-clause-asked g c =
         changes = c.self.inside.changes;
       })
           c.args.self.now c.self.view_is c.terms-terms.result.stamp c.terms-terms.ensures.stamp c.args.list.now
-          c.args.list.now refl c.self.invariant.0 a.0 c.in-Err-Memory.field-0 c.in-Err-Memory.field-0-is a.2,
+          c.args.list.now refl c.self.invariant.0 a.0 a.2,
     )

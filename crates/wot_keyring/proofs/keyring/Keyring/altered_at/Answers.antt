@@ -1,8 +1,8 @@
 use Rattle.std.proofs.Common.{◌+◌}
-use Rattle.wot_keyring.specs.Index.{stands_at}
-use Rattle.wot_keyring.proofs.Keeping.{restamped_keyring, restamped_totals}
-use Rattle.wot_keyring.proofs.Logged.{one_on, logged_on, restamps_noted}
-use Rattle.wot_keyring.proofs.Noted.{indexed_restamped}
+use Rattle.wot_index.specs.Index.{stands_at}
+use Rattle.wot_keyring.proofs.InvariantKept.{restamped_keyring, restamped_totals}
+use Rattle.wot_index.proofs.Logged.{one_on, logged_on, restamps_noted}
+use Rattle.wot_index.proofs.Noted.{indexed_restamped}
 use Rattle.wot_keyring.proofs.keyring.Keyring.altered_at.Goals as goal
 
 pub invariant_of-self : goal.invariant_of-self

@@ -1,12 +1,12 @@
 use Rattle.std.proofs.Common.{◌≡◌, true, sym, ap, ◌∙◌, subst}
 use Rattle.std.specs.Prelude.{is_some}
 use Rattle.wot_verdict.specs.Verdicts.{verdict_at}
-use Rattle.wot_keyring.specs.Keyring.{Keyring}
-use Rattle.wot_keyring.specs.Kept.{IsJudgedBy}
+use Rattle.wot_held.specs.Keyring.{Keyring}
+use Rattle.wot_held.specs.Kept.{IsJudgedBy}
 use Rattle.wot_keyring.proofs.Altered.{cleared_once}
-use Rattle.wot_keyring.proofs.Holding.{cleared_in_place}
-use Rattle.wot_keyring.proofs.Keeping.{judged_keyring, cleared_few}
-use Rattle.wot_keyring.proofs.Later.{cleared_later_now}
+use Rattle.wot_keyring.proofs.HeldChanges.{cleared_in_place}
+use Rattle.wot_keyring.proofs.InvariantKept.{judged_keyring, cleared_few}
+use Rattle.wot_index.proofs.Later.{cleared_later_now}
 use Rattle.wot_keyring.proofs.keyring.Keyring.clear_verdict.Goals as goal
 
 pub returns-clause-judged : goal.returns-clause-judged

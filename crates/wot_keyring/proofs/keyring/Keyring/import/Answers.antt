@@ -1,5 +1,5 @@
 use Rattle.wot_policy.specs.Kept.{rows_of}
-use Rattle.wot_keyring.proofs.Holding.{imported_in_place}
+use Rattle.wot_keyring.proofs.HeldChanges.{imported_in_place}
 use Rattle.wot_keyring.proofs.keyring.Keyring.import.Goals as goal
 
 pub returns-clause-held : goal.returns-clause-held

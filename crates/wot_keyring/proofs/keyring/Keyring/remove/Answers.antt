@@ -1,11 +1,11 @@
 use Rattle.std.proofs.Common.{◌+◌, sym, refl}
-use Rattle.wot_keyring.specs.Keyring.{is_fpr}
-use Rattle.wot_keyring.proofs.Keeping.{removed_keyring, removed_totals, kept_small, few_octets}
+use Rattle.wot_held.specs.Keyring.{is_fpr}
+use Rattle.wot_keyring.proofs.InvariantKept.{removed_keyring, removed_totals, kept_small, few_octets}
 use Rattle.wot_keyring.proofs.Altered.{removed_once}
-use Rattle.wot_keyring.proofs.Holding.{removed_in_place}
-use Rattle.wot_keyring.proofs.Noted.{indexed_without}
-use Rattle.wot_keyring.proofs.Later.{later_itself, removed_later_now}
-use Rattle.wot_keyring.proofs.Logged.{one_on, logged_on, restamps_none}
+use Rattle.wot_keyring.proofs.HeldChanges.{removed_in_place}
+use Rattle.wot_index.proofs.Noted.{indexed_without}
+use Rattle.wot_index.proofs.Later.{later_itself, removed_later_now}
+use Rattle.wot_index.proofs.Logged.{one_on, logged_on, restamps_none}
 use Rattle.wot_keyring.proofs.keyring.Keyring.remove.Goals as goal
 
 pub signatures-signatures-requires : goal.signatures-signatures-requires

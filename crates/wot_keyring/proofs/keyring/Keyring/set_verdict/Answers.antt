@@ -1,13 +1,13 @@
 use Rattle.std.proofs.Common.{◌≡◌, false, sym, subst}
 use Rattle.wot_verdict.specs.Verdicts.{AreSortedByNumber}
-use Rattle.wot_keyring.specs.Keyring.{Keyring}
-use Rattle.wot_keyring.specs.Kept.{IsJudgedBy}
-use Rattle.wot_keyring.specs.Verdict.{is_over}
+use Rattle.wot_held.specs.Keyring.{Keyring}
+use Rattle.wot_held.specs.Kept.{IsJudgedBy}
+use Rattle.wot_held.specs.Verdict.{is_over}
 use Rattle.wot_keyring.proofs.Altered.{set_once}
-use Rattle.wot_keyring.proofs.Holding.{held_said, set_in_place}
-use Rattle.wot_keyring.proofs.Keeping.{judged_keyring, set_few}
-use Rattle.wot_keyring.proofs.Later.{later_itself, set_later_now}
-use Rattle.wot_keyring.proofs.Logged.{logged_again}
+use Rattle.wot_keyring.proofs.HeldChanges.{held_said, set_in_place}
+use Rattle.wot_keyring.proofs.InvariantKept.{judged_keyring, set_few}
+use Rattle.wot_index.proofs.Later.{later_itself, set_later_now}
+use Rattle.wot_index.proofs.Logged.{logged_again}
 use Rattle.wot_keyring.proofs.keyring.Keyring.set_verdict.Goals as goal
 
 pub returns-in-Ok-clause-judged : goal.returns-in-Ok-clause-judged

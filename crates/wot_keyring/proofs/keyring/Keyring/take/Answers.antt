@@ -1,12 +1,12 @@
 use Rattle.std.proofs.Common.{◌≡◌, false, length, List, Ok, Err, sym, ap, ◌∙◌, subst, refl}
 use Rattle.wot_policy.specs.Kept.{rows_of}
-use Rattle.wot_cert.specs.Certificate.{Certificate}
-use Rattle.wot_keyring.specs.declared.refusal.Refusal.TheVariants.{Clash}
-use Rattle.wot_keyring.specs.declared.staging.Fault.{Fault}
-use Rattle.wot_keyring.specs.Gather.{DoTheSame, IsNothingTold}
-use Rattle.wot_keyring.specs.Import.{any_clash, holding, with_certs}
-use Rattle.wot_keyring.specs.Importing.{alone, AnswersUnited, asked_for, IsAskedOf}
-use Rattle.wot_keyring.specs.Keyring.{Keyring, certificates_in}
+use Rattle.wot_part.specs.Certificate.{Certificate}
+use Rattle.wot_held.specs.declared.refusal.Refusal.TheVariants.{Clash}
+use Rattle.wot_merge.specs.declared.staging.Fault.{Fault}
+use Rattle.wot_merge.specs.Gather.{DoTheSame, IsNothingTold}
+use Rattle.wot_held.specs.Import.{any_clash, holding, with_certs, IsAskedAbout}
+use Rattle.wot_held.specs.Importing.{alone, AnswersUnited, asked_for}
+use Rattle.wot_held.specs.Keyring.{Keyring, certificates_in}
 use Rattle.wot_keyring.proofs.Same.{nothing_answered, same_refusal, same_counts, same_holding, same_asked}
 use Rattle.wot_keyring.proofs.keyring.Keyring.take.Goals as goal
 
@@ -91,7 +91,7 @@ returns-clause-asked g c =
     let a = c.in-Err.ensures.asked in (
       a.0,
       a.1,
-      subst (λ all. IsAskedOf (Err c.in-Err.refusal) all a.0)
+      subst (λ all. IsAskedAbout (Err c.in-Err.refusal) all a.0)
           (ap (λ (z : Keyring). asked_for (rows_of c.args.policy.now) z c.as_slice-2.result.now)
           c.in_default.ensures.same
           ∙ same_asked (rows_of c.args.policy.now) c.args.self.now c.lawful.ensures.keyring c.as_slice-certs.result.now

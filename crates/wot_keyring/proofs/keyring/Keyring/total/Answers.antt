@@ -1,7 +1,7 @@
 use Rattle.std.proofs.Common.{subst}
-use Rattle.wot_keyring.specs.Keyring.{Keyring}
-use Rattle.wot_keyring.specs.Staging.{IsTally}
-use Rattle.wot_keyring.proofs.Accepting.{tally_of}
+use Rattle.wot_held.specs.Keyring.{Keyring}
+use Rattle.wot_merge.specs.Staging.{IsTally}
+use Rattle.wot_keyring.proofs.ImportEffects.{tally_of}
 use Rattle.wot_keyring.proofs.keyring.Keyring.total.Goals as goal
 
 pub returns-clause-total : goal.returns-clause-total

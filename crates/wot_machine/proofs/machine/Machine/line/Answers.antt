@@ -9,11 +9,11 @@ use Rattle.wot_step.specs.Lines.{heard}
 use Rattle.wot_step.specs.Made.{LineMakes}
 use Rattle.wot_command.specs.CommandRun.{Seen}
 use Rattle.wot_command.specs.Asked.{LineAsks}
-use Rattle.wot_command.proofs.Judging.{asks_as, asks_not}
-use Rattle.wot_step.proofs.Making.{line_makes_as}
+use Rattle.wot_command.proofs.PolicyAskedByLine.{asks_as, asks_not}
+use Rattle.wot_step.proofs.EdgesMadeByLine.{line_makes_as}
 use Rattle.wot_step.proofs.Results.{any_err}
-use Rattle.wot_command.proofs.Putting.{puts_still, served_puts}
-use Rattle.wot_machine.proofs.Running.{passed, told_step}
+use Rattle.wot_command.proofs.DirectoryAfterFailure.{puts_still, served_puts}
+use Rattle.wot_machine.proofs.CommandsInLines.{passed, told_step}
 use Rattle.wot_machine.proofs.machine.Machine.line.Goals as goal
 
 pub returns-in-Some-clause-step : goal.returns-in-Some-clause-step

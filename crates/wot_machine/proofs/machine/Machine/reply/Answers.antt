@@ -12,10 +12,10 @@ use Rattle.wot_cache.specs.State.{state_of}
 use Rattle.wot_command.specs.Asked.{LineAsks}
 use Rattle.wot_command.specs.EdgeLines.{LineMarks}
 use Rattle.wot_command.proofs.EdgeLines.{heard_marks}
-use Rattle.wot_command.proofs.Judging.{asks_as, asks_heard}
-use Rattle.wot_step.proofs.Making.{line_makes_as, makes_heard}
-use Rattle.wot_machine.proofs.Running.{replied_long, replied_silent}
-use Rattle.wot_watching.proofs.Settling.{settled_told}
+use Rattle.wot_command.proofs.PolicyAskedByLine.{asks_as, asks_heard}
+use Rattle.wot_step.proofs.EdgesMadeByLine.{line_makes_as, makes_heard}
+use Rattle.wot_machine.proofs.CommandsInLines.{replied_long, replied_silent}
+use Rattle.wot_watching.proofs.WatchesSettled.{settled_told}
 use Rattle.wot_machine.proofs.machine.Machine.reply.Goals as goal
 
 pub returns-clause-makes : goal.returns-clause-makes

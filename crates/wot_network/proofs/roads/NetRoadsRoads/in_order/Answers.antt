@@ -1,14 +1,14 @@
 use Rattle.std.proofs.Common.{◌∙◌, sym, ap, subst, ℕ, List, length, ◌<◌, ◌^◌}
-use Rattle.wot_cert.specs.Certificate.{Component}
+use Rattle.wot_part.specs.Certificate.{Component}
 use Rattle.wot_edge.specs.Record.{Entry}
 use Rattle.wot_standing.specs.Standing.{standing_of}
 use Rattle.wot_standing.specs.Usable.{is_in_order}
-use Rattle.wot_keyring.specs.Keyring.{certificates_in}
+use Rattle.wot_held.specs.Keyring.{certificates_in}
 use Rattle.wot_live.specs.Rows.{revoked_of}
 use Rattle.wot_network.specs.Told.{is_user_id}
 use Rattle.wot_network.proofs.Few.{user_ids_few}
 use Rattle.wot_network.proofs.Fprs.{named_certs}
-use Rattle.wot_network.proofs.Looking.{present, absent_line, absent_cert, standing_here, revoked_here}
+use Rattle.wot_network.proofs.LookupsAgree.{present, absent_line, absent_cert, standing_here, revoked_here}
 use Rattle.wot_network.proofs.roads.NetRoadsRoads.in_order.Goals as goal
 
 pub is_in_order-requires : goal.is_in_order-requires

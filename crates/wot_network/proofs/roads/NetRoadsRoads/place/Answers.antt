@@ -1,9 +1,9 @@
 use Rattle.std.proofs.Common.{◌∙◌, sym, ap, subst, List, length, ◌<◌, ◌^◌}
-use Rattle.wot_cert.specs.Certificate.{Component}
+use Rattle.wot_part.specs.Certificate.{Component}
 use Rattle.wot_edge.specs.Record.{Entry}
 use Rattle.wot_network.specs.Told.{user_id_place}
 use Rattle.wot_network.proofs.Few.{user_ids_few}
-use Rattle.wot_network.proofs.Looking.{present, absent_cert}
+use Rattle.wot_network.proofs.LookupsAgree.{present, absent_cert}
 use Rattle.wot_network.proofs.roads.NetRoadsRoads.place.Goals as goal
 
 pub place_of-requires : goal.place_of-requires

@@ -1,12 +1,12 @@
 use Rattle.std.proofs.Common.{◌≡◌, ◌∙◌, sym, ap, subst, List}
-use Rattle.wot_cert.specs.Certificate.{Component}
+use Rattle.wot_part.specs.Certificate.{Component}
 use Rattle.wot_edge.specs.declared.edge.EdgeFacts.{EdgeFacts}
 use Rattle.wot_edge.specs.Record.{Has, Row, rows_into}
 use Rattle.wot_network.specs.Net.{told_of}
 use Rattle.wot_network.specs.Roads.{present_of}
 use Rattle.wot_network.specs.Told.{is_in_scope}
 use Rattle.std.proofs.lemmas.Result.{IfOk-weaker}
-use Rattle.wot_network.proofs.Looking.{scope_open, scope_some, scope_none}
+use Rattle.wot_network.proofs.LookupsAgree.{scope_open, scope_some, scope_none}
 use Rattle.wot_network.proofs.roads.NetRoadsRoads.scope.Goals as goal
 
 pub returns-in-Some : goal.returns-in-Some

@@ -1,7 +1,7 @@
 use Rattle.std.proofs.Common.{◌∙◌, sym, ap}
 use Rattle.wot_standing.specs.Usable.{is_usable}
 use Rattle.wot_standing.specs.declared.status.Standing.{Standing}
-use Rattle.wot_network.proofs.Looking.{usable_some, usable_none}
+use Rattle.wot_network.proofs.LookupsAgree.{usable_some, usable_none}
 use Rattle.wot_network.proofs.roads.NetRoadsRoads.usable.Goals as goal
 
 pub returns-in-Some : goal.returns-in-Some

@@ -1,7 +1,7 @@
 use Rattle.std.proofs.Common.{rules, arith, sym, ◌∙◌, ap, ◌≡◌, [], ◌∷◌, ◌++◌, length, suc, ◌+◌, vec_len}
 use Rattle.wot_pattern.specs.Nodes.{tokens_of}
 use Rattle.wot_pattern.specs.Steps.{level_so_far, outer_flags}
-use Rattle.wot_pattern.proofs.Building.{outer_no_length, outer_some, left_nodes}
+use Rattle.wot_pattern.proofs.BuiltNodes.{outer_no_length, outer_some, left_nodes}
 use Rattle.wot_pattern.proofs.builder.Builder.close.Goals as goal
 
 pub returns-in_default-clause-unreadable : goal.returns-in_default-clause-unreadable

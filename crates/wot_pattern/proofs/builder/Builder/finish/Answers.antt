@@ -1,7 +1,7 @@
 use Rattle.std.proofs.Common.{rules, Bool, sym, ◌∙◌, ap, ◌≡◌, [], length, List, ℕ, vec_len}
 use Rattle.wot_pattern.specs.Nodes.{tokens_of}
 use Rattle.wot_pattern.specs.Steps.{State, Builds, level_so_far, outer_flags}
-use Rattle.wot_pattern.proofs.Building.{outer_no_length, outer_empty}
+use Rattle.wot_pattern.proofs.BuiltNodes.{outer_no_length, outer_empty}
 use Rattle.wot_pattern.proofs.builder.Builder.finish.Goals as goal
 
 no_length : (xs ys : List Bool) (n : ℕ) → ys ≡ xs → n ≡ length xs → n ≡ 0 → length ys ≡ 0

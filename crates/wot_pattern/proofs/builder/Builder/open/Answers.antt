@@ -2,7 +2,7 @@ use Rattle.std.proofs.Common.{rules, arith, ◌∙◌, ap, ◌≡◌, [], ◌∷
 use Rattle.std.proofs.lemmas.List.{map-append}
 use Rattle.wot_pattern.specs.Nodes.{tokens_of}
 use Rattle.wot_pattern.specs.Steps.{outer_flags, flushed}
-use Rattle.wot_pattern.proofs.Building.{length-outer_flags, positive, entered_nodes}
+use Rattle.wot_pattern.proofs.BuiltNodes.{length-outer_flags, positive, entered_nodes}
 use Rattle.wot_pattern.proofs.builder.Builder.open.Goals as goal
 
 pub returns-then-len-ge-LEVELS-clause-unreadable : goal.returns-then-len-ge-LEVELS-clause-unreadable

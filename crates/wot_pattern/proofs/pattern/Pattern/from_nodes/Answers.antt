@@ -1,5 +1,5 @@
 use Rattle.wot_pattern.specs.Nodes.{tokens_of}
-use Rattle.wot_pattern.proofs.Building.{tree_is, one_tree}
+use Rattle.wot_pattern.proofs.BuiltNodes.{tree_is, one_tree}
 use Rattle.wot_pattern.proofs.pattern.Pattern.from_nodes.Goals as goal
 
 pub invariant_of-result : goal.invariant_of-result

@@ -1,5 +1,5 @@
 use Rattle.std.proofs.Common.{arith}
-use Rattle.wot_subpacket.proofs.Reading.{length-list_of}
+use Rattle.wot_subpacket.proofs.ReadFromStart.{length-list_of}
 use Rattle.wot_subpacket.proofs.area.Area.iter.Goals as goal
 
 pub returns-clause-countable : goal.returns-clause-countable

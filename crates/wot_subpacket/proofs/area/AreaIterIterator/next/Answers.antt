@@ -1,6 +1,6 @@
 use Rattle.std.proofs.Common.{◌≡◌, [], sym, ◌∙◌, ap, rules, length}
 use Rattle.wot_subpacket.specs.Seen.{seen}
-use Rattle.wot_subpacket.proofs.Reading.{behind_is_list, list-first, list-end}
+use Rattle.wot_subpacket.proofs.ReadFromStart.{behind_is_list, list-first, list-end}
 use Rattle.wot_subpacket.proofs.area.AreaIterIterator.next.Goals as goal
 
 pub invariant_of-self : goal.invariant_of-self

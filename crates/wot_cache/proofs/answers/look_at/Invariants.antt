@@ -1,9 +1,0 @@
-use Rattle.std.proofs.Common.{◌≡◌, ◌++◌, map}
-use Rattle.wot_cache.specs.Answers.{look}
-use Rattle.wot_cache.proofs.answers.look_at.Given as goal
-
-abbrev pub invariant-fprs : goal.invariant-fprs
-invariant-fprs l =
-    (goal.iterator-fprs).can_next l.fpr-iterator
-    × (goal.iterator-fprs).is_finite l.fpr-iterator
-    × (l.looked.items ++ map (look l.keyring l.roots) l.fpr-iterator ≡ map (look l.keyring l.roots) l.consulted)

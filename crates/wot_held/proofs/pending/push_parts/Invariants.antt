@@ -1,0 +1,11 @@
+use Rattle.std.proofs.Common.{◌≡◌, ◌++◌, length}
+use Rattle.wot_part.specs.Counts.{sigs_on}
+use Rattle.wot_held.specs.Pending.{pending_among}
+use Rattle.wot_held.proofs.pending.push_parts.{Given as goal}
+
+abbrev pub invariant-parts : goal.invariant-parts
+invariant-parts l = l.out.items ++ pending_among l.verdicts l.fpr
+    (sigs_on l.left) ≡ l.initial.out.items ++ pending_among l.verdicts l.fpr (sigs_on l.parts)
+
+abbrev pub decreases-parts : goal.decreases-parts
+decreases-parts l = length l.left

@@ -1,0 +1,11 @@
+pub mod Keyring
+pub mod Held
+pub mod Verdict
+pub mod Removal
+pub mod Import
+pub mod Importing
+pub mod Entry
+pub mod Kept
+pub mod Later
+pub mod From
+pub mod Pending

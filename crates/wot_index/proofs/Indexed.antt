@@ -1,0 +1,180 @@
+-- The index, number by number: what is noted, logged, and removed again.
+use Rattle.std.proofs.Common.{◌≡◌, Bool, true, false, ◌&&◌, ◌||◌, cond, List, [], ◌∷◌, ◌++◌, Option, Some, None, Result}
+use Rattle.std.proofs.Common.{Ok, Err, OnOk, sym, ap, ◌∙◌, subst, refl}
+use Rattle.std.specs.Cmp.{IsTotalOrder}
+use Rattle.std.specs.Ordering.{is_eq}
+use Rattle.std.proofs.lemmas.Bool.{or_right}
+use Rattle.std.proofs.lemmas.Cmp.{nat_list_cmp_total, on_total, tied_itself}
+use Rattle.std.proofs.lemmas.List.Folds.{list_any-append}
+use Rattle.std.proofs.lemmas.Map.Lookups.{CmpEqualImpliesEq, exact_bytes}
+use Rattle.std.proofs.lemmas.Map.Views.{tells_apart}
+use Rattle.wot_types.specs.declared.fpr.Fpr.{Fpr}
+use Rattle.wot_types.specs.declared.number.SigNumber.{SigNumber}
+use Rattle.wot_types.specs.SigNumber.{number_cmp}
+use Rattle.wot_key.specs.Key.{fpr_of}
+use Rattle.wot_verdict.specs.Verdicts.{is_number}
+use Rattle.wot_part.specs.Certificate.{Signature, Component, Certificate}
+use Rattle.wot_part.specs.Counts.{sigs_on}
+use Rattle.wot_index.specs.declared.index.Index.{Index}
+use Rattle.wot_held.specs.Keyring.{is_fpr}
+use Rattle.wot_index.specs.Index.{Holders, holder_of, is_holder, is_noted, unless, is_logged, holder_without, Notes}
+use Rattle.wot_index.specs.Index.{NotesOn, StillLogged}
+use Rattle.wot_held.specs.Verdict.{is_among, has_number}
+use Rattle.wot_index.proofs.Choices.{or_false, or_itself, or_more, and_each, either_way}
+
+-- ---- numbers
+
+pub numbers_total : IsTotalOrder number_cmp
+numbers_total = on_total (λ (n : SigNumber). n.0) nat_list_cmp_total
+
+pub exact : CmpEqualImpliesEq number_cmp
+exact a b e = let octets = exact_bytes a.0 b.0 e in λ i. record { 0 = octets i }
+
+pub same_number : (a b : SigNumber) → is_number a b ≡ true → a ≡ b
+same_number a b h = tells_apart exact a b h
+
+itself : (a : SigNumber) → is_number a a ≡ true
+itself a = ap is_eq (tied_itself numbers_total a)
+
+pub turned : (a b : SigNumber) → is_number a b ≡ is_number b a
+turned a b = either_way (is_number a b) (is_number b a) (λ h. subst (λ (x : SigNumber). is_number x a ≡ true)
+    (same_number a b h) (itself a)) (λ h. subst (λ (x : SigNumber). is_number x b ≡ true) (same_number b a h)
+    (itself b))
+
+-- ---- one number noted
+
+-- If nothing else was noted for it, one more number is noted, and nothing else changes.
+module _ (holders holders' : Holders) (number : SigNumber) (fpr : Fpr) (put : (n : SigNumber) →
+    holder_of holders' n ≡ cond (is_number number n) (Some fpr) (holder_of holders n)) where
+  elsewhere : (n : SigNumber) → is_number n number ≡ false → holder_of holders' n ≡ holder_of holders n
+  elsewhere n other = put n ∙ ap (λ b. cond b (Some fpr) (holder_of holders n)) (turned number n ∙ other)
+
+  here : (n : SigNumber) → is_number n number ≡ true → holder_of holders' n ≡ Some fpr
+  here n same = put n ∙ ap (λ b. cond b (Some fpr) (holder_of holders n)) (turned number n ∙ same)
+
+  place_more : (o : Option Fpr) (q : Fpr) → (o ≡ None) → is_fpr fpr q ≡ (is_holder o q || is_fpr fpr q)
+  place_more o q none = sym (ap (λ (x : Option Fpr). is_holder x q || is_fpr fpr q) none)
+
+  place_again : (o : Option Fpr) (q : Fpr) → (o ≡ Some fpr) → is_fpr fpr q ≡ (is_holder o q || is_fpr fpr q)
+  place_again o q some = sym (ap (λ (x : Option Fpr). is_holder x q || is_fpr fpr q) some ∙ or_itself (is_fpr fpr q))
+
+  noted_by : ((q : Fpr) → is_fpr fpr q ≡ (is_holder (holder_of holders number) q || is_fpr fpr q)) →
+      (n : SigNumber) (q : Fpr) →
+      is_holder (holder_of holders' n) q ≡ (is_holder (holder_of holders n) q || (is_number n number && is_fpr fpr q))
+  noted_by more n q =
+      (elim (is_number n number) as (λ b. is_number n number ≡ b →
+      is_holder (holder_of holders' n) q ≡ (is_holder (holder_of holders n) q || (b && is_fpr fpr q))) [
+        | true ↦ λ same.
+            ap (λ (x : Option Fpr). is_holder x q) (here n same) ∙ more q
+            ∙ ap (λ (x : SigNumber). is_holder (holder_of holders x) q || is_fpr fpr q)
+            (sym (same_number n number same))
+        | false ↦ λ other. ap (λ (x : Option Fpr). is_holder x q) (elsewhere n other)
+            ∙ sym (or_false (is_holder (holder_of holders n) q))
+      ]) refl
+
+  pub noted_new : holder_of holders number ≡ None → (n : SigNumber) (q : Fpr) →
+      is_holder (holder_of holders' n) q ≡ (is_holder (holder_of holders n) q || (is_number n number && is_fpr fpr q))
+  noted_new none = noted_by (λ q. place_more (holder_of holders number) q none)
+
+  pub noted_again : holder_of holders number ≡ Some fpr → (n : SigNumber) (q : Fpr) →
+      is_holder (holder_of holders' n) q ≡ (is_holder (holder_of holders n) q || (is_number n number && is_fpr fpr q))
+  noted_again some = noted_by (λ q. place_again (holder_of holders number) q some)
+
+  unless_none : (b : Bool) → unless b None ≡ None
+  unless_none true = refl
+  unless_none false = refl
+
+  pub logged_new : (log log' : List SigNumber) → log' ≡ log ++ number ∷ [] → holder_of holders number ≡ None →
+      (n : SigNumber) → holder_without log' holders' n ≡ holder_without log holders n
+  logged_new log log' l none n =
+      ap (λ (x : List SigNumber). unless (is_logged n x) (holder_of holders' n)) l
+      ∙ ap (λ b. unless b (holder_of holders' n)) (list_any-append (is_number n) log (number ∷ []))
+      ∙ ((elim (is_number n number) as (λ b. is_number n number ≡ b → unless (is_logged n log || (b || false))
+      (holder_of holders' n) ≡ holder_without log holders n) [
+        | true ↦ λ same.
+            ap (λ b. unless b (holder_of holders' n)) (or_right (is_logged n log) true refl)
+            ∙ sym (ap (unless (is_logged n log)) (ap (holder_of holders) (same_number n number same) ∙ none)
+            ∙ unless_none (is_logged n log))
+        | false ↦ λ other. ap (λ b. unless b (holder_of holders' n)) (or_false (is_logged n log))
+            ∙ ap (unless (is_logged n log)) (elsewhere n other)
+      ]) refl)
+
+  pub logged_again : (log : List SigNumber) → holder_of holders number ≡ Some fpr → (n : SigNumber) →
+      holder_without log holders' n ≡ holder_without log holders n
+  logged_again log some n =
+      ap (unless (is_logged n log))
+      ((elim (is_number n number) as (λ b. is_number n number ≡ b → holder_of holders' n ≡ holder_of holders n) [
+        | true ↦ λ same. here n same ∙ sym (ap (holder_of holders) (same_number n number same) ∙ some)
+        | false ↦ λ other. elsewhere n other
+      ]) refl)
+
+-- ---- several numbers noted
+
+pub notes_on : (old mid new : Index) (one rest rest' all : SigNumber → Fpr → Bool) → NotesOn old mid rest all →
+    ((n : SigNumber) (q : Fpr) → rest n q ≡ (one n q || rest' n q)) → Notes mid new one → NotesOn old new rest' all
+notes_on old mid new one rest rest' all before split step exact =
+    let s = step exact in
+    let b = before s.0 in (
+      b.0,
+      λ n q. ap (λ t. t || rest' n q) (s.1 n q) ∙ or_more (is_noted mid n q) (one n q) (rest' n q)
+          ∙ ap (λ t. is_noted mid n q || t) (sym (split n q)) ∙ b.1 n q,
+    )
+
+pub notes_both : (old mid new : Index) (one other : SigNumber → Fpr → Bool) → Notes old mid one → Notes mid new other →
+    Notes old new (λ n q. one n q || other n q)
+notes_both old mid new one other first second exact =
+    let s = second exact in
+    let f = first s.0 in
+    (f.0, λ n q. s.1 n q ∙ ap (λ t. t || other n q) (f.1 n q) ∙ or_more (is_noted old n q) (one n q) (other n q))
+
+pub notes_same : (old new : Index) (these those : SigNumber → Fpr → Bool) → Notes old new these →
+    ((n : SigNumber) (q : Fpr) → these n q ≡ those n q) → Notes old new those
+notes_same old new these those notes same exact =
+    let s = notes exact in
+    (s.0, λ n q. s.1 n q ∙ ap (λ t. is_noted old n q || t) (same n q))
+
+pub still_logged : (old mid new : Index) (log log' log2 : List SigNumber) → StillLogged old log mid log' →
+    StillLogged mid log' new log2 → StillLogged old log new log2
+still_logged old mid new log log' log2 first second exact =
+    let s = second exact in
+    let f = first s.0 in
+    (f.0, λ n. s.1 n ∙ f.1 n)
+
+-- signatures in four kinds of places
+pub each_of : (d u a s f : Bool) → ((d && f) || (u && f)) || ((a && f) || (s && f)) ≡ (d || (u || (a || s))) && f
+each_of d u a s f =
+    sym (
+    and_each d (u || (a || s)) f
+    ∙ ap (λ t. (d && f) || t) (and_each u (a || s) f ∙ ap (λ t. (u && f) || t) (and_each a s f))
+    ∙ sym (or_more (d && f) (u && f) ((a && f) || (s && f)))
+    )
+
+on_ok : {T E : Type 0} (P Q : Type 0) (r : Result T E) → (P → Q) → OnOk r P → OnOk r Q
+on_ok P Q (Ok done) f h = f h
+on_ok P Q (Err fault) f h = tt
+
+-- What is on a certificate is noted once each kind of place is.
+pub noted_cert : {T E : Type 0} (i0 i1 i2 i3 i4 : Index) (r : Result T E) (c : Certificate) (f : Fpr)
+    (d : List Signature) (u a s : List Component) → f ≡ fpr_of c.key → d ≡ c.direct → u ≡ c.user_ids →
+    a ≡ c.attributes → s ≡ c.subkeys
+    → Notes i0 i1 (λ n q. is_among n d && is_fpr f q) → Notes i1 i2 (λ n q. is_among n (sigs_on u) && is_fpr f q) →
+    Notes i2 i3 (λ n q. is_among n (sigs_on a) && is_fpr f q) →
+    OnOk r (Notes i3 i4 (λ n q. is_among n (sigs_on s) && is_fpr f q))
+    → OnOk r (Notes i0 i4 (λ n q. has_number n c && is_fpr (fpr_of c.key) q))
+noted_cert i0 i1 i2 i3 i4 r c f d u a s ef ed eu ea es first second third last =
+    let D : SigNumber → Fpr → Bool = λ n q. is_among n d && is_fpr f q in
+    let U : SigNumber → Fpr → Bool = λ n q. is_among n (sigs_on u) && is_fpr f q in
+    let A : SigNumber → Fpr → Bool = λ n q. is_among n (sigs_on a) && is_fpr f q in
+    let S : SigNumber → Fpr → Bool = λ n q. is_among n (sigs_on s) && is_fpr f q in
+    on_ok (Notes i3 i4 S) (Notes i0 i4 (λ n q. has_number n c && is_fpr (fpr_of c.key) q)) r
+    (λ fourth. notes_same i0 i4 (λ n q. (D n q || U n q) || (A n q || S n q))
+    (λ n q. has_number n c && is_fpr (fpr_of c.key) q)
+    (notes_both i0 i2 i4 (λ n q. D n q || U n q) (λ n q. A n q || S n q) (notes_both i0 i1 i2 D U first second)
+    (notes_both i2 i3 i4 A S third fourth))
+    (λ n q.
+    each_of (is_among n d) (is_among n (sigs_on u)) (is_among n (sigs_on a)) (is_among n (sigs_on s)) (is_fpr f q)
+    ∙ (λ i. (is_among n (ed i) || (is_among n (sigs_on (eu i)) || (is_among n (sigs_on (ea i)) || is_among n
+    (sigs_on (es i))))) && is_fpr (ef i) q)))
+    last
+
+-- ---- numbers removed

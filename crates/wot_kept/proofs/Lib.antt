@@ -1,0 +1,4 @@
+mod ConsultedTotal
+mod Grounds
+mod Told
+mod KeepsFor

@@ -1,0 +1,19 @@
+use Rattle.std.proofs.Common.{refl, sym, ap, subst}
+use Rattle.wot_kept.specs.Answers.{Amounts, AreRightIn, IsFound, OfView}
+use Rattle.wot_kept.proofs.Grounds.{good_at, right_again}
+use Rattle.wot_kept.proofs.answers.Answers.keep.Goals as goal
+
+pub returns-clause-right : goal.returns-clause-right
+returns-clause-right c k all right found =
+    let roots = c.self.inside.roots.items in
+    let turn = c.self.inside.turn in
+    let answer = record c.args.answer { turn = turn } in
+    let same = ap (λ (v : OfView). v.roots) c.self.view_is in
+    let here = subst (λ (amounts : Amounts). IsFound k amounts c.args.answer) (sym same) found in
+    let before = subst (λ (v : OfView). AreRightIn k v) (sym c.self.view_is) all in
+    record {
+      each = c.add-self-inside.ensures.right k roots turn (c.make_room-self-inside.ensures.right k roots turn
+          before.each)
+          (right_again k c.args.answer answer refl right) (good_at k roots turn c.args.answer here);
+      reach = before.reach;
+    }

@@ -1,0 +1,15 @@
+use Rattle.std.proofs.Common.{sym, subst, ◌∙◌}
+use Rattle.wot_kept.specs.Answers.{Amounts, IsFound}
+use Rattle.wot_kept.proofs.recall.remember.Goals as goal
+
+pub returns-in-Ok : goal.returns-in-Ok
+returns-in-Ok c =
+    let k = c.args.parts.now.keyring.now in
+    let roots = c.requires.settled.roots in
+    record {
+      settled = record {
+        right = c.keep.ensures.right k c.requires.settled.right c.in-Ok.ensures.right
+            (subst (λ (roots : Amounts). IsFound k roots c.in-Ok.kept) (sym roots) c.in-Ok.ensures.found);
+        roots = c.keep.ensures.roots ∙ roots;
+      };
+    }

@@ -1,0 +1,7 @@
+pub mod Names
+pub mod Answers
+pub mod Question
+pub mod Asked
+pub mod CaseLaws
+pub mod EntryLaws
+pub mod RightLaws

@@ -1,0 +1,11 @@
+//! What is asked from a view, as one value, which the search for an answer hands on from `Engine::ask` to the kept
+//! answers. It stands on wot_types alone; a further part of a question is a field here.
+use wot_types::Fpr;
+
+/// How confident one can be that a user ID belongs to a target, up to the wanted amount.
+#[derive(Clone, Copy)]
+pub struct Asked<'a> {
+    pub target: &'a Fpr,
+    pub wanted: u32,
+    pub uid: &'a [u8],
+}

@@ -1,5 +1,0 @@
-use Rattle.std.proofs.Common.{length}
-use Rattle.wot_keyring.proofs.gather.+gather.Given as goal
-
-abbrev pub decreases-gather : goal.decreases-gather
-decreases-gather l = length l.list.now

@@ -1,0 +1,193 @@
+//! Merges certificates that were read with the kept ones: all, or none if two clash or a limit would be exceeded. It
+//! gathers, tries and merges with wot_merge, and keeps totals, index and log in step. `import` and `load` call `take`,
+//! whose contract theirs stand on.
+ghost use Rattle.std.specs.Prelude.{◌≡◌, ◌<◌, ◌^◌, ◌+◌, ◌-◌, nat_lt, if◌then◌else◌, Some};
+ghost use Rattle.std.specs.Prelude.{true, Ok, OnOk, OnErr};
+ghost use Rattle.std.specs.List.{AllByRecursion};
+ghost use Rattle.wot_part.specs.Whole.{IsCertificate};
+ghost use Rattle.wot_held.specs.Keyring.{certificates_in};
+ghost use Rattle.wot_held.specs.Kept.{IsJudgedBy};
+ghost use Rattle.wot_held.specs.Kept.{IsKeyring};
+ghost use Rattle.wot_policy.specs.Kept.{IsFaithful, rows_of};
+ghost use Rattle.wot_held.specs.Import.{Asked, IsOneChange, with_united};
+ghost use Rattle.wot_held.specs.Later.{IsLater};
+ghost use Rattle.wot_held.specs.Importing.{asked_for, AnswersUnited, MayUnite, TellsUnion};
+ghost use Rattle.wot_merge.specs.Staging.{IsTally};
+
+use crate::Keyring;
+use crate::uniting::unite_all;
+use std::alloc::Global;
+use wot_cert::laws::{marks_weigh_nothing, nothing_added, united_grows, united_whole};
+use wot_cert::{Assembled, Cert};
+use wot_held::{Imported, Refusal};
+use wot_index::log;
+use wot_merge::{Fault, Terms, Weight, gathered, has_room, only, try_all};
+use wot_policy::{Ask, Policy};
+use wot_types::Memory;
+
+impl Keyring {
+    /// Merges certificates that were read with the kept ones. Those of one key are first merged with each other, so
+    /// that a kept certificate is copied once, however often its key was read.
+    pub(crate) fn take<F: Fn(Ask) -> bool>(
+        &mut self,
+        alloc: Global,
+        read: &Assembled,
+        policy: &mut Policy<F>,
+    ) -> Result<Imported, Refusal>
+        requires countable { self.old.changes < 2 ^ 64 - 1 }
+        requires judged { IsJudgedBy (rows_of policy.old) self.old }
+        requires faithful { IsFaithful F.Fn policy.old }
+        ensures answer { AnswersUnited result (rows_of policy.old) self.old read.now.certs read.now.skipped }
+        ensures united { OnOk result (self.new ≡ with_united (rows_of policy.old) self.old read.now.certs) }
+        ensures kept { OnErr result (self.new ≡ self.old) }
+        ensures asked { Asked result (asked_for (rows_of policy.old) self.old read.now.certs) policy.old policy.new }
+        ensures counted { IsOneChange self.old self.new }
+        ensures later { IsLater self.old self.new }
+        ensures judged { IsJudgedBy (rows_of policy.old) self.new }
+        ensures faithful { IsFaithful F.Fn policy.new }
+    {
+        self.lawful();
+        let certs = read.certs.as_slice();
+        let list = match gathered(alloc, certs) {
+            Ok(list) => list,
+            Err(Fault::Clash) => return Err(Refusal::Clash),
+            Err(Fault::Memory) => return Err(Refusal::Memory),
+        };
+        if let Some(refusal) = self.refusal(alloc, list.as_slice()) {
+            return Err(refusal);
+        }
+        match self.accept(alloc, list.as_slice(), read.skipped, policy) {
+            Ok(done) => Ok(Imported {
+                taken: certs.len() as u64,
+                skipped: done.skipped,
+                fresh: done.fresh,
+            }),
+            Err(refusal) => Err(refusal),
+        }
+    }
+
+    /// Whether these certificates fit even if everything in them is new. Only answered for a single certificate.
+    fn has_room_for(&self, list: &[Cert]) -> bool
+        ensures { result ≡ true → MayUnite self.now.limits (certificates_in self.now) list.now }
+    {
+        united_grows();
+        marks_weigh_nothing();
+        match only(list) {
+            Some(cert) => has_room(&self.certs, &self.total(), cert, &self.limits),
+            None => false,
+        }
+    }
+
+    /// Why these certificates can't be merged with the kept ones. Nothing changes, and no policy of the caller is
+    /// asked.
+    fn refusal(&mut self, alloc: Global, list: &[Cert]) -> Option<Refusal>
+        requires countable { self.old.changes < 2 ^ 64 - 1 }
+        ensures told { TellsUnion result self.old.limits (certificates_in self.old) list.now }
+        ensures same { self.new ≡ self.old }
+    {
+        if self.has_room_for(list) {
+            return None;
+        }
+        let terms = self.terms();
+        let total = self.total();
+        match try_all(alloc, &mut self.certs, total, list, &terms, &self.limits) {
+            Ok(Some(limit)) => Some(Refusal::Full(limit)),
+            Ok(None) => None,
+            Err(Fault::Clash) => Some(Refusal::Clash),
+            Err(Fault::Memory) => Some(Refusal::Memory),
+        }
+    }
+
+    /// Merges certificates that clash with nothing and exceed no limit.
+    fn accept<F: Fn(Ask) -> bool>(
+        &mut self,
+        alloc: Global,
+        list: &[Cert],
+        skipped: u64,
+        policy: &mut Policy<F>,
+    ) -> Result<Imported, Refusal>
+        requires countable { self.old.changes < 2 ^ 64 - 1 }
+        requires judged { IsJudgedBy (rows_of policy.old) self.old }
+        requires faithful { IsFaithful F.Fn policy.old }
+        requires whole { AllByRecursion IsCertificate list.now }
+        requires may { MayUnite self.old.limits (certificates_in self.old) list.now }
+        ensures answer { AnswersUnited result (rows_of policy.old) self.old list.now skipped }
+        ensures united { OnOk result (self.new ≡ with_united (rows_of policy.old) self.old list.now) }
+        ensures kept { OnErr result (self.new ≡ self.old) }
+        ensures asked { Asked result (asked_for (rows_of policy.old) self.old list.now) policy.old policy.new }
+        ensures counted { IsOneChange self.old self.new }
+        ensures later { IsLater self.old self.new }
+        ensures judged { IsJudgedBy (rows_of policy.old) self.new }
+        ensures faithful { IsFaithful F.Fn policy.new }
+    {
+        united_grows();
+        united_whole();
+        nothing_added();
+        let terms = self.terms();
+        let total = self.total();
+        log::make_room(&mut self.log, list.len(), self.certs.len());
+        match unite_all(
+            alloc,
+            &mut self.certs,
+            &mut self.index,
+            total,
+            list,
+            &terms,
+            policy,
+        ) {
+            Ok(tally) => {
+                self.octets = tally.total.octets;
+                self.signatures = tally.total.signatures;
+                self.changes = raised(self.changes, tally.fresh);
+                log::log_union(&mut self.log, tally.fresh, terms.stamp, list);
+                Ok(Imported {
+                    taken: list.len() as u64,
+                    skipped,
+                    fresh: tally.fresh,
+                })
+            }
+            Err(Fault::Clash) => Err(Refusal::Clash),
+            Err(Fault::Memory) => Err(Refusal::Memory),
+        }
+    }
+
+    /// The stamp of the next change, and the limit on a certificate's size.
+    fn terms(&self) -> Terms
+        requires countable { self.now.changes < 2 ^ 64 - 1 }
+        ensures stamp { result.stamp ≡ self.now.changes + 1 }
+        ensures limit { result.limit ≡ self.now.limits.certificate }
+    {
+        Terms {
+            stamp: self.changes + 1,
+            limit: self.limits.certificate,
+        }
+    }
+
+    /// A law: what holds for every keyring.
+    fn lawful(&self)
+        ensures keyring { IsKeyring self.now }
+    {
+        let _ = &self.limits;
+    }
+
+    /// The totals of what is held.
+    fn total(&self) -> Weight
+        ensures total { IsTally self.now.limits.certificate self.now.certs result }
+        ensures keyring { IsKeyring self.now }
+        ensures none_long { result.long ≡ 0 }
+    {
+        Weight {
+            octets: self.octets,
+            signatures: self.signatures,
+            long: 0,
+        }
+    }
+}
+
+/// The count of changes after a change that added this many items.
+fn raised(changes: u64, fresh: u64) -> u64
+    requires countable { changes < 2 ^ 64 - 1 }
+    ensures raised { result ≡ (if nat_lt 0 fresh then changes + 1 else changes) }
+{
+    if fresh > 0 { changes + 1 } else { changes }
+}

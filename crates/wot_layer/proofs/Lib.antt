@@ -1,0 +1,16 @@
+pub mod Order
+pub mod SuffixOrder
+pub mod Suffixes
+pub mod OneSuffixMore
+pub mod KeptSuffix
+pub mod Layers
+pub mod Rooted
+pub mod PickedRoot
+pub mod Local
+pub mod OneEdgeConsidered
+pub mod EdgesConsidered
+pub mod OneLayer
+pub mod FirstPathFound
+pub mod Members
+pub mod OneMoreTried
+pub mod SuffixByEdges

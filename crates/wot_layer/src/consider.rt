@@ -1,0 +1,150 @@
+//! One edge in the search: whether it may come before a suffix, and whether it is kept for its issuer.
+//!
+//! It stands on `demand` and `reached`, and on `specs/Growth.antt`. `extend` calls it for each edge, so most of a
+//! search's time is spent here.
+ghost use Rattle.std.specs.Prelude.{◌≡◌, ◌<◌, ℕ, List, true, IfOk, OnOk};
+ghost use Rattle.wot_edge.specs.Demand.{demand_of};
+ghost use Rattle.wot_edge.specs.Record.{Record, Has, IsRecord, EachRow, edges_into};
+ghost use Rattle.wot_layer.specs.Quest.{quest_of};
+ghost use Rattle.wot_layer.specs.Reached.{look};
+ghost use Rattle.wot_layer.specs.Growth.{wanted_of, may_stand_of, PutsIfStands, TriesEdge};
+ghost use Rattle.wot_layer.specs.Looked.{Gains, Widens};
+ghost use Rattle.wot_reach.specs.Onward.{IsUsable};
+
+use crate::demand::{candidate, keeps};
+use crate::node::{Hint, Node};
+use crate::notes::Notes;
+use crate::quest::Quest;
+use crate::reached::{Reached, node_at, put};
+use wot_edge::{Demand, Edge, EdgeFacts, Roads};
+use wot_types::Memory;
+
+/// The node to keep for an edge, if the edge may come there.
+fn wanted(
+    quest: &Quest,
+    demand: Demand,
+    size: u8,
+    width: u8,
+    place: usize,
+    edge: &EdgeFacts,
+    reached: &Reached,
+) -> Option<Node>
+    requires { size < 255 }
+    ensures { (told : List ℕ → Record)
+        → result ≡ wanted_of (quest_of told quest.now) (look reached.now.nodes) demand size width edge.now }
+{
+    match candidate(quest, demand, size, width, place, edge) {
+        None => None,
+        Some(node) => {
+            if keeps(
+                quest.goal,
+                &node,
+                node_at(&reached.nodes, &node.step.issuer),
+            ) {
+                Some(node)
+            } else {
+                None
+            }
+        }
+    }
+}
+
+/// Whether an edge is usable. The network isn't asked if that is known.
+fn is_usable<R: Roads>(roads: &R, known: bool, edge: &Edge) -> bool
+    requires row { (id : List ℕ) → Has (edges_into (R.told roads.now id) edge.now.target) edge.now }
+    requires known { known ≡ true → IsUsable (R.told roads.now) edge.now }
+    ensures usable { (id : List ℕ) → EachRow (R.told roads.now id) edge.now (λ row. row.usable ≡ result) }
+{
+    if known {
+        return true;
+    }
+    roads.usable(edge)
+}
+
+/// Whether an edge is usable, and its scope holds unless it is a path's last edge.
+fn may_stand<R: Roads>(
+    roads: &R,
+    quest: &Quest,
+    size: u8,
+    known: bool,
+    edge: &Edge,
+) -> Result<bool, Memory>
+    requires row { (id : List ℕ) → Has (edges_into (R.told roads.now id) edge.now.target) edge.now }
+    requires known { known ≡ true → IsUsable (R.told roads.now) edge.now }
+    ensures { IfOk result (λ stands. EachRow (R.told roads.now quest.now.uid.now) edge.now
+        (λ row. may_stand_of size row ≡ stands)) }
+{
+    if !is_usable(roads, known, edge) {
+        return Ok(false);
+    }
+    if size == 0 {
+        return Ok(true);
+    }
+    roads.scope(edge, quest.uid)
+}
+
+/// Keeps a node for its issuer if its edge may come there.
+fn keep<R: Roads, N: Notes>(
+    roads: &R,
+    quest: &Quest,
+    size: u8,
+    hint: Hint,
+    edge: &Edge,
+    node: Node,
+    reached: &mut Reached,
+    notes: &mut N,
+) -> Result<(), Memory>
+    requires row { (id : List ℕ) → Has (edges_into (R.told roads.now id) edge.now.target) edge.now }
+    requires known { hint.usable ≡ true → IsUsable (R.told roads.now) edge.now }
+    ensures put { OnOk result (PutsIfStands (R.told roads.now quest.now.uid.now) size edge.now
+        reached.old reached.new node) }
+    ensures has { OnOk result (N.noted notes.new node.step.issuer) }
+    ensures grows { Widens (N.noted notes.old) (N.noted notes.new) }
+    ensures gains { Gains (λ fpr. fpr ≡ node.step.issuer) (N.noted notes.old) (N.noted notes.new) }
+{
+    notes.note(&node.step.issuer)?;
+    if may_stand(roads, quest, size, hint.usable, edge)? {
+        return put(reached, node, quest.reach.issuer_place(hint.place));
+    }
+    Ok(())
+}
+
+/// Considers an edge in front of a suffix with this number of edges and this width. The issuer's reach, and whether the
+/// edge is usable, are looked up only if the hint doesn't say.
+pub fn consider<R: Roads, N: Notes>(
+    roads: &R,
+    quest: &Quest,
+    demand: Demand,
+    size: u8,
+    width: u8,
+    hint: Hint,
+    edge: &Edge,
+    reached: &mut Reached,
+    notes: &mut N,
+) -> Result<(), Memory>
+    requires row { (id : List ℕ) → Has (edges_into (R.told roads.now id) edge.now.target) edge.now }
+    requires known { hint.usable ≡ true → IsUsable (R.told roads.now) edge.now }
+    requires lawful { (id : List ℕ) → IsRecord (R.told roads.now id) }
+    requires demand { demand ≡ demand_of (quest_of (R.told roads.now) quest.now).question size }
+    requires size { size < 255 }
+    ensures all { OnOk result (TriesEdge N.noted (R.told roads.now) quest.now size width edge.now
+        reached.old reached.new notes.old notes.new) }
+    ensures grows { Widens (N.noted notes.old) (N.noted notes.new) }
+    ensures gains { Gains (λ fpr. fpr ≡ edge.now.issuer) (N.noted notes.old) (N.noted notes.new) }
+{
+    match wanted(
+        quest,
+        demand,
+        size,
+        width,
+        hint.place,
+        &edge.facts(),
+        reached,
+    ) {
+        None => Ok(()),
+        Some(node) => {
+            keep(roads, quest, size, hint, edge, node, reached, notes)?;
+            Ok(())
+        }
+    }
+}

@@ -1,0 +1,14 @@
+pub mod Logs
+pub mod ImportSteps
+pub mod Steps
+pub mod Unions
+pub mod TotalWeight
+pub mod Clashes
+pub mod Transport
+pub mod Unchanged
+pub mod Within
+pub mod TrialMerge
+pub mod Puts
+pub mod MergedInTurn
+pub mod GatheredMerges
+pub mod InPlace

@@ -1,0 +1,97 @@
+-- What the steps of an import need to know about merging.
+use Rattle.std.proofs.Common.{◌≡◌, ◌<◌, ◌≤◌, ◌+◌, ◌^◌, ℕ, zero, suc, true, false, cond, if◌then◌else◌, nat_eq, nat_lt}
+use Rattle.std.proofs.Common.{Option, Some, None, length, sym, ap, ◌∙◌, subst, refl, arith}
+use Rattle.std.specs.Option.{option_map}
+use Rattle.std.proofs.lemmas.Bool.Decides.{nat_tests}
+use Rattle.wot_policy.specs.declared.rows.PolicyRows.{PolicyRows}
+use Rattle.wot_cert.specs.Assembly.{bare}
+use Rattle.wot_part.specs.Certificate.{Certificate, unite}
+use Rattle.wot_part.specs.Counts.{items_of}
+use Rattle.wot_part.specs.Judged.{IsJudged, judged}
+use Rattle.wot_part.specs.Text.{size_of, text_of}
+use Rattle.wot_part.specs.Whole.{IsCertificate}
+use Rattle.wot_held.specs.declared.kept.Kept.{Kept}
+use Rattle.wot_merge.specs.declared.tally.Weight.{Weight}
+use Rattle.wot_held.specs.Import.{stamp_for}
+use Rattle.wot_merge.specs.Staging.{begun, stamp_over, Weighs, IsStaged}
+
+below : (n a b j m : ℕ) → n ≡ m → m ≤ a + j → j ≡ b → a + b < 2 ^ 63 → n < 2 ^ 63
+below n a b j m e h f few = omega arith
+
+-- A merged certificate has few octets if both together have few.
+pub union_few : (new a b j : Certificate) → new ≡ unite a j → size_of (unite a j) ≤ size_of a + size_of j →
+    text_of j ≡ text_of b → size_of a + size_of b < 2 ^ 63 → size_of new < 2 ^ 63
+union_few new a b j e h t few = below (size_of new) (size_of a) (size_of b) (size_of j) (size_of (unite a j))
+    (ap size_of e) h (ap length t) few
+
+-- ---- one step
+
+stamps_agree : (stamp old items i n : ℕ) → items + i ≡ n →
+    (if nat_eq items 0 then old else stamp) ≡ (if nat_lt i n then stamp else old)
+stamps_agree stamp old zero i n e = let l : nat_lt i n ≡ false = grind (arith, nat_tests) in
+    sym (ap (λ b. cond b stamp old) l)
+stamps_agree stamp old (suc items) i n e =
+    let z : nat_eq (suc items) 0 ≡ false = grind (arith, nat_tests) in
+    let l : nat_lt i n ≡ true = grind (arith, nat_tests) in
+    ap (λ b. if b then old else stamp) z ∙ sym (ap (λ b. cond b stamp old) l)
+
+no_key : (items s x n : ℕ) → s ≡ x → items + s ≡ n → (items + 0) + x ≡ n
+no_key items s x n e h = omega arith
+
+one_key : (items s n : ℕ) → s ≡ 1 → items + s ≡ n → (items + 1) + 0 ≡ n
+one_key items s n e h = omega arith
+
+module _ (rows : PolicyRows) (stamp limit : ℕ) (c start new : Certificate) (b a : Weight) (items st : ℕ)
+    (n : new ≡ unite start (judged rows c)) (wb : Weighs limit b start) (wa : Weighs limit a new)
+    (more : items + items_of start ≡ items_of new) (j : IsJudged rows start → IsJudged rows new) where
+  -- if a certificate was kept
+  pub step_on : (found : Option Kept) (old : ℕ) → start ≡ begun found c →
+      Some old ≡ option_map (λ (x : Kept). x.stamp) found → st ≡ stamp_over stamp (Some old) items
+      → IsStaged rows stamp limit found c (record {
+        kept = record { cert = new; stamp = st };
+        before = b;
+        after =
+            a;
+        items = items;
+        keys = 0;
+      })
+  step_on None old s o t = absurd cc
+  step_on (Some x) old s o t =
+      let e : new ≡ unite x.cert (judged rows c) = n ∙ ap (λ (z : Certificate). unite z (judged rows c)) s in
+      let same : old ≡ x.stamp = cc in
+      let m : items + items_of x.cert ≡ items_of (unite x.cert (judged rows c)) =
+      ap (λ (z : Certificate). items + items_of z) (sym s) ∙ more ∙ ap items_of e in
+      let f : st ≡ stamp_for stamp (Some x) (unite x.cert (judged rows c)) =
+      t ∙ ap (λ z. if nat_eq items 0 then z else stamp) same ∙ stamps_agree stamp x.stamp items (items_of x.cert) _
+      m in
+      record {
+        kept = λ i. record { cert = e i; stamp = f i };
+        before = subst (λ (z : Certificate). Weighs limit b z) s wb;
+        after = wa;
+        items = no_key items (items_of start) (items_of x.cert) (items_of new) (ap items_of s) more;
+        judged = λ h. j (subst (λ (z : Certificate). IsJudged rows z) (sym s) h);
+      }
+
+  -- if none was kept
+  pub step_new : (found : Option Kept) → IsCertificate c → (IsCertificate c → IsCertificate (judged rows c)) →
+      (IsCertificate (judged rows c) → unite (bare c.key) (judged rows c) ≡ judged rows c)
+      → start ≡ begun found c → None ≡ option_map (λ (x : Kept). x.stamp) found → st ≡ stamp_over stamp None items
+      → IsStaged rows stamp limit found c (record {
+        kept = record { cert = new; stamp = st };
+        before =
+            record { octets = 0; signatures = 0; long = 0 };
+        after = a;
+        items = items;
+        keys = 1;
+      })
+  step_new (Some x) whole marked first s o t = absurd cc
+  step_new None whole marked first s o t =
+      let e : new ≡ judged rows c = n ∙ ap (λ (z : Certificate). unite z (judged rows c)) s ∙ first (marked whole) in
+      record {
+        kept = λ i. record { cert = e i; stamp = t i };
+        before = (refl, refl, refl);
+        after = wa;
+        items = one_key items (items_of start) (items_of new) (ap items_of s) more;
+        judged = λ h. j (subst (λ (z : Certificate). IsJudged rows z) (sym s)
+            (record { direct = tt; user_ids = tt; attributes = tt; subkeys = tt }));
+      }

@@ -1,0 +1,18 @@
+use Rattle.std.proofs.Common.{◌≡◌, ◌+◌, ℕ, length}
+use Rattle.wot_policy.specs.Kept.{IsFaithful, rows_of, asked_more}
+use Rattle.wot_part.specs.Judged.{sound_of}
+use Rattle.wot_merge.specs.Staging.{weigh_kept}
+use Rattle.wot_merge.proofs.ImportSteps.{Run}
+use Rattle.wot_merge.proofs.staging.put_all.{Given as goal}
+
+abbrev pub invariant-left : goal.invariant-left
+invariant-left g l = record {
+  run : Run (rows_of l.initial.policy) l.terms.stamp l.terms.limit l.list l.initial.certs.entries l.initial.log.items
+      l.initial.tally l.left l.certs.entries l.log.items l.tally;
+  asked : (k : ℕ) × (l.policy ≡ asked_more k l.initial.policy) × (k + weigh_kept sound_of
+      l.initial.certs.entries ≡ weigh_kept sound_of l.certs.entries);
+  faithful : IsFaithful g.F.Fn l.policy;
+}
+
+abbrev pub decreases-left : goal.decreases-left
+decreases-left g l = length l.left

@@ -1,0 +1,15 @@
+pub mod Ranked
+pub mod Certificate
+pub mod Copied
+pub mod Whole
+pub mod Text
+pub mod Counts
+pub mod Judged
+pub mod New
+pub mod PolicyAsked
+pub mod Lent
+pub mod Marked
+pub mod Fitting
+pub mod Sizes
+pub mod Totals
+pub mod Growing

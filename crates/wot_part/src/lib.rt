@@ -1,0 +1,20 @@
+//! Signatures and components of certificates, and sorted lists of both: merged, marked, counted and weighed.
+//!
+//! It stands on `wot_packet`, `wot_signature`, `wot_verdict` and `wot_policy`. `wot_cert` makes certificates of these
+//! lists, and hands on the public types.
+#![tactic(auto)]
+
+pub mod adds;
+pub mod growing;
+pub mod growth;
+pub mod judge;
+pub mod measure;
+pub mod part;
+pub mod shrinking;
+pub mod sig;
+mod sizes;
+
+pub use adds::Adds;
+pub use growth::PartStep;
+pub use part::Part;
+pub use sig::Sig;

@@ -1,0 +1,257 @@
+//! A signature in a certificate: its body, its number, its facts, and the policy's mark.
+//!
+//! It stands on `wot_signature`, `wot_verdict` and `wot_policy`, and on `specs/Certificate.antt` and
+//! `specs/Judged.antt`. Lists of signatures are sorted by body and merged here.
+ghost use Rattle.std.specs.Prelude.{◌≡◌, ◌<◌, ◌^◌, OnOk, IfOk, [], ◌∷◌, ◌++◌, length, map, if◌then◌else◌};
+ghost use Rattle.wot_part.specs.Certificate.{sig_cmp, unite_sigs, said_by, fresh};
+ghost use Rattle.wot_part.specs.Copied.{mark_under, copied};
+ghost use Rattle.wot_part.specs.Judged.{judged_sig, if_sound};
+ghost use Rattle.wot_part.specs.Marked.{mark_by, one_if_sound, is_admitted_as};
+ghost use Rattle.wot_part.specs.Ranked.{IsRising};
+ghost use Rattle.wot_policy.specs.Kept.{IsFaithful, rows_of, asked_more};
+
+use std::alloc::Global;
+use std::cmp::Ordering;
+use std::marker::Model;
+use wot_policy::{Ask, Policy};
+use wot_signature::{SigFacts, read_signature};
+use wot_types::{Memory, SigNumber};
+use wot_verdict::number_of;
+
+/// What a signature holds.
+#[derive(Drop)]
+struct Held {
+    body: Vec<u8>,
+    number: SigNumber,
+    facts: Option<SigFacts>,
+    admitted: bool,
+}
+
+/// A signature of a certificate. The value itself is small, since an insertion moves all signatures after it.
+#[derive(Drop)]
+pub struct Sig {
+    held: Box<Held>,
+}
+
+impl Model for Sig {
+    ghost use Rattle.std.specs.Prelude.{◌≡◌};
+    ghost use Rattle.wot_signature.specs.Signature.{facts_of};
+    ghost use Rattle.wot_part.specs.Certificate.{Signature};
+
+    ghost Value = { Signature };
+
+    ghost view = { λ a. record {
+      body = a.held.value.body.items;
+      number = a.held.value.number;
+      admitted = a.held.value.admitted;
+    } };
+
+    ghost invariant = { λ a. a.held.value.facts ≡ facts_of a.held.value.body.items };
+}
+
+/// Whether copies keep their marks.
+#[derive(Clone, Copy)]
+pub enum Marks {
+    Kept,
+    Dropped,
+}
+
+impl Sig {
+    /// The octets of its packet's body.
+    pub fn body(&self) -> &[u8]
+        ensures body { result.now ≡ self.now.body }
+    {
+        &self.held.body
+    }
+
+    /// Its number, by which verdicts are kept.
+    pub fn number(&self) -> SigNumber
+        ensures number { result ≡ self.now.number }
+    {
+        self.held.number
+    }
+
+    /// What it says; `None` if it can't be parsed.
+    pub fn facts(&self) -> Option<SigFacts>
+        ensures said { result ≡ said_by self.now }
+    {
+        self.held.facts
+    }
+
+    /// Whether the policy admitted it.
+    pub fn admitted(&self) -> bool
+        ensures mark { result ≡ self.now.admitted }
+    {
+        self.held.admitted
+    }
+
+    /// The signature with this body at its place, without a mark.
+    pub fn fresh(
+        alloc: Global,
+        key: &[u8],
+        kind: u8,
+        component: &[u8],
+        body: &[u8],
+    ) -> Result<Sig, Memory>
+        requires key { length key.now < 2 ^ 32 }
+        requires component { length component.now < 2 ^ 32 }
+        requires body { length body.now < 2 ^ 32 }
+        ensures fresh { IfOk result (λ s. s ≡ fresh key.now kind component.now body.now) }
+    {
+        let number = number_of(key, kind, component, body);
+        let facts = read_signature(body);
+        let body = Vec::from_slice(alloc, body)?;
+        let held = Held {
+            body,
+            number,
+            facts,
+            admitted: false,
+        };
+        let held = Box::new(alloc, held)?;
+        Ok(Sig { held })
+    }
+
+    /// A copy with this mark.
+    pub(crate) fn marked(&self, alloc: Global, mark: bool) -> Result<Sig, Memory>
+        ensures marked { IfOk result (λ s. s ≡ record self.now { admitted = mark }) }
+    {
+        let here = &*self.held;
+        let body = Vec::from_slice(alloc, &here.body)?;
+        let held = Held {
+            body,
+            number: here.number,
+            facts: here.facts,
+            admitted: mark,
+        };
+        let held = Box::new(alloc, held)?;
+        Ok(Sig { held })
+    }
+
+    /// Sets the mark by the policy, which is asked only about a well-formed signature.
+    pub(crate) fn judge<F: Fn(Ask) -> bool>(&mut self, policy: &mut Policy<F>)
+        requires { IsFaithful F.Fn policy.old }
+        ensures judged { self.new ≡ judged_sig (rows_of policy.old) self.old }
+        ensures asked { policy.new ≡ asked_more (if_sound self.old) policy.old }
+        ensures faithful { IsFaithful F.Fn policy.new }
+    {
+        let held = &mut *self.held;
+        held.admitted = judge_facts(held.facts, policy);
+    }
+}
+
+/// Whether a signature with these facts is well-formed and admitted.
+fn judge_facts<F: Fn(Ask) -> bool>(facts: Option<SigFacts>, policy: &mut Policy<F>) -> bool
+    requires { IsFaithful F.Fn policy.old }
+    ensures mark { result ≡ mark_by (rows_of policy.old) facts }
+    ensures asked { policy.new ≡ asked_more (one_if_sound facts) policy.old }
+    ensures faithful { IsFaithful F.Fn policy.new }
+{
+    match facts {
+        Some(facts) => judge_said(facts, policy),
+        None => false,
+    }
+}
+
+fn judge_said<F: Fn(Ask) -> bool>(facts: SigFacts, policy: &mut Policy<F>) -> bool
+    requires { IsFaithful F.Fn policy.old }
+    ensures mark { result ≡ is_admitted_as (rows_of policy.old) facts }
+    ensures asked { policy.new ≡ asked_more (if facts.sound then 1 else 0) policy.old }
+    ensures faithful { IsFaithful F.Fn policy.new }
+{
+    if !facts.sound {
+        return false;
+    }
+    policy.judge(Ask {
+        kind: facts.kind,
+        hash: facts.hash,
+        made: facts.made,
+    })
+}
+
+fn mark_of(sig: &Sig, marks: Marks) -> bool
+    ensures { result ≡ mark_under marks sig.now.admitted }
+{
+    match marks {
+        Marks::Kept => sig.admitted(),
+        Marks::Dropped => false,
+    }
+}
+
+/// Compares two signatures by their bodies.
+pub(crate) fn order(a: &Sig, b: &Sig) -> Ordering
+    ensures { result ≡ sig_cmp a.now b.now }
+{
+    a.body().cmp(b.body())
+}
+
+pub(crate) fn push_copy(
+    alloc: Global,
+    out: &mut Vec<Sig>,
+    sig: &Sig,
+    marks: Marks,
+) -> Result<(), Memory>
+    ensures { OnOk result (out.new.items ≡ out.old.items ++ copied marks sig.now ∷ []) }
+{
+    let copy = sig.marked(alloc, mark_of(sig, marks))?;
+    out.push(copy)?;
+    Ok(())
+}
+
+pub fn push_copies(
+    alloc: Global,
+    out: &mut Vec<Sig>,
+    sigs: &[Sig],
+    marks: Marks,
+) -> Result<(), Memory>
+    ensures { OnOk result (out.new.items ≡ out.old.items ++ map (copied marks) sigs.now) }
+{
+    let mut rest = sigs;
+    'rest: while let Some((sig, others)) = rest.split_first() {
+        push_copy(alloc, out, sig, marks)?;
+        rest = others;
+    }
+    Ok(())
+}
+
+pub(crate) fn copy_sigs(alloc: Global, sigs: &[Sig], marks: Marks) -> Result<Vec<Sig>, Memory>
+    ensures { IfOk result (λ v. v.items ≡ map (copied marks) sigs.now) }
+{
+    let mut out = Vec::new(alloc);
+    push_copies(alloc, &mut out, sigs, marks)?;
+    Ok(out)
+}
+
+/// Puts two sorted lists, merged, into an empty one.
+pub fn put_union(alloc: Global, out: &mut Vec<Sig>, a: &[Sig], b: &[Sig]) -> Result<(), Memory>
+    requires empty { out.old.items ≡ [] }
+    requires a { IsRising sig_cmp a.now }
+    requires b { IsRising sig_cmp b.now }
+    ensures union { OnOk result (out.new.items ≡ unite_sigs a.now b.now) }
+    ensures rises { OnOk result (IsRising sig_cmp out.new.items) }
+{
+    let mut left = a;
+    let mut right = b;
+    'walk: while let Some((x, xs)) = left.split_first() {
+        let Some((y, ys)) = right.split_first() else {
+            push_copies(alloc, out, left, Marks::Kept)?;
+            return Ok(());
+        };
+        match order(x, y) {
+            Ordering::Less => {
+                push_copy(alloc, out, x, Marks::Kept)?;
+                left = xs;
+            }
+            Ordering::Equal => {
+                push_copy(alloc, out, x, Marks::Kept)?;
+                left = xs;
+                right = ys;
+            }
+            Ordering::Greater => {
+                push_copy(alloc, out, y, Marks::Kept)?;
+                right = ys;
+            }
+        }
+    }
+    push_copies(alloc, out, right, Marks::Kept)?;
+    Ok(())
+}

@@ -1,0 +1,12 @@
+use Rattle.std.proofs.Common.{sym, subst}
+use Rattle.wot_reach.specs.Making.{IsChecking}
+use Rattle.wot_reach.specs.Reach.{Table}
+use Rattle.wot_reach.proofs.checking.Checking.slot.Goals as goal
+
+pub returns : goal.returns
+returns c = record {
+  checking = λ told roots is.
+      subst (λ (table : Table). IsChecking told roots
+      (record c.args.self { reach = table; slotted = c.saturating_add.result })) (sym c.add_slot.ensures.same)
+      (record { onward = is.onward; enough = is.enough });
+}

@@ -1,0 +1,4 @@
+pub mod Slots
+pub mod Onward
+pub mod Reach
+pub mod Making

@@ -1,0 +1,409 @@
+-- A question that was read wants at least 1, and an import that was read is short.
+use Rattle.std.proofs.Common.{◌≡◌, ℕ, ◌+◌, ◌≤◌, ◌==◌, Bool, true, false, ◌&&◌, List, [], ◌∷◌, length, Option, Some}
+use Rattle.std.proofs.Common.{None, refl, arith}
+use Rattle.std.specs.Prelude.{codes, nat_lt, nat_le, IfSome, if◌then◌else◌}
+use Rattle.std.specs.Option.{option_map}
+use Rattle.std.specs.List.{AllByRecursion, list_all, onto_first}
+use Rattle.std.specs.Str.{bytes_eq}
+use Rattle.std.specs.Str.Parse.{digits_value}
+use Rattle.std.proofs.lemmas.Bool.{and_parts, leb-true, ltb-true}
+use Rattle.std.proofs.lemmas.Option.{cond_some}
+use Rattle.wot_types.specs.Fpr.{fpr_of_digits}
+use Rattle.wot_types.specs.ViewName.{view_name_of}
+use Rattle.wot_script.specs.Claims.{all_of, claim_of, claim_with, claims_of, field_of, IsLabelSpelled, IsPathSpelled}
+use Rattle.wot_script.specs.Claims.{is_rising, items_of, label_of, labels_of, rising, step_of}
+use Rattle.wot_script.specs.declared.reply.ClaimStepLine.{ClaimStepLine}
+use Rattle.wot_script.specs.declared.reply.LabelLine.{LabelLine}
+use Rattle.wot_words.specs.Decimal.{is_decimal, positive_up_to}
+use Rattle.wot_words.specs.Fields.{◌>>=◌, behind, cut, cut_at, read_behind}
+use Rattle.wot_words.specs.StateLine.{IsWithin, state_line_of}
+use Rattle.wot_words.specs.declared.state_line.StateLine.{StateLine}
+use Rattle.wot_words.specs.declared.state_line.StateLine.TheVariants as lines
+use Rattle.wot_words.proofs.FirstSeparator.{cut_short}
+use Rattle.wot_words.proofs.ImportFits.{behind_short, bound_keeps, so}
+use Rattle.wot_script.proofs.Items.{parts_of}
+use Rattle.wot_script.proofs.WordLines.{When, when}
+use Rattle.wot_script.specs.Grammar.{about_of, asked_of, checked_of, command_for, command_of, drop_of, entry_of}
+use Rattle.wot_script.specs.Grammar.{explained_of, export_of, listed_of, load_of, missed_of, other_of, over_of}
+use Rattle.wot_script.specs.Grammar.{paced_of, question_of, set_or, single_of, store_of, view_of, watch_of, watched_of}
+use Rattle.wot_script.specs.OneWord.{has_word, named_among, one_words, word_of}
+use Rattle.wot_script.specs.Spelling.{HasSpelling, FitsLine}
+use Rattle.wot_words.specs.Uid.{unescaped}
+use Rattle.wot_script.specs.declared.command.Command.{Command}
+use Rattle.wot_script.specs.declared.read.About.{About}
+use Rattle.wot_script.specs.declared.read.About.TheVariants.{Asked, Listed, Explained, Missed, Checked, Paced}
+use Rattle.wot_script.specs.declared.read.About.TheVariants.{Watched}
+use Rattle.wot_script.specs.declared.read.Question.{Question}
+use Rattle.wot_script.specs.declared.command.Command.TheVariants.{Import, Load, Store, Remove, Ask, Explain, Export}
+use Rattle.wot_script.specs.declared.command.Command.TheVariants.{Absence, CursorOver, CursorNext, CursorClose}
+use Rattle.wot_script.specs.declared.command.Command.TheVariants.{WatchOn, WatchOff}
+
+-- there is at most one part more than octets
+length-onto_first : (octet : ℕ) (parts : List (List ℕ)) → length (onto_first octet parts) ≤ 1 + length parts
+length-onto_first octet [] = omega arith
+length-onto_first octet (part ∷ parts) = omega arith
+
+length-parts_of : (separator : ℕ) (text : List ℕ) → length (parts_of separator text) ≤ 1 + length text
+length-parts_of separator [] = omega arith
+length-parts_of separator (octet ∷ octets) = by (octet == separator) refl (length-parts_of separator octets)
+  where
+    by : (b : Bool) → (octet == separator) ≡ b → length (parts_of separator octets) ≤ 1 + length octets
+        → length (parts_of separator (octet ∷ octets)) ≤ 1 + length (octet ∷ octets)
+    by true same later = rw same (omega (arith, later))
+    by false apart later = rw apart (omega (arith, later, length-onto_first octet (parts_of separator octets)))
+
+-- ---- what was read from each part
+
+all_of_keeps : {A : Type 0} (P : A → Type 0) (read : List ℕ → Option A) → ((text : List ℕ) → IfSome (read text) P)
+    → (texts : List (List ℕ))
+    → IfSome (all_of read texts) (λ items. AllByRecursion P items × (length items ≡ length texts))
+all_of_keeps {A = A} P read h [] = (tt, refl)
+all_of_keeps {A = A} P read h (text ∷ texts) = by (read text) (h text) (all_of read texts) (all_of_keeps P read h texts)
+  where
+    by : (o : Option A) → IfSome o P → (os : Option (List A))
+        → IfSome os (λ items. AllByRecursion P items × (length items ≡ length texts))
+        → IfSome (o >>= (λ item. option_map (λ items. item ∷ items) os))
+        (λ items. AllByRecursion P items × (length items ≡ length (text ∷ texts)))
+    by None one os all = tt
+    by (Some item) one None all = tt
+    by (Some item) one (Some items) all = ((one, all.0), omega (arith, all.1))
+
+field_keeps : {A : Type 0} (P : A → Type 0) (read : List ℕ → Option A) → ((text : List ℕ) → IfSome (read text) P)
+    → (text : List ℕ)
+    → IfSome (field_of read text) (λ items. AllByRecursion P items × (length items ≤ 1 + length text))
+field_keeps {A = A} P read h text =
+    by (bytes_eq text (codes "-")) (items_of 44 read text) (all_of_keeps P read h (parts_of 44 text))
+  where
+    by : (b : Bool) (o : Option (List A))
+        → IfSome o (λ items. AllByRecursion P items × (length items ≡ length (parts_of 44 text)))
+        → IfSome (if b then Some [] else o) (λ items. AllByRecursion P items × (length items ≤ 1 + length text))
+    by true o h = (tt, omega arith)
+    by false None h = tt
+    by false (Some items) h = (h.0, omega (arith, h.1, length-parts_of 44 text))
+
+module _ (size : ℕ) where
+  abbrev pub Spelled : Option Command → Type 0
+  Spelled o = IfSome o (λ command. HasSpelling command × FitsLine size command)
+
+  mapped : {A : Type 0} (f : A → Command) (o : Option A)
+      → ((a : A) → o ≡ Some a → HasSpelling (f a) × FitsLine size (f a))
+      → Spelled (option_map f o)
+  mapped f None h = tt
+  mapped f (Some a) h = h a refl
+
+  bound : {A : Type 0} (o : Option A) (f : A → Option Command) → ((a : A) → o ≡ Some a → Spelled (f a))
+      → Spelled (o >>= f)
+  bound None f h = tt
+  bound (Some a) f h = h a refl
+
+  behind_either : (o : Option (List ℕ)) (read : List ℕ → Option Command) (other : Option Command)
+      → ((text : List ℕ) → Spelled (read text)) → Spelled other → Spelled (read_behind o read other)
+  behind_either None read other h k = k
+  behind_either (Some text) read other h k = h text
+
+  chosen : (b : Bool) (command : Command) (other : Option Command) → HasSpelling command × FitsLine size command
+      → Spelled other
+      → Spelled (if b then Some command else other)
+  chosen true command other h k = h
+  chosen false command other h k = k
+
+  positive_wanted : (most : ℕ) (text : List ℕ) (n : ℕ) → positive_up_to most text ≡ Some n → 1 ≤ n
+  unfolding positive_up_to
+  positive_wanted most text n e =
+      let got = cond_some (is_decimal text && nat_lt 0 (digits_value 10 text) && nat_le (digits_value 10 text) most)
+      (digits_value 10 text) n e in
+      let both = and_parts (is_decimal text && nat_lt 0 (digits_value 10 text)) (nat_le (digits_value 10 text) most)
+      got.0 in
+      let some = and_parts (is_decimal text) (nat_lt 0 (digits_value 10 text)) both.0 in
+      omega (arith, ltb-true 0 (digits_value 10 text) some.1, got.1)
+
+  positive_most : (most : ℕ) (text : List ℕ) (n : ℕ) → positive_up_to most text ≡ Some n → n ≤ most
+  unfolding positive_up_to
+  positive_most most text n e =
+      let got = cond_some (is_decimal text && nat_lt 0 (digits_value 10 text) && nat_le (digits_value 10 text) most)
+      (digits_value 10 text) n e in
+      let both = and_parts (is_decimal text && nat_lt 0 (digits_value 10 text)) (nat_le (digits_value 10 text) most)
+      got.0 in
+      omega (arith, leb-true (digits_value 10 text) most both.1, got.1)
+
+  -- a question wants at least 1
+  bound_wants : {A : Type 0} (o : Option A) (f : A → Option Question) → ((a : A) → IfSome (f a) (λ q. 1 ≤ q.wanted))
+      → IfSome (o >>= f) (λ q. 1 ≤ q.wanted)
+  bound_wants None f h = tt
+  bound_wants (Some a) f h = h a
+
+  numbered_wants : (digits : List ℕ) (f : ℕ → Option Question) → ((n : ℕ) → 1 ≤ n → IfSome (f n) (λ q. 1 ≤ q.wanted))
+      → (o : Option ℕ) → positive_up_to 4294967295 digits ≡ o → IfSome (o >>= f) (λ q. 1 ≤ q.wanted)
+  numbered_wants digits f h None e = tt
+  numbered_wants digits f h (Some n) e = h n (positive_wanted 4294967295 digits n e)
+
+  all_want : (text : List ℕ) → IfSome (question_of text) (λ q. 1 ≤ q.wanted)
+  unfolding question_of
+  all_want text =
+      bound_wants (cut text) _ (λ first. bound_wants (fpr_of_digits first.0) _ (λ fpr. bound_wants (cut first.1) _
+      (λ second. numbered_wants second.0 _ (λ n some. bound_wants (unescaped second.1) _ (λ uid. some))
+      (positive_up_to 4294967295 second.0) refl)))
+
+  question_wants : (text : List ℕ) (q : Question) → question_of text ≡ Some q → 1 ≤ q.wanted
+  question_wants text q e = so (λ (q : Question). 1 ≤ q.wanted) (question_of text) q e (all_want text)
+
+  load_spelled : (text : List ℕ) → Spelled (load_of text)
+  unfolding load_of
+  load_spelled text = mapped Load (entry_of text) (λ name e. (tt, tt))
+
+  store_spelled : (text : List ℕ) → Spelled (store_of text)
+  unfolding store_of
+  store_spelled text = mapped Store (fpr_of_digits text) (λ fpr e. (tt, tt))
+
+  drop_spelled : (text : List ℕ) → Spelled (drop_of text)
+  unfolding drop_of
+  drop_spelled text = mapped Remove (fpr_of_digits text) (λ fpr e. (tt, tt))
+
+  export_spelled : (text : List ℕ) → Spelled (export_of text)
+  unfolding export_of
+  export_spelled text = mapped Export (fpr_of_digits text) (λ fpr e. (tt, tt))
+
+  -- a command of one word asks for no number, and has no octets
+  word_spelled : (command : Command)
+      → When (has_word command) (HasSpelling command) × When (has_word command) (FitsLine size command)
+  word_spelled (Import octets) = (tt, tt)
+  word_spelled _ = (tt, tt)
+
+  among_spelled : (commands : List Command) (line : List ℕ) → list_all has_word commands ≡ true
+      → Spelled (named_among commands line)
+  among_spelled [] line h = tt
+  among_spelled (command ∷ commands) line h =
+      let words = and_parts (has_word command) (list_all has_word commands) h in
+      let fits = word_spelled command in
+      chosen (bytes_eq line (word_of command)) command (named_among commands line) (
+        when (has_word command) (HasSpelling command) words.0 fits.0,
+        when (has_word command) (FitsLine size command) words.0 fits.1,
+      )
+      (among_spelled commands line words.1)
+
+  single_spelled : (line : List ℕ) → Spelled (single_of line)
+  unfolding single_of
+  single_spelled line = among_spelled one_words line refl
+
+  asked_spelled : (view text : List ℕ) → Spelled (asked_of view text)
+  asked_spelled view text =
+      mapped (λ (q : Question). Ask view q.fpr q.wanted q.uid) (question_of text) (λ q e. (question_wants text q e, tt))
+
+  missed_spelled : (view text : List ℕ) → Spelled (missed_of view text)
+  missed_spelled view text =
+      mapped (λ (q : Question). Absence view q.fpr q.wanted q.uid) (question_of text)
+      (λ q e. (question_wants text q e, tt))
+
+  label_positive : (text : List ℕ) → IfSome (label_of text) IsLabelSpelled
+  unfolding label_of
+  label_positive text =
+      bound_keeps IsLabelSpelled (cut_at 61 text) _ (λ parts c.
+      bound_keeps IsLabelSpelled (fpr_of_digits parts.0) _ (λ fpr f.
+      bound_keeps IsLabelSpelled (positive_up_to 255 parts.1) _
+      (λ n e. (positive_wanted 255 parts.1 n e, positive_most 255 parts.1 n e))))
+
+  any_step : (text : List ℕ) → IfSome (step_of text) (λ step. Unit {0})
+  any_step text = by (step_of text)
+    where
+      by : (o : Option ClaimStepLine) → IfSome o (λ step. Unit {0})
+      by None = tt
+      by (Some step) = tt
+
+  some_parts : (text : List ℕ) → 1 ≤ length (parts_of 47 text)
+  some_parts [] = omega arith
+  some_parts (octet ∷ octets) = by (octet == 47) (parts_of 47 octets)
+    where
+      by : (b : Bool) (parts : List (List ℕ)) → 1 ≤ length (if b then [] ∷ parts else onto_first octet parts)
+      by true parts = omega arith
+      by false [] = omega arith
+      by false (part ∷ parts) = omega arith
+
+  claim_spelled : (text : List ℕ) → IfSome (claim_of text) IsPathSpelled
+  unfolding claim_of
+  claim_spelled text =
+      bound_keeps IsPathSpelled (cut_at 47 text) _ (λ parts c.
+      bound_keeps IsPathSpelled (positive_up_to 255 parts.0) _ (λ n e.
+      bound_keeps IsPathSpelled (items_of 47 step_of parts.1) _ (λ steps i.
+      few n steps (positive_wanted 255 parts.0 n e)
+      (omega (
+        arith,
+        some_parts parts.1,
+        (so _ (items_of 47 step_of parts.1) steps i (all_of_keeps _ step_of any_step (parts_of 47 parts.1))).1,
+      )))))
+    where
+      few : (n : ℕ) (steps : List ClaimStepLine) → 1 ≤ n → 1 ≤ length steps → IfSome (claim_with n steps) IsPathSpelled
+      few n steps some many = by (nat_le (length steps) 255) refl
+        where
+          by : (b : Bool) → nat_le (length steps) 255 ≡ b
+              → IfSome (if b then Some (record { 0 = n; 1 = steps }) else None) IsPathSpelled
+          by true e = (some, many, leb-true (length steps) 255 e)
+          by false e = tt
+
+  labels_rise : (text : List ℕ)
+      → IfSome (labels_of text) (λ labels. AllByRecursion IsLabelSpelled labels × (is_rising labels ≡ true))
+  labels_rise text = by (field_of label_of text) (field_keeps _ label_of label_positive text)
+    where
+      by : (o : Option (List LabelLine))
+          → IfSome o (λ labels. AllByRecursion IsLabelSpelled labels × (length labels ≤ 1 + length text))
+          → IfSome (o >>= rising) (λ labels. AllByRecursion IsLabelSpelled labels × (is_rising labels ≡ true))
+      by None h = tt
+      by (Some labels) h = up (is_rising labels) refl
+        where
+          up : (b : Bool) → is_rising labels ≡ b
+              → IfSome (if b then Some labels else None)
+              (λ labels. AllByRecursion IsLabelSpelled labels × (is_rising labels ≡ true))
+          up true e = (h.0, e)
+          up false e = tt
+
+  checked_spelled : (view text : List ℕ) → length text ≤ size → Spelled (checked_of view text)
+  unfolding checked_of
+  checked_spelled view text short =
+      bound (cut text) _ (λ first f. bound (fpr_of_digits first.0) _ (λ fpr d.
+      bound (cut first.1) _ (λ second s. bound (claims_of second.0) _ (λ claims c.
+      bound (cut second.1) _ (λ third t. bound (labels_of third.0) _ (λ labels l.
+      bound (unescaped third.1) _ (λ uid u.
+      let paths = so _ (claims_of second.0) claims c (field_keeps IsPathSpelled claim_of claim_spelled second.0) in
+      let table = so _ (labels_of third.0) labels l (labels_rise third.0) in (
+        record { paths = paths.0; numbers = table.0; rise = table.1 },
+        omega (arith, short, paths.1, cut_short 32 text first f, cut_short 32 first.1 second s),
+      ))))))))
+
+  listed_spelled : (view digits : List ℕ) → Spelled (listed_of view digits)
+  unfolding listed_of
+  listed_spelled view digits =
+      mapped (Command.List view) (positive_up_to 4294967295 digits)
+      (λ wanted e. (positive_wanted 4294967295 digits wanted e, tt))
+
+  explained_spelled : (view text : List ℕ) → Spelled (explained_of view text)
+  unfolding explained_of
+  explained_spelled view text =
+      bound (cut text)
+      (λ second. fpr_of_digits second.0 >>= (λ fpr. unescaped second.1 >>= (λ uid. Some (Explain view fpr uid))))
+      (λ second e. bound (fpr_of_digits second.0) (λ fpr. unescaped second.1 >>= (λ uid. Some (Explain view fpr uid)))
+      (λ fpr f. bound (unescaped second.1) (λ uid. Some (Explain view fpr uid)) (λ uid u. (tt, tt))))
+
+  over_spelled : (cursor text : List ℕ) → Spelled (over_of cursor text)
+  unfolding over_of
+  over_spelled cursor text =
+      bound (cut text)
+      (λ first. view_name_of first.0 >>=
+      (λ view. positive_up_to 4294967295 first.1 >>= (λ wanted. Some (CursorOver cursor view wanted))))
+      (λ first e. bound (view_name_of first.0)
+      (λ view. positive_up_to 4294967295 first.1 >>= (λ wanted. Some (CursorOver cursor view wanted)))
+      (λ view v. bound (positive_up_to 4294967295 first.1) (λ wanted. Some (CursorOver cursor view wanted))
+      (λ wanted w. (positive_wanted 4294967295 first.1 wanted w, tt))))
+
+  paced_spelled : (cursor text : List ℕ) → Spelled (paced_of cursor text)
+  unfolding paced_of
+  paced_spelled cursor text =
+      let next : List ℕ → Option Command =
+      λ digits. option_map (CursorNext cursor) (positive_up_to 4294967295 digits) in
+      let close : Option Command = if bytes_eq text (codes "close") then Some (CursorClose cursor) else None in
+      behind_either (behind (codes "over ") text) (over_of cursor)
+      (read_behind (behind (codes "next ") text) next close)
+      (over_spelled cursor)
+      (behind_either (behind (codes "next ") text) next close
+      (λ digits. mapped (CursorNext cursor) (positive_up_to 4294967295 digits)
+      (λ count e. (positive_wanted 4294967295 digits count e, tt)))
+      (chosen (bytes_eq text (codes "close")) (CursorClose cursor) None (tt, tt) tt))
+
+  watch_spelled : (watch text : List ℕ) → Spelled (watch_of watch text)
+  unfolding watch_of
+  watch_spelled watch text =
+      bound (cut text)
+      (λ first. view_name_of first.0 >>=
+      (λ view. question_of first.1 >>= (λ (q : Question). Some (WatchOn watch view q.fpr q.wanted q.uid))))
+      (λ first e. bound (view_name_of first.0)
+      (λ view. question_of first.1 >>= (λ (q : Question). Some (WatchOn watch view q.fpr q.wanted q.uid)))
+      (λ view v. bound (question_of first.1) (λ (q : Question). Some (WatchOn watch view q.fpr q.wanted q.uid))
+      (λ q e. (question_wants first.1 q e, tt))))
+
+  watched_spelled : (watch text : List ℕ) → Spelled (watched_of watch text)
+  unfolding watched_of
+  watched_spelled watch text =
+      let off : Option Command = if bytes_eq text (codes "off") then Some (WatchOff watch) else None in
+      behind_either (behind (codes "on ") text) (watch_of watch) off (watch_spelled watch)
+      (chosen (bytes_eq text (codes "off")) (WatchOff watch) None (tt, tt) tt)
+
+  about_spelled : (about : About) (view text : List ℕ) → length text ≤ size → Spelled (about_of about view text)
+  about_spelled Asked view text short = asked_spelled view text
+  about_spelled Listed view text short = listed_spelled view text
+  about_spelled Explained view text short = explained_spelled view text
+  about_spelled Missed view text short = missed_spelled view text
+  about_spelled Checked view text short = checked_spelled view text short
+  about_spelled Paced cursor text short = paced_spelled cursor text
+  about_spelled Watched watch text short = watched_spelled watch text
+
+  view_spelled : (about : About) (text : List ℕ) → length text ≤ size → Spelled (view_of about text)
+  view_spelled about text short =
+      bound (cut text) (λ first. view_name_of first.0 >>= (λ view. about_of about view first.1))
+      (λ first e. bound (view_name_of first.0) (λ view. about_of about view first.1) (λ view d.
+      about_spelled about view first.1 (omega (arith, short, cut_short 32 text first e))))
+
+  -- what follows a word is no longer than the line
+  behind_word : (word line : List ℕ) (read : List ℕ → Option Command) (other : Option Command) → length line ≤ size
+      → ((text : List ℕ) → length text ≤ size → Spelled (read text)) → Spelled other
+      → Spelled (read_behind (behind word line) read other)
+  behind_word word line read other short h k = at (behind word line) refl
+    where
+      at : (o : Option (List ℕ)) → behind word line ≡ o → Spelled (read_behind o read other)
+      at None e = k
+      at (Some text) e = let shorter = behind_short word line text e in h text (omega (arith, shorter, short))
+
+  other_spelled : (line : List ℕ) → length line ≤ size → Spelled (other_of line)
+  unfolding other_of
+  other_spelled line short =
+      let tail : Option Command = single_of line in
+      let store : Option Command = read_behind (behind (codes "store ") line) store_of tail in
+      let watch : Option Command = read_behind (behind (codes "watch ") line) (view_of Watched) store in
+      let cursor : Option Command = read_behind (behind (codes "cursor ") line) (view_of Paced) watch in
+      let export : Option Command = read_behind (behind (codes "export ") line) export_of cursor in
+      let check : Option Command = read_behind (behind (codes "check ") line) (view_of Checked) export in
+      let absence : Option Command = read_behind (behind (codes "absence ") line) (view_of Missed) check in
+      let explain : Option Command = read_behind (behind (codes "explain ") line) (view_of Explained) absence in
+      let list : Option Command = read_behind (behind (codes "list ") line) (view_of Listed) explain in
+      let ask : Option Command = read_behind (behind (codes "ask ") line) (view_of Asked) list in
+      let remove : Option Command = read_behind (behind (codes "drop ") line) drop_of ask in
+      behind_either (behind (codes "load ") line) load_of remove load_spelled (
+      behind_either (behind (codes "drop ") line) drop_of ask drop_spelled (
+      behind_word (codes "ask ") line (view_of Asked) list short (view_spelled Asked) (
+      behind_word (codes "list ") line (view_of Listed) explain short (view_spelled Listed) (
+      behind_word (codes "explain ") line (view_of Explained) absence short (view_spelled Explained) (
+      behind_word (codes "absence ") line (view_of Missed) check short (view_spelled Missed) (
+      behind_word (codes "check ") line (view_of Checked) export short (view_spelled Checked) (
+      behind_either (behind (codes "export ") line) export_of cursor export_spelled (
+      behind_word (codes "cursor ") line (view_of Paced) watch short (view_spelled Paced) (
+      behind_word (codes "watch ") line (view_of Watched) store short (view_spelled Watched) (
+      behind_either (behind (codes "store ") line) store_of tail store_spelled (
+      single_spelled line)))))))))))
+
+  -- the command of a line that sets a part of the state asks for no number
+  line_spelled : (line : StateLine) → IsWithin size line
+      → HasSpelling (command_for line) × FitsLine size (command_for line)
+  line_spelled (lines.Import octets) within = (tt, within)
+  line_spelled _ within = (tt, tt)
+
+  set_spelled : (o : Option StateLine) (other : Option Command) → IfSome o (IsWithin size) → Spelled other
+      → Spelled (set_or o other)
+  set_spelled None other within h = h
+  set_spelled (Some line) other within h = line_spelled line within
+
+  -- a command that was read can be printed, and an import's octets are at most half of the line's
+  spelled_of : (line : List ℕ) → length line ≤ size → IfSome (state_line_of line) (IsWithin size)
+      → Spelled (command_of line)
+  unfolding command_of
+  spelled_of line short within =
+      set_spelled (state_line_of line) (other_of line) within (other_spelled line short)
+
+if_each : {A : Type 0} (P : A → Type 0) (o : Option A) → ((a : A) → o ≡ Some a → P a) → IfSome o P
+if_each P None h = tt
+if_each P (Some a) h = h a refl
+
+-- a command that was read can be printed
+pub spelled_at : ((text : List ℕ) (line : StateLine) → state_line_of text ≡ Some line → IsWithin (length text) line)
+    → (line : List ℕ) (command : Command) → command_of line ≡ Some command
+    → HasSpelling command × FitsLine (length line) command
+spelled_at fit line command e =
+    let within = if_each (IsWithin (length line)) (state_line_of line) (fit line) in
+    let all : Spelled (length line) (command_of line) = spelled_of (length line) line (omega arith) within in
+    rw e at all

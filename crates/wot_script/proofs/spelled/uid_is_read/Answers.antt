@@ -1,6 +1,0 @@
-use Rattle.std.proofs.Common.{arith}
-use Rattle.wot_script.proofs.Escapes.{unescaped-escaped}
-use Rattle.wot_script.proofs.spelled.uid_is_read.Goals as goal
-
-pub returns : goal.returns
-returns c = unescaped-escaped c.args.octets.now (λ i. omega (arith, c.type_inv.octets i))

@@ -1,5 +1,0 @@
-use Rattle.wot_search.specs.Making.{IsMaking}
-use Rattle.wot_search.proofs.making.Making.advanced.Given as goal
-
-abbrev pub invariant-steps : goal.invariant-steps
-invariant-steps g l = IsMaking (g.R.Roads.told l.roads) l.roots l.making

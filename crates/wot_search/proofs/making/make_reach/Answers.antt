@@ -1,4 +1,0 @@
-use Rattle.wot_search.proofs.making.make_reach.Goals as goal
-
-pub returns : goal.returns
-returns g c = record { reach = c.everywhere.ensures.reach (g.R.Roads.told c.args.roads.now) c.args.roots.now }

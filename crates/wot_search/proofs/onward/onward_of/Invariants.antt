@@ -1,6 +1,0 @@
-use Rattle.wot_search.specs.Reach.{number_of}
-use Rattle.wot_search.proofs.Leading.{LeadTo}
-use Rattle.wot_search.proofs.onward.onward_of.Given as goal
-
-abbrev pub invariant-places : goal.invariant-places
-invariant-places g l = LeadTo (g.R.Roads.told l.roads) (number_of l.numbers.entries) l.fpr l.edges l.onward l.place

@@ -1,6 +1,0 @@
-use Rattle.wot_search.specs.Reach.{number_at}
-use Rattle.wot_search.proofs.Enough.{AllowedFrom}
-use Rattle.wot_search.proofs.reach.has_enough.Given as goal
-
-abbrev pub invariant-edges : goal.invariant-edges
-invariant-edges g l = AllowedFrom (g.R.Roads.told l.roads) (number_at l.reach) l.number l.edges l.edge-index
