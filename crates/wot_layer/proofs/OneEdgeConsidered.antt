@@ -13,6 +13,7 @@ use Rattle.wot_edge.specs.declared.path.Step.{Step}
 use Rattle.wot_edge.specs.Demand.{is_met, demand_of}
 use Rattle.wot_edge.specs.DemandLaws.{apart-false, demand_some, place-true, suc-zero, true-place}
 use Rattle.wot_edge.specs.Record.{Row, Has, IsRecord, rows_into, edges_into, entry_at}
+use Rattle.wot_edge.specs.RowLaws.{row_there}
 use Rattle.wot_edge.specs.Path.{Question, Reaches, start, step_of, step_left}
 use Rattle.wot_layer.specs.declared.node.Node.{Node}
 use Rattle.wot_layer.specs.declared.node.Goal.{Goal}
