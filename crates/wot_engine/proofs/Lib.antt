@@ -1,10 +1,13 @@
+mod Contents
+mod ByCases
 mod Progress
+mod Reached
 mod Turns
 mod Held
 mod Taking
+mod Does
 mod Replying
 mod Asking
-pub mod Rules
 mod Forms
 mod Ending
 mod Playing

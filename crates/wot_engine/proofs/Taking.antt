@@ -7,8 +7,7 @@ use Rattle.wot_io.specs.ReaderState.{ReaderState}
 use Rattle.wot_io.specs.Filled.{IsAtEnd}
 use Rattle.wot_io.specs.Given as given
 use Rattle.wot_io.specs.declared.lines.Line.TheVariants.{End}
-use Rattle.wot_machine.specs.Transcript.{HasMost, TakesAtMost}
-use Rattle.wot_engine.specs.Ended.{TakesMost}
+use Rattle.wot_engine.specs.Source.{HasMost, TakesAtMost, TakesMost}
 use Rattle.wot_engine.proofs.Replying.{fresh}
 
 loses_nothing : (left : Option (List ℕ)) → Loses left left []

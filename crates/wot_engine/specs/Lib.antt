@@ -1,4 +1,6 @@
 pub mod Forms
+pub mod Contents
+pub mod Source
 pub mod Told
 pub mod Generated
 pub mod Ends

@@ -4,27 +4,22 @@
 //! more input would be read. `run_words` hands its clauses on (`specs/Told.antt`, `specs/Ended.antt`).
 ghost use Rattle.std.specs.Prelude.{◌≡◌, ◌≢◌, ◌<◌, ◌≤◌, ◌+◌, ◌-◌, ◌^◌, [], length};
 ghost use Rattle.std.specs.Prelude.{IfSome, OnErr, OnOk, IsErrOf, vec_items};
-ghost use Rattle.wot_types.specs.Limits.{standard_limits};
 ghost use Rattle.wot_policy.specs.Kept.{IsFaithful, rows_of};
 ghost use Rattle.wot_keyring.specs.Kept.{IsJudgedBy};
 ghost use Rattle.wot_io.specs.Counts.{Rose};
-ghost use Rattle.wot_io.specs.Filled.{IsAtEnd};
 ghost use Rattle.wot_io.specs.Input.{HasNoFeed};
 ghost use Rattle.wot_io.specs.Sink.{GainsPrefix};
-ghost use Rattle.wot_cache.specs.State.{empty, state_of};
+ghost use Rattle.wot_cache.specs.State.{state_of};
 ghost use Rattle.wot_machine.specs.Machine.{kept};
 ghost use Rattle.wot_machine.specs.Both.{ends, itself};
 ghost use Rattle.wot_machine.specs.Entry.{MayPutTo};
-ghost use Rattle.wot_machine.specs.Transcript.{HasMost, TakesAtMost};
 ghost use Rattle.wot_engine.specs.Asking.{MayAsk, ReadAsks, RunAsks, command_by, done};
-ghost use Rattle.wot_engine.specs.Ends.{IsMuchOrMemory, status_at};
-ghost use Rattle.wot_engine.specs.Ended.{TakesMost};
-ghost use Rattle.wot_engine.specs.Told.{MovesShelf, OnMost, ReachesSome, WritesAll, WritesMost, WritesPrefix};
-ghost use Rattle.wot_engine.specs.Told.{WritesSome, WritesTaken};
+ghost use Rattle.wot_engine.specs.Ends.{status_at};
+ghost use Rattle.wot_engine.specs.Told.{Does, Takes};
 ghost use Rattle.wot_engine.specs.Held.{Moves};
-ghost use Rattle.wot_engine.specs.Turn.{Says, SaysAll, unread, use_by};
+ghost use Rattle.wot_engine.specs.Turn.{Says, SaysAll, use_by};
 ghost use Rattle.wot_engine.specs.declared.run.Stop.TheVariants as stops;
-ghost use Rattle.wot_engine.specs.declared.run.Stop.TheVariants.{Memory as NoMemory, Read, TooMuch, Write};
+ghost use Rattle.wot_engine.specs.declared.run.Stop.TheVariants.{Read, Write};
 
 use std::alloc::Global;
 use wot_certd::Shelf;
@@ -163,28 +158,11 @@ pub fn run<S: Source, K: Sink, D: Shelf, F: Fn(Ask) -> bool>(
     policy: &mut Policy<F>,
 ) -> Result<(), Stop>
     requires faithful { IsFaithful F.Fn policy.old }
-    ensures whole { OnOk result (WritesAll (rows_of policy.old)
-        (ends S.left input) (ends K.written output) (ends D.world shelf)) }
-    ensures shelf { OnOk result (MovesShelf (rows_of policy.old)
-        (ends S.left input) (ends K.written output) (ends D.world shelf)) }
-    ensures prefix { WritesPrefix (rows_of policy.old)
+    ensures does { Does (rows_of policy.old) result
         (ends S.left input) (ends K.written output) (ends D.world shelf) }
-    ensures reached { ReachesSome (rows_of policy.old)
-        (ends S.left input) (ends K.written output) (ends D.world shelf) }
-    ensures first { IsErrOf result NoMemory → WritesSome (rows_of policy.old)
-        (ends S.left input) (ends K.written output) (ends D.world shelf) }
+    ensures takes { Takes result (ends S.left input) }
     ensures source { IsErrOf result Read → Rose (S.faults input.old) (S.faults input.new) }
-    ensures taken { IsErrOf result Read → WritesTaken (rows_of policy.old)
-        (ends S.left input) (ends K.written output) (ends D.world shelf) }
     ensures sink { IsErrOf result Write → Rose (K.faults output.old) (K.faults output.new) }
-    ensures most { IsErrOf result TooMuch → WritesMost (rows_of policy.old)
-        (ends S.left input) (ends K.written output) (ends D.world shelf) }
-    ensures most_only { OnMost (rows_of policy.old)
-        (ends S.left input) (ends K.written output) (ends D.world shelf) (IsMuchOrMemory result) }
-    ensures much { IsErrOf result TooMuch → HasMost (S.left input.old) }
-    ensures ended { OnOk result (IsAtEnd (S.left input.old) (S.left input.new)) }
-    ensures took { IsErrOf result TooMuch → TakesMost (S.left input.old) (S.left input.new) }
-    ensures at_most { TakesAtMost (S.left input.old) (S.left input.new) }
     ensures asked { RunAsks (status_at result)
         (ends S.left input) (ends K.written output) (ends D.world shelf) (ends itself policy) }
     ensures faithful { IsFaithful F.Fn policy.new }
@@ -194,72 +172,16 @@ pub fn run<S: Source, K: Sink, D: Shelf, F: Fn(Ask) -> bool>(
     let mut lines = Lines::new(alloc)?;
     let mut machine = Machine::new(alloc);
     let mut out = Vec::new(alloc);
-    answer_lines(
-        &mut lines,
-        &mut machine,
-        &mut out,
-        input,
-        output,
-        shelf,
-        policy,
-    )
-}
-
-/// Answers the lines of an input, starting with a fresh reader, a fresh machine and an empty buffer.
-#[tactic(auto, using(crate::proofs::Rules::turning))]
-fn answer_lines<S: Source, K: Sink, D: Shelf, F: Fn(Ask) -> bool>(
-    lines: &mut Lines,
-    machine: &mut Machine,
-    out: &mut Vec<u8>,
-    input: &mut S,
-    output: &mut K,
-    shelf: &mut D,
-    policy: &mut Policy<F>,
-) -> Result<(), Stop>
-    requires unread { lines.old ≡ unread }
-    requires engine { machine.old.engine ≡ empty standard_limits }
-    requires cursors { machine.old.cursors ≡ [] }
-    requires watches { machine.old.watches ≡ [] }
-    requires nothing { out.old.items ≡ [] }
-    requires faithful { IsFaithful F.Fn policy.old }
-    ensures whole { OnOk result (WritesAll (rows_of policy.old)
-        (ends S.left input) (ends K.written output) (ends D.world shelf)) }
-    ensures shelf { OnOk result (MovesShelf (rows_of policy.old)
-        (ends S.left input) (ends K.written output) (ends D.world shelf)) }
-    ensures prefix { WritesPrefix (rows_of policy.old)
-        (ends S.left input) (ends K.written output) (ends D.world shelf) }
-    ensures reached { ReachesSome (rows_of policy.old)
-        (ends S.left input) (ends K.written output) (ends D.world shelf) }
-    ensures first { IsErrOf result NoMemory → WritesSome (rows_of policy.old)
-        (ends S.left input) (ends K.written output) (ends D.world shelf) }
-    ensures source { IsErrOf result Read → Rose (S.faults input.old) (S.faults input.new) }
-    ensures taken { IsErrOf result Read → WritesTaken (rows_of policy.old)
-        (ends S.left input) (ends K.written output) (ends D.world shelf) }
-    ensures sink { IsErrOf result Write → Rose (K.faults output.old) (K.faults output.new) }
-    ensures most { IsErrOf result TooMuch → WritesMost (rows_of policy.old)
-        (ends S.left input) (ends K.written output) (ends D.world shelf) }
-    ensures most_only { OnMost (rows_of policy.old)
-        (ends S.left input) (ends K.written output) (ends D.world shelf) (IsMuchOrMemory result) }
-    ensures much { IsErrOf result TooMuch → HasMost (S.left input.old) }
-    ensures ended { OnOk result (IsAtEnd (S.left input.old) (S.left input.new)) }
-    ensures took { IsErrOf result TooMuch → TakesMost (S.left input.old) (S.left input.new) }
-    ensures at_most { TakesAtMost (S.left input.old) (S.left input.new) }
-    ensures asked { RunAsks (status_at result)
-        (ends S.left input) (ends K.written output) (ends D.world shelf) (ends itself policy) }
-    ensures faithful { IsFaithful F.Fn policy.new }
-    ensures rows { rows_of policy.new ≡ rows_of policy.old }
-{
-    each_line_has_one_outcome();
     'lines: loop {
-        flush(lines, output, out)?;
+        flush(&lines, output, &mut out)?;
         let line = match lines.next(input) {
             Ok(Line::End) => return Ok(()),
             Ok(line) => line,
             Err(LinesFault::ReadFault) => return Err(Stop::Read),
             Err(LinesFault::TooMuch) => return Err(Stop::TooMuch),
         };
-        let Ok(()) = reply_to(machine, line, lines.text(), shelf, policy, out) else {
-            write_all(output, out)?;
+        let Ok(()) = reply_to(&mut machine, line, lines.text(), shelf, policy, &mut out) else {
+            write_all(output, &out)?;
             return Err(Stop::Memory);
         };
     }
