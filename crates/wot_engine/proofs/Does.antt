@@ -5,8 +5,9 @@ use Rattle.wot_policy.specs.declared.rows.PolicyRows.{PolicyRows}
 use Rattle.wot_engine.specs.Contents.{Octets, OnContents, Worlds}
 use Rattle.wot_engine.specs.Ended.{AnsweredMost}
 use Rattle.wot_engine.specs.Source.{HasMost, TakesAtMost, TakesMost}
-use Rattle.wot_engine.specs.Told.{Does, MovesShelf, ReachesSome, Takes, WritesAll, WritesMost, WritesPrefix, WritesSome}
-use Rattle.wot_engine.specs.Told.{WritesTaken}
+use Rattle.wot_engine.specs.RunDoes.{Does, MovesShelf, ReachesSome, Takes, WritesAll, WritesMost, WritesPrefix}
+use Rattle.wot_engine.specs.RunDoes.{WritesSome}
+use Rattle.wot_engine.specs.RunDoes.{WritesTaken}
 use Rattle.wot_engine.specs.declared.run.Stop.{Stop}
 use Rattle.wot_engine.specs.declared.run.Stop.TheVariants.{Read, Write, Memory, TooMuch}
 use Rattle.wot_engine.proofs.Stops.{AreApart, always, never, never_ok, on_err}

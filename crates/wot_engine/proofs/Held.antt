@@ -17,7 +17,7 @@ use Rattle.wot_machine.specs.Session.{Session, beginning}
 use Rattle.wot_machine.specs.Law.{OneOutcome}
 use Rattle.wot_machine.specs.Entry.{MayPut}
 use Rattle.wot_machine.specs.Transcript.{octets_of}
-use Rattle.wot_engine.specs.Asking.{command_by}
+use Rattle.wot_engine.specs.RunAsks.{command_by}
 use Rattle.wot_engine.specs.Held.{Moves, MovesOf}
 use Rattle.wot_engine.specs.Contents.{Contents, OnContents}
 use Rattle.wot_engine.specs.Ended.{AnsweredMost, IsBegun, Reached, ReachedWhole}

@@ -4,12 +4,12 @@ mod Progress
 mod Reached
 mod Turns
 mod Held
-mod Taking
+mod TakesAtMost
 mod Does
-mod Replying
-mod Asking
+mod Fresh
+mod HasAsked
 mod Forms
-mod Ending
-mod Playing
-mod Summing
+mod Statuses
+mod Plays
+mod Summary
 pub mod Stops

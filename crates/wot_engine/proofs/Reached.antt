@@ -38,9 +38,11 @@ module _ (rows : PolicyRows) (origin : Option World) (contents : Contents) where
       record {
         count = length s.done;
         replies = s.replies;
-        told = record { last = over state s.now; run = rw (take-prefix rows origin contents (lines_of contents.input)
-            s.done m.0 m.1) s.run
-            };
+        told = record {
+          last = over state s.now;
+          run = rw (take-prefix rows origin contents (lines_of contents.input)
+              s.done m.0 m.1) s.run;
+        };
         written = s.written_is;
         next = next;
         puts = puts;
@@ -82,7 +84,7 @@ module _ (rows : PolicyRows) (origin : Option World) (contents : Contents) where
   -- the end
   pub done_all : (held : List ℕ) (taken : ℕ) (left written : Option (List ℕ)) (shelf : Option World)
       (state : Session) → (s : Stands rows origin contents held taken left written shelf state) → held ≡ [] → s.rest ≡
-          [] →
+      [] →
       lines_of contents.input ≡ s.done
   done_all held taken left written shelf state s e f =
       elim s.lines [
@@ -92,7 +94,7 @@ module _ (rows : PolicyRows) (origin : Option World) (contents : Contents) where
 
   pub at_end : (held : List ℕ) (taken : ℕ) (left written : Option (List ℕ)) (shelf : Option World) (state : Session)
       (left' : Option (List ℕ)) → (s : Stands rows origin contents held taken left written shelf state) → held ≡ [] →
-          s.rest ≡ [] →
+      s.rest ≡ [] →
       left' ≡ Some [] → IsTranscribed rows contents left' written
   at_end held taken left written shelf state left' s e f none =
       let whole : lines_of contents.input ≡ s.done = done_all held taken left written shelf state s e f in
@@ -105,7 +107,7 @@ module _ (rows : PolicyRows) (origin : Option World) (contents : Contents) where
 
   pub leaves : (held : List ℕ) (taken : ℕ) (left written : Option (List ℕ)) (shelf : Option World)
       (state : Session) → (s : Stands rows origin contents held taken left written shelf state) → held ≡ [] → s.rest ≡
-          [] →
+      [] →
       IsLeft rows contents origin shelf
   leaves held taken left written shelf state s e f =
       let whole : lines_of contents.input ≡ s.done = done_all held taken left written shelf state s e f in
@@ -327,9 +329,11 @@ module _ (rows : PolicyRows) (origin : Option World) (contents : Contents) where
       record {
         count = length s.done;
         replies = s.replies;
-        told = record { last = over state s.now; run = rw (take-prefix rows origin contents (lines_of contents.input)
-            s.done m.0 m.1) s.run
-            };
+        told = record {
+          last = over state s.now;
+          run = rw (take-prefix rows origin contents (lines_of contents.input)
+              s.done m.0 m.1) s.run;
+        };
         size = length replies + n;
         written = w ∙ ap (λ (x : List ℕ). Some x) (append_assoc contents.written replies (take n reply)
             ∙ ap (λ (x : List ℕ). contents.written ++ x) (sym first));

@@ -26,7 +26,7 @@ use Rattle.wot_machine.specs.Transcript.{Run, IsNow, listed, octets_of}
 use Rattle.wot_machine.proofs.Giving.{IsUncalled, goes, may_call, over}
 use Rattle.wot_machine.proofs.Runs.{Run-one, Run-prefix}
 use Rattle.wot_machine.proofs.Stepping.{heard_long}
-use Rattle.wot_engine.specs.Asking.{command_by}
+use Rattle.wot_engine.specs.RunAsks.{command_by}
 use Rattle.wot_engine.specs.Contents.{Contents, OnContents}
 use Rattle.wot_engine.specs.Ended.{AnsweredMost, FinishedMost, FinishedTaken, IsBegun, IsLeft, IsTranscribed, Reached}
 use Rattle.wot_engine.specs.Ended.{ReachedWhole}

@@ -1,7 +1,7 @@
 //! A run: the lines of a source are answered by one machine, and their replies are written to a sink.
 //!
 //! It stands on the reader of lines of `wot_io` and on `Machine::line` and `Machine::tell`. Replies are buffered until
-//! more input would be read. `run_words` hands its clauses on (`specs/Told.antt`, `specs/Ended.antt`).
+//! more input would be read. `run_words` hands its clauses on (`specs/RunDoes.antt`, `specs/Ended.antt`).
 ghost use Rattle.std.specs.Prelude.{◌≡◌, ◌≢◌, ◌<◌, ◌≤◌, ◌+◌, ◌-◌, ◌^◌, [], length};
 ghost use Rattle.std.specs.Prelude.{IfSome, OnErr, OnOk, IsErrOf, vec_items};
 ghost use Rattle.wot_policy.specs.Kept.{IsFaithful, rows_of};
@@ -13,9 +13,9 @@ ghost use Rattle.wot_cache.specs.State.{state_of};
 ghost use Rattle.wot_machine.specs.Machine.{kept};
 ghost use Rattle.wot_machine.specs.Both.{ends, itself};
 ghost use Rattle.wot_machine.specs.Entry.{MayPutTo};
-ghost use Rattle.wot_engine.specs.Asking.{MayAsk, ReadAsks, RunAsks, command_by, done};
+ghost use Rattle.wot_engine.specs.RunAsks.{MayAsk, ReadAsks, RunAsks, command_by, done};
 ghost use Rattle.wot_engine.specs.Ends.{status_at};
-ghost use Rattle.wot_engine.specs.Told.{Does, Takes};
+ghost use Rattle.wot_engine.specs.RunDoes.{Does, Takes};
 ghost use Rattle.wot_engine.specs.Held.{Moves};
 ghost use Rattle.wot_engine.specs.Turn.{Says, SaysAll, use_by};
 ghost use Rattle.wot_engine.specs.declared.run.Stop.TheVariants as stops;

@@ -6,14 +6,14 @@ ghost use Rattle.wot_policy.specs.Kept.{IsFaithful, rows_of};
 ghost use Rattle.wot_io.specs.Counts.{Rose};
 ghost use Rattle.wot_io.specs.Filled.{IsAtEnd};
 ghost use Rattle.wot_machine.specs.Both.{ends, itself};
-ghost use Rattle.wot_engine.specs.Asking.{RunAsks};
+ghost use Rattle.wot_engine.specs.RunAsks.{RunAsks};
 ghost use Rattle.wot_engine.specs.Ends.{IsEither, status_at};
 ghost use Rattle.wot_engine.specs.Forms.{IsForm};
 ghost use Rattle.wot_engine.specs.Generated.{BeginsSummary, WritesSummary};
 ghost use Rattle.wot_engine.specs.Source.{ReadsFew, TakesAtMost, TakesMost};
-ghost use Rattle.wot_engine.specs.Told.{AreOfRun, Done, IsUnfailed, OnScript};
-ghost use Rattle.wot_engine.specs.Told.{MovesShelf, OnMost, ReachesSome, WritesAll, WritesMost, WritesPrefix};
-ghost use Rattle.wot_engine.specs.Told.{WritesSome, WritesTaken};
+ghost use Rattle.wot_engine.specs.RunDoes.{AreOfRun, Done, IsUnfailed, OnScript};
+ghost use Rattle.wot_engine.specs.RunDoes.{MovesShelf, OnMost, ReachesSome, WritesAll, WritesMost, WritesPrefix};
+ghost use Rattle.wot_engine.specs.RunDoes.{WritesSome, WritesTaken};
 
 use crate::form::{Form, form_of};
 use crate::generated::generate;

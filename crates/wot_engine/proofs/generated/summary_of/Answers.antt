@@ -3,7 +3,7 @@ use Rattle.wot_policy.specs.Kept.{rows_of}
 use Rattle.wot_gen.specs.Script.{commands_of, text_of}
 use Rattle.wot_gen.specs.Summary.{summary_text}
 use Rattle.wot_gen.specs.declared.summary.Summary.{Summary}
-use Rattle.wot_engine.proofs.Summing.{summed}
+use Rattle.wot_engine.proofs.Summary.{summed}
 use Rattle.wot_engine.proofs.generated.summary_of.Goals as goal
 
 pub returns-clause-summary : goal.returns-clause-summary

@@ -9,9 +9,9 @@ use Rattle.wot_machine.specs.Transcript.{listed, octets_of}
 use Rattle.wot_machine.specs.Session.{Session}
 use Rattle.wot_cache.specs.State.{state_of}
 use Rattle.wot_machine.proofs.Putting.{any_err, served_puts}
-use Rattle.wot_engine.specs.Asking.{command_by, done}
+use Rattle.wot_engine.specs.RunAsks.{command_by, done}
 use Rattle.wot_engine.specs.Turn.{RepliesBehind, SaidBehind, use_by}
-use Rattle.wot_engine.proofs.Asking.{asks_behind, asks_done, may_ask}
+use Rattle.wot_engine.proofs.HasAsked.{asks_behind, asks_done, may_ask}
 use Rattle.wot_engine.proofs.Progress.{joined}
 use Rattle.wot_engine.proofs.run.reply_to.Goals as goal
 

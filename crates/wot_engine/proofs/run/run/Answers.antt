@@ -11,13 +11,14 @@ use Rattle.wot_machine.specs.Asked.{LineAsks}
 use Rattle.wot_machine.specs.Entry.{MayPut}
 use Rattle.wot_machine.specs.Machine.{kept}
 use Rattle.wot_machine.specs.Session.{beginning}
-use Rattle.wot_engine.specs.Asking.{MayAsk, command_by, done}
+use Rattle.wot_engine.specs.RunAsks.{MayAsk, command_by, done}
 use Rattle.wot_engine.specs.Contents.{OnContents}
 use Rattle.wot_engine.specs.Ended.{IsBegun, Reached}
 use Rattle.wot_engine.specs.Ends.{status_at}
 use Rattle.wot_engine.specs.Turn.{use_by}
 use Rattle.wot_engine.specs.declared.run.Stop.TheVariants.{Memory, Read, TooMuch, Write}
-use Rattle.wot_engine.proofs.Asking.{HasAsked-init, HasAsked-line, asks_between, asks_cut, asks_end, asks_nothing, asks_stop}
+use Rattle.wot_engine.proofs.HasAsked.{HasAsked-init, HasAsked-line, asks_between, asks_cut, asks_end, asks_nothing}
+use Rattle.wot_engine.proofs.HasAsked.{asks_stop}
 use Rattle.wot_engine.proofs.Contents.{weaker}
 use Rattle.wot_engine.proofs.Does.{does_all, does_memory, does_much, does_read, does_write, takes_all, takes_much}
 use Rattle.wot_engine.proofs.Does.{takes_some}
@@ -25,11 +26,13 @@ use Rattle.wot_engine.proofs.Held.{Held, Held-begun, Held-cut, Held-first, Held-
 use Rattle.wot_engine.proofs.Held.{Held-reached, Held-reached_cut, Held-reached_next, Held-reply, Held-written}
 use Rattle.wot_engine.proofs.Held.{nothing_held}
 use Rattle.wot_engine.proofs.Stops.{never, never_ok, rose_on, stopped}
-use Rattle.wot_engine.proofs.Turns.{Answered-end, Answered-stop, Begun-here, Begun-nothing, First-nothing, First-reached}
+use Rattle.wot_engine.proofs.Turns.{Answered-end, Answered-stop, Begun-here, Begun-nothing, First-nothing}
+use Rattle.wot_engine.proofs.Turns.{First-reached}
 use Rattle.wot_engine.proofs.Turns.{Left-end, Most-end, Most-stop, Reached-nothing, Stood}
-use Rattle.wot_engine.proofs.Replying.{answered, not_end, holds, no_fault, within, counted, turned, judged}
-use Rattle.wot_engine.proofs.Taking.{ends_at, has_most, took_none, took_nothing, took_both, takes_at_most, takes_more}
-use Rattle.wot_engine.proofs.Taking.{takes_most, takes_nothing}
+use Rattle.wot_engine.proofs.Fresh.{answered, not_end, holds, no_fault, within, counted, turned, judged}
+use Rattle.wot_engine.proofs.TakesAtMost.{ends_at, has_most, took_none, took_nothing, took_both, takes_at_most}
+use Rattle.wot_engine.proofs.TakesAtMost.{takes_more}
+use Rattle.wot_engine.proofs.TakesAtMost.{takes_most, takes_nothing}
 use Rattle.wot_engine.proofs.run.run.Goals.{After-next}
 use Rattle.wot_engine.proofs.run.run.Goals as goal
 
@@ -259,8 +262,10 @@ returns-in-Err-ReadFault-clause-does g c =
     let after = (goal.at.returns-in-Err-ReadFault-clause-does g c).After-next in
     let lt : c.next.new.self.taken < 2 ^ 30 = (rw c.in-Err-ReadFault.field-0-is at c.in-Err-ReadFault.ensures.open)
     c.lines.invariant.no_fault refl in
-    let stands = stood g after (λ e. absurd (cc (e, c.in-Err-ReadFault.is))) (λ e. absurd (cc (e,
-    c.in-Err-ReadFault.is))) in
+    let stands = stood g after (λ e. absurd (cc (e, c.in-Err-ReadFault.is))) (λ e. absurd (cc (
+      e,
+      c.in-Err-ReadFault.is,
+    ))) in
     does_read (rows_of c.args.policy.now) _ _ _ _ refl (begun g after) (reached g after)
     (weaker (g.S.Source.left c.args.input.now) (g.K.Sink.written c.args.output.now) (g.D.Shelf.world c.args.shelf.now)
     _ _ (λ contents both. both.0)

@@ -16,7 +16,7 @@ use Rattle.wot_cache.specs.State.{state_of}
 use Rattle.wot_machine.proofs.Putting.{any_err, puts_still}
 use Rattle.wot_machine.proofs.Stepping.{one_reply, too_long}
 use Rattle.wot_engine.specs.Turn.{SaidBehind, use_by}
-use Rattle.wot_engine.proofs.Asking.{looked_at, passed_over}
+use Rattle.wot_engine.proofs.HasAsked.{looked_at, passed_over}
 use Rattle.wot_engine.proofs.run.say.Goals as goal
 
 -- the refusal of a line that is too long, unless memory runs out

@@ -4,11 +4,11 @@ use Rattle.wot_policy.specs.Kept.{rows_of}
 use Rattle.wot_io.specs.Counts.{Rose}
 use Rattle.wot_engine.specs.Forms.{IsForm}
 use Rattle.wot_engine.proofs.Contents.{weaker}
-use Rattle.wot_engine.proofs.Ending.{any_status, generated_begun, generated_complete, generated_ends, generated_whole}
-use Rattle.wot_engine.proofs.Ending.{is_done, is_memory, is_much, is_read, is_write, much_or_memory, never_much}
-use Rattle.wot_engine.proofs.Ending.{never_read, not_two, run_complete}
+use Rattle.wot_engine.proofs.Statuses.{any_status, generated_begun, generated_complete, generated_ends, generated_whole}
+use Rattle.wot_engine.proofs.Statuses.{is_done, is_memory, is_much, is_read, is_write, much_or_memory, never_much}
+use Rattle.wot_engine.proofs.Statuses.{never_read, not_two, run_complete}
 use Rattle.wot_engine.proofs.Forms.{one_form, script_bounds}
-use Rattle.wot_engine.proofs.Taking.{takes_nothing}
+use Rattle.wot_engine.proofs.TakesAtMost.{takes_nothing}
 use Rattle.wot_engine.proofs.Turns.{Most-untouched}
 use Rattle.wot_engine.proofs.words.run_words.Goals as goal
 

@@ -8,7 +8,7 @@ use Rattle.wot_io.specs.Filled.{IsAtEnd}
 use Rattle.wot_io.specs.Given as given
 use Rattle.wot_io.specs.declared.lines.Line.TheVariants.{End}
 use Rattle.wot_engine.specs.Source.{HasMost, TakesAtMost, TakesMost}
-use Rattle.wot_engine.proofs.Replying.{fresh}
+use Rattle.wot_engine.proofs.Fresh.{fresh}
 
 loses_nothing : (left : Option (List ℕ)) → Loses left left []
 loses_nothing None = tt

@@ -28,15 +28,15 @@ use Rattle.wot_machine.specs.Session.{Session, beginning, watched, session_of}
 use Rattle.wot_machine.proofs.Giving.{over}
 use Rattle.wot_machine.proofs.Judging.{asks_as}
 use Rattle.wot_machine.proofs.Stepping.{heard_long}
-use Rattle.wot_engine.specs.Asking.{AsksBy, AsksFirst, AsksFor, AsksInTurn, AsksOnce, MayAsk}
-use Rattle.wot_engine.specs.Asking.{MayAskNext, command_by, done, failed}
+use Rattle.wot_engine.specs.RunAsks.{AsksBy, AsksFirst, AsksFor, AsksInTurn, AsksOnce, MayAsk}
+use Rattle.wot_engine.specs.RunAsks.{MayAskNext, command_by, done, failed}
 use Rattle.wot_engine.specs.Contents.{Contents, OnContents}
 use Rattle.wot_engine.specs.Ends.{IsEither}
 use Rattle.wot_engine.specs.Turn.{Replies}
 use Rattle.wot_engine.proofs.Contents.{is_now, uncalled}
 use Rattle.wot_engine.proofs.Progress.{Stands, begins, comes_next, starts_first, take-prefix}
 use Rattle.wot_engine.proofs.Reached.{done_all, has_taken}
-use Rattle.wot_engine.proofs.Replying.{fresh}
+use Rattle.wot_engine.proofs.Fresh.{fresh}
 use Rattle.wot_engine.proofs.Turns.{turned, wrote}
 
 -- ---- one line
