@@ -3,13 +3,14 @@
 //! It stands on the reader of lines of `wot_io` and on `Machine::line` and `Machine::tell`. Replies are buffered until
 //! more input would be read. `run_words` hands its clauses on (`specs/RunDoes.antt`, `specs/Ended.antt`).
 ghost use Rattle.std.specs.Prelude.{◌≡◌, ◌≢◌, ◌<◌, ◌≤◌, ◌+◌, ◌-◌, ◌^◌, [], length};
-ghost use Rattle.std.specs.Prelude.{IfSome, OnErr, OnOk, IsErrOf, vec_items};
+ghost use Rattle.std.specs.Prelude.{IfSome, OnErr, OnOk, IsErrOf, None, vec_items};
+ghost use Rattle.wot_types.specs.Limits.{standard_limits};
 ghost use Rattle.wot_policy.specs.Kept.{IsFaithful, rows_of};
 ghost use Rattle.wot_keyring.specs.Kept.{IsJudgedBy};
 ghost use Rattle.wot_io.specs.Counts.{Rose};
 ghost use Rattle.wot_io.specs.Input.{HasNoFeed};
 ghost use Rattle.wot_io.specs.Sink.{GainsPrefix};
-ghost use Rattle.wot_cache.specs.State.{state_of};
+ghost use Rattle.wot_cache.specs.State.{empty, state_of};
 ghost use Rattle.wot_machine.specs.Machine.{kept};
 ghost use Rattle.wot_machine.specs.Both.{ends, itself};
 ghost use Rattle.wot_machine.specs.Entry.{MayPutTo};
@@ -172,16 +173,54 @@ pub fn run<S: Source, K: Sink, D: Shelf, F: Fn(Ask) -> bool>(
     let mut lines = Lines::new(alloc)?;
     let mut machine = Machine::new(alloc);
     let mut out = Vec::new(alloc);
+    answer_lines(
+        &mut lines,
+        &mut machine,
+        &mut out,
+        input,
+        output,
+        shelf,
+        policy,
+    )
+}
+
+/// Answers the lines of an input, starting with a fresh reader, a fresh machine and an empty buffer.
+fn answer_lines<S: Source, K: Sink, D: Shelf, F: Fn(Ask) -> bool>(
+    lines: &mut Lines,
+    machine: &mut Machine,
+    out: &mut Vec<u8>,
+    input: &mut S,
+    output: &mut K,
+    shelf: &mut D,
+    policy: &mut Policy<F>,
+) -> Result<(), Stop>
+    requires unread { lines.old ≡ record { held = []; text = []; taken = 0; fault = None } }
+    requires engine { machine.old.engine ≡ empty standard_limits }
+    requires cursors { machine.old.cursors ≡ [] }
+    requires watches { machine.old.watches ≡ [] }
+    requires nothing { out.old.items ≡ [] }
+    requires faithful { IsFaithful F.Fn policy.old }
+    ensures does { Does (rows_of policy.old) result
+        (ends S.left input) (ends K.written output) (ends D.world shelf) }
+    ensures takes { Takes result (ends S.left input) }
+    ensures source { IsErrOf result Read → Rose (S.faults input.old) (S.faults input.new) }
+    ensures sink { IsErrOf result Write → Rose (K.faults output.old) (K.faults output.new) }
+    ensures asked { RunAsks (status_at result)
+        (ends S.left input) (ends K.written output) (ends D.world shelf) (ends itself policy) }
+    ensures faithful { IsFaithful F.Fn policy.new }
+    ensures rows { rows_of policy.new ≡ rows_of policy.old }
+{
+    each_line_has_one_outcome();
     'lines: loop {
-        flush(&lines, output, &mut out)?;
+        flush(lines, output, out)?;
         let line = match lines.next(input) {
             Ok(Line::End) => return Ok(()),
             Ok(line) => line,
             Err(LinesFault::ReadFault) => return Err(Stop::Read),
             Err(LinesFault::TooMuch) => return Err(Stop::TooMuch),
         };
-        let Ok(()) = reply_to(&mut machine, line, lines.text(), shelf, policy, &mut out) else {
-            write_all(output, &out)?;
+        let Ok(()) = reply_to(machine, line, lines.text(), shelf, policy, out) else {
+            write_all(output, out)?;
             return Err(Stop::Memory);
         };
     }
