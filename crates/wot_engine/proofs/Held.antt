@@ -16,13 +16,15 @@ use Rattle.wot_certd.specs.World.{World}
 use Rattle.wot_step.specs.Session.{Session, beginning}
 use Rattle.wot_run_law.specs.Law.{OneOutcome}
 use Rattle.wot_step.specs.Entry.{MayPut}
-use Rattle.wot_step.specs.Transcript.{AllTold, AnsweredMost, Begun, octets_of}
-use Rattle.wot_step.proofs.DirectoryGives.{all_told, all_weaker}
-use Rattle.wot_engine.specs.Asking.{command_by}
+use Rattle.wot_step.specs.Transcript.{octets_of}
+use Rattle.wot_engine.specs.RunAsks.{command_by}
 use Rattle.wot_engine.specs.Held.{Moves, MovesOf}
-use Rattle.wot_engine.specs.Ended.{Reached, ReachedWhole}
+use Rattle.wot_engine.specs.Contents.{Contents, OnContents}
+use Rattle.wot_engine.specs.Ended.{AnsweredMost, IsBegun, Reached, ReachedWhole}
 use Rattle.wot_engine.specs.Turn.{Replies, use_by}
-use Rattle.wot_engine.proofs.Progress.{Stands, puts_nothing, reaches, starts, takes_more, took_on}
+use Rattle.wot_engine.proofs.Contents.{is_now, uncalled}
+use Rattle.wot_engine.proofs.Progress.{Stands, starts, took_on}
+use Rattle.wot_engine.proofs.Reached.{puts_nothing, reaches, takes_more}
 use Rattle.wot_engine.proofs.Turns.{First-here, Stood, cut_by, cut_most, turned, wrote}
 
 -- ---- the buffer
@@ -49,58 +51,60 @@ some_is x y e = cc
 
 module _ (rows : PolicyRows) where
   -- the replies to the lines read so far are the written octets and the buffered ones
-  pub record IsHeld (origin : Option World) (world : World) (input before held : List ℕ) (taken : ℕ)
+  pub record IsHeld (origin : Option World) (contents : Contents) (held : List ℕ) (taken : ℕ)
       (left written : Option (List ℕ)) (out : List ℕ) (shelf : Option World) (state : Session) : Type 0 where
     pub done : List ℕ
-    pub written_is : written ≡ Some (before ++ done)
-    pub stands : Stands rows origin world input before held taken left (Some ((before ++ done) ++ out)) shelf state
+    pub written_is : written ≡ Some (contents.written ++ done)
+    pub stands : Stands rows origin contents held taken left (Some ((contents.written ++ done) ++ out)) shelf state
 
   abbrev pub Held : Option (List ℕ) → Option (List ℕ) → Option World → List ℕ → ℕ → Option (List ℕ) → Option (List ℕ) →
       List ℕ → Option World → Session → Type 0
   Held left0 written0 origin held taken left written out shelf state =
-      AllTold left0 written0 origin (λ input before world. IsHeld origin world input before held taken left written out
+      OnContents left0 written0 origin (λ contents. IsHeld origin contents held taken left written out
       shelf state)
 
   pub Held-init : (left written : Option (List ℕ)) (origin : Option World) →
       Held left written origin [] 0 left written [] origin beginning
-  Held-init left written origin =
-      all_told left written origin _ (λ input before world e f is. record {
+  Held-init left written origin contents known =
+      record {
         done = [];
-        written_is = f ∙ ap (λ (x : List ℕ). Some x) (sym (append-nil before));
-        stands = starts rows origin world input before left (Some ((before ++ []) ++ [])) origin e
-            (ap (λ (x : List ℕ). Some x) (append-nil (before ++ []) ∙ append-nil before)) is;
-      })
+        written_is = known.sink_is ∙ ap (λ (x : List ℕ). Some x) (sym (append-nil contents.written));
+        stands = starts rows origin contents left (Some ((contents.written ++ []) ++ [])) origin known.source_is
+            (ap (λ (x : List ℕ). Some x) (append-nil (contents.written ++ []) ∙ append-nil contents.written)) (is_now
+            origin contents known.shelf_is);
+      }
 
   pub Held-moves : (left0 written0 : Option (List ℕ)) (origin : Option World) (held : List ℕ) (taken : ℕ)
       (left written : Option (List ℕ)) (out : List ℕ) (shelf : Option World) (state : Session) (after : Option (List ℕ))
       (rest : List ℕ)
       → Held left0 written0 origin held taken left written out shelf state → Moves written out after rest →
       Held left0 written0 origin held taken left after rest shelf state
-  Held-moves left0 written0 origin held taken left written out shelf state after rest h m =
-      all_weaker left0 written0 origin _ _ (λ input before world uncalled h.
-      let m' : MovesOf (before ++ h.done) out after rest = subst (λ (w : Option (List ℕ)). Moves w out after rest)
+  Held-moves left0 written0 origin held taken left written out shelf state after rest there m contents known =
+      let h = there contents known in
+      let m' : MovesOf (contents.written ++ h.done) out after rest = subst (λ (w : Option (List ℕ)). Moves w out after
+      rest)
       h.written_is m in
-      let same : (before ++ h.done) ++ out ≡ (before ++ (h.done ++ m'.more)) ++ rest =
-      ap (λ (x : List ℕ). (before ++ h.done) ++ x) m'.parts ∙ simp append_assoc in
+      let same : (contents.written ++ h.done) ++ out ≡ (contents.written ++ (h.done ++ m'.more)) ++ rest =
+      ap (λ (x : List ℕ). (contents.written ++ h.done) ++ x) m'.parts ∙ simp append_assoc in
       record {
         done = h.done ++ m'.more;
-        written_is = m'.written_is ∙ ap (λ (x : List ℕ). Some x) (append_assoc before h.done m'.more);
-        stands = subst (λ (x : List ℕ). Stands rows origin world input before held taken left (Some x) shelf state) same
+        written_is = m'.written_is ∙ ap (λ (x : List ℕ). Some x) (append_assoc contents.written h.done m'.more);
+        stands = subst (λ (x : List ℕ). Stands rows origin contents held taken left (Some x) shelf state) same
             h.stands;
-      }) h
+      }
 
   -- if nothing is buffered
   pub Held-none : (left0 written0 : Option (List ℕ)) (origin : Option World) (held : List ℕ) (taken : ℕ)
       (left written : Option (List ℕ)) (out : List ℕ) (shelf : Option World) (state : Session)
       → Held left0 written0 origin held taken left written out shelf state → out ≡ [] →
       Stood rows left0 written0 origin held taken left written shelf state
-  Held-none left0 written0 origin held taken left written out shelf state h none =
-      all_weaker left0 written0 origin _ _ (λ input before world uncalled h.
-      let same : Some ((before ++ h.done) ++ out) ≡ written =
-      ap (λ (x : List ℕ). Some ((before ++ h.done) ++ x)) none ∙ ap (λ (x : List ℕ). Some x)
-      (append-nil (before ++ h.done)) ∙ sym h.written_is in
-      subst (λ (w : Option (List ℕ)). Stands rows origin world input before held taken left w shelf state) same
-      h.stands) h
+  Held-none left0 written0 origin held taken left written out shelf state there none contents known =
+      let h = there contents known in
+      let same : Some ((contents.written ++ h.done) ++ out) ≡ written =
+      ap (λ (x : List ℕ). Some ((contents.written ++ h.done) ++ x)) none ∙ ap (λ (x : List ℕ). Some x)
+      (append-nil (contents.written ++ h.done)) ∙ sym h.written_is in
+      subst (λ (w : Option (List ℕ)). Stands rows origin contents held taken left w shelf state) same
+      h.stands
 
   -- a line was read, and its reply is appended to the buffer
   pub Held-reply : (left0 written0 : Option (List ℕ)) (origin : Option World) (old : ReaderState)
@@ -110,23 +114,25 @@ module _ (rows : PolicyRows) where
       given.ReturnsNext line old left new left' → Replies rows line new.text state shelf octets state' shelf' →
       more ≡ out ++ octets
       → Held left0 written0 origin new.held new.taken left' written more shelf' state'
-  Held-reply left0 written0 origin old left written out shelf state new left' shelf' state' line octets more h a r
-      behind =
-      all_weaker left0 written0 origin _ _ (λ input before world uncalled h.
-      let t = turned rows origin world input before old left (Some ((before ++ h.done) ++ out)) shelf state new left'
-      shelf' state' line octets uncalled h.stands a r in
-      let now : (before ++ h.done) ++ out ≡ before ++ octets_of h.stands.replies = some_is ((before ++ h.done) ++ out)
-      (before ++ octets_of h.stands.replies) h.stands.written_is in
-      let same : (before ++ h.done) ++ more ≡ (before ++ octets_of h.stands.replies) ++ octets =
-      ap (λ (x : List ℕ). (before ++ h.done) ++ x) behind ∙ sym (append_assoc (before ++ h.done) out octets)
+  Held-reply left0 written0 origin old left written out shelf state new left' shelf' state' line octets more there a r
+      behind contents known =
+      let h = there contents known in
+      let t = turned rows origin contents old left (Some ((contents.written ++ h.done) ++ out)) shelf state new left'
+      shelf' state' line octets (uncalled origin contents known.shelf_is) h.stands a r in
+      let now : (contents.written ++ h.done) ++ out ≡ contents.written ++ octets_of h.stands.replies = some_is
+      ((contents.written ++ h.done) ++ out)
+      (contents.written ++ octets_of h.stands.replies) h.stands.written_is in
+      let same : (contents.written ++ h.done) ++ more ≡ (contents.written ++ octets_of h.stands.replies) ++ octets =
+      ap (λ (x : List ℕ). (contents.written ++ h.done) ++ x) behind ∙ sym (append_assoc (contents.written ++ h.done) out
+      octets)
       ∙ ap (λ (x : List ℕ). x ++ octets) now in
       record {
         done = h.done;
         written_is = h.written_is;
-        stands = (wrote rows origin world input before old.held old.taken left (Some ((before ++ h.done) ++ out)) shelf
+        stands = (wrote rows origin contents old.held old.taken left (Some ((contents.written ++ h.done) ++ out)) shelf
             state (command_by line new.text) new.held new.taken left' octets shelf' state'
-            (Some ((before ++ h.done) ++ more)) h.stands t (ap (λ (x : List ℕ). Some x) same)).0;
-      }) h
+            (Some ((contents.written ++ h.done) ++ more)) h.stands t (ap (λ (x : List ℕ). Some x) same)).0;
+      }
 
   -- the whole buffer was written
   pub Held-written : (left0 written0 : Option (List ℕ)) (origin : Option World) (held : List ℕ) (taken : ℕ)
@@ -142,12 +148,12 @@ module _ (rows : PolicyRows) where
   pub Held-begun : OneOutcome rows → (left0 written0 : Option (List ℕ)) (origin : Option World) (held : List ℕ)
       (taken : ℕ) (left written : Option (List ℕ)) (out : List ℕ) (shelf : Option World) (state : Session)
       → Held left0 written0 origin held taken left written out shelf state →
-      AllTold left0 written0 origin (λ input before world. Begun rows world (lines_of input) before written)
-  Held-begun law left0 written0 origin held taken left written out shelf state h =
-      all_weaker left0 written0 origin _ _ (λ input before world uncalled h.
-      takes_more rows origin world law input before held taken left shelf state h.done out 0 written h.stands
+      OnContents left0 written0 origin (λ contents. IsBegun rows contents written)
+  Held-begun law left0 written0 origin held taken left written out shelf state there contents known =
+      let h = there contents known in
+      takes_more rows origin contents law held taken left shelf state h.done out 0 written h.stands
       (omega arith)
-      (h.written_is ∙ ap (λ (x : List ℕ). Some x) (sym (append-nil (before ++ h.done))))) h
+      (h.written_is ∙ ap (λ (x : List ℕ). Some x) (sym (append-nil (contents.written ++ h.done))))
 
   -- what was written is a prefix, if a write of the buffer was cut short
   pub Held-cut : OneOutcome rows → (left0 written0 : Option (List ℕ)) (origin : Option World) (held : List ℕ)
@@ -155,13 +161,13 @@ module _ (rows : PolicyRows) where
       (after : Option (List ℕ))
       → Held left0 written0 origin held taken left written out shelf state →
       IfSome written (λ old. GainsPrefix old after out)
-      → AllTold left0 written0 origin (λ input before world. Begun rows world (lines_of input) before after)
-  Held-cut law left0 written0 origin held taken left written out shelf state after h g =
-      all_weaker left0 written0 origin _ _ (λ input before world uncalled h.
-      let g' : GainsPrefix (before ++ h.done) after out =
+      → OnContents left0 written0 origin (λ contents. IsBegun rows contents after)
+  Held-cut law left0 written0 origin held taken left written out shelf state after there g contents known =
+      let h = there contents known in
+      let g' : GainsPrefix (contents.written ++ h.done) after out =
       subst (λ (w : Option (List ℕ)). IfSome w (λ old. GainsPrefix old after out)) h.written_is g in
-      takes_more rows origin world law input before held taken left shelf state h.done out g'.0 after h.stands
-      (omega (arith, g'.1)) g'.2) h
+      takes_more rows origin contents law held taken left shelf state h.done out g'.0 after h.stands
+      (omega (arith, g'.1)) g'.2
 
   -- all complete lines of 2 ^ 30 octets are answered, even if more was read
   pub Held-most : OneOutcome rows → (left0 written0 : Option (List ℕ)) (origin : Option World) (held : List ℕ)
@@ -169,43 +175,46 @@ module _ (rows : PolicyRows) where
       (after left' : Option (List ℕ)) (taken' : ℕ)
       → Held left0 written0 origin held taken left written out shelf state →
       IfSome written (λ old. GainsPrefix old after out) → Took left taken left' taken'
-      → AllTold left0 written0 origin (λ input before world. AnsweredMost rows world input before left' after → ⊥)
-  Held-most law left0 written0 origin held taken left written out shelf state after left' taken' h g t =
-      all_weaker left0 written0 origin _ _ (λ input before world uncalled h.
-      let g' : GainsPrefix (before ++ h.done) after out =
+      → OnContents left0 written0 origin (λ contents. AnsweredMost rows contents left' after → ⊥)
+  Held-most law left0 written0 origin held taken left written out shelf state after left' taken' there g t contents
+      known =
+      let h = there contents known in
+      let g' : GainsPrefix (contents.written ++ h.done) after out =
       subst (λ (w : Option (List ℕ)). IfSome w (λ old. GainsPrefix old after out)) h.written_is g in
-      let s = took_on rows origin world input before held taken left (Some ((before ++ h.done) ++ out)) shelf state
+      let s = took_on rows origin contents held taken left (Some ((contents.written ++ h.done) ++ out)) shelf state
       left' taken' h.stands t in
-      cut_most rows law origin world input before (held ++ t.gone) taken' left' shelf state h.done out g'.0 after s g'.1
-      g'.2) h
+      cut_most rows law origin contents (held ++ t.gone) taken' left' shelf state h.done out g'.0 after s g'.1
+      g'.2
 
   -- how far the run has come, whatever is buffered
   pub Held-reached : (left0 written0 : Option (List ℕ)) (origin : Option World) (held : List ℕ) (taken : ℕ)
       (left written : Option (List ℕ)) (out : List ℕ) (shelf : Option World) (state : Session)
       → Held left0 written0 origin held taken left written out shelf state →
-      AllTold left0 written0 origin (λ input before world. Reached rows world (lines_of input) before written origin
+      OnContents left0 written0 origin (λ contents. Reached rows contents written origin
       shelf)
-  Held-reached left0 written0 origin held taken left written out shelf state h =
-      all_weaker left0 written0 origin _ _ (λ input before world uncalled h.
-      reaches rows origin world input before held taken left shelf state h.done out 0 written shelf h.stands
-      (h.written_is ∙ ap (λ (x : List ℕ). Some x) (sym (append-nil (before ++ h.done))))
-      (puts_nothing rows origin world shelf h.stands.now state (drop (length h.stands.done) (lines_of input))
-      h.stands.is_now)) h
+  Held-reached left0 written0 origin held taken left written out shelf state there contents known =
+      let h = there contents known in
+      reaches rows origin contents held taken left shelf state h.done out 0 written shelf h.stands
+      (h.written_is ∙ ap (λ (x : List ℕ). Some x) (sym (append-nil (contents.written ++ h.done))))
+      (puts_nothing rows origin contents shelf h.stands.now state (drop (length h.stands.done) (lines_of
+      contents.input))
+      h.stands.is_now)
 
   -- how far the run has come if a write of the buffer was cut short
   pub Held-reached_cut : (left0 written0 : Option (List ℕ)) (origin : Option World) (held : List ℕ) (taken : ℕ)
       (left written : Option (List ℕ)) (out : List ℕ) (shelf : Option World) (state : Session) (after : Option (List ℕ))
       → Held left0 written0 origin held taken left written out shelf state →
       IfSome written (λ old. GainsPrefix old after out)
-      → AllTold left0 written0 origin (λ input before world. Reached rows world (lines_of input) before after origin
+      → OnContents left0 written0 origin (λ contents. Reached rows contents after origin
       shelf)
-  Held-reached_cut left0 written0 origin held taken left written out shelf state after h g =
-      all_weaker left0 written0 origin _ _ (λ input before world uncalled h.
-      let g' : GainsPrefix (before ++ h.done) after out =
+  Held-reached_cut left0 written0 origin held taken left written out shelf state after there g contents known =
+      let h = there contents known in
+      let g' : GainsPrefix (contents.written ++ h.done) after out =
       subst (λ (w : Option (List ℕ)). IfSome w (λ old. GainsPrefix old after out)) h.written_is g in
-      reaches rows origin world input before held taken left shelf state h.done out g'.0 after shelf h.stands g'.2
-      (puts_nothing rows origin world shelf h.stands.now state (drop (length h.stands.done) (lines_of input))
-      h.stands.is_now)) h
+      reaches rows origin contents held taken left shelf state h.done out g'.0 after shelf h.stands g'.2
+      (puts_nothing rows origin contents shelf h.stands.now state (drop (length h.stands.done) (lines_of
+      contents.input))
+      h.stands.is_now)
 
   -- how far the run has come if memory ran out for a line
   pub Held-reached_next : (left0 written0 : Option (List ℕ)) (origin : Option World) (old : ReaderState)
@@ -214,16 +223,17 @@ module _ (rows : PolicyRows) where
       → Held left0 written0 origin old.held old.taken left written out shelf state →
       IfSome written (λ old. GainsPrefix old after out)
       → given.ReturnsNext line old left new left' → line ≢ End → MayPut state.state (use_by line new.text) shelf shelf'
-      → AllTold left0 written0 origin (λ input before world. Reached rows world (lines_of input) before after origin
+      → OnContents left0 written0 origin (λ contents. Reached rows contents after origin
       shelf')
-  Held-reached_next left0 written0 origin old left written out shelf state after new left' shelf' line h g a some m =
-      all_weaker left0 written0 origin _ _ (λ input before world uncalled h.
-      let g' : GainsPrefix (before ++ h.done) after out =
+  Held-reached_next left0 written0 origin old left written out shelf state after new left' shelf' line there g a some m
+      contents known =
+      let h = there contents known in
+      let g' : GainsPrefix (contents.written ++ h.done) after out =
       subst (λ (w : Option (List ℕ)). IfSome w (λ old. GainsPrefix old after out)) h.written_is g in
-      let cut = cut_by rows origin world input before old left (Some ((before ++ h.done) ++ out)) shelf state new left'
+      let cut = cut_by rows origin contents old left (Some ((contents.written ++ h.done) ++ out)) shelf state new left'
       shelf' line h.stands a some m in
-      reaches rows origin world input before old.held old.taken left shelf state h.done out g'.0 after shelf' h.stands
-      g'.2 cut.puts) h
+      reaches rows origin contents old.held old.taken left shelf state h.done out g'.0 after shelf' h.stands
+      g'.2 cut.puts
 
   -- the buffer was written after memory ran out for a line
   pub Held-first : (left0 written0 : Option (List ℕ)) (origin : Option World) (old : ReaderState)
@@ -231,9 +241,10 @@ module _ (rows : PolicyRows) where
       (new : ReaderState) (left' : Option (List ℕ)) (shelf' : Option World) (line : Line)
       → Held left0 written0 origin old.held old.taken left written out shelf state →
       Becomes written (λ old. old ++ out) after
-      → given.ReturnsNext line old left new left' → line ≢ End → MayPut state.state (use_by line new.text) shelf shelf' →
+      → given.ReturnsNext line old left new left' → line ≢ End → MayPut state.state (use_by line new.text) shelf shelf'
+      →
       length new.held < 65536
-      → AllTold left0 written0 origin (λ input before world. ReachedWhole rows world input before left' after origin
+      → OnContents left0 written0 origin (λ contents. ReachedWhole rows contents left' after origin
       shelf')
   Held-first left0 written0 origin old left written out shelf state after new left' shelf' line h b a some m few =
       First-here rows left0 written0 origin old left after shelf state new left' shelf' line

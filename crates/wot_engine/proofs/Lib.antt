@@ -1,12 +1,15 @@
+mod Contents
+mod ByCases
 mod Progress
+mod Reached
 mod Turns
 mod Held
-mod Taking
-mod Replying
-mod Asking
-pub mod Rules
+mod TakesAtMost
+mod Does
+mod Fresh
+mod HasAsked
 mod Forms
-mod Ending
-mod Playing
-mod Summing
+mod Statuses
+mod Plays
+mod Summary
 pub mod Stops

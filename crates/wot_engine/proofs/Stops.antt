@@ -28,6 +28,11 @@ module _ {T : Type 0} where
   pub on_err : (r : Result T Stop) (stop : Stop) (P : Type 0) → r ≡ Err stop → OnOk r P
   on_err r stop P is = subst (λ (x : Result T Stop). OnOk x P) (sym is) tt
 
+  -- what holds in any case holds if it succeeded
+  pub always : {P : Type 0} (r : Result T Stop) → P → OnOk r P
+  always (Ok value) p = p
+  always (Err e) p = tt
+
   one_stop : (r : Result T Stop) (a b : Stop) → r ≡ Err a → r ≡ Err b → a ≡ b
   one_stop r a b e f = cc
 

@@ -1,4 +1,5 @@
 -- How far a run came: which lines were answered, what was written for them, and how the certificate directory is left.
+-- Each of these speaks of the contents before the run (`Contents`), and cites the transcript of the lines.
 use Rattle.std.specs.Prelude.{◌≡◌, ◌⊎◌, ◌<◌, ◌^◌, ℕ, List, [], ◌∷◌, ◌++◌, length, take, drop, Option, Some, None}
 use Rattle.wot_io.specs.Input.{lines_of, whole_lines_of}
 use Rattle.wot_policy.specs.declared.rows.PolicyRows.{PolicyRows}
@@ -7,47 +8,72 @@ use Rattle.wot_certd.specs.World.{World}
 use Rattle.wot_step.specs.Entry.{MayPutIn, use_of}
 use Rattle.wot_step.specs.Lines.{heard}
 use Rattle.wot_step.specs.Scene.{Scene}
-use Rattle.wot_step.specs.Transcript.{IsNow, IsTaken, RepliesTo, octets_of}
+use Rattle.wot_step.specs.Transcript.{IsNow, RepliesTo, octets_of, Transcript}
+use Rattle.wot_engine.specs.Source.{IsTaken}
+use Rattle.wot_engine.specs.Contents.{Contents}
 
--- ---- the source
+-- ---- the whole input
 
--- 2 ^ 30 octets were taken from the source
-pub record IsMost (input : List ℕ) (left : Option (List ℕ)) : Type 0 where
-  pub octets : List ℕ
-  pub taken : IsTaken input octets left
-  pub size : length octets ≡ 2 ^ 30
-
--- 2 ^ 30 octets were taken, if the source's octets are known
-abbrev pub TakesMost : Option (List ℕ) → Option (List ℕ) → Type 0
-TakesMost None left = Unit {0}
-TakesMost (Some input) left = IsMost input left
-
--- ---- all lines
-
--- The octets of the replies to these lines were written, and the directory is in the world to which the lines lead.
-pub record Finished (rows : PolicyRows) (world : World) (lines : List (List ℕ)) (before : List ℕ)
-    (after : Option (List ℕ)) (origin shelf : Option World) : Type 0 where
+-- The input was read to its end, and its whole transcript was written.
+pub record IsTranscribed (rows : PolicyRows) (contents : Contents) (left after : Option (List ℕ)) : Type 0 where
   pub replies : List Reply
-  pub told : RepliesTo rows world lines replies
-  pub written : after ≡ Some (before ++ octets_of replies)
+  pub told : Transcript rows contents.world contents.input replies
+  pub written : after ≡ Some (contents.written ++ octets_of replies)
+  pub ended : left ≡ Some []
+
+-- the directory is in the world to which the lines of the input lead
+pub record IsLeft (rows : PolicyRows) (contents : Contents) (origin shelf : Option World) : Type 0 where
+  pub replies : List Reply
+  pub told : Transcript rows contents.world contents.input replies
+  pub left : IsNow origin shelf told.last.world
+
+-- what was written is a prefix of the transcript
+pub record IsBegun (rows : PolicyRows) (contents : Contents) (after : Option (List ℕ)) : Type 0 where
+  pub replies : List Reply
+  pub told : Transcript rows contents.world contents.input replies
+  pub size : ℕ
+  pub written : after ≡ Some (contents.written ++ take size (octets_of replies))
+
+-- ---- all lines that were taken
+
+-- The octets of the replies to these lines were written.
+pub record Answered (rows : PolicyRows) (contents : Contents) (lines : List (List ℕ)) (after : Option (List ℕ))
+    : Type 0 where
+  pub replies : List Reply
+  pub told : RepliesTo rows contents.world lines replies
+  pub written : after ≡ Some (contents.written ++ octets_of replies)
+
+-- They were written, and the directory is in the world to which these lines lead.
+pub record Finished (rows : PolicyRows) (contents : Contents) (lines : List (List ℕ)) (after : Option (List ℕ))
+    (origin shelf : Option World) : Type 0 where
+  pub replies : List Reply
+  pub told : RepliesTo rows contents.world lines replies
+  pub written : after ≡ Some (contents.written ++ octets_of replies)
   pub left : IsNow origin shelf told.last.world
 
 -- All complete lines of the octets that were taken are finished. At the end of the source, a last line without a line
 -- feed may count as complete.
-pub record FinishedTaken (rows : PolicyRows) (world : World) (input before : List ℕ) (left after : Option (List ℕ))
+pub record FinishedTaken (rows : PolicyRows) (contents : Contents) (left after : Option (List ℕ))
     (origin shelf : Option World) : Type 0 where
   pub octets : List ℕ
-  pub taken : IsTaken input octets left
-  pub finished : Finished rows world (whole_lines_of octets) before after origin shelf
-      ⊎ ((taken.rest ≡ []) × Finished rows world (lines_of octets) before after origin shelf)
+  pub taken : IsTaken contents.input octets left
+  pub finished : Finished rows contents (whole_lines_of octets) after origin shelf
+      ⊎ ((taken.rest ≡ []) × Finished rows contents (lines_of octets) after origin shelf)
 
 -- 2 ^ 30 octets were taken, and all complete lines of them are finished
-pub record FinishedMost (rows : PolicyRows) (world : World) (input before : List ℕ) (left after : Option (List ℕ))
+pub record FinishedMost (rows : PolicyRows) (contents : Contents) (left after : Option (List ℕ))
     (origin shelf : Option World) : Type 0 where
   pub octets : List ℕ
-  pub taken : IsTaken input octets left
+  pub taken : IsTaken contents.input octets left
   pub size : length octets ≡ 2 ^ 30
-  pub finished : Finished rows world (whole_lines_of octets) before after origin shelf
+  pub finished : Finished rows contents (whole_lines_of octets) after origin shelf
+
+-- 2 ^ 30 octets were taken, and all complete lines of them were answered
+pub record AnsweredMost (rows : PolicyRows) (contents : Contents) (left after : Option (List ℕ)) : Type 0 where
+  pub octets : List ℕ
+  pub taken : IsTaken contents.input octets left
+  pub size : length octets ≡ 2 ^ 30
+  pub answered : Answered rows contents (whole_lines_of octets) after
 
 -- ---- the first of the lines
 
@@ -60,14 +86,14 @@ MayPutNext scene (line ∷ lines) (Some origin) shelf =
 
 -- The first lines were answered up to some line, and a prefix of the octets of their replies was written. The next line
 -- wrote at most its own entry: all others are as the answered lines leave them.
-pub record Reached (rows : PolicyRows) (world : World) (lines : List (List ℕ)) (before : List ℕ)
-    (after : Option (List ℕ)) (origin shelf : Option World) : Type 0 where
+pub record Reached (rows : PolicyRows) (contents : Contents) (after : Option (List ℕ)) (origin shelf : Option World)
+    : Type 0 where
   pub count : ℕ
   pub replies : List Reply
-  pub told : RepliesTo rows world (take count lines) replies
+  pub told : RepliesTo rows contents.world (take count (lines_of contents.input)) replies
   pub size : ℕ
-  pub written : after ≡ Some (before ++ take size (octets_of replies))
-  pub left : MayPutNext told.last (drop count lines) origin shelf
+  pub written : after ≡ Some (contents.written ++ take size (octets_of replies))
+  pub puts : MayPutNext told.last (drop count (lines_of contents.input)) origin shelf
 
 -- The first unanswered line was taken, and fewer than 65,536 octets after it.
 pub record IsLastTaken (lines : List (List ℕ)) (left : Option (List ℕ)) : Type 0 where
@@ -80,11 +106,11 @@ pub record IsLastTaken (lines : List (List ℕ)) (left : Option (List ℕ)) : Ty
 
 -- The complete replies were written: those to the lines before the last one that was taken, or none if nothing was
 -- taken. The next line wrote at most its own entry.
-pub record ReachedWhole (rows : PolicyRows) (world : World) (input before : List ℕ) (source after : Option (List ℕ))
+pub record ReachedWhole (rows : PolicyRows) (contents : Contents) (left after : Option (List ℕ))
     (origin shelf : Option World) : Type 0 where
   pub count : ℕ
   pub replies : List Reply
-  pub told : RepliesTo rows world (take count (lines_of input)) replies
-  pub written : after ≡ Some (before ++ octets_of replies)
-  pub next : (source ≡ Some input) ⊎ IsLastTaken (drop count (lines_of input)) source
-  pub left : MayPutNext told.last (drop count (lines_of input)) origin shelf
+  pub told : RepliesTo rows contents.world (take count (lines_of contents.input)) replies
+  pub written : after ≡ Some (contents.written ++ octets_of replies)
+  pub next : (left ≡ Some contents.input) ⊎ IsLastTaken (drop count (lines_of contents.input)) left
+  pub puts : MayPutNext told.last (drop count (lines_of contents.input)) origin shelf

@@ -5,9 +5,10 @@ use Rattle.wot_policy.specs.declared.rows.PolicyRows.{PolicyRows}
 use Rattle.wot_script.specs.declared.reply.Reply.{Reply}
 use Rattle.wot_certd.specs.World.{World}
 use Rattle.wot_gen.specs.Script.{commands_of, text_of}
-use Rattle.wot_gen.specs.Summary.{amounts_in, summary, transcript_digest}
+use Rattle.wot_gen.specs.Summary.{amounts_in, transcript_digest, summary_text}
 use Rattle.wot_step.specs.Both.{Ends}
 use Rattle.wot_step.specs.Transcript.{RepliesTo}
+use Rattle.wot_gen.specs.declared.summary.Summary.{Summary}
 
 -- an empty certificate directory in memory, none of whose calls fails
 abbrev pub no_entries : World
@@ -17,13 +18,22 @@ no_entries = record { entries = []; calls = 0; fails = []; late = [] }
 abbrev pub script_lines : ℕ → ℕ → List (List ℕ)
 script_lines start count = lines_of (text_of (commands_of start count))
 
+-- What is said about the run of the script of a start and a count that has these replies.
+abbrev pub summary_of : ℕ → ℕ → List Reply → Summary
+summary_of start count replies = record {
+  start = start;
+  count = count;
+  lines = length (script_lines start count);
+  amounts = amounts_in replies;
+  digest = transcript_digest replies;
+}
+
 -- Three lines: the number of the script's lines, the sum of the amounts in the answers to its questions, and the digest
 -- of its transcript, by the abstract machine with an empty directory.
 pub record IsSummary (rows : PolicyRows) (start count : ℕ) (text : List ℕ) : Type 0 where
   pub replies : List Reply
   pub told : RepliesTo rows no_entries (script_lines start count) replies
-  pub text_is :
-      text ≡ summary start count (length (script_lines start count)) (amounts_in replies) (transcript_digest replies)
+  pub text_is : text ≡ summary_text (summary_of start count replies)
 
 -- the three lines were written
 pub record Summarized (rows : PolicyRows) (start count : ℕ) (before : List ℕ) (after : Option (List ℕ)) : Type 0 where

@@ -1,9 +1,11 @@
 pub mod Forms
-pub mod Told
+pub mod Contents
+pub mod Source
+pub mod RunDoes
 pub mod Generated
 pub mod Ends
 pub mod Ended
 pub mod Turn
-pub mod Asking
+pub mod RunAsks
 pub mod Held
 pub mod Played

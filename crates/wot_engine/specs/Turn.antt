@@ -1,6 +1,5 @@
 -- The reply to a line from the reader of lines.
-use Rattle.std.specs.Prelude.{◌≡◌, ℕ, ◌<◌, List, [], ◌++◌, length, Option, None}
-use Rattle.wot_io.specs.ReaderState.{ReaderState}
+use Rattle.std.specs.Prelude.{◌≡◌, ℕ, ◌<◌, List, ◌++◌, length, Option}
 use Rattle.wot_io.specs.declared.lines.Line.{Line}
 use Rattle.wot_io.specs.declared.lines.Line.TheVariants.{Text, Long, End}
 use Rattle.wot_policy.specs.declared.rows.PolicyRows.{PolicyRows}
@@ -14,10 +13,6 @@ use Rattle.wot_step.specs.Served.{Served}
 use Rattle.wot_step.specs.Watching.{ReportsWatches}
 use Rattle.wot_step.specs.Session.{Session}
 use Rattle.wot_step.specs.Transcript.{listed, octets_of}
-
--- the reader before the first line
-abbrev pub unread : ReaderState
-unread = record { held = []; text = []; taken = 0; fault = None }
 
 -- what the line does with the certificate directory; nothing if it is too long
 abbrev pub use_by : Line → List ℕ → Use

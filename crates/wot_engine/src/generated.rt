@@ -20,7 +20,7 @@ ghost use Rattle.wot_script.specs.declared.reply.Reply.{Reply as TheReply};
 use crate::run::Stop;
 use std::alloc::Global;
 use wot_certd::MemoryShelf;
-use wot_gen::{Tally, put_summary, script};
+use wot_gen::{Summary, Tally, put_summary, script};
 use wot_io::{Sink, first_line, write_all};
 use wot_machine::{Machine, Told};
 use wot_policy::{Ask, Policy};
@@ -73,8 +73,15 @@ fn summary_of<F: Fn(Ask) -> bool>(
     play(alloc, &text, policy, &mut tally)?;
     let amounts = tally.amounts;
     let digest = tally.digest();
+    let summary = Summary {
+        start,
+        count,
+        lines,
+        amounts,
+        digest,
+    };
     let mut out = Vec::new(alloc);
-    put_summary(alloc, start, count, lines, amounts, &digest, &mut out)?;
+    put_summary(alloc, &summary, &mut out)?;
     Ok(out)
 }
 

@@ -1,30 +1,26 @@
 //! A run: the lines of a source are answered by one machine, and their replies are written to a sink.
 //!
 //! It stands on the reader of lines of `wot_io` and on `Machine::line` and `Machine::tell`. Replies are buffered until
-//! more input would be read. `run_words` hands its clauses on (`specs/Told.antt`, `specs/Ended.antt`).
+//! more input would be read. `run_words` hands its clauses on (`specs/RunDoes.antt`, `specs/Ended.antt`).
 ghost use Rattle.std.specs.Prelude.{◌≡◌, ◌≢◌, ◌<◌, ◌≤◌, ◌+◌, ◌-◌, ◌^◌, [], length};
-ghost use Rattle.std.specs.Prelude.{IfSome, OnErr, OnOk, IsErrOf, vec_items};
+ghost use Rattle.std.specs.Prelude.{IfSome, OnErr, OnOk, IsErrOf, None, vec_items};
 ghost use Rattle.wot_types.specs.Limits.{standard_limits};
 ghost use Rattle.wot_policy.specs.Kept.{IsFaithful, rows_of};
 ghost use Rattle.wot_held.specs.Kept.{IsJudgedBy};
 ghost use Rattle.wot_io.specs.Counts.{Rose};
-ghost use Rattle.wot_io.specs.Filled.{IsAtEnd};
 ghost use Rattle.wot_io.specs.Input.{HasNoFeed};
 ghost use Rattle.wot_io.specs.Sink.{GainsPrefix};
 ghost use Rattle.wot_cache.specs.State.{empty, state_of};
 ghost use Rattle.wot_machine.specs.Machine.{kept};
 ghost use Rattle.wot_step.specs.Both.{ends, itself};
 ghost use Rattle.wot_step.specs.Entry.{MayPutTo};
-ghost use Rattle.wot_step.specs.Transcript.{HasMost, TakesAtMost};
-ghost use Rattle.wot_engine.specs.Asking.{MayAsk, ReadAsks, RunAsks, command_by, done};
-ghost use Rattle.wot_engine.specs.Ends.{IsMuchOrMemory, status_at};
-ghost use Rattle.wot_engine.specs.Ended.{TakesMost};
-ghost use Rattle.wot_engine.specs.Told.{MovesShelf, OnMost, ReachesSome, WritesAll, WritesMost, WritesPrefix};
-ghost use Rattle.wot_engine.specs.Told.{WritesSome, WritesTaken};
+ghost use Rattle.wot_engine.specs.RunAsks.{MayAsk, ReadAsks, RunAsks, command_by, done};
+ghost use Rattle.wot_engine.specs.Ends.{status_at};
+ghost use Rattle.wot_engine.specs.RunDoes.{Does, Takes};
 ghost use Rattle.wot_engine.specs.Held.{Moves};
-ghost use Rattle.wot_engine.specs.Turn.{Says, SaysAll, unread, use_by};
+ghost use Rattle.wot_engine.specs.Turn.{Says, SaysAll, use_by};
 ghost use Rattle.wot_engine.specs.declared.run.Stop.TheVariants as stops;
-ghost use Rattle.wot_engine.specs.declared.run.Stop.TheVariants.{Memory as NoMemory, Read, TooMuch, Write};
+ghost use Rattle.wot_engine.specs.declared.run.Stop.TheVariants.{Read, Write};
 
 use std::alloc::Global;
 use wot_certd::Shelf;
@@ -164,28 +160,11 @@ pub fn run<S: Source, K: Sink, D: Shelf, F: Fn(Ask) -> bool>(
     policy: &mut Policy<F>,
 ) -> Result<(), Stop>
     requires faithful { IsFaithful F.Fn policy.old }
-    ensures whole { OnOk result (WritesAll (rows_of policy.old)
-        (ends S.left input) (ends K.written output) (ends D.world shelf)) }
-    ensures shelf { OnOk result (MovesShelf (rows_of policy.old)
-        (ends S.left input) (ends K.written output) (ends D.world shelf)) }
-    ensures prefix { WritesPrefix (rows_of policy.old)
+    ensures does { Does (rows_of policy.old) result
         (ends S.left input) (ends K.written output) (ends D.world shelf) }
-    ensures reached { ReachesSome (rows_of policy.old)
-        (ends S.left input) (ends K.written output) (ends D.world shelf) }
-    ensures first { IsErrOf result NoMemory → WritesSome (rows_of policy.old)
-        (ends S.left input) (ends K.written output) (ends D.world shelf) }
+    ensures takes { Takes result (ends S.left input) }
     ensures source { IsErrOf result Read → Rose (S.faults input.old) (S.faults input.new) }
-    ensures taken { IsErrOf result Read → WritesTaken (rows_of policy.old)
-        (ends S.left input) (ends K.written output) (ends D.world shelf) }
     ensures sink { IsErrOf result Write → Rose (K.faults output.old) (K.faults output.new) }
-    ensures most { IsErrOf result TooMuch → WritesMost (rows_of policy.old)
-        (ends S.left input) (ends K.written output) (ends D.world shelf) }
-    ensures most_only { OnMost (rows_of policy.old)
-        (ends S.left input) (ends K.written output) (ends D.world shelf) (IsMuchOrMemory result) }
-    ensures much { IsErrOf result TooMuch → HasMost (S.left input.old) }
-    ensures ended { OnOk result (IsAtEnd (S.left input.old) (S.left input.new)) }
-    ensures took { IsErrOf result TooMuch → TakesMost (S.left input.old) (S.left input.new) }
-    ensures at_most { TakesAtMost (S.left input.old) (S.left input.new) }
     ensures asked { RunAsks (status_at result)
         (ends S.left input) (ends K.written output) (ends D.world shelf) (ends itself policy) }
     ensures faithful { IsFaithful F.Fn policy.new }
@@ -207,7 +186,6 @@ pub fn run<S: Source, K: Sink, D: Shelf, F: Fn(Ask) -> bool>(
 }
 
 /// Answers the lines of an input, starting with a fresh reader, a fresh machine and an empty buffer.
-#[tactic(auto, using(crate::proofs::Rules::turning))]
 fn answer_lines<S: Source, K: Sink, D: Shelf, F: Fn(Ask) -> bool>(
     lines: &mut Lines,
     machine: &mut Machine,
@@ -217,34 +195,17 @@ fn answer_lines<S: Source, K: Sink, D: Shelf, F: Fn(Ask) -> bool>(
     shelf: &mut D,
     policy: &mut Policy<F>,
 ) -> Result<(), Stop>
-    requires unread { lines.old ≡ unread }
+    requires unread { lines.old ≡ record { held = []; text = []; taken = 0; fault = None } }
     requires engine { machine.old.engine ≡ empty standard_limits }
     requires cursors { machine.old.cursors ≡ [] }
     requires watches { machine.old.watches ≡ [] }
     requires nothing { out.old.items ≡ [] }
     requires faithful { IsFaithful F.Fn policy.old }
-    ensures whole { OnOk result (WritesAll (rows_of policy.old)
-        (ends S.left input) (ends K.written output) (ends D.world shelf)) }
-    ensures shelf { OnOk result (MovesShelf (rows_of policy.old)
-        (ends S.left input) (ends K.written output) (ends D.world shelf)) }
-    ensures prefix { WritesPrefix (rows_of policy.old)
+    ensures does { Does (rows_of policy.old) result
         (ends S.left input) (ends K.written output) (ends D.world shelf) }
-    ensures reached { ReachesSome (rows_of policy.old)
-        (ends S.left input) (ends K.written output) (ends D.world shelf) }
-    ensures first { IsErrOf result NoMemory → WritesSome (rows_of policy.old)
-        (ends S.left input) (ends K.written output) (ends D.world shelf) }
+    ensures takes { Takes result (ends S.left input) }
     ensures source { IsErrOf result Read → Rose (S.faults input.old) (S.faults input.new) }
-    ensures taken { IsErrOf result Read → WritesTaken (rows_of policy.old)
-        (ends S.left input) (ends K.written output) (ends D.world shelf) }
     ensures sink { IsErrOf result Write → Rose (K.faults output.old) (K.faults output.new) }
-    ensures most { IsErrOf result TooMuch → WritesMost (rows_of policy.old)
-        (ends S.left input) (ends K.written output) (ends D.world shelf) }
-    ensures most_only { OnMost (rows_of policy.old)
-        (ends S.left input) (ends K.written output) (ends D.world shelf) (IsMuchOrMemory result) }
-    ensures much { IsErrOf result TooMuch → HasMost (S.left input.old) }
-    ensures ended { OnOk result (IsAtEnd (S.left input.old) (S.left input.new)) }
-    ensures took { IsErrOf result TooMuch → TakesMost (S.left input.old) (S.left input.new) }
-    ensures at_most { TakesAtMost (S.left input.old) (S.left input.new) }
     ensures asked { RunAsks (status_at result)
         (ends S.left input) (ends K.written output) (ends D.world shelf) (ends itself policy) }
     ensures faithful { IsFaithful F.Fn policy.new }

@@ -1,20 +1,19 @@
 //! The top call, whose contract is what the program promises.
 //!
-//! It stands on `run` and `generate`. A change of a clause changes what `docs/PROOF.md` says under "The promise".
+//! It stands on `run` and `generate`. A change of a clause changes the rows of `docs/PROOF.md` under "The clauses".
 ghost use Rattle.std.specs.Prelude.{◌≡◌, ◌⊎◌, ◌↔◌, map, string_bytes};
 ghost use Rattle.wot_policy.specs.Kept.{IsFaithful, rows_of};
 ghost use Rattle.wot_io.specs.Counts.{Rose};
 ghost use Rattle.wot_io.specs.Filled.{IsAtEnd};
 ghost use Rattle.wot_step.specs.Both.{ends, itself};
-ghost use Rattle.wot_step.specs.Transcript.{TakesAtMost};
-ghost use Rattle.wot_engine.specs.Asking.{RunAsks};
-ghost use Rattle.wot_engine.specs.Ends.{status_at};
+ghost use Rattle.wot_engine.specs.RunAsks.{RunAsks};
+ghost use Rattle.wot_engine.specs.Ends.{status_at, IsEither};
 ghost use Rattle.wot_engine.specs.Forms.{IsForm};
 ghost use Rattle.wot_engine.specs.Generated.{BeginsSummary, WritesSummary};
-ghost use Rattle.wot_engine.specs.Told.{AreOfRun, Done, IsEither, IsUnfailed, OnScript, ReadsFew};
-ghost use Rattle.wot_engine.specs.Ended.{TakesMost};
-ghost use Rattle.wot_engine.specs.Told.{MovesShelf, OnMost, ReachesSome, WritesAll, WritesMost, WritesPrefix};
-ghost use Rattle.wot_engine.specs.Told.{WritesSome, WritesTaken};
+ghost use Rattle.wot_engine.specs.Source.{ReadsFew, TakesAtMost, TakesMost};
+ghost use Rattle.wot_engine.specs.RunDoes.{AreOfRun, Done, IsUnfailed, OnScript};
+ghost use Rattle.wot_engine.specs.RunDoes.{MovesShelf, OnMost, ReachesSome, WritesAll, WritesMost, WritesPrefix};
+ghost use Rattle.wot_engine.specs.RunDoes.{WritesSome, WritesTaken};
 
 use crate::form::{Form, form_of};
 use crate::generated::generate;

@@ -9,6 +9,7 @@ use Rattle.wot_words.specs.Texts.{joined_line}
 use Rattle.wot_script.specs.Replies.{reply_text}
 use Rattle.wot_script.specs.declared.reply.Reply.{Reply}
 use Rattle.wot_script.specs.declared.reply.Reply.TheVariants.{Amount}
+use Rattle.wot_gen.specs.declared.summary.Summary.{Summary}
 use Rattle.wot_gen.specs.declared.tally.Tally.{Tally}
 
 -- the amount in the reply to a question; other replies have none
@@ -25,11 +26,12 @@ abbrev pub transcript_digest : List Reply → List ℕ
 transcript_digest replies = sha256 (flat_map reply_text replies)
 
 -- Three lines: start, count and number of lines; the sum of amounts; the digest in digits.
-abbrev pub summary : ℕ → ℕ → ℕ → ℕ → List ℕ → List ℕ
-summary start count lines amounts digest =
-    joined_line (codes "gen " ∷ decimal start ∷ codes " " ∷ decimal count ∷ codes " lines " ∷ decimal lines ∷ [])
-    ++ joined_line (codes "amounts " ∷ decimal amounts ∷ [])
-    ++ joined_line (codes "transcript " ∷ encode_lower digest ∷ [])
+abbrev pub summary_text : Summary → List ℕ
+summary_text summary =
+    joined_line (codes "gen " ∷ decimal summary.start ∷ codes " " ∷ decimal summary.count
+    ∷ codes " lines " ∷ decimal summary.lines ∷ [])
+    ++ joined_line (codes "amounts " ∷ decimal summary.amounts ∷ [])
+    ++ joined_line (codes "transcript " ∷ encode_lower summary.digest ∷ [])
 
 -- A tally stands for these replies: for the sum of their amounts and for their transcript.
 abbrev pub Tallies : Tally → List Reply → Type 0

@@ -14,5 +14,5 @@ mod tally;
 mod words;
 
 pub use lines::script;
-pub use summary::put_summary;
+pub use summary::{Summary, put_summary};
 pub use tally::Tally;

@@ -2,7 +2,7 @@
 //! and tests compare them with those of other programs.
 ghost use Rattle.std.specs.Prelude.{◌≡◌, ◌++◌, OnErr, OnOk};
 ghost use Rattle.hex.specs.Hex.{encode_lower};
-ghost use Rattle.wot_gen.specs.Summary.{summary};
+ghost use Rattle.wot_gen.specs.Summary.{summary_text};
 
 use std::alloc::Global;
 use wot_types::Memory;
@@ -17,26 +17,32 @@ fn put_digits(digest: &[u8; 32], text: &mut Vec<u8>) -> Result<(), Memory>
     Ok(())
 }
 
-/// Appends the summary of a run of the generated script: a line with its start, its count and the number of its lines;
-/// a line with the sum of the amounts in the replies to its questions; a line with the SHA-256 of its transcript in 64
-/// digits. On `Memory` `out` is unchanged.
-pub fn put_summary(
-    alloc: Global,
-    start: u64,
-    count: u32,
-    lines: u64,
-    amounts: u64,
-    digest: &[u8; 32],
-    out: &mut Vec<u8>,
-) -> Result<(), Memory>
-    ensures put { OnOk result (out.new.items ≡ out.old.items ++ summary start count lines amounts digest.now) }
+/// What is said about a run of the generated script.
+#[derive(Clone, Copy)]
+pub struct Summary {
+    pub start: u64,
+    pub count: u32,
+    /// How many lines the script has.
+    pub lines: u64,
+    /// The sum of the amounts in the replies to its questions.
+    pub amounts: u64,
+    /// The SHA-256 of the transcript.
+    pub digest: [u8; 32],
+}
+
+/// Appends the three lines: one with the start, the count and the number of lines, one with the sum of the amounts, and
+/// one with the digest in 64 digits. On `Memory` `out` is unchanged.
+pub fn put_summary(alloc: Global, summary: &Summary, out: &mut Vec<u8>) -> Result<(), Memory>
+    ensures put { OnOk result (out.new.items ≡ out.old.items ++ summary_text summary.now) }
     ensures kept { OnErr result (out.new.items ≡ out.old.items) }
 {
+    let (start, count) = (summary.start, summary.count);
+    let (lines, amounts) = (summary.lines, summary.amounts);
     let numbers = format!(in alloc;
         "gen {start} {count} lines {lines}\namounts {amounts}\ntranscript "
     )?;
     let mut text = Vec::from_slice(alloc, numbers.as_bytes())?;
-    put_digits(digest, &mut text)?;
+    put_digits(&summary.digest, &mut text)?;
     text.push(b'\n')?;
     out.extend_from_slice(&text)?;
     Ok(())

@@ -1,7 +1,7 @@
 use Rattle.std.proofs.Common.{◌≤◌, length}
 use Rattle.std.specs.List.{AllByRecursion}
 use Rattle.wot_step.specs.Watching.{IsWatchLine}
-use Rattle.wot_engine.proofs.Playing.{AddsUpTo}
+use Rattle.wot_engine.proofs.Plays.{AddsUpTo}
 use Rattle.wot_engine.proofs.generated.add_all.Given as goal
 
 abbrev pub invariant-rest : goal.invariant-rest

@@ -1,7 +1,7 @@
 use Rattle.std.proofs.lemmas.Result.{on_ok_weaker}
 use Rattle.wot_policy.specs.Kept.{rows_of}
 use Rattle.wot_machine.specs.Machine.{kept}
-use Rattle.wot_engine.proofs.Playing.{adds_both}
+use Rattle.wot_engine.proofs.Plays.{adds_both}
 use Rattle.wot_engine.proofs.generated.add_line.Goals as goal
 
 pub returns-clause-added : goal.returns-clause-added

@@ -7,8 +7,8 @@ use Rattle.wot_machine.specs.Machine.{kept}
 use Rattle.wot_step.specs.Scene.{Scene}
 use Rattle.wot_step.proofs.DirectoryGives.{over}
 use Rattle.wot_engine.specs.Played.{Adds}
-use Rattle.wot_engine.proofs.Playing.{goes_on, starts_with}
-use Rattle.wot_engine.proofs.Replying.{judged}
+use Rattle.wot_engine.proofs.Plays.{goes_on, starts_with}
+use Rattle.wot_engine.proofs.Fresh.{judged}
 use Rattle.wot_engine.proofs.Stops.{unless_ok}
 use Rattle.wot_engine.proofs.generated.add_lines.Goals as goal
 

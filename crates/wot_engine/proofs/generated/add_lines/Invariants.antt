@@ -3,7 +3,7 @@ use Rattle.wot_policy.specs.Kept.{IsFaithful, rows_of}
 use Rattle.wot_held.specs.Kept.{IsJudgedBy}
 use Rattle.wot_machine.specs.Machine.{kept}
 use Rattle.wot_step.proofs.DirectoryGives.{over}
-use Rattle.wot_engine.proofs.Playing.{Plays}
+use Rattle.wot_engine.proofs.Plays.{Plays}
 use Rattle.wot_engine.proofs.generated.add_lines.Given as goal
 
 abbrev pub invariant-lines : goal.invariant-lines

@@ -3,7 +3,7 @@ use Rattle.wot_policy.specs.Kept.{rows_of}
 use Rattle.wot_machine.specs.Machine.{kept}
 use Rattle.wot_command.specs.CommandRun.{Seen}
 use Rattle.wot_machine.proofs.CommandsInLines.{told_settled}
-use Rattle.wot_engine.proofs.Playing.{adds_none}
+use Rattle.wot_engine.proofs.Plays.{adds_none}
 use Rattle.wot_engine.proofs.generated.add_reply.Goals as goal
 
 pub returns-in_ok-add-in-Some-clause-added : goal.returns-in_ok-add-in-Some-clause-added

@@ -1,6 +1,6 @@
 use Rattle.wot_policy.specs.Kept.{rows_of}
 use Rattle.wot_engine.proofs.Stops.{unless_ok}
-use Rattle.wot_engine.proofs.Summing.{all_begun, all_written, not_begun}
+use Rattle.wot_engine.proofs.Summary.{all_begun, all_written, not_begun}
 use Rattle.wot_engine.proofs.generated.generate.Goals as goal
 
 pub returns-in_err-text-clause-prefix : goal.returns-in_err-text-clause-prefix

@@ -2,7 +2,6 @@ use Rattle.std.proofs.Common.{rules, ◌≡◌, ◌≢◌, ◌^◌, ◌<◌, inl
 use Rattle.std.proofs.Common.{subst, ◌∙◌}
 use Rattle.std.specs.Prelude.{IfSome}
 use Rattle.wot_io.specs.Counts.{Rose}
-use Rattle.wot_io.specs.Input.{lines_of}
 use Rattle.wot_io.specs.Sink.{Becomes, GainsPrefix}
 use Rattle.wot_io.specs.declared.lines.Line.TheVariants.{End, Long, Text}
 use Rattle.wot_policy.specs.declared.rows.PolicyRows.{PolicyRows}
@@ -11,23 +10,28 @@ use Rattle.wot_held.specs.Kept.{IsJudgedBy}
 use Rattle.wot_command.specs.Asked.{LineAsks}
 use Rattle.wot_step.specs.Entry.{MayPut}
 use Rattle.wot_machine.specs.Machine.{kept}
-use Rattle.wot_step.specs.Transcript.{AllTold, Begun}
-use Rattle.wot_step.proofs.DirectoryGives.{told_always}
-use Rattle.wot_engine.specs.Asking.{MayAsk, command_by, done}
-use Rattle.wot_engine.specs.Ended.{Reached}
+use Rattle.wot_engine.specs.RunAsks.{MayAsk, command_by, done}
+use Rattle.wot_engine.specs.Ended.{Reached, IsBegun}
+use Rattle.wot_engine.specs.Contents.{OnContents}
 use Rattle.wot_engine.specs.Ends.{status_at}
 use Rattle.wot_engine.specs.Turn.{use_by}
 use Rattle.wot_engine.specs.declared.run.Stop.TheVariants.{Memory, Read, TooMuch, Write}
-use Rattle.wot_engine.proofs.Asking.{HasAsked-line, asks_between, asks_cut, asks_end, asks_nothing, asks_stop}
+use Rattle.wot_engine.proofs.HasAsked.{HasAsked-line, asks_between, asks_cut, asks_end, asks_nothing}
+use Rattle.wot_engine.proofs.HasAsked.{asks_stop}
+use Rattle.wot_engine.proofs.Contents.{weaker}
+use Rattle.wot_engine.proofs.Does.{does_all, does_memory, does_much, does_read, does_write, takes_all, takes_much}
+use Rattle.wot_engine.proofs.Does.{takes_some}
 use Rattle.wot_engine.proofs.Held.{Held, Held-begun, Held-cut, Held-first, Held-most, Held-moves, Held-none}
 use Rattle.wot_engine.proofs.Held.{Held-reached, Held-reached_cut, Held-reached_next, Held-reply, Held-written}
 use Rattle.wot_engine.proofs.Held.{nothing_held}
-use Rattle.wot_engine.proofs.Stops.{never, never_ok, on_err, rose_on, stopped}
-use Rattle.wot_engine.proofs.Turns.{Answered-end, Answered-stop, AllTold-weaker, Begun-here, First-reached, Left-end}
-use Rattle.wot_engine.proofs.Turns.{Most-end, Most-stop, Stood}
-use Rattle.wot_engine.proofs.Replying.{answered, not_end, holds, no_fault, within, counted, turned, judged}
-use Rattle.wot_engine.proofs.Taking.{ends_at, has_most, took_none, took_nothing, took_both, takes_at_most, takes_more}
-use Rattle.wot_engine.proofs.Taking.{takes_most}
+use Rattle.wot_engine.proofs.Stops.{never, never_ok, rose_on, stopped}
+use Rattle.wot_engine.proofs.Turns.{Answered-end, Answered-stop, Begun-here}
+use Rattle.wot_engine.proofs.Turns.{First-reached}
+use Rattle.wot_engine.proofs.Turns.{Left-end, Most-end, Most-stop, Stood}
+use Rattle.wot_engine.proofs.Fresh.{answered, not_end, holds, no_fault, within, counted, turned, judged}
+use Rattle.wot_engine.proofs.TakesAtMost.{ends_at, has_most, took_none, took_nothing, took_both, takes_at_most}
+use Rattle.wot_engine.proofs.TakesAtMost.{takes_more}
+use Rattle.wot_engine.proofs.TakesAtMost.{takes_most}
 use Rattle.wot_engine.proofs.run.answer_lines.Goals.{After-next}
 use Rattle.wot_engine.proofs.run.answer_lines.Goals as goal
 
@@ -58,9 +62,9 @@ stood g c text long =
     (c.next.ensures.at_hand c.lines.invariant.no_fault) text long c.in_ok-flush.ensures.none)
 
 begun : (g : _) (c : After-next g)
-    → AllTold (g.S.Source.left c.args.input.now) (g.K.Sink.written c.args.output.now) (g.D.Shelf.world c.args.shelf.now)
-    (λ input before world. Begun (rows_of c.args.policy.now) world (lines_of input) before
-    (g.K.Sink.written c.flush.new.output))
+    → OnContents (g.S.Source.left c.args.input.now) (g.K.Sink.written c.args.output.now) (g.D.Shelf.world
+    c.args.shelf.now)
+    (λ contents. IsBegun (rows_of c.args.policy.now) contents (g.K.Sink.written c.flush.new.output))
 begun g c =
     Held-begun (rows_of c.args.policy.now) c.lines.invariant.law (g.S.Source.left c.args.input.now)
     (g.K.Sink.written c.args.output.now) (g.D.Shelf.world c.args.shelf.now) c.lines.lines.held c.lines.lines.taken
@@ -68,9 +72,10 @@ begun g c =
     (g.D.Shelf.world c.lines.shelf) (kept c.lines.machine) (flushed g c)
 
 reached : (g : _) (c : After-next g)
-    → AllTold (g.S.Source.left c.args.input.now) (g.K.Sink.written c.args.output.now) (g.D.Shelf.world c.args.shelf.now)
-    (λ input before world. Reached (rows_of c.args.policy.now) world (lines_of input) before
-    (g.K.Sink.written c.flush.new.output) (g.D.Shelf.world c.args.shelf.now) (g.D.Shelf.world c.lines.shelf))
+    → OnContents (g.S.Source.left c.args.input.now) (g.K.Sink.written c.args.output.now) (g.D.Shelf.world
+    c.args.shelf.now)
+    (λ contents. Reached (rows_of c.args.policy.now) contents (g.K.Sink.written c.flush.new.output) (g.D.Shelf.world
+    c.args.shelf.now) (g.D.Shelf.world c.lines.shelf))
 reached g c =
     Held-reached (rows_of c.args.policy.now) (g.S.Source.left c.args.input.now) (g.K.Sink.written c.args.output.now)
     (g.D.Shelf.world c.args.shelf.now) c.lines.lines.held c.lines.lines.taken (g.S.Source.left c.lines.input)
@@ -79,243 +84,155 @@ reached g c =
 
 -- ---- a write failed
 
-pub returns-in_err-flush-clause-whole : goal.returns-in_err-flush-clause-whole
-returns-in_err-flush-clause-whole g c =
-    on_err c.from_residual.result Write _ (stopped c.from_residual.result Write c.from_residual.ensures.1)
+pub returns-in_err-flush-clause-does : goal.returns-in_err-flush-clause-does
+returns-in_err-flush-clause-does g c =
+    does_write (rows_of c.args.policy.now) _ _ _ c.from_residual.result (stopped
+    c.from_residual.result
+    Write c.from_residual.ensures.1)
+    (Held-cut (rows_of c.args.policy.now) c.lines.invariant.law (g.S.Source.left c.args.input.now)
+    (g.K.Sink.written c.args.output.now) (g.D.Shelf.world c.args.shelf.now) c.lines.lines.held c.lines.lines.taken
+    (g.S.Source.left c.lines.input) (g.K.Sink.written c.lines.output) c.lines.out.items (g.D.Shelf.world c.lines.shelf)
+    (kept c.lines.machine) (g.K.Sink.written c.flush.new.output) c.lines.invariant.held c.in_err-flush.ensures.cut)
+    (Held-reached_cut (rows_of c.args.policy.now) (g.S.Source.left c.args.input.now) (g.K.Sink.written
+    c.args.output.now)
+    (g.D.Shelf.world c.args.shelf.now) c.lines.lines.held c.lines.lines.taken (g.S.Source.left c.lines.input)
+    (g.K.Sink.written c.lines.output) c.lines.out.items (g.D.Shelf.world c.lines.shelf) (kept c.lines.machine)
+    (g.K.Sink.written c.flush.new.output) c.lines.invariant.held c.in_err-flush.ensures.cut)
+    ((Held-most (rows_of c.args.policy.now) c.lines.invariant.law (g.S.Source.left c.args.input.now)
+    (g.K.Sink.written c.args.output.now) (g.D.Shelf.world c.args.shelf.now) c.lines.lines.held c.lines.lines.taken
+    (g.S.Source.left c.lines.input) (g.K.Sink.written c.lines.output) c.lines.out.items (g.D.Shelf.world c.lines.shelf)
+    (kept c.lines.machine) (g.K.Sink.written c.flush.new.output) (g.S.Source.left c.lines.input) c.lines.lines.taken
+    c.lines.invariant.held c.in_err-flush.ensures.cut (took_none (g.S.Source.left c.lines.input) c.lines.lines.taken)))
 
-pub returns-in_err-flush-clause-shelf : goal.returns-in_err-flush-clause-shelf
-returns-in_err-flush-clause-shelf g c =
-    on_err c.from_residual.result Write _ (stopped c.from_residual.result Write c.from_residual.ensures.1)
-
-pub returns-in_err-flush-clause-first : goal.returns-in_err-flush-clause-first
-returns-in_err-flush-clause-first g c e =
-    absurd (never c.from_residual.result Write Memory (stopped c.from_residual.result Write c.from_residual.ensures.1)
-    tt e)
+pub returns-in_err-flush-clause-takes : goal.returns-in_err-flush-clause-takes
+returns-in_err-flush-clause-takes g c =
+    takes_some _ c.from_residual.result Write (stopped c.from_residual.result Write
+    c.from_residual.ensures.1) tt
+    (takes_at_most (g.S.Source.left c.args.input.now)
+    (g.S.Source.left c.lines.input) c.lines.lines.taken c.lines.invariant.took c.lines.invariant.within)
 
 pub returns-in_err-flush-clause-source : goal.returns-in_err-flush-clause-source
 returns-in_err-flush-clause-source g c e =
-    absurd (never c.from_residual.result Write Read (stopped c.from_residual.result Write c.from_residual.ensures.1) tt
+    absurd (never c.from_residual.result Write Read (stopped c.from_residual.result Write
+    c.from_residual.ensures.1) tt
     e)
-
-pub returns-in_err-flush-clause-taken : goal.returns-in_err-flush-clause-taken
-returns-in_err-flush-clause-taken g c e =
-    absurd (never c.from_residual.result Write Read (stopped c.from_residual.result Write c.from_residual.ensures.1) tt
-    e)
-
-pub returns-in_err-flush-clause-most : goal.returns-in_err-flush-clause-most
-returns-in_err-flush-clause-most g c e =
-    absurd (never c.from_residual.result Write TooMuch (stopped c.from_residual.result Write c.from_residual.ensures.1)
-    tt e)
-
-pub returns-in_err-flush-clause-much : goal.returns-in_err-flush-clause-much
-returns-in_err-flush-clause-much g c e =
-    absurd (never c.from_residual.result Write TooMuch (stopped c.from_residual.result Write c.from_residual.ensures.1)
-    tt e)
 
 pub returns-in_err-flush-clause-sink : goal.returns-in_err-flush-clause-sink
 returns-in_err-flush-clause-sink g c e =
     rose_on (g.K.Sink.faults c.args.output.now) (g.K.Sink.faults c.lines.output) (g.K.Sink.faults c.flush.new.output)
     c.lines.invariant.sink c.flush.ensures.later c.in_err-flush.ensures.cause
 
-pub returns-in_err-flush-clause-at_most : goal.returns-in_err-flush-clause-at_most
-returns-in_err-flush-clause-at_most g c = takes_at_most (g.S.Source.left c.args.input.now)
-    (g.S.Source.left c.lines.input) c.lines.lines.taken c.lines.invariant.took c.lines.invariant.within
-
-pub returns-in_err-flush-clause-prefix : goal.returns-in_err-flush-clause-prefix
-returns-in_err-flush-clause-prefix g c =
-    Held-cut (rows_of c.args.policy.now) c.lines.invariant.law (g.S.Source.left c.args.input.now)
-    (g.K.Sink.written c.args.output.now) (g.D.Shelf.world c.args.shelf.now) c.lines.lines.held c.lines.lines.taken
-    (g.S.Source.left c.lines.input) (g.K.Sink.written c.lines.output) c.lines.out.items (g.D.Shelf.world c.lines.shelf)
-    (kept c.lines.machine) (g.K.Sink.written c.flush.new.output) c.lines.invariant.held c.in_err-flush.ensures.cut
-
-pub returns-in_err-flush-clause-most_only : goal.returns-in_err-flush-clause-most_only
-returns-in_err-flush-clause-most_only g c =
-    AllTold-weaker (rows_of c.args.policy.now) (g.S.Source.left c.args.input.now) (g.K.Sink.written c.args.output.now)
-    (g.D.Shelf.world c.args.shelf.now) _ _ (λ input before world no most. absurd (no most))
-    (Held-most (rows_of c.args.policy.now) c.lines.invariant.law (g.S.Source.left c.args.input.now)
-    (g.K.Sink.written c.args.output.now) (g.D.Shelf.world c.args.shelf.now) c.lines.lines.held c.lines.lines.taken
-    (g.S.Source.left c.lines.input) (g.K.Sink.written c.lines.output) c.lines.out.items (g.D.Shelf.world c.lines.shelf)
-    (kept c.lines.machine) (g.K.Sink.written c.flush.new.output) (g.S.Source.left c.lines.input) c.lines.lines.taken
-    c.lines.invariant.held c.in_err-flush.ensures.cut (took_none (g.S.Source.left c.lines.input) c.lines.lines.taken))
-
 pub returns-in_err-flush-clause-faithful : goal.returns-in_err-flush-clause-faithful
-returns-in_err-flush-clause-faithful g c = c.lines.invariant.faithful
+returns-in_err-flush-clause-faithful g c =
+    c.lines.invariant.faithful
 
 pub returns-in_err-flush-clause-rows : goal.returns-in_err-flush-clause-rows
-returns-in_err-flush-clause-rows g c = c.lines.invariant.rows
+returns-in_err-flush-clause-rows g c =
+    c.lines.invariant.rows
 
-pub returns-in_err-flush-clause-reached : goal.returns-in_err-flush-clause-reached
-returns-in_err-flush-clause-reached g c =
-    Held-reached_cut (rows_of c.args.policy.now) (g.S.Source.left c.args.input.now) (g.K.Sink.written c.args.output.now)
-    (g.D.Shelf.world c.args.shelf.now) c.lines.lines.held c.lines.lines.taken (g.S.Source.left c.lines.input)
-    (g.K.Sink.written c.lines.output) c.lines.out.items (g.D.Shelf.world c.lines.shelf) (kept c.lines.machine)
-    (g.K.Sink.written c.flush.new.output) c.lines.invariant.held c.in_err-flush.ensures.cut
-
-pub returns-in_err-flush-clause-ended : goal.returns-in_err-flush-clause-ended
-returns-in_err-flush-clause-ended g c =
-    on_err c.from_residual.result Write _ (stopped c.from_residual.result Write c.from_residual.ensures.1)
-
-pub returns-in_err-flush-clause-took : goal.returns-in_err-flush-clause-took
-returns-in_err-flush-clause-took g c e =
-    absurd (never c.from_residual.result Write TooMuch (stopped c.from_residual.result Write c.from_residual.ensures.1)
-    tt e)
+pub returns-in_err-flush-clause-asked : goal.returns-in_err-flush-clause-asked
+returns-in_err-flush-clause-asked g c =
+    asks_between (rows_of c.args.policy.now) c.args.policy.now (g.D.Shelf.world c.args.shelf.now)
+    (status_at c.from_residual.result) (g.S.Source.left c.args.input.now) (g.K.Sink.written
+    c.args.output.now)
+    c.lines.lines.held c.lines.lines.taken (g.S.Source.left c.lines.input) (g.D.Shelf.world c.lines.shelf)
+    (kept c.lines.machine) c.lines.policy (g.S.Source.left c.lines.input)
+    (inl (ap status_at (stopped c.from_residual.result Write c.from_residual.ensures.1)))
+    c.lines.invariant.asked
 
 -- ---- no line is left
 
-pub returns-in-Ok-End-clause-reached : goal.returns-in-Ok-End-clause-reached
-returns-in-Ok-End-clause-reached g c = reached g (goal.at.returns-in-Ok-End-clause-reached g c).After-next
-
-pub returns-in-Ok-End-clause-ended : goal.returns-in-Ok-End-clause-ended
-returns-in-Ok-End-clause-ended g c =
-    ends_at (g.S.Source.left c.args.input.now) (g.S.Source.left c.lines.input) (g.S.Source.left c.next.new.from)
-    c.lines.lines.taken c.lines.lines c.next.new.self
-    c.lines.invariant.took (rw c.in-Ok-End.field-0-is at c.in-Ok-End.ensures.ok)
-
-pub returns-in-Ok-End-clause-took : goal.returns-in-Ok-End-clause-took
-returns-in-Ok-End-clause-took g c e = absurd (never_ok _ tt TooMuch refl e)
-
-pub returns-in-Err-ReadFault-clause-reached : goal.returns-in-Err-ReadFault-clause-reached
-returns-in-Err-ReadFault-clause-reached g c = reached g (goal.at.returns-in-Err-ReadFault-clause-reached g c).After-next
-
-pub returns-in-Err-ReadFault-clause-ended : goal.returns-in-Err-ReadFault-clause-ended
-returns-in-Err-ReadFault-clause-ended g c = tt
-
-pub returns-in-Err-ReadFault-clause-took : goal.returns-in-Err-ReadFault-clause-took
-returns-in-Err-ReadFault-clause-took g c e = absurd (never _ Read TooMuch refl tt e)
-
-pub returns-in-Err-TooMuch-clause-reached : goal.returns-in-Err-TooMuch-clause-reached
-returns-in-Err-TooMuch-clause-reached g c = reached g (goal.at.returns-in-Err-TooMuch-clause-reached g c).After-next
-
-pub returns-in-Err-TooMuch-clause-ended : goal.returns-in-Err-TooMuch-clause-ended
-returns-in-Err-TooMuch-clause-ended g c = tt
-
-pub returns-in-Err-TooMuch-clause-took : goal.returns-in-Err-TooMuch-clause-took
-returns-in-Err-TooMuch-clause-took g c e =
-    let n : c.next.new.self.taken ≡ 2 ^ 30 = (rw c.in-Err-TooMuch.field-0-is at c.in-Err-TooMuch.ensures.too_much)
-    c.lines.invariant.no_fault refl in
-    takes_most (g.S.Source.left c.args.input.now) (g.S.Source.left c.next.new.from) c.next.new.self.taken
-    (took_both (g.S.Source.left c.args.input.now) (g.S.Source.left c.lines.input) (g.S.Source.left c.next.new.from) 0
-    c.lines.lines.taken
-    c.next.new.self.taken c.lines.invariant.took c.next.ensures.took) n
-
-pub returns-in-Ok-End-clause-whole : goal.returns-in-Ok-End-clause-whole
-returns-in-Ok-End-clause-whole g c =
-    Answered-end (rows_of c.args.policy.now) (g.S.Source.left c.args.input.now) (g.K.Sink.written c.args.output.now)
+pub returns-in-Ok-End-clause-does : goal.returns-in-Ok-End-clause-does
+returns-in-Ok-End-clause-does g c =
+    let after = (goal.at.returns-in-Ok-End-clause-does g c).After-next in
+    let stands = stood g after (λ e. absurd (cc (e, c.in-Ok-End.is, c.in-Ok-End.field-0-is)))
+    (λ e. absurd (cc (e, c.in-Ok-End.is, c.in-Ok-End.field-0-is))) in
+    does_all (rows_of c.args.policy.now) _ _ _ _ tt refl
+    (Answered-end (rows_of c.args.policy.now) (g.S.Source.left c.args.input.now) (g.K.Sink.written c.args.output.now)
     (g.D.Shelf.world c.args.shelf.now) c.lines.lines (g.S.Source.left c.lines.input)
     (g.K.Sink.written c.flush.new.output) (g.D.Shelf.world c.lines.shelf) (kept c.lines.machine) c.next.new.self
     (g.S.Source.left c.next.new.from)
-    (stood g (goal.at.returns-in-Ok-End-clause-whole g c).After-next
-    (λ e. absurd (cc (e, c.in-Ok-End.is, c.in-Ok-End.field-0-is)))
-    (λ e. absurd (cc (e, c.in-Ok-End.is, c.in-Ok-End.field-0-is))))
-    (rw c.in-Ok-End.field-0-is at c.in-Ok-End.ensures.ok)
-
-pub returns-in-Ok-End-clause-shelf : goal.returns-in-Ok-End-clause-shelf
-returns-in-Ok-End-clause-shelf g c =
-    Left-end (rows_of c.args.policy.now) (g.S.Source.left c.args.input.now) (g.K.Sink.written c.args.output.now)
-    (g.D.Shelf.world c.args.shelf.now) c.lines.lines (g.S.Source.left c.lines.input)
-    (g.K.Sink.written c.flush.new.output) (g.D.Shelf.world c.lines.shelf) (kept c.lines.machine) c.next.new.self
-    (g.S.Source.left c.next.new.from)
-    (stood g (goal.at.returns-in-Ok-End-clause-shelf g c).After-next
-    (λ e. absurd (cc (e, c.in-Ok-End.is, c.in-Ok-End.field-0-is)))
-    (λ e. absurd (cc (e, c.in-Ok-End.is, c.in-Ok-End.field-0-is))))
-    (rw c.in-Ok-End.field-0-is at c.in-Ok-End.ensures.ok)
-
-pub returns-in-Ok-End-clause-prefix : goal.returns-in-Ok-End-clause-prefix
-returns-in-Ok-End-clause-prefix g c = begun g (goal.at.returns-in-Ok-End-clause-prefix g c).After-next
-
-pub returns-in-Ok-End-clause-most_only : goal.returns-in-Ok-End-clause-most_only
-returns-in-Ok-End-clause-most_only g c =
-    AllTold-weaker (rows_of c.args.policy.now) (g.S.Source.left c.args.input.now) (g.K.Sink.written c.args.output.now)
-    (g.D.Shelf.world c.args.shelf.now) _ _ (λ input before world no most. absurd (no most))
-    (Most-end (rows_of c.args.policy.now) (g.S.Source.left c.args.input.now) (g.K.Sink.written c.args.output.now)
-    (g.D.Shelf.world c.args.shelf.now) c.lines.lines (g.S.Source.left c.lines.input)
-    (g.K.Sink.written c.flush.new.output) (g.D.Shelf.world c.lines.shelf) (kept c.lines.machine) c.next.new.self
-    (g.S.Source.left c.next.new.from)
-    (stood g (goal.at.returns-in-Ok-End-clause-most_only g c).After-next
-    (λ e. absurd (cc (e, c.in-Ok-End.is, c.in-Ok-End.field-0-is)))
-    (λ e. absurd (cc (e, c.in-Ok-End.is, c.in-Ok-End.field-0-is))))
+    stands
     (rw c.in-Ok-End.field-0-is at c.in-Ok-End.ensures.ok))
+    (Left-end (rows_of c.args.policy.now) (g.S.Source.left c.args.input.now) (g.K.Sink.written c.args.output.now)
+    (g.D.Shelf.world c.args.shelf.now) c.lines.lines (g.S.Source.left c.lines.input)
+    (g.K.Sink.written c.flush.new.output) (g.D.Shelf.world c.lines.shelf) (kept c.lines.machine) c.next.new.self
+    (g.S.Source.left c.next.new.from)
+    stands
+    (rw c.in-Ok-End.field-0-is at c.in-Ok-End.ensures.ok))
+    (begun g after) (reached g after)
+    ((Most-end (rows_of c.args.policy.now) (g.S.Source.left c.args.input.now) (g.K.Sink.written c.args.output.now)
+    (g.D.Shelf.world c.args.shelf.now) c.lines.lines (g.S.Source.left c.lines.input)
+    (g.K.Sink.written c.flush.new.output) (g.D.Shelf.world c.lines.shelf) (kept c.lines.machine) c.next.new.self
+    (g.S.Source.left c.next.new.from)
+    stands
+    (rw c.in-Ok-End.field-0-is at c.in-Ok-End.ensures.ok)))
 
-pub returns-in-Ok-End-clause-at_most : goal.returns-in-Ok-End-clause-at_most
-returns-in-Ok-End-clause-at_most g c =
-    takes_more (g.S.Source.left c.args.input.now) (g.S.Source.left c.lines.input) (g.S.Source.left c.next.new.from)
-    c.lines.lines.taken c.next.new.self.taken c.lines.invariant.took c.next.ensures.took c.next.ensures.within
-
-pub returns-in-Ok-End-clause-first : goal.returns-in-Ok-End-clause-first
-returns-in-Ok-End-clause-first g c e = absurd (never_ok _ tt Memory refl e)
+pub returns-in-Ok-End-clause-takes : goal.returns-in-Ok-End-clause-takes
+returns-in-Ok-End-clause-takes g c =
+    takes_all _ _ tt refl
+    (ends_at (g.S.Source.left c.args.input.now) (g.S.Source.left c.lines.input) (g.S.Source.left c.next.new.from)
+    c.lines.lines.taken c.lines.lines c.next.new.self
+    c.lines.invariant.took (rw c.in-Ok-End.field-0-is at c.in-Ok-End.ensures.ok))
+    (takes_more (g.S.Source.left c.args.input.now) (g.S.Source.left c.lines.input) (g.S.Source.left c.next.new.from)
+    c.lines.lines.taken c.next.new.self.taken c.lines.invariant.took c.next.ensures.took c.next.ensures.within)
 
 pub returns-in-Ok-End-clause-source : goal.returns-in-Ok-End-clause-source
-returns-in-Ok-End-clause-source g c e = absurd (never_ok _ tt Read refl e)
-
-pub returns-in-Ok-End-clause-taken : goal.returns-in-Ok-End-clause-taken
-returns-in-Ok-End-clause-taken g c e = absurd (never_ok _ tt Read refl e)
+returns-in-Ok-End-clause-source g c e =
+    absurd (never_ok _ tt Read refl e)
 
 pub returns-in-Ok-End-clause-sink : goal.returns-in-Ok-End-clause-sink
-returns-in-Ok-End-clause-sink g c e = absurd (never_ok _ tt Write refl e)
-
-pub returns-in-Ok-End-clause-most : goal.returns-in-Ok-End-clause-most
-returns-in-Ok-End-clause-most g c e = absurd (never_ok _ tt TooMuch refl e)
-
-pub returns-in-Ok-End-clause-much : goal.returns-in-Ok-End-clause-much
-returns-in-Ok-End-clause-much g c e = absurd (never_ok _ tt TooMuch refl e)
+returns-in-Ok-End-clause-sink g c e =
+    absurd (never_ok _ tt Write refl e)
 
 pub returns-in-Ok-End-clause-faithful : goal.returns-in-Ok-End-clause-faithful
-returns-in-Ok-End-clause-faithful g c = c.lines.invariant.faithful
+returns-in-Ok-End-clause-faithful g c =
+    c.lines.invariant.faithful
 
 pub returns-in-Ok-End-clause-rows : goal.returns-in-Ok-End-clause-rows
-returns-in-Ok-End-clause-rows g c = c.lines.invariant.rows
+returns-in-Ok-End-clause-rows g c =
+    c.lines.invariant.rows
 
-pub returns-in-Err-ReadFault-clause-whole : goal.returns-in-Err-ReadFault-clause-whole
-returns-in-Err-ReadFault-clause-whole g c = tt
+pub returns-in-Ok-End-clause-asked : goal.returns-in-Ok-End-clause-asked
+returns-in-Ok-End-clause-asked g c =
+    asks_end (rows_of c.args.policy.now) c.args.policy.now (g.D.Shelf.world c.args.shelf.now)
+    (g.S.Source.left c.args.input.now) (g.K.Sink.written c.args.output.now) c.lines.lines
+    (g.S.Source.left c.lines.input) (g.D.Shelf.world c.lines.shelf) (kept c.lines.machine) c.lines.policy
+    c.next.new.self (g.S.Source.left c.next.new.from)
+    c.lines.invariant.asked (rw c.in-Ok-End.field-0-is at c.in-Ok-End.ensures.ok)
 
-pub returns-in-Err-ReadFault-clause-shelf : goal.returns-in-Err-ReadFault-clause-shelf
-returns-in-Err-ReadFault-clause-shelf g c = tt
+-- ---- a read failed
 
-pub returns-in-Err-ReadFault-clause-first : goal.returns-in-Err-ReadFault-clause-first
-returns-in-Err-ReadFault-clause-first g c e = absurd (never _ Read Memory refl tt e)
-
-pub returns-in-Err-ReadFault-clause-sink : goal.returns-in-Err-ReadFault-clause-sink
-returns-in-Err-ReadFault-clause-sink g c e = absurd (never _ Read Write refl tt e)
-
-pub returns-in-Err-ReadFault-clause-most : goal.returns-in-Err-ReadFault-clause-most
-returns-in-Err-ReadFault-clause-most g c e = absurd (never _ Read TooMuch refl tt e)
-
-pub returns-in-Err-ReadFault-clause-much : goal.returns-in-Err-ReadFault-clause-much
-returns-in-Err-ReadFault-clause-much g c e = absurd (never _ Read TooMuch refl tt e)
-
-pub returns-in-Err-ReadFault-clause-prefix : goal.returns-in-Err-ReadFault-clause-prefix
-returns-in-Err-ReadFault-clause-prefix g c = begun g (goal.at.returns-in-Err-ReadFault-clause-prefix g c).After-next
-
-pub returns-in-Err-ReadFault-clause-most_only : goal.returns-in-Err-ReadFault-clause-most_only
-returns-in-Err-ReadFault-clause-most_only g c =
+pub returns-in-Err-ReadFault-clause-does : goal.returns-in-Err-ReadFault-clause-does
+returns-in-Err-ReadFault-clause-does g c =
+    let after = (goal.at.returns-in-Err-ReadFault-clause-does g c).After-next in
     let lt : c.next.new.self.taken < 2 ^ 30 = (rw c.in-Err-ReadFault.field-0-is at c.in-Err-ReadFault.ensures.open)
     c.lines.invariant.no_fault refl in
-    AllTold-weaker (rows_of c.args.policy.now) (g.S.Source.left c.args.input.now) (g.K.Sink.written c.args.output.now)
-    (g.D.Shelf.world c.args.shelf.now) _ _ (λ input before world no most. absurd (no most))
-    (Most-stop (rows_of c.args.policy.now) (g.S.Source.left c.args.input.now) (g.K.Sink.written c.args.output.now)
-    (g.D.Shelf.world c.args.shelf.now) c.lines.lines.held c.lines.lines.taken (g.S.Source.left c.lines.input)
-    (g.K.Sink.written c.flush.new.output) (g.D.Shelf.world c.lines.shelf) (kept c.lines.machine)
-    (g.S.Source.left c.next.new.from) c.next.new.self.taken
-    (stood g (goal.at.returns-in-Err-ReadFault-clause-most_only g c).After-next
-    (λ e. absurd (cc (e, c.in-Err-ReadFault.is))) (λ e. absurd (cc (e, c.in-Err-ReadFault.is))))
-    (c.in-Err-ReadFault.ensures.stops c.lines.invariant.no_fault) lt)
-
-pub returns-in-Err-ReadFault-clause-at_most : goal.returns-in-Err-ReadFault-clause-at_most
-returns-in-Err-ReadFault-clause-at_most g c =
-    takes_more (g.S.Source.left c.args.input.now) (g.S.Source.left c.lines.input) (g.S.Source.left c.next.new.from)
-    c.lines.lines.taken c.next.new.self.taken c.lines.invariant.took c.next.ensures.took c.next.ensures.within
-
-pub returns-in-Err-ReadFault-clause-taken : goal.returns-in-Err-ReadFault-clause-taken
-returns-in-Err-ReadFault-clause-taken g c e =
-    AllTold-weaker (rows_of c.args.policy.now) (g.S.Source.left c.args.input.now) (g.K.Sink.written c.args.output.now)
-    (g.D.Shelf.world c.args.shelf.now) _ _ (λ input before world both. both.0)
+    let stands = stood g after (λ e. absurd (cc (e, c.in-Err-ReadFault.is))) (λ e. absurd (cc (
+      e,
+      c.in-Err-ReadFault.is,
+    ))) in
+    does_read (rows_of c.args.policy.now) _ _ _ _ refl (begun g after) (reached g after)
+    (weaker (g.S.Source.left c.args.input.now) (g.K.Sink.written c.args.output.now) (g.D.Shelf.world c.args.shelf.now)
+    _ _ (λ contents both. both.0)
     (Answered-stop (rows_of c.args.policy.now) (g.S.Source.left c.args.input.now) (g.K.Sink.written c.args.output.now)
     (g.D.Shelf.world c.args.shelf.now) c.lines.lines.held c.lines.lines.taken (g.S.Source.left c.lines.input)
     (g.K.Sink.written c.flush.new.output) (g.D.Shelf.world c.lines.shelf) (kept c.lines.machine)
     (g.S.Source.left c.next.new.from) c.next.new.self.taken
-    (stood g (goal.at.returns-in-Err-ReadFault-clause-taken g c).After-next
-    (λ e. absurd (cc (e, c.in-Err-ReadFault.is))) (λ e. absurd (cc (e, c.in-Err-ReadFault.is))))
-    (c.in-Err-ReadFault.ensures.stops c.lines.invariant.no_fault))
+    stands
+    (c.in-Err-ReadFault.ensures.stops c.lines.invariant.no_fault)))
+    ((Most-stop (rows_of c.args.policy.now) (g.S.Source.left c.args.input.now) (g.K.Sink.written c.args.output.now)
+    (g.D.Shelf.world c.args.shelf.now) c.lines.lines.held c.lines.lines.taken (g.S.Source.left c.lines.input)
+    (g.K.Sink.written c.flush.new.output) (g.D.Shelf.world c.lines.shelf) (kept c.lines.machine)
+    (g.S.Source.left c.next.new.from) c.next.new.self.taken
+    stands
+    (c.in-Err-ReadFault.ensures.stops c.lines.invariant.no_fault) lt))
+
+pub returns-in-Err-ReadFault-clause-takes : goal.returns-in-Err-ReadFault-clause-takes
+returns-in-Err-ReadFault-clause-takes g c =
+    takes_some _ _ Read refl tt
+    (takes_more (g.S.Source.left c.args.input.now) (g.S.Source.left c.lines.input) (g.S.Source.left c.next.new.from)
+    c.lines.lines.taken c.next.new.self.taken c.lines.invariant.took c.next.ensures.took c.next.ensures.within)
 
 pub returns-in-Err-ReadFault-clause-source : goal.returns-in-Err-ReadFault-clause-source
 returns-in-Err-ReadFault-clause-source g c e =
@@ -324,71 +241,81 @@ returns-in-Err-ReadFault-clause-source g c e =
     rose_on (g.S.Source.faults c.args.input.now) (g.S.Source.faults c.lines.input) (g.S.Source.faults c.next.new.from)
     c.lines.invariant.source c.next.ensures.later rose
 
+pub returns-in-Err-ReadFault-clause-sink : goal.returns-in-Err-ReadFault-clause-sink
+returns-in-Err-ReadFault-clause-sink g c e =
+    absurd (never _ Read Write refl tt e)
+
 pub returns-in-Err-ReadFault-clause-faithful : goal.returns-in-Err-ReadFault-clause-faithful
-returns-in-Err-ReadFault-clause-faithful g c = c.lines.invariant.faithful
+returns-in-Err-ReadFault-clause-faithful g c =
+    c.lines.invariant.faithful
 
 pub returns-in-Err-ReadFault-clause-rows : goal.returns-in-Err-ReadFault-clause-rows
-returns-in-Err-ReadFault-clause-rows g c = c.lines.invariant.rows
+returns-in-Err-ReadFault-clause-rows g c =
+    c.lines.invariant.rows
 
-pub returns-in-Err-TooMuch-clause-whole : goal.returns-in-Err-TooMuch-clause-whole
-returns-in-Err-TooMuch-clause-whole g c = tt
+pub returns-in-Err-ReadFault-clause-asked : goal.returns-in-Err-ReadFault-clause-asked
+returns-in-Err-ReadFault-clause-asked g c =
+    asks_stop (rows_of c.args.policy.now) c.args.policy.now (g.D.Shelf.world c.args.shelf.now) 3
+    (g.S.Source.left c.args.input.now) (g.K.Sink.written c.args.output.now) c.lines.lines.held c.lines.lines.taken
+    (g.S.Source.left c.lines.input) (g.D.Shelf.world c.lines.shelf) (kept c.lines.machine) c.lines.policy
+    (g.S.Source.left c.next.new.from) c.next.new.self.taken
+    (inl refl) c.lines.invariant.asked (c.in-Err-ReadFault.ensures.stops c.lines.invariant.no_fault)
 
-pub returns-in-Err-TooMuch-clause-shelf : goal.returns-in-Err-TooMuch-clause-shelf
-returns-in-Err-TooMuch-clause-shelf g c = tt
+-- ---- 2 ^ 30 octets were taken
 
-pub returns-in-Err-TooMuch-clause-first : goal.returns-in-Err-TooMuch-clause-first
-returns-in-Err-TooMuch-clause-first g c e = absurd (never _ TooMuch Memory refl tt e)
-
-pub returns-in-Err-TooMuch-clause-source : goal.returns-in-Err-TooMuch-clause-source
-returns-in-Err-TooMuch-clause-source g c e = absurd (never _ TooMuch Read refl tt e)
-
-pub returns-in-Err-TooMuch-clause-taken : goal.returns-in-Err-TooMuch-clause-taken
-returns-in-Err-TooMuch-clause-taken g c e = absurd (never _ TooMuch Read refl tt e)
-
-pub returns-in-Err-TooMuch-clause-sink : goal.returns-in-Err-TooMuch-clause-sink
-returns-in-Err-TooMuch-clause-sink g c e = absurd (never _ TooMuch Write refl tt e)
-
-pub returns-in-Err-TooMuch-clause-prefix : goal.returns-in-Err-TooMuch-clause-prefix
-returns-in-Err-TooMuch-clause-prefix g c = begun g (goal.at.returns-in-Err-TooMuch-clause-prefix g c).After-next
-
-pub returns-in-Err-TooMuch-clause-much : goal.returns-in-Err-TooMuch-clause-much
-returns-in-Err-TooMuch-clause-much g c e =
+pub returns-in-Err-TooMuch-clause-does : goal.returns-in-Err-TooMuch-clause-does
+returns-in-Err-TooMuch-clause-does g c =
+    let after = (goal.at.returns-in-Err-TooMuch-clause-does g c).After-next in
     let n : c.next.new.self.taken ≡ 2 ^ 30 = (rw c.in-Err-TooMuch.field-0-is at c.in-Err-TooMuch.ensures.too_much)
     c.lines.invariant.no_fault refl in
-    has_most (g.S.Source.left c.args.input.now) (g.S.Source.left c.next.new.from) c.next.new.self.taken
-    (took_both (g.S.Source.left c.args.input.now) (g.S.Source.left c.lines.input) (g.S.Source.left c.next.new.from) 0
-    c.lines.lines.taken
-    c.next.new.self.taken c.lines.invariant.took c.next.ensures.took) n
-
-pub returns-in-Err-TooMuch-clause-most : goal.returns-in-Err-TooMuch-clause-most
-returns-in-Err-TooMuch-clause-most g c e =
-    let n : c.next.new.self.taken ≡ 2 ^ 30 = (rw c.in-Err-TooMuch.field-0-is at c.in-Err-TooMuch.ensures.too_much)
-    c.lines.invariant.no_fault refl in
-    AllTold-weaker (rows_of c.args.policy.now) (g.S.Source.left c.args.input.now) (g.K.Sink.written c.args.output.now)
-    (g.D.Shelf.world c.args.shelf.now) _ _ (λ input before world both. both.1 n)
+    let stands = stood g after (λ e. absurd (cc (e, c.in-Err-TooMuch.is))) (λ e. absurd (cc (e, c.in-Err-TooMuch.is)))
+    in
+    does_much (rows_of c.args.policy.now) _ _ _ _ refl (begun g after) (reached g after)
+    (weaker (g.S.Source.left c.args.input.now) (g.K.Sink.written c.args.output.now) (g.D.Shelf.world c.args.shelf.now)
+    _ _ (λ contents both. both.1 n)
     (Answered-stop (rows_of c.args.policy.now) (g.S.Source.left c.args.input.now) (g.K.Sink.written c.args.output.now)
     (g.D.Shelf.world c.args.shelf.now) c.lines.lines.held c.lines.lines.taken (g.S.Source.left c.lines.input)
     (g.K.Sink.written c.flush.new.output) (g.D.Shelf.world c.lines.shelf) (kept c.lines.machine)
     (g.S.Source.left c.next.new.from) c.next.new.self.taken
-    (stood g (goal.at.returns-in-Err-TooMuch-clause-most g c).After-next (λ e. absurd (cc (e, c.in-Err-TooMuch.is)))
-    (λ e. absurd (cc (e, c.in-Err-TooMuch.is))))
-    (c.in-Err-TooMuch.ensures.stops c.lines.invariant.no_fault))
+    stands
+    (c.in-Err-TooMuch.ensures.stops c.lines.invariant.no_fault)))
 
-pub returns-in-Err-TooMuch-clause-most_only : goal.returns-in-Err-TooMuch-clause-most_only
-returns-in-Err-TooMuch-clause-most_only g c =
-    told_always (g.S.Source.left c.args.input.now) (g.K.Sink.written c.args.output.now)
-    (g.D.Shelf.world c.args.shelf.now) _ (λ input before world most. inl refl)
+pub returns-in-Err-TooMuch-clause-takes : goal.returns-in-Err-TooMuch-clause-takes
+returns-in-Err-TooMuch-clause-takes g c =
+    let n : c.next.new.self.taken ≡ 2 ^ 30 = (rw c.in-Err-TooMuch.field-0-is at c.in-Err-TooMuch.ensures.too_much)
+    c.lines.invariant.no_fault refl in
+    let took = took_both (g.S.Source.left c.args.input.now) (g.S.Source.left c.lines.input)
+    (g.S.Source.left c.next.new.from) 0 c.lines.lines.taken c.next.new.self.taken c.lines.invariant.took
+    c.next.ensures.took in
+    takes_much _ _ refl
+    (has_most (g.S.Source.left c.args.input.now) (g.S.Source.left c.next.new.from) c.next.new.self.taken took n)
+    (takes_most (g.S.Source.left c.args.input.now) (g.S.Source.left c.next.new.from) c.next.new.self.taken took n)
+    (takes_more (g.S.Source.left c.args.input.now) (g.S.Source.left c.lines.input) (g.S.Source.left c.next.new.from)
+    c.lines.lines.taken c.next.new.self.taken c.lines.invariant.took c.next.ensures.took c.next.ensures.within)
 
-pub returns-in-Err-TooMuch-clause-at_most : goal.returns-in-Err-TooMuch-clause-at_most
-returns-in-Err-TooMuch-clause-at_most g c =
-    takes_more (g.S.Source.left c.args.input.now) (g.S.Source.left c.lines.input) (g.S.Source.left c.next.new.from)
-    c.lines.lines.taken c.next.new.self.taken c.lines.invariant.took c.next.ensures.took c.next.ensures.within
+pub returns-in-Err-TooMuch-clause-source : goal.returns-in-Err-TooMuch-clause-source
+returns-in-Err-TooMuch-clause-source g c e =
+    absurd (never _ TooMuch Read refl tt e)
+
+pub returns-in-Err-TooMuch-clause-sink : goal.returns-in-Err-TooMuch-clause-sink
+returns-in-Err-TooMuch-clause-sink g c e =
+    absurd (never _ TooMuch Write refl tt e)
 
 pub returns-in-Err-TooMuch-clause-faithful : goal.returns-in-Err-TooMuch-clause-faithful
-returns-in-Err-TooMuch-clause-faithful g c = c.lines.invariant.faithful
+returns-in-Err-TooMuch-clause-faithful g c =
+    c.lines.invariant.faithful
 
 pub returns-in-Err-TooMuch-clause-rows : goal.returns-in-Err-TooMuch-clause-rows
-returns-in-Err-TooMuch-clause-rows g c = c.lines.invariant.rows
+returns-in-Err-TooMuch-clause-rows g c =
+    c.lines.invariant.rows
+
+pub returns-in-Err-TooMuch-clause-asked : goal.returns-in-Err-TooMuch-clause-asked
+returns-in-Err-TooMuch-clause-asked g c =
+    asks_stop (rows_of c.args.policy.now) c.args.policy.now (g.D.Shelf.world c.args.shelf.now) 6
+    (g.S.Source.left c.args.input.now) (g.K.Sink.written c.args.output.now) c.lines.lines.held c.lines.lines.taken
+    (g.S.Source.left c.lines.input) (g.D.Shelf.world c.lines.shelf) (kept c.lines.machine) c.lines.policy
+    (g.S.Source.left c.next.new.from) c.next.new.self.taken
+    (inr refl) c.lines.invariant.asked (c.in-Err-TooMuch.ensures.stops c.lines.invariant.no_fault)
 
 -- ---- a line is read
 
@@ -478,179 +405,21 @@ reply_to-requires-clause-judged g c =
 pub reply_to-requires-clause-faithful : goal.reply_to-requires-clause-faithful
 reply_to-requires-clause-faithful g c = c.lines.invariant.faithful
 
--- ---- out of memory at a line
+-- ---- out of memory at a line, and the write that follows failed
 
-pub returns-in_err-write_all-clause-whole : goal.returns-in_err-write_all-clause-whole
-returns-in_err-write_all-clause-whole g c =
-    on_err c.from_residual-in_err-write_all.result Write _
-    (stopped c.from_residual-in_err-write_all.result Write c.from_residual-in_err-write_all.ensures.1)
-
-pub returns-in_err-write_all-clause-shelf : goal.returns-in_err-write_all-clause-shelf
-returns-in_err-write_all-clause-shelf g c =
-    on_err c.from_residual-in_err-write_all.result Write _
-    (stopped c.from_residual-in_err-write_all.result Write c.from_residual-in_err-write_all.ensures.1)
-
-pub returns-in_err-write_all-clause-first : goal.returns-in_err-write_all-clause-first
-returns-in_err-write_all-clause-first g c e =
-    absurd (never c.from_residual-in_err-write_all.result Write Memory
-    (stopped c.from_residual-in_err-write_all.result Write c.from_residual-in_err-write_all.ensures.1) tt e)
-
-pub returns-in_err-write_all-clause-source : goal.returns-in_err-write_all-clause-source
-returns-in_err-write_all-clause-source g c e =
-    absurd (never c.from_residual-in_err-write_all.result Write Read
-    (stopped c.from_residual-in_err-write_all.result Write c.from_residual-in_err-write_all.ensures.1) tt e)
-
-pub returns-in_err-write_all-clause-taken : goal.returns-in_err-write_all-clause-taken
-returns-in_err-write_all-clause-taken g c e =
-    absurd (never c.from_residual-in_err-write_all.result Write Read
-    (stopped c.from_residual-in_err-write_all.result Write c.from_residual-in_err-write_all.ensures.1) tt e)
-
-pub returns-in_err-write_all-clause-most : goal.returns-in_err-write_all-clause-most
-returns-in_err-write_all-clause-most g c e =
-    absurd (never c.from_residual-in_err-write_all.result Write TooMuch
-    (stopped c.from_residual-in_err-write_all.result Write c.from_residual-in_err-write_all.ensures.1) tt e)
-
-pub returns-in_err-write_all-clause-much : goal.returns-in_err-write_all-clause-much
-returns-in_err-write_all-clause-much g c e =
-    absurd (never c.from_residual-in_err-write_all.result Write TooMuch
-    (stopped c.from_residual-in_err-write_all.result Write c.from_residual-in_err-write_all.ensures.1) tt e)
-
-pub returns-in_err-write_all-clause-at_most : goal.returns-in_err-write_all-clause-at_most
-returns-in_err-write_all-clause-at_most g c =
-    takes_more (g.S.Source.left c.args.input.now) (g.S.Source.left c.lines.input) (g.S.Source.left c.next.new.from)
-    c.lines.lines.taken c.next.new.self.taken c.lines.invariant.took c.next.ensures.took c.next.ensures.within
-
-pub returns-in_err-write_all-clause-prefix : goal.returns-in_err-write_all-clause-prefix
-returns-in_err-write_all-clause-prefix g c =
-    Held-cut (rows_of c.args.policy.now) c.lines.invariant.law (g.S.Source.left c.args.input.now)
+pub returns-in_err-write_all-clause-does : goal.returns-in_err-write_all-clause-does
+returns-in_err-write_all-clause-does g c =
+    does_write (rows_of c.args.policy.now) _ _ _ c.from_residual-in_err-write_all.result (stopped
+    c.from_residual-in_err-write_all.result Write c.from_residual-in_err-write_all.ensures.1)
+    (Held-cut (rows_of c.args.policy.now) c.lines.invariant.law (g.S.Source.left c.args.input.now)
     (g.K.Sink.written c.args.output.now) (g.D.Shelf.world c.args.shelf.now) c.lines.lines.held c.lines.lines.taken
     (g.S.Source.left c.lines.input) (g.K.Sink.written c.flush.new.output) c.flush.new.out.items
     (g.D.Shelf.world c.lines.shelf) (kept c.lines.machine) (g.K.Sink.written c.write_all.new.to)
-    (flushed g (goal.at.returns-in_err-write_all-clause-prefix g c).After-next)
+    (flushed g (goal.at.returns-in_err-write_all-clause-does g c).After-next)
     (subst (λ (x : List ℕ). IfSome (g.K.Sink.written c.flush.new.output)
     (λ old. GainsPrefix old (g.K.Sink.written c.write_all.new.to) x))
-    (c.deref.ensures.value ∙ c.in_default.ensures.kept) c.in_err-write_all.ensures.err)
-
-pub returns-in_err-write_all-clause-most_only : goal.returns-in_err-write_all-clause-most_only
-returns-in_err-write_all-clause-most_only g c =
-    AllTold-weaker (rows_of c.args.policy.now) (g.S.Source.left c.args.input.now) (g.K.Sink.written c.args.output.now)
-    (g.D.Shelf.world c.args.shelf.now) _ _ (λ input before world no most. absurd (no most))
-    (Held-most (rows_of c.args.policy.now) c.lines.invariant.law (g.S.Source.left c.args.input.now)
-    (g.K.Sink.written c.args.output.now) (g.D.Shelf.world c.args.shelf.now) c.lines.lines.held c.lines.lines.taken
-    (g.S.Source.left c.lines.input) (g.K.Sink.written c.flush.new.output) c.flush.new.out.items
-    (g.D.Shelf.world c.lines.shelf) (kept c.lines.machine) (g.K.Sink.written c.write_all.new.to)
-    (g.S.Source.left c.next.new.from) c.next.new.self.taken
-    (flushed g (goal.at.returns-in_err-write_all-clause-most_only g c).After-next)
-    (subst (λ (x : List ℕ). IfSome (g.K.Sink.written c.flush.new.output)
-    (λ old. GainsPrefix old (g.K.Sink.written c.write_all.new.to) x))
-    (c.deref.ensures.value ∙ c.in_default.ensures.kept) c.in_err-write_all.ensures.err) c.next.ensures.took)
-
-pub returns-in_err-write_all-clause-sink : goal.returns-in_err-write_all-clause-sink
-returns-in_err-write_all-clause-sink g c e =
-    rose_on (g.K.Sink.faults c.args.output.now) (g.K.Sink.faults c.flush.new.output)
-    (g.K.Sink.faults c.write_all.new.to)
-    (omega (arith, c.lines.invariant.sink, c.flush.ensures.later)) c.write_all.ensures.later
-    c.in_err-write_all.ensures.cause
-
-pub returns-in_err-write_all-clause-faithful : goal.returns-in_err-write_all-clause-faithful
-returns-in_err-write_all-clause-faithful g c = c.reply_to.ensures.faithful
-
-pub returns-in_err-write_all-clause-rows : goal.returns-in_err-write_all-clause-rows
-returns-in_err-write_all-clause-rows g c = c.reply_to.ensures.rows ∙ c.lines.invariant.rows
-
-pub returns-in_default-clause-whole : goal.returns-in_default-clause-whole
-returns-in_default-clause-whole g c = tt
-
-pub returns-in_default-clause-shelf : goal.returns-in_default-clause-shelf
-returns-in_default-clause-shelf g c = tt
-
-pub returns-in_default-clause-source : goal.returns-in_default-clause-source
-returns-in_default-clause-source g c e = absurd (never _ Memory Read refl tt e)
-
-pub returns-in_default-clause-taken : goal.returns-in_default-clause-taken
-returns-in_default-clause-taken g c e = absurd (never _ Memory Read refl tt e)
-
-pub returns-in_default-clause-sink : goal.returns-in_default-clause-sink
-returns-in_default-clause-sink g c e = absurd (never _ Memory Write refl tt e)
-
-pub returns-in_default-clause-most : goal.returns-in_default-clause-most
-returns-in_default-clause-most g c e = absurd (never _ Memory TooMuch refl tt e)
-
-pub returns-in_default-clause-much : goal.returns-in_default-clause-much
-returns-in_default-clause-much g c e = absurd (never _ Memory TooMuch refl tt e)
-
-pub returns-in_default-clause-prefix : goal.returns-in_default-clause-prefix
-returns-in_default-clause-prefix g c =
-    Begun-here (rows_of c.args.policy.now) c.lines.invariant.law (g.S.Source.left c.args.input.now)
-    (g.K.Sink.written c.args.output.now) (g.D.Shelf.world c.args.shelf.now) c.lines.lines.held c.lines.lines.taken
-    (g.S.Source.left c.lines.input) (g.K.Sink.written c.write_all.new.to) (g.D.Shelf.world c.lines.shelf)
-    (kept c.lines.machine)
-    (Held-written (rows_of c.args.policy.now) (g.S.Source.left c.args.input.now) (g.K.Sink.written c.args.output.now)
-    (g.D.Shelf.world c.args.shelf.now) c.lines.lines.held c.lines.lines.taken (g.S.Source.left c.lines.input)
-    (g.K.Sink.written c.flush.new.output) c.flush.new.out.items (g.D.Shelf.world c.lines.shelf) (kept c.lines.machine)
-    (g.K.Sink.written c.write_all.new.to)
-    (flushed g (goal.at.returns-in_default-clause-prefix g c).After-next)
-    (subst (λ (x : List ℕ). Becomes (g.K.Sink.written c.flush.new.output)
-    (λ old. old ++ x) (g.K.Sink.written c.write_all.new.to)) (c.deref.ensures.value ∙ c.in_default.ensures.kept)
-    c.in_ok-write_all.ensures.ok))
-
-pub returns-in_default-clause-most_only : goal.returns-in_default-clause-most_only
-returns-in_default-clause-most_only g c = told_always (g.S.Source.left c.args.input.now)
-    (g.K.Sink.written c.args.output.now) (g.D.Shelf.world c.args.shelf.now) _ (λ input before world most. inr refl)
-
-pub returns-in_default-clause-at_most : goal.returns-in_default-clause-at_most
-returns-in_default-clause-at_most g c =
-    takes_more (g.S.Source.left c.args.input.now) (g.S.Source.left c.lines.input) (g.S.Source.left c.next.new.from)
-    c.lines.lines.taken c.next.new.self.taken c.lines.invariant.took c.next.ensures.took c.next.ensures.within
-
-pub returns-in_default-clause-first : goal.returns-in_default-clause-first
-returns-in_default-clause-first g c e =
-    let some : c.in-Ok.line ≢ End = search rules in
-    let m : MayPut (kept c.lines.machine).state (use_by c.in-Ok.line c.next.new.self.text)
-    (g.D.Shelf.world c.lines.shelf) (g.D.Shelf.world c.reply_to.new.shelf) =
-    subst (λ (x : List ℕ). MayPut (kept c.lines.machine).state (use_by c.in-Ok.line x) (g.D.Shelf.world c.lines.shelf)
-    (g.D.Shelf.world c.reply_to.new.shelf)) c.text.ensures c.in_default.ensures.entries in
-    Held-first (rows_of c.args.policy.now) (g.S.Source.left c.args.input.now) (g.K.Sink.written c.args.output.now)
-    (g.D.Shelf.world c.args.shelf.now) c.lines.lines (g.S.Source.left c.lines.input)
-    (g.K.Sink.written c.flush.new.output) c.flush.new.out.items (g.D.Shelf.world c.lines.shelf) (kept c.lines.machine)
-    (g.K.Sink.written c.write_all.new.to) c.next.new.self (g.S.Source.left c.next.new.from)
-    (g.D.Shelf.world c.reply_to.new.shelf) c.in-Ok.line
-    (flushed g (goal.at.returns-in_default-clause-first g c).After-next)
-    (subst (λ (x : List ℕ). Becomes (g.K.Sink.written c.flush.new.output)
-    (λ old. old ++ x) (g.K.Sink.written c.write_all.new.to)) (c.deref.ensures.value ∙ c.in_default.ensures.kept)
-    c.in_ok-write_all.ensures.ok)
-    c.in-Ok.ensures.ok some m c.in-Ok.ensures.near
-
-pub returns-in_default-clause-reached : goal.returns-in_default-clause-reached
-returns-in_default-clause-reached g c =
-    let some : c.in-Ok.line ≢ End = search rules in
-    let m : MayPut (kept c.lines.machine).state (use_by c.in-Ok.line c.next.new.self.text)
-    (g.D.Shelf.world c.lines.shelf) (g.D.Shelf.world c.reply_to.new.shelf) =
-    subst (λ (x : List ℕ). MayPut (kept c.lines.machine).state (use_by c.in-Ok.line x) (g.D.Shelf.world c.lines.shelf)
-    (g.D.Shelf.world c.reply_to.new.shelf)) c.text.ensures c.in_default.ensures.entries in
-    First-reached (rows_of c.args.policy.now) (g.S.Source.left c.args.input.now) (g.K.Sink.written c.args.output.now)
-    (g.D.Shelf.world c.args.shelf.now) (g.S.Source.left c.next.new.from) (g.K.Sink.written c.write_all.new.to)
-    (g.D.Shelf.world c.reply_to.new.shelf)
-    (Held-first (rows_of c.args.policy.now) (g.S.Source.left c.args.input.now) (g.K.Sink.written c.args.output.now)
-    (g.D.Shelf.world c.args.shelf.now) c.lines.lines (g.S.Source.left c.lines.input)
-    (g.K.Sink.written c.flush.new.output) c.flush.new.out.items (g.D.Shelf.world c.lines.shelf) (kept c.lines.machine)
-    (g.K.Sink.written c.write_all.new.to) c.next.new.self (g.S.Source.left c.next.new.from)
-    (g.D.Shelf.world c.reply_to.new.shelf) c.in-Ok.line
-    (flushed g (goal.at.returns-in_default-clause-reached g c).After-next)
-    (subst (λ (x : List ℕ). Becomes (g.K.Sink.written c.flush.new.output)
-    (λ old. old ++ x) (g.K.Sink.written c.write_all.new.to)) (c.deref.ensures.value ∙ c.in_default.ensures.kept)
-    c.in_ok-write_all.ensures.ok)
-    c.in-Ok.ensures.ok some m c.in-Ok.ensures.near)
-
-pub returns-in_default-clause-ended : goal.returns-in_default-clause-ended
-returns-in_default-clause-ended g c = tt
-
-pub returns-in_default-clause-took : goal.returns-in_default-clause-took
-returns-in_default-clause-took g c e = absurd (never _ Memory TooMuch refl tt e)
-
-pub returns-in_err-write_all-clause-reached : goal.returns-in_err-write_all-clause-reached
-returns-in_err-write_all-clause-reached g c =
-    let some : c.in-Ok.line ≢ End = search rules in
+    (c.deref.ensures.value ∙ c.in_default.ensures.kept) c.in_err-write_all.ensures.err))
+    (let some : c.in-Ok.line ≢ End = search rules in
     let m : MayPut (kept c.lines.machine).state (use_by c.in-Ok.line c.next.new.self.text)
     (g.D.Shelf.world c.lines.shelf) (g.D.Shelf.world c.reply_to.new.shelf) =
     subst (λ (x : List ℕ). MayPut (kept c.lines.machine).state (use_by c.in-Ok.line x) (g.D.Shelf.world c.lines.shelf)
@@ -660,90 +429,47 @@ returns-in_err-write_all-clause-reached g c =
     (g.S.Source.left c.lines.input) (g.K.Sink.written c.flush.new.output) c.flush.new.out.items
     (g.D.Shelf.world c.lines.shelf) (kept c.lines.machine) (g.K.Sink.written c.write_all.new.to) c.next.new.self
     (g.S.Source.left c.next.new.from) (g.D.Shelf.world c.reply_to.new.shelf) c.in-Ok.line
-    (flushed g (goal.at.returns-in_err-write_all-clause-reached g c).After-next)
+    (flushed g (goal.at.returns-in_err-write_all-clause-does g c).After-next)
     (subst (λ (x : List ℕ). IfSome (g.K.Sink.written c.flush.new.output)
     (λ old. GainsPrefix old (g.K.Sink.written c.write_all.new.to) x))
     (c.deref.ensures.value ∙ c.in_default.ensures.kept) c.in_err-write_all.ensures.err)
-    c.in-Ok.ensures.ok some m
+    c.in-Ok.ensures.ok some m)
+    ((Held-most (rows_of c.args.policy.now) c.lines.invariant.law (g.S.Source.left c.args.input.now)
+    (g.K.Sink.written c.args.output.now) (g.D.Shelf.world c.args.shelf.now) c.lines.lines.held c.lines.lines.taken
+    (g.S.Source.left c.lines.input) (g.K.Sink.written c.flush.new.output) c.flush.new.out.items
+    (g.D.Shelf.world c.lines.shelf) (kept c.lines.machine) (g.K.Sink.written c.write_all.new.to)
+    (g.S.Source.left c.next.new.from) c.next.new.self.taken
+    (flushed g (goal.at.returns-in_err-write_all-clause-does g c).After-next)
+    (subst (λ (x : List ℕ). IfSome (g.K.Sink.written c.flush.new.output)
+    (λ old. GainsPrefix old (g.K.Sink.written c.write_all.new.to) x))
+    (c.deref.ensures.value ∙ c.in_default.ensures.kept) c.in_err-write_all.ensures.err) c.next.ensures.took))
 
-pub returns-in_err-write_all-clause-ended : goal.returns-in_err-write_all-clause-ended
-returns-in_err-write_all-clause-ended g c =
-    on_err c.from_residual-in_err-write_all.result Write _
-    (stopped c.from_residual-in_err-write_all.result Write c.from_residual-in_err-write_all.ensures.1)
+pub returns-in_err-write_all-clause-takes : goal.returns-in_err-write_all-clause-takes
+returns-in_err-write_all-clause-takes g c =
+    takes_some _ c.from_residual-in_err-write_all.result Write
+    (stopped c.from_residual-in_err-write_all.result Write c.from_residual-in_err-write_all.ensures.1) tt
+    (takes_more (g.S.Source.left c.args.input.now) (g.S.Source.left c.lines.input) (g.S.Source.left c.next.new.from)
+    c.lines.lines.taken c.next.new.self.taken c.lines.invariant.took c.next.ensures.took c.next.ensures.within)
 
-pub returns-in_err-write_all-clause-took : goal.returns-in_err-write_all-clause-took
-returns-in_err-write_all-clause-took g c e =
-    absurd (never c.from_residual-in_err-write_all.result Write TooMuch
+pub returns-in_err-write_all-clause-source : goal.returns-in_err-write_all-clause-source
+returns-in_err-write_all-clause-source g c e =
+    absurd (never c.from_residual-in_err-write_all.result Write Read
     (stopped c.from_residual-in_err-write_all.result Write c.from_residual-in_err-write_all.ensures.1) tt e)
 
-pub returns-in_default-clause-faithful : goal.returns-in_default-clause-faithful
-returns-in_default-clause-faithful g c = c.reply_to.ensures.faithful
+pub returns-in_err-write_all-clause-sink : goal.returns-in_err-write_all-clause-sink
+returns-in_err-write_all-clause-sink g c e =
+    rose_on (g.K.Sink.faults c.args.output.now) (g.K.Sink.faults c.flush.new.output)
+    (g.K.Sink.faults c.write_all.new.to)
+    (omega (arith, c.lines.invariant.sink, c.flush.ensures.later)) c.write_all.ensures.later
+    c.in_err-write_all.ensures.cause
 
-pub returns-in_default-clause-rows : goal.returns-in_default-clause-rows
-returns-in_default-clause-rows g c = c.reply_to.ensures.rows ∙ c.lines.invariant.rows
+pub returns-in_err-write_all-clause-faithful : goal.returns-in_err-write_all-clause-faithful
+returns-in_err-write_all-clause-faithful g c =
+    c.reply_to.ensures.faithful
 
--- ---- the first line
-
-pub lines-init : goal.lines-init
-lines-init g c = record {
-  law = (record {
-    some = c.each_line_has_one_outcome.ensures.some (rows_of c.args.policy.now);
-    one = c.each_line_has_one_outcome.ensures.one (rows_of c.args.policy.now);
-    stays = c.each_line_has_one_outcome.ensures.stays (rows_of c.args.policy.now);
-    tells = c.each_line_has_one_outcome.ensures.tells;
-    tells_one = c.each_line_has_one_outcome.ensures.tells_one;
-  });
-  held = holds (rows_of c.args.policy.now) (g.S.Source.left c.args.input.now) (g.K.Sink.written c.args.output.now)
-      (g.D.Shelf.world c.args.shelf.now) c.args.lines.now c.args.machine.now c.args.out.now.items c.requires.unread
-      c.requires.engine c.requires.cursors c.requires.watches c.requires.nothing;
-  no_fault = no_fault c.args.lines.now c.requires.unread;
-  took = took_nothing (g.S.Source.left c.args.input.now) c.args.lines.now c.requires.unread;
-  within = within c.args.lines.now c.requires.unread;
-  source = omega arith;
-  sink = omega arith;
-  changes = counted c.args.lines.now c.args.machine.now.engine c.requires.unread c.requires.engine;
-  turns = turned c.args.lines.now c.args.machine.now.engine c.requires.unread c.requires.engine;
-  judged = judged (rows_of c.args.policy.now) c.args.machine.now.engine c.requires.engine;
-  rows = refl;
-  faithful = c.requires.faithful;
-  asked = asks_nothing (rows_of c.args.policy.now) c.args.policy.now (g.D.Shelf.world c.args.shelf.now)
-      (g.S.Source.left c.args.input.now) (g.K.Sink.written c.args.output.now)
-      c.args.lines.now c.args.machine.now c.requires.unread c.requires.engine c.requires.cursors c.requires.watches;
-}
-
--- ---- how often the policy was asked
-
-pub returns-in_err-flush-clause-asked : goal.returns-in_err-flush-clause-asked
-returns-in_err-flush-clause-asked g c =
-    asks_between (rows_of c.args.policy.now) c.args.policy.now (g.D.Shelf.world c.args.shelf.now)
-    (status_at c.from_residual.result) (g.S.Source.left c.args.input.now) (g.K.Sink.written c.args.output.now)
-    c.lines.lines.held c.lines.lines.taken (g.S.Source.left c.lines.input) (g.D.Shelf.world c.lines.shelf)
-    (kept c.lines.machine) c.lines.policy (g.S.Source.left c.lines.input)
-    (inl (ap status_at (stopped c.from_residual.result Write c.from_residual.ensures.1))) c.lines.invariant.asked
-
-pub returns-in-Ok-End-clause-asked : goal.returns-in-Ok-End-clause-asked
-returns-in-Ok-End-clause-asked g c =
-    asks_end (rows_of c.args.policy.now) c.args.policy.now (g.D.Shelf.world c.args.shelf.now)
-    (g.S.Source.left c.args.input.now) (g.K.Sink.written c.args.output.now) c.lines.lines
-    (g.S.Source.left c.lines.input) (g.D.Shelf.world c.lines.shelf) (kept c.lines.machine) c.lines.policy
-    c.next.new.self (g.S.Source.left c.next.new.from)
-    c.lines.invariant.asked (rw c.in-Ok-End.field-0-is at c.in-Ok-End.ensures.ok)
-
-pub returns-in-Err-ReadFault-clause-asked : goal.returns-in-Err-ReadFault-clause-asked
-returns-in-Err-ReadFault-clause-asked g c =
-    asks_stop (rows_of c.args.policy.now) c.args.policy.now (g.D.Shelf.world c.args.shelf.now) 3
-    (g.S.Source.left c.args.input.now) (g.K.Sink.written c.args.output.now) c.lines.lines.held c.lines.lines.taken
-    (g.S.Source.left c.lines.input) (g.D.Shelf.world c.lines.shelf) (kept c.lines.machine) c.lines.policy
-    (g.S.Source.left c.next.new.from) c.next.new.self.taken
-    (inl refl) c.lines.invariant.asked (c.in-Err-ReadFault.ensures.stops c.lines.invariant.no_fault)
-
-pub returns-in-Err-TooMuch-clause-asked : goal.returns-in-Err-TooMuch-clause-asked
-returns-in-Err-TooMuch-clause-asked g c =
-    asks_stop (rows_of c.args.policy.now) c.args.policy.now (g.D.Shelf.world c.args.shelf.now) 6
-    (g.S.Source.left c.args.input.now) (g.K.Sink.written c.args.output.now) c.lines.lines.held c.lines.lines.taken
-    (g.S.Source.left c.lines.input) (g.D.Shelf.world c.lines.shelf) (kept c.lines.machine) c.lines.policy
-    (g.S.Source.left c.next.new.from) c.next.new.self.taken
-    (inr refl) c.lines.invariant.asked (c.in-Err-TooMuch.ensures.stops c.lines.invariant.no_fault)
+pub returns-in_err-write_all-clause-rows : goal.returns-in_err-write_all-clause-rows
+returns-in_err-write_all-clause-rows g c =
+    c.reply_to.ensures.rows ∙ c.lines.invariant.rows
 
 pub returns-in_err-write_all-clause-asked : goal.returns-in_err-write_all-clause-asked
 returns-in_err-write_all-clause-asked g c =
@@ -759,6 +485,66 @@ returns-in_err-write_all-clause-asked g c =
     (subst (λ (x : List ℕ). MayAsk (command_by c.in-Ok.line x) c.lines.policy c.reply_to.new.policy) c.text.ensures
     c.in_default.ensures.may_ask)
 
+-- ---- out of memory at a line
+
+pub returns-in_default-clause-does : goal.returns-in_default-clause-does
+returns-in_default-clause-does g c =
+    let some : c.in-Ok.line ≢ End = search rules in
+    let m : MayPut (kept c.lines.machine).state (use_by c.in-Ok.line c.next.new.self.text)
+    (g.D.Shelf.world c.lines.shelf) (g.D.Shelf.world c.reply_to.new.shelf) =
+    subst (λ (x : List ℕ). MayPut (kept c.lines.machine).state (use_by c.in-Ok.line x) (g.D.Shelf.world c.lines.shelf)
+    (g.D.Shelf.world c.reply_to.new.shelf)) c.text.ensures c.in_default.ensures.entries in
+    let first = Held-first (rows_of c.args.policy.now) (g.S.Source.left c.args.input.now) (g.K.Sink.written
+    c.args.output.now)
+    (g.D.Shelf.world c.args.shelf.now) c.lines.lines (g.S.Source.left c.lines.input)
+    (g.K.Sink.written c.flush.new.output) c.flush.new.out.items (g.D.Shelf.world c.lines.shelf) (kept c.lines.machine)
+    (g.K.Sink.written c.write_all.new.to) c.next.new.self (g.S.Source.left c.next.new.from)
+    (g.D.Shelf.world c.reply_to.new.shelf) c.in-Ok.line
+    (flushed g (goal.at.returns-in_default-clause-does g c).After-next)
+    (subst (λ (x : List ℕ). Becomes (g.K.Sink.written c.flush.new.output)
+    (λ old. old ++ x) (g.K.Sink.written c.write_all.new.to)) (c.deref.ensures.value ∙ c.in_default.ensures.kept)
+    c.in_ok-write_all.ensures.ok)
+    c.in-Ok.ensures.ok some m c.in-Ok.ensures.near in
+    does_memory (rows_of c.args.policy.now) _ _ _ _ refl
+    (Begun-here (rows_of c.args.policy.now) c.lines.invariant.law (g.S.Source.left c.args.input.now)
+    (g.K.Sink.written c.args.output.now) (g.D.Shelf.world c.args.shelf.now) c.lines.lines.held c.lines.lines.taken
+    (g.S.Source.left c.lines.input) (g.K.Sink.written c.write_all.new.to) (g.D.Shelf.world c.lines.shelf)
+    (kept c.lines.machine)
+    (Held-written (rows_of c.args.policy.now) (g.S.Source.left c.args.input.now) (g.K.Sink.written c.args.output.now)
+    (g.D.Shelf.world c.args.shelf.now) c.lines.lines.held c.lines.lines.taken (g.S.Source.left c.lines.input)
+    (g.K.Sink.written c.flush.new.output) c.flush.new.out.items (g.D.Shelf.world c.lines.shelf) (kept c.lines.machine)
+    (g.K.Sink.written c.write_all.new.to)
+    (flushed g (goal.at.returns-in_default-clause-does g c).After-next)
+    (subst (λ (x : List ℕ). Becomes (g.K.Sink.written c.flush.new.output)
+    (λ old. old ++ x) (g.K.Sink.written c.write_all.new.to)) (c.deref.ensures.value ∙ c.in_default.ensures.kept)
+    c.in_ok-write_all.ensures.ok)))
+    (First-reached (rows_of c.args.policy.now) (g.S.Source.left c.args.input.now) (g.K.Sink.written c.args.output.now)
+    (g.D.Shelf.world c.args.shelf.now) (g.S.Source.left c.next.new.from) (g.K.Sink.written c.write_all.new.to)
+    (g.D.Shelf.world c.reply_to.new.shelf) first)
+    first
+
+pub returns-in_default-clause-takes : goal.returns-in_default-clause-takes
+returns-in_default-clause-takes g c =
+    takes_some _ _ Memory refl tt
+    (takes_more (g.S.Source.left c.args.input.now) (g.S.Source.left c.lines.input) (g.S.Source.left c.next.new.from)
+    c.lines.lines.taken c.next.new.self.taken c.lines.invariant.took c.next.ensures.took c.next.ensures.within)
+
+pub returns-in_default-clause-source : goal.returns-in_default-clause-source
+returns-in_default-clause-source g c e =
+    absurd (never _ Memory Read refl tt e)
+
+pub returns-in_default-clause-sink : goal.returns-in_default-clause-sink
+returns-in_default-clause-sink g c e =
+    absurd (never _ Memory Write refl tt e)
+
+pub returns-in_default-clause-faithful : goal.returns-in_default-clause-faithful
+returns-in_default-clause-faithful g c =
+    c.reply_to.ensures.faithful
+
+pub returns-in_default-clause-rows : goal.returns-in_default-clause-rows
+returns-in_default-clause-rows g c =
+    c.reply_to.ensures.rows ∙ c.lines.invariant.rows
+
 pub returns-in_default-clause-asked : goal.returns-in_default-clause-asked
 returns-in_default-clause-asked g c =
     let some : c.in-Ok.line ≢ End = search rules in
@@ -769,3 +555,34 @@ returns-in_default-clause-asked g c =
     (inr refl) c.lines.invariant.asked c.in-Ok.ensures.ok some
     (subst (λ (x : List ℕ). MayAsk (command_by c.in-Ok.line x) c.lines.policy c.reply_to.new.policy) c.text.ensures
     c.in_default.ensures.may_ask)
+
+-- ---- the first line
+
+pub lines-init : goal.lines-init
+lines-init g c = record {
+  law = (record {
+    some = c.each_line_has_one_outcome.ensures.some (rows_of c.args.policy.now);
+    one = c.each_line_has_one_outcome.ensures.one (rows_of c.args.policy.now);
+    stays = c.each_line_has_one_outcome.ensures.stays (rows_of c.args.policy.now);
+    tells = c.each_line_has_one_outcome.ensures.tells;
+    tells_one = c.each_line_has_one_outcome.ensures.tells_one;
+  });
+  held = holds (rows_of c.args.policy.now) (g.S.Source.left c.args.input.now) (g.K.Sink.written c.args.output.now)
+      (g.D.Shelf.world c.args.shelf.now) c.args.lines.now c.args.machine.now c.args.out.now.items
+      c.requires.unread
+      c.requires.engine c.requires.cursors c.requires.watches c.requires.nothing;
+  no_fault = no_fault c.args.lines.now c.requires.unread;
+  took = took_nothing (g.S.Source.left c.args.input.now) c.args.lines.now c.requires.unread;
+  within = within c.args.lines.now c.requires.unread;
+  source = omega arith;
+  sink = omega arith;
+  changes = counted c.args.lines.now c.args.machine.now.engine c.requires.unread c.requires.engine;
+  turns = turned c.args.lines.now c.args.machine.now.engine c.requires.unread c.requires.engine;
+  judged = judged (rows_of c.args.policy.now) c.args.machine.now.engine c.requires.engine;
+  rows = refl;
+  faithful = c.requires.faithful;
+  asked = asks_nothing (rows_of c.args.policy.now) c.args.policy.now (g.D.Shelf.world c.args.shelf.now)
+      (g.S.Source.left c.args.input.now) (g.K.Sink.written c.args.output.now)
+      c.args.lines.now c.args.machine.now c.requires.unread c.requires.engine
+      c.requires.cursors c.requires.watches;
+}

@@ -10,9 +10,9 @@ use Rattle.wot_step.specs.Session.{Session}
 use Rattle.wot_cache.specs.State.{state_of}
 use Rattle.wot_step.proofs.Results.{any_err}
 use Rattle.wot_command.proofs.DirectoryAfterFailure.{served_puts}
-use Rattle.wot_engine.specs.Asking.{command_by, done}
+use Rattle.wot_engine.specs.RunAsks.{command_by, done}
 use Rattle.wot_engine.specs.Turn.{RepliesBehind, SaidBehind, use_by}
-use Rattle.wot_engine.proofs.Asking.{asks_behind, asks_done, may_ask}
+use Rattle.wot_engine.proofs.HasAsked.{asks_behind, asks_done, may_ask}
 use Rattle.wot_engine.proofs.Progress.{joined}
 use Rattle.wot_engine.proofs.run.reply_to.Goals as goal
 

@@ -17,7 +17,7 @@ use Rattle.wot_step.proofs.Results.{any_err}
 use Rattle.wot_command.proofs.DirectoryAfterFailure.{puts_still}
 use Rattle.wot_step.proofs.StepsByKind.{one_reply, too_long}
 use Rattle.wot_engine.specs.Turn.{SaidBehind, use_by}
-use Rattle.wot_engine.proofs.Asking.{looked_at, passed_over}
+use Rattle.wot_engine.proofs.HasAsked.{looked_at, passed_over}
 use Rattle.wot_engine.proofs.run.say.Goals as goal
 
 -- the refusal of a line that is too long, unless memory runs out

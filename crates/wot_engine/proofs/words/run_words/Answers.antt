@@ -3,12 +3,13 @@ use Rattle.std.specs.String.{string_bytes}
 use Rattle.wot_policy.specs.Kept.{rows_of}
 use Rattle.wot_io.specs.Counts.{Rose}
 use Rattle.wot_engine.specs.Forms.{IsForm}
-use Rattle.wot_engine.proofs.Ending.{any_status, generated_begun, generated_complete, generated_ends, generated_whole}
-use Rattle.wot_engine.proofs.Ending.{is_done, is_memory, is_much, is_read, is_write, much_or_memory, never_much}
-use Rattle.wot_engine.proofs.Ending.{never_read, not_two, run_complete}
+use Rattle.wot_engine.proofs.Contents.{weaker}
+use Rattle.wot_engine.proofs.Statuses.{any_status, generated_begun, generated_complete, generated_ends, generated_whole}
+use Rattle.wot_engine.proofs.Statuses.{is_done, is_memory, is_much, is_read, is_write, much_or_memory, never_much}
+use Rattle.wot_engine.proofs.Statuses.{never_read, not_two, run_complete}
 use Rattle.wot_engine.proofs.Forms.{one_form, script_bounds}
-use Rattle.wot_engine.proofs.Taking.{takes_nothing}
-use Rattle.wot_engine.proofs.Turns.{AllTold-weaker, Most-untouched}
+use Rattle.wot_engine.proofs.TakesAtMost.{takes_nothing}
+use Rattle.wot_engine.proofs.Turns.{Most-untouched}
 use Rattle.wot_engine.proofs.words.run_words.Goals as goal
 
 -- ---- wrong arguments
@@ -48,9 +49,9 @@ returns-in-None-clause-complete g c calm = absurd (c.in-None.ensures.form calm.0
 
 pub returns-in-None-clause-most_only : goal.returns-in-None-clause-most_only
 returns-in-None-clause-most_only g c =
-    AllTold-weaker (rows_of c.args.policy.now) (g.S.Source.left c.args.input.now) (g.K.Sink.written c.args.output.now)
+    weaker (g.S.Source.left c.args.input.now) (g.K.Sink.written c.args.output.now)
     (g.D.Shelf.world c.args.shelf.now) _ _
-    (λ input before world no most. absurd (no most))
+    (λ contents no most. absurd (no most))
     (Most-untouched (rows_of c.args.policy.now) (g.S.Source.left c.args.input.now) (g.K.Sink.written c.args.output.now)
     (g.D.Shelf.world c.args.shelf.now) (g.K.Sink.written c.args.output.now))
 
@@ -58,47 +59,50 @@ returns-in-None-clause-most_only g c =
 
 pub returns-in-Some-Run-clause-whole : goal.returns-in-Some-Run-clause-whole
 returns-in-Some-Run-clause-whole g c done = is_done c.run.result _ (sym c.status_of.ensures ∙ done.1)
-    c.run.ensures.whole
+    c.run.ensures.does.whole
 
 pub returns-in-Some-Run-clause-shelf : goal.returns-in-Some-Run-clause-shelf
 returns-in-Some-Run-clause-shelf g c done = is_done c.run.result _ (sym c.status_of.ensures ∙ done.1)
-    c.run.ensures.shelf
+    c.run.ensures.does.moved
 
 pub returns-in-Some-Run-clause-prefix : goal.returns-in-Some-Run-clause-prefix
-returns-in-Some-Run-clause-prefix g c form = c.run.ensures.prefix
+returns-in-Some-Run-clause-prefix g c form = c.run.ensures.does.prefix
 
 pub returns-in-Some-Run-clause-reached : goal.returns-in-Some-Run-clause-reached
-returns-in-Some-Run-clause-reached g c form = c.run.ensures.reached
+returns-in-Some-Run-clause-reached g c form = c.run.ensures.does.reached
 
 pub returns-in-Some-Run-clause-ended : goal.returns-in-Some-Run-clause-ended
 returns-in-Some-Run-clause-ended g c done = is_done c.run.result _ (sym c.status_of.ensures ∙ done.1)
-    c.run.ensures.ended
+    c.run.ensures.takes.ended
 
 pub returns-in-Some-Run-clause-took : goal.returns-in-Some-Run-clause-took
-returns-in-Some-Run-clause-took g c e = c.run.ensures.took (is_much c.run.result (sym c.status_of.ensures ∙ e))
+returns-in-Some-Run-clause-took g c e = c.run.ensures.takes.took (is_much c.run.result (sym c.status_of.ensures ∙ e))
+
+pub returns-in-Some-Run-clause-at_most : goal.returns-in-Some-Run-clause-at_most
+returns-in-Some-Run-clause-at_most g c = c.run.ensures.takes.at_most
 
 pub returns-in-Some-Run-clause-first : goal.returns-in-Some-Run-clause-first
-returns-in-Some-Run-clause-first g c done = c.run.ensures.first
+returns-in-Some-Run-clause-first g c done = c.run.ensures.does.first
     (is_memory c.run.result (sym c.status_of.ensures ∙ done.1))
 
 pub returns-in-Some-Run-clause-source : goal.returns-in-Some-Run-clause-source
 returns-in-Some-Run-clause-source g c e = c.run.ensures.source (is_read c.run.result (sym c.status_of.ensures ∙ e))
 
 pub returns-in-Some-Run-clause-taken : goal.returns-in-Some-Run-clause-taken
-returns-in-Some-Run-clause-taken g c e = c.run.ensures.taken (is_read c.run.result (sym c.status_of.ensures ∙ e))
+returns-in-Some-Run-clause-taken g c e = c.run.ensures.does.taken (is_read c.run.result (sym c.status_of.ensures ∙ e))
 
 pub returns-in-Some-Run-clause-sink : goal.returns-in-Some-Run-clause-sink
 returns-in-Some-Run-clause-sink g c e = c.run.ensures.sink (is_write c.run.result (sym c.status_of.ensures ∙ e))
 
 pub returns-in-Some-Run-clause-most : goal.returns-in-Some-Run-clause-most
-returns-in-Some-Run-clause-most g c e = c.run.ensures.most (is_much c.run.result (sym c.status_of.ensures ∙ e))
+returns-in-Some-Run-clause-most g c e = c.run.ensures.does.most (is_much c.run.result (sym c.status_of.ensures ∙ e))
 
 pub returns-in-Some-Run-clause-most_only : goal.returns-in-Some-Run-clause-most_only
 returns-in-Some-Run-clause-most_only g c =
-    AllTold-weaker (rows_of c.args.policy.now) (g.S.Source.left c.args.input.now) (g.K.Sink.written c.args.output.now)
+    weaker (g.S.Source.left c.args.input.now) (g.K.Sink.written c.args.output.now)
     (g.D.Shelf.world c.args.shelf.now) _ _
-    (λ input before world t most. much_or_memory c.run.result c.status_of.result c.status_of.ensures (t most))
-    c.run.ensures.most_only
+    (λ contents t most. much_or_memory c.run.result c.status_of.result c.status_of.ensures (t most))
+    c.run.ensures.does.most_only
 
 pub returns-in-Some-Run-clause-complete : goal.returns-in-Some-Run-clause-complete
 returns-in-Some-Run-clause-complete g c =
@@ -106,7 +110,7 @@ returns-in-Some-Run-clause-complete g c =
     (IsForm (map string_bytes c.args.words.now))
     (Rose (g.S.Source.faults c.args.input.now) (g.S.Source.faults c.run.new.input))
     (Rose (g.K.Sink.faults c.args.output.now) (g.K.Sink.faults c.run.new.output))
-    c.status_of.ensures c.run.ensures.source c.run.ensures.sink c.run.ensures.much
+    c.status_of.ensures c.run.ensures.source c.run.ensures.sink c.run.ensures.takes.much
 
 pub returns-in-Some-Run-clause-statuses : goal.returns-in-Some-Run-clause-statuses
 returns-in-Some-Run-clause-statuses g c = any_status c.run.result c.status_of.result c.status_of.ensures
@@ -217,9 +221,9 @@ returns-in-Some-Generate-clause-most g c e =
 
 pub returns-in-Some-Generate-clause-most_only : goal.returns-in-Some-Generate-clause-most_only
 returns-in-Some-Generate-clause-most_only g c =
-    AllTold-weaker (rows_of c.args.policy.now) (g.S.Source.left c.args.input.now) (g.K.Sink.written c.args.output.now)
+    weaker (g.S.Source.left c.args.input.now) (g.K.Sink.written c.args.output.now)
     (g.D.Shelf.world c.args.shelf.now) _ _
-    (λ input before world no most. absurd (no most))
+    (λ contents no most. absurd (no most))
     (Most-untouched (rows_of c.args.policy.now) (g.S.Source.left c.args.input.now) (g.K.Sink.written c.args.output.now)
     (g.D.Shelf.world c.args.shelf.now) (g.K.Sink.written c.generate.new.output))
 

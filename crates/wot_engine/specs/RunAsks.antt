@@ -14,9 +14,10 @@ use Rattle.wot_command.specs.Asked.{LineAsks}
 use Rattle.wot_step.specs.Both.{Ends}
 use Rattle.wot_step.specs.Lines.{heard}
 use Rattle.wot_step.specs.Scene.{Scene, Step, opening}
-use Rattle.wot_step.specs.Transcript.{IsTaken}
+use Rattle.wot_engine.specs.Source.{IsTaken}
 use Rattle.wot_step.specs.Session.{Session}
-use Rattle.wot_engine.specs.Told.{IsEither, Octets, OnContents}
+use Rattle.wot_engine.specs.Ends.{IsEither}
+use Rattle.wot_engine.specs.Contents.{Octets, OnContents, Contents, Worlds}
 
 -- ---- lines that were answered
 
@@ -81,32 +82,32 @@ ReadAsks result line text machine policy =
 
 -- ---- runs
 
--- The first of these lines, up to some line, asked the policy. The next one may have asked it before memory ran out.
-pub record AsksFirst {F : Type 0} (rows : PolicyRows) (world : World) (lines : List (List ℕ)) (before after : Policy F)
-    : Type 0 where
+-- The first lines of the input, up to some line, asked the policy. The next one may have asked it before memory ran
+-- out.
+pub record AsksFirst {F : Type 0} (rows : PolicyRows) (contents : Contents) (before after : Policy F) : Type 0 where
   pub count : ℕ
   pub between : Policy F
-  pub asked : AsksFor rows world (take count lines) before between
-  pub next : MayAskNext (drop count lines) between after
+  pub asked : AsksFor rows contents.world (take count (lines_of contents.input)) before between
+  pub next : MayAskNext (drop count (lines_of contents.input)) between after
 
 -- All whole lines of the octets that were taken asked the policy. If nothing is left, a last line without a line feed
 -- may count as whole.
-pub record AsksTaken {F : Type 0} (rows : PolicyRows) (world : World) (input : List ℕ) (left : Option (List ℕ))
+pub record AsksTaken {F : Type 0} (rows : PolicyRows) (contents : Contents) (left : Option (List ℕ))
     (before after : Policy F) : Type 0 where
   pub octets : List ℕ
-  pub taken : IsTaken input octets left
-  pub asked : AsksFor rows world (whole_lines_of octets) before after
-      ⊎ ((taken.rest ≡ []) × AsksFor rows world (lines_of octets) before after)
+  pub taken : IsTaken contents.input octets left
+  pub asked : AsksFor rows contents.world (whole_lines_of octets) before after
+      ⊎ ((taken.rest ≡ []) × AsksFor rows contents.world (lines_of octets) before after)
 
 -- With status 0 all lines of the input asked the policy, with 3 and 6 all whole lines that were taken, and with any
 -- status some first lines.
-pub record AsksBy {F : Type 0} (status : ℕ) (rows : PolicyRows) (world : World) (input : List ℕ)
-    (left : Option (List ℕ)) (before after : Policy F) : Type 0 where
-  pub all : status ≡ 0 → AsksFor rows world (lines_of input) before after
-  pub taken : IsEither 3 6 status → AsksTaken rows world input left before after
-  pub first : AsksFirst rows world (lines_of input) before after
+pub record AsksBy {F : Type 0} (status : ℕ) (rows : PolicyRows) (contents : Contents) (left : Option (List ℕ))
+    (before after : Policy F) : Type 0 where
+  pub all : status ≡ 0 → AsksFor rows contents.world (lines_of contents.input) before after
+  pub taken : IsEither 3 6 status → AsksTaken rows contents left before after
+  pub first : AsksFirst rows contents before after
 
--- This holds if the contents of input, output and directory are known.
-abbrev pub RunAsks : {F : Type 0} → ℕ → Octets → Octets → Ends (Option World) → Ends (Policy F) → Type 0
-RunAsks status input output shelf policy = OnContents input output shelf (λ octets before world.
-    AsksBy status (rows_of policy.old) world octets input.new policy.old policy.new)
+-- This holds if the contents of source, sink and directory are known.
+abbrev pub RunAsks : {F : Type 0} → ℕ → Octets → Octets → Worlds → Ends (Policy F) → Type 0
+RunAsks status input output shelf policy = OnContents input.old output.old shelf.old (λ contents.
+    AsksBy status (rows_of policy.old) contents input.new policy.old policy.new)

@@ -3,13 +3,12 @@ use Rattle.std.proofs.Common.{◌≡◌, ◌⊎◌, inl, inr, ℕ, List, Option,
 use Rattle.std.proofs.Common.{subst, ◌∙◌, rules, arith}
 use Rattle.std.specs.Prelude.{IfErr, IfSome, IsErrOf}
 use Rattle.wot_policy.specs.declared.rows.PolicyRows.{PolicyRows}
-use Rattle.wot_step.specs.Transcript.{HasMost}
 use Rattle.wot_engine.specs.declared.run.Stop.{Stop}
 use Rattle.wot_engine.specs.declared.run.Stop.TheVariants.{Read, Write, Memory, TooMuch}
-use Rattle.wot_engine.specs.Ends.{status_at}
+use Rattle.wot_engine.specs.Ends.{IsEither, status_at}
 use Rattle.wot_engine.specs.Forms.{IsGenerated, OnGenerated}
 use Rattle.wot_engine.specs.Generated.{SummaryBegun, Summarized}
-use Rattle.wot_engine.specs.Told.{IsEither, ReadsFew}
+use Rattle.wot_engine.specs.Source.{HasMost, ReadsFew}
 use Rattle.wot_engine.proofs.Forms.{one_script}
 
 reads_any : (left : Option (List ℕ)) (status : ℕ) → IsEither 0 5 status → ReadsFew left status

@@ -7,9 +7,8 @@ use Rattle.wot_io.specs.ReaderState.{ReaderState}
 use Rattle.wot_io.specs.Filled.{IsAtEnd}
 use Rattle.wot_io.specs.Given as given
 use Rattle.wot_io.specs.declared.lines.Line.TheVariants.{End}
-use Rattle.wot_step.specs.Transcript.{HasMost, TakesAtMost}
-use Rattle.wot_engine.specs.Ended.{TakesMost}
-use Rattle.wot_engine.proofs.Replying.{fresh}
+use Rattle.wot_engine.specs.Source.{HasMost, TakesAtMost, TakesMost}
+use Rattle.wot_engine.proofs.Fresh.{fresh}
 
 loses_nothing : (left : Option (List ℕ)) → Loses left left []
 loses_nothing None = tt

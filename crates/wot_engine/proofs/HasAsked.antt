@@ -22,17 +22,21 @@ use Rattle.wot_command.specs.Asked.{LineAsks}
 use Rattle.wot_step.specs.Lines.{heard}
 use Rattle.wot_machine.specs.Machine.{Machine, kept}
 use Rattle.wot_step.specs.Scene.{Scene, opening}
-use Rattle.wot_step.specs.Transcript.{AllTold, octets_of}
+use Rattle.wot_step.specs.Transcript.{octets_of}
 use Rattle.wot_step.specs.Watching.{ReportsWatches}
 use Rattle.wot_step.specs.Session.{Session, beginning, watched, session_of}
-use Rattle.wot_step.proofs.DirectoryGives.{all_told, all_weaker, over}
+use Rattle.wot_step.proofs.DirectoryGives.{over}
 use Rattle.wot_command.proofs.PolicyAskedByLine.{asks_as}
 use Rattle.wot_step.proofs.StepsByKind.{heard_long}
-use Rattle.wot_engine.specs.Asking.{AsksBy, AsksFirst, AsksFor, AsksInTurn, AsksOnce, MayAsk}
-use Rattle.wot_engine.specs.Asking.{MayAskNext, command_by, done, failed}
-use Rattle.wot_engine.specs.Told.{IsEither}
-use Rattle.wot_engine.specs.Turn.{Replies, unread}
-use Rattle.wot_engine.proofs.Progress.{Stands, begins, comes_next, done_all, has_taken, starts_first, take-prefix}
+use Rattle.wot_engine.specs.RunAsks.{AsksBy, AsksFirst, AsksFor, AsksInTurn, AsksOnce, MayAsk, MayAskNext, command_by}
+use Rattle.wot_engine.specs.RunAsks.{done, failed}
+use Rattle.wot_engine.specs.Ends.{IsEither}
+use Rattle.wot_engine.specs.Turn.{Replies}
+use Rattle.wot_engine.proofs.Progress.{Stands, begins, comes_next, starts_first, take-prefix}
+use Rattle.wot_engine.proofs.Reached.{done_all, has_taken}
+use Rattle.wot_engine.specs.Contents.{Contents, OnContents}
+use Rattle.wot_engine.proofs.Contents.{is_now, uncalled}
+use Rattle.wot_engine.proofs.Fresh.{fresh}
 use Rattle.wot_engine.proofs.Turns.{turned, wrote}
 
 -- ---- one line
@@ -95,30 +99,32 @@ module _ {F : Type 0} where
 
 module _ {F : Type 0} (rows : PolicyRows) (start : Policy F) (origin : Option World) where
   -- the policy was asked for the lines that were read
-  pub record IsAsked (world : World) (input held : List ℕ) (taken : ℕ) (left : Option (List ℕ)) (shelf : Option World)
+  pub record IsAsked (contents : Contents) (held : List ℕ) (taken : ℕ) (left : Option (List ℕ)) (shelf : Option World)
       (state : Session) (policy : Policy F) : Type 0 where
     pub written : Option (List ℕ)
-    pub stands : Stands rows origin world input [] held taken left written shelf state
-    pub asked : AsksInTurn rows stands.done (opening world) start (over state stands.now) policy
+    pub stands : Stands rows origin contents held taken left written shelf state
+    pub asked : AsksInTurn rows stands.done (opening contents.world) start (over state stands.now) policy
 
   abbrev pub HasAsked : Option (List ℕ) → Option (List ℕ) → List ℕ → ℕ → Option (List ℕ) → Option World → Session →
       Policy F → Type 0
   HasAsked left0 written0 held taken left shelf state policy =
-      AllTold left0 written0 origin (λ input before world. IsAsked world input held taken left shelf state policy)
+      OnContents left0 written0 origin (λ contents. IsAsked contents held taken left shelf state policy)
 
   pub HasAsked-init : (left written : Option (List ℕ)) → HasAsked left written [] 0 left origin beginning start
-  HasAsked-init left written =
-      all_told left written origin _ (λ input before world e f is.
-      let s = starts_first rows origin world input [] left (Some []) origin e refl is in
-      let none : AsksInTurn rows [] (opening world) start (over beginning world) start = (refl, refl) in
+  HasAsked-init left written contents known =
+      let s = starts_first rows origin contents left (Some contents.written) origin known.source_is refl (is_now origin
+      contents known.shelf_is) in
+      let none : AsksInTurn rows [] (opening contents.world) start (over beginning contents.world) start = (refl, refl)
+      in
       record {
-        written = Some [];
+        written = Some contents.written;
         stands = s.0;
-        asked = subst (λ (w : World). AsksInTurn rows s.0.done (opening world) start (over beginning w) start)
+        asked = subst (λ (w : World). AsksInTurn rows s.0.done (opening contents.world) start (over beginning w) start)
             (sym s.2)
-            (subst (λ (ls : List (List ℕ)). AsksInTurn rows ls (opening world) start (over beginning world) start)
+            (subst (λ (ls : List (List ℕ)). AsksInTurn rows ls (opening contents.world) start (over beginning
+            contents.world) start)
             (sym s.1) none);
-      })
+      }
 
   -- a line was read and answered
   pub HasAsked-line : (left0 written0 : Option (List ℕ)) (old : ReaderState) (left : Option (List ℕ))
@@ -128,12 +134,14 @@ module _ {F : Type 0} (rows : PolicyRows) (start : Policy F) (origin : Option Wo
       given.ReturnsNext line old left new left' → Replies rows line new.text state shelf octets state' shelf'
       → LineAsks done (command_by line new.text) state.state state'.state policy policy' →
       HasAsked left0 written0 new.held new.taken left' shelf' state' policy'
-  HasAsked-line left0 written0 old left shelf state policy new left' shelf' state' policy' line octets h g r asks =
-      all_weaker left0 written0 origin _ _ (λ input before world uncalled a.
-      let t = turned rows origin world input [] old left a.written shelf state new left' shelf' state' line octets
-      uncalled a.stands g r in
-      let on = wrote rows origin world input [] old.held old.taken left a.written shelf state (command_by line new.text)
-      new.held new.taken left' octets shelf' state' (Some (octets_of a.stands.replies ++ octets)) a.stands t refl in
+  HasAsked-line left0 written0 old left shelf state policy new left' shelf' state' policy' line octets there g r asks
+      contents known =
+      let a = there contents known in
+      let t = turned rows origin contents old left a.written shelf state new left' shelf' state' line octets
+      (uncalled origin contents known.shelf_is) a.stands g r in
+      let on = wrote rows origin contents old.held old.taken left a.written shelf state (command_by line new.text)
+      new.held new.taken left' octets shelf' state' (Some ((contents.written ++ octets_of a.stands.replies) ++ octets))
+      a.stands t refl in
       let once : AsksOnce rows t.line (over state a.stands.now) policy (over state' t.next) policy' = record {
         reply = t.reply;
         told = t.told;
@@ -141,37 +149,39 @@ module _ {F : Type 0} (rows : PolicyRows) (start : Policy F) (origin : Option Wo
         asked = subst (λ (c : Option Command). LineAsks done c state.state state'.state policy policy') (sym t.heard_is)
             asks;
       } in
-      let more = asks_more rows a.stands.done t.line (opening world) (over state a.stands.now) (over state' t.next)
+      let more = asks_more rows a.stands.done t.line (opening contents.world) (over state a.stands.now) (over state'
+      t.next)
       start policy policy' a.asked once in
       record {
-        written = Some (octets_of a.stands.replies ++ octets);
+        written = Some ((contents.written ++ octets_of a.stands.replies) ++ octets);
         stands = on.0;
-        asked = subst (λ (w : World). AsksInTurn rows on.0.done (opening world) start (over state' w) policy')
+        asked = subst (λ (w : World). AsksInTurn rows on.0.done (opening contents.world) start (over state' w) policy')
             (sym on.2)
-            (subst (λ (ls : List (List ℕ)). AsksInTurn rows ls (opening world) start (over state' t.next) policy')
+            (subst (λ (ls : List (List ℕ)). AsksInTurn rows ls (opening contents.world) start (over state' t.next)
+            policy')
             (sym on.1) more);
-      }) h
+      }
 
   -- ---- what was asked in all
 
-  all_of : (world : World) (input held : List ℕ) (taken : ℕ) (left : Option (List ℕ)) (shelf : Option World)
+  all_of : (contents : Contents) (held : List ℕ) (taken : ℕ) (left : Option (List ℕ)) (shelf : Option World)
       (state : Session) (policy : Policy F) (lines : List (List ℕ)) →
-      (a : IsAsked world input held taken left shelf state policy) → lines ≡ a.stands.done →
-      AsksFor rows world lines start policy
-  all_of world input held taken left shelf state policy lines a e =
+      (a : IsAsked contents held taken left shelf state policy) → lines ≡ a.stands.done →
+      AsksFor rows contents.world lines start policy
+  all_of contents held taken left shelf state policy lines a e =
       record { last = over state a.stands.now; in_turn = rw e a.asked }
 
-  first_of : (world : World) (input held : List ℕ) (taken : ℕ) (left : Option (List ℕ)) (shelf : Option World)
-      (state : Session) (policy after : Policy F) → (a : IsAsked world input held taken left shelf state policy) →
-      MayAskNext (drop (length a.stands.done) (lines_of input)) policy after →
-      AsksFirst rows world (lines_of input) start after
-  first_of world input held taken left shelf state policy after a next =
-      let m = begins rows origin world input [] held taken left a.written shelf state a.stands in
+  first_of : (contents : Contents) (held : List ℕ) (taken : ℕ) (left : Option (List ℕ)) (shelf : Option World)
+      (state : Session) (policy after : Policy F) → (a : IsAsked contents held taken left shelf state policy) →
+      MayAskNext (drop (length a.stands.done) (lines_of contents.input)) policy after →
+      AsksFirst rows contents start after
+  first_of contents held taken left shelf state policy after a next =
+      let m = begins rows origin contents held taken left a.written shelf state a.stands in
       record {
         count = length a.stands.done;
         between = policy;
-        asked = all_of world input held taken left shelf state policy _ a
-            (take-prefix rows origin world (lines_of input) a.stands.done m.0 m.1);
+        asked = all_of contents held taken left shelf state policy _ a
+            (take-prefix rows origin contents (lines_of contents.input) a.stands.done m.0 m.1);
         next = next;
       }
 
@@ -191,10 +201,10 @@ module _ {F : Type 0} (rows : PolicyRows) (start : Policy F) (origin : Option Wo
   not_zero status is zero =
       elim is [ inl e ↦ absurd (omega (arith, e, zero)) | inr e ↦ absurd (omega (arith, e, zero)) ]
 
-  first_alone : (status : ℕ) (world : World) (input : List ℕ) (left : Option (List ℕ)) (after : Policy F) →
-      IsEither 4 5 status → AsksFirst rows world (lines_of input) start after →
-      AsksBy status rows world input left start after
-  first_alone status world input left after is first = record {
+  first_alone : (status : ℕ) (contents : Contents) (left : Option (List ℕ)) (after : Policy F) →
+      IsEither 4 5 status → AsksFirst rows contents start after →
+      AsksBy status rows contents left start after
+  first_alone status contents left after is first = record {
     all = λ zero. absurd (not_zero status is zero);
     taken = λ some. absurd (neither status is some);
     first = first;
@@ -204,40 +214,42 @@ module _ {F : Type 0} (rows : PolicyRows) (start : Policy F) (origin : Option Wo
   pub asks_between : (status : ℕ) (left0 written0 : Option (List ℕ)) (held : List ℕ) (taken : ℕ)
       (left : Option (List ℕ)) (shelf : Option World) (state : Session) (policy : Policy F) (left' : Option (List ℕ))
       → IsEither 4 5 status → HasAsked left0 written0 held taken left shelf state policy
-      → AllTold left0 written0 origin (λ input before world. AsksBy status rows world input left' start policy)
-  asks_between status left0 written0 held taken left shelf state policy left' is h =
-      all_weaker left0 written0 origin _ _ (λ input before world uncalled a. first_alone status world input left' policy
-      is (first_of world input held taken left shelf state policy policy a (nothing_next _ policy))) h
+      → OnContents left0 written0 origin (λ contents. AsksBy status rows contents left' start policy)
+  asks_between status left0 written0 held taken left shelf state policy left' is there contents known =
+      let a = there contents known in
+      first_alone status contents left' policy
+      is (first_of contents held taken left shelf state policy policy a (nothing_next _ policy))
 
   -- the line that was read is the next one
-  next_is : (world : World) (input held : List ℕ) (taken : ℕ) (left : Option (List ℕ)) (shelf : Option World)
+  next_is : (contents : Contents) (held : List ℕ) (taken : ℕ) (left : Option (List ℕ)) (shelf : Option World)
       (state : Session) (policy after : Policy F) (held' : List ℕ) (taken' : ℕ) (left' : Option (List ℕ))
-      (line : List ℕ) (command : Option Command) → (a : IsAsked world input held taken left shelf state policy)
-      → TakesLineOf held a.stands.rest taken held' left' taken' line → heard line ≡ command → MayAsk command policy after
-      → MayAskNext (drop (length a.stands.done) (lines_of input)) policy after
-  next_is world input held taken left shelf state policy after held' taken' left' line command a g e may =
+      (line : List ℕ) (command : Option Command) → (a : IsAsked contents held taken left shelf state policy)
+      → TakesLineOf held a.stands.rest taken held' left' taken' line → heard line ≡ command → MayAsk command policy
+      after
+      → MayAskNext (drop (length a.stands.done) (lines_of contents.input)) policy after
+  next_is contents held taken left shelf state policy after held' taken' left' line command a g e may =
       let rest : List (List ℕ) = lines_of (held' ++ g.rest) in
-      let is : drop (length a.stands.done) (lines_of input) ≡ line ∷ rest =
-      ap (drop (length a.stands.done)) (comes_next rows origin world input [] held taken left a.written shelf state
+      let is : drop (length a.stands.done) (lines_of contents.input) ≡ line ∷ rest =
+      ap (drop (length a.stands.done)) (comes_next rows origin contents held taken left a.written shelf state
       held' taken' left' line a.stands g) ∙ drop-append_seam a.stands.done (line ∷ rest) in
       let there : MayAskNext (line ∷ rest) policy after =
       inr (subst (λ (c : Option Command). MayAsk c policy after) (sym e) may) in
       subst (λ (ls : List (List ℕ)). MayAskNext ls policy after) (sym is) there
 
-  next_of : (world : World) (input : List ℕ) (old : ReaderState) (left : Option (List ℕ)) (shelf : Option World)
+  next_of : (contents : Contents) (old : ReaderState) (left : Option (List ℕ)) (shelf : Option World)
       (state : Session) (policy after : Policy F) (new : ReaderState) (left' : Option (List ℕ)) (line : Line)
-      → (a : IsAsked world input old.held old.taken left shelf state policy) → given.ReturnsNext line old left new left'
+      → (a : IsAsked contents old.held old.taken left shelf state policy) → given.ReturnsNext line old left new left'
       → line ≢ End → MayAsk (command_by line new.text) policy after
-      → MayAskNext (drop (length a.stands.done) (lines_of input)) policy after
-  next_of world input old left shelf state policy after new left' Text a g some may =
+      → MayAskNext (drop (length a.stands.done) (lines_of contents.input)) policy after
+  next_of contents old left shelf state policy after new left' Text a g some may =
       let g' = rw a.stands.left_is at g in
-      next_is world input old.held old.taken left shelf state policy after new.held new.taken left' new.text
+      next_is contents old.held old.taken left shelf state policy after new.held new.taken left' new.text
       (heard new.text) a g'.0 refl may
-  next_of world input old left shelf state policy after new left' Long a g some may =
+  next_of contents old left shelf state policy after new left' Long a g some may =
       let g' = rw a.stands.left_is at g in
-      next_is world input old.held old.taken left shelf state policy after new.held new.taken left' g'.0 None a g'.2
+      next_is contents old.held old.taken left shelf state policy after new.held new.taken left' g'.0 None a g'.2
       (heard_long g'.0 g'.1) may
-  next_of world input old left shelf state policy after new left' End a g some may = absurd (some refl)
+  next_of contents old left shelf state policy after new left' End a g some may = absurd (some refl)
 
   -- memory ran out for the line that was read
   pub asks_cut : (status : ℕ) (left0 written0 : Option (List ℕ)) (old : ReaderState) (left : Option (List ℕ))
@@ -245,27 +257,28 @@ module _ {F : Type 0} (rows : PolicyRows) (start : Policy F) (origin : Option Wo
       (line : Line)
       → IsEither 4 5 status → HasAsked left0 written0 old.held old.taken left shelf state policy
       → given.ReturnsNext line old left new left' → line ≢ End → MayAsk (command_by line new.text) policy after
-      → AllTold left0 written0 origin (λ input before world. AsksBy status rows world input left' start after)
-  asks_cut status left0 written0 old left shelf state policy after new left' line is h g some may =
-      all_weaker left0 written0 origin _ _ (λ input before world uncalled a. first_alone status world input left' after
-      is (first_of world input old.held old.taken left shelf state policy after a
-      (next_of world input old left shelf state policy after new left' line a g some may))) h
+      → OnContents left0 written0 origin (λ contents. AsksBy status rows contents left' start after)
+  asks_cut status left0 written0 old left shelf state policy after new left' line is there g some may contents known =
+      let a = there contents known in
+      first_alone status contents left' after
+      is (first_of contents old.held old.taken left shelf state policy after a
+      (next_of contents old left shelf state policy after new left' line a g some may))
 
   -- at the end of the input
   pub asks_end : (left0 written0 : Option (List ℕ)) (old : ReaderState) (left : Option (List ℕ))
       (shelf : Option World) (state : Session) (policy : Policy F) (new : ReaderState) (left' : Option (List ℕ))
       → HasAsked left0 written0 old.held old.taken left shelf state policy → given.ReturnsNext End old left new left'
-      → AllTold left0 written0 origin (λ input before world. AsksBy 0 rows world input left' start policy)
-  asks_end left0 written0 old left shelf state policy new left' h g =
-      all_weaker left0 written0 origin _ _ (λ input before world uncalled a.
+      → OnContents left0 written0 origin (λ contents. AsksBy 0 rows contents left' start policy)
+  asks_end left0 written0 old left shelf state policy new left' there g contents known =
+      let a = there contents known in
       let g' = rw a.stands.left_is at g in
-      let whole = done_all rows origin world input [] old.held old.taken left a.written shelf state a.stands g'.0.0
+      let whole = done_all rows origin contents old.held old.taken left a.written shelf state a.stands g'.0.0
       g'.0.1 in
       record {
-        all = λ zero. all_of world input old.held old.taken left shelf state policy _ a whole;
+        all = λ zero. all_of contents old.held old.taken left shelf state policy _ a whole;
         taken = λ some. absurd (elim some [ inl e ↦ omega (arith, e) | inr e ↦ omega (arith, e) ]);
-        first = first_of world input old.held old.taken left shelf state policy policy a (nothing_next _ policy);
-      }) h
+        first = first_of contents old.held old.taken left shelf state policy policy a (nothing_next _ policy);
+      }
 
   -- after a failed read, or after 2 ^ 30 octets
   pub asks_stop : (status : ℕ) (left0 written0 : Option (List ℕ)) (held : List ℕ) (taken : ℕ)
@@ -273,27 +286,27 @@ module _ {F : Type 0} (rows : PolicyRows) (start : Policy F) (origin : Option Wo
       (taken' : ℕ)
       → IsEither 3 6 status → HasAsked left0 written0 held taken left shelf state policy
       → Stops held left taken left' taken'
-      → AllTold left0 written0 origin (λ input before world. AsksBy status rows world input left' start policy)
-  asks_stop status left0 written0 held taken left shelf state policy left' taken' is h t =
-      all_weaker left0 written0 origin _ _ (λ input before world uncalled a.
+      → OnContents left0 written0 origin (λ contents. AsksBy status rows contents left' start policy)
+  asks_stop status left0 written0 held taken left shelf state policy left' taken' is there t contents known =
+      let a = there contents known in
       let t' = rw a.stands.left_is at t in
-      let has = has_taken rows origin world input [] held taken left a.written shelf state left' taken' a.stands t' in
+      let has = has_taken rows origin contents held taken left a.written shelf state left' taken' a.stands t' in
       record {
         all = λ zero. absurd (elim is [ inl e ↦ omega (arith, e, zero) | inr e ↦ omega (arith, e, zero) ]);
         taken = λ some. record {
           octets = has.octets;
           taken = has.taken;
           asked = elim has.lines [
-            | inl whole ↦ inl (all_of world input held taken left shelf state policy _ a whole)
-            | inr ended ↦ inr (ended.0, all_of world input held taken left shelf state policy _ a ended.1)
+            | inl whole ↦ inl (all_of contents held taken left shelf state policy _ a whole)
+            | inr ended ↦ inr (ended.0, all_of contents held taken left shelf state policy _ a ended.1)
           ];
         };
-        first = first_of world input held taken left shelf state policy policy a (nothing_next _ policy);
-      }) h
+        first = first_of contents held taken left shelf state policy policy a (nothing_next _ policy);
+      }
 
   -- before the first line
   pub asks_nothing : (left written : Option (List ℕ)) (lines : ReaderState) (machine : Machine)
-      → lines ≡ unread → machine.engine ≡ empty standard_limits → machine.cursors ≡ [] → machine.watches ≡ []
+      → lines ≡ fresh → machine.engine ≡ empty standard_limits → machine.cursors ≡ [] → machine.watches ≡ []
       → HasAsked left written lines.held lines.taken left origin (kept machine) start
   asks_nothing left written lines machine e m k w =
       let same : beginning ≡ kept machine =

@@ -65,7 +65,8 @@ module _ (rows : PolicyRows) where
   -- ---- one line
 
   -- The reply and the watch lines after it, with a directory whose world is known, are the line's step.
-  pub step_over : (line : List ℕ) (old mid new : Session) (before after : World) (faults later : ℕ) (reply : Option Reply)
+  pub step_over : (line : List ℕ) (old mid new : Session) (before after : World) (faults later : ℕ) (reply : Option
+      Reply)
       (told : List Reply)
       → Replied rows line old (record { world = Some before; faults = faults }) reply mid
       (record { world = Some after; faults = later }) → watching.ReportsWatches mid told new

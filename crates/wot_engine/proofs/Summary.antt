@@ -14,12 +14,13 @@ use Rattle.wot_script.specs.declared.reply.Reply.{Reply}
 use Rattle.wot_script.specs.Spelling.{spelling}
 use Rattle.wot_gen.specs.Script.{IsReadBack, commands_of, line_of, text_of}
 use Rattle.wot_gen.specs.declared.tally.Tally.{Tally}
-use Rattle.wot_gen.specs.Summary.{Tallies, amounts_in, summary, transcript_digest}
+use Rattle.wot_gen.specs.Summary.{Tallies, amounts_in, transcript_digest, summary_text}
 use Rattle.wot_run_law.specs.Law.{OneOutcome}
 use Rattle.wot_step.specs.Transcript.{RepliesTo}
 use Rattle.wot_step.proofs.CutLines.{lines_of-feed}
 use Rattle.wot_run_law.proofs.Runs.{RepliesTo-some}
-use Rattle.wot_engine.specs.Generated.{IsSummary, SummaryBegun, Summarized, no_entries, script_lines}
+use Rattle.wot_engine.specs.Generated.{IsSummary, SummaryBegun, Summarized, no_entries, script_lines, summary_of}
+use Rattle.wot_gen.specs.declared.summary.Summary.{Summary}
 use Rattle.wot_engine.specs.Played.{IsPlayed}
 
 -- each command is one line
@@ -39,28 +40,49 @@ pub never : {T E : Type 0} (r : Result T E) (fault : E) (written : Option (List 
 never r fault None P is = tt
 never r fault (Some before) P is = subst (λ (r : Result _ _). OnOk r (P before)) (sym is) tt
 
+-- a summary with these parts
+same_summary : (start count lines amounts : ℕ) (digest : List ℕ) (replies : List Reply) →
+    lines ≡ length (script_lines start count) → amounts ≡ amounts_in replies → digest ≡ transcript_digest replies →
+    (summary : Summary) → summary ≡ record {
+      start = start;
+      count = count;
+      lines = lines;
+      amounts = amounts;
+      digest = digest;
+    } → summary ≡ summary_of start count replies
+same_summary start count lines amounts digest replies l a d summary is = is ∙ (λ i. record {
+  start = start;
+  count = count;
+  lines = l i;
+  amounts = a i;
+  digest = d i;
+})
+
 -- the script's summary
 pub summed : (rows : PolicyRows) (start count lines amounts : ℕ) (digest out script : List ℕ) (tally : Tally)
+    (summary : Summary)
     → AllByRecursion IsReadBack (commands_of start count) → script ≡ [] ++ text_of (commands_of start count) →
     lines ≡ length (commands_of start count)
     → IsPlayed rows (lines_of script) tally → amounts ≡ tally.amounts →
     ((replies : List Reply) → Tallies tally replies → digest ≡ transcript_digest replies)
-    → out ≡ [] ++ summary start count lines amounts digest → IsSummary rows start count out
-summed rows start count lines amounts digest out script tally all script_is lines_are played amounts_are digest_is
-    out_is =
+    → summary ≡ record { start = start; count = count; lines = lines; amounts = amounts; digest = digest }
+    → out ≡ [] ++ summary_text summary → IsSummary rows start count out
+summed rows start count lines amounts digest out script tally summary all script_is lines_are played amounts_are
+    digest_is summary_is out_is =
     let number : lines ≡ length (script_lines start count) =
     lines_are ∙ sym (lines_counted (commands_of start count) all) in
     record {
       replies = played.replies;
       told = subst (λ (x : List ℕ). RepliesTo rows no_entries (lines_of x) played.replies) script_is played.told;
-      text_is = out_is ∙ rw (number, amounts_are ∙ played.tells.0, digest_is played.replies played.tells) refl;
+      text_is = out_is ∙ ap summary_text (same_summary start count lines amounts digest played.replies number
+          (amounts_are ∙ played.tells.0) (digest_is played.replies played.tells) summary summary_is);
     }
 
 module _ (rows : PolicyRows) (start count : ℕ) where
   pub some_summary : OneOutcome rows → (text : List ℕ) × IsSummary rows start count text
   some_summary law =
       let all = RepliesTo-some rows law no_entries (script_lines start count) in (
-        summary start count (length (script_lines start count)) (amounts_in all.0) (transcript_digest all.0),
+        summary_text (summary_of start count all.0),
         record { replies = all.0; told = all.1; text_is = refl },
       )
 
