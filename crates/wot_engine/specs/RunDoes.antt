@@ -4,7 +4,7 @@ use Rattle.std.specs.Prelude.{◌≡◌, ℕ, List, map, OnOk, Result, IsErrOf, 
 use Rattle.wot_io.specs.Counts.{Rose}
 use Rattle.wot_io.specs.Filled.{IsAtEnd}
 use Rattle.wot_policy.specs.declared.rows.PolicyRows.{PolicyRows}
-use Rattle.wot_machine.specs.Both.{Ends}
+use Rattle.wot_step.specs.Both.{Ends}
 use Rattle.wot_engine.specs.Contents.{Octets, OnContents, Worlds}
 use Rattle.wot_engine.specs.Ended.{AnsweredMost, FinishedMost, FinishedTaken, IsBegun, IsLeft, IsTranscribed, Reached}
 use Rattle.wot_engine.specs.Ended.{ReachedWhole}
