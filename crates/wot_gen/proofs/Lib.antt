@@ -3,8 +3,8 @@ pub mod Shapes
 pub mod WordLaws
 pub mod Spelled
 pub mod SoFar
-pub mod Certifying
-pub mod Putting
-pub mod Counting
+pub mod ThreeCertifications
+pub mod CommandsAppended
+pub mod ScriptLines
 pub mod Sizes
-pub mod Summarizing
+pub mod ThreeLines

@@ -22,7 +22,7 @@ use Rattle.wot_gen.specs.Script.{IsReadBack, below, certificate_commands, change
 use Rattle.wot_gen.specs.Script.{text_of, view_commands}
 use Rattle.wot_gen.specs.declared.certification.Certification.{Certification}
 use Rattle.wot_gen.proofs.Below.{below_more}
-use Rattle.wot_gen.proofs.Certifying.{three_listed}
+use Rattle.wot_gen.proofs.ThreeCertifications.{three_listed}
 use Rattle.wot_gen.proofs.Shapes.{key_length, user_id_fits}
 
 -- ---- packets

@@ -1,5 +1,5 @@
 use Rattle.std.proofs.lemmas.Result.{IfOk-weaker}
-use Rattle.wot_gen.proofs.Putting.{certificate_put}
+use Rattle.wot_gen.proofs.CommandsAppended.{certificate_put}
 use Rattle.wot_gen.proofs.commands.put_certificate.Goals as goal
 
 pub returns : goal.returns

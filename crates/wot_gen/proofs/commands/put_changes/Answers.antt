@@ -2,7 +2,7 @@ use Rattle.std.proofs.Common.{◌≡◌, ◌%◌, ◌+◌, ◌*◌, length, ap, 
 use Rattle.wot_gen.specs.Words.{word}
 use Rattle.wot_gen.specs.Identities.{IsIdentity}
 use Rattle.wot_gen.specs.Script.{changed_at, changes}
-use Rattle.wot_gen.proofs.Putting.{identity_read, step_more}
+use Rattle.wot_gen.proofs.CommandsAppended.{identity_read, step_more}
 use Rattle.wot_gen.proofs.commands.put_changes.Goals as goal
 
 pub loop-turn-preserved : goal.loop-turn-preserved

@@ -1,6 +1,6 @@
 use Rattle.std.proofs.Common.{arith, length}
 use Rattle.wot_gen.specs.Script.{questions}
-use Rattle.wot_gen.proofs.Putting.{identity_read, step_more}
+use Rattle.wot_gen.proofs.CommandsAppended.{identity_read, step_more}
 use Rattle.wot_gen.proofs.commands.put_questions.Goals as goal
 
 pub loop-index-preserved : goal.loop-index-preserved

@@ -1,6 +1,6 @@
 use Rattle.std.proofs.Common.{◌≡◌, ◌++◌, ◌∷◌, [], ◌/◌, arith, length, codes}
 use Rattle.wot_script.specs.declared.command.Command.TheVariants.{Time, Root}
-use Rattle.wot_gen.proofs.Putting.{identity_read, views_put}
+use Rattle.wot_gen.proofs.CommandsAppended.{identity_read, views_put}
 use Rattle.wot_gen.proofs.commands.put_views.Goals as goal
 
 pub returns : goal.returns

@@ -1,7 +1,7 @@
 use Rattle.std.proofs.Common.{◌∙◌, ap, length, subst, sym}
 use Rattle.std.specs.List.{AllByRecursion}
 use Rattle.wot_script.specs.Spelling.{HasSpelling}
-use Rattle.wot_gen.proofs.Counting.{commands_counted}
+use Rattle.wot_gen.proofs.ScriptLines.{commands_counted}
 use Rattle.wot_gen.specs.Script.{IsReadBack}
 use Rattle.wot_gen.proofs.Sizes.{script_fits}
 use Rattle.wot_gen.proofs.Spelled.{commands-spelled}

@@ -1,7 +1,7 @@
 use Rattle.std.proofs.Common.{◌≡◌, ◌++◌, ◌∷◌, [], ap, ◌∙◌}
 use Rattle.std.specs.String.{string_bytes}
 use Rattle.hex.specs.Hex.{encode_lower}
-use Rattle.wot_gen.proofs.Summarizing.{numbers, summary_spelled}
+use Rattle.wot_gen.proofs.ThreeLines.{numbers, summary_spelled}
 use Rattle.wot_gen.proofs.summary.put_summary.Goals as goal
 
 pub returns-clause-put : goal.returns-clause-put

@@ -1,7 +1,7 @@
 use Rattle.std.proofs.Common.{None}
 use Rattle.wot_io.specs.ReaderState.{reader_state}
-use Rattle.wot_io.proofs.Cutting.{feed_answers, rest_answers, long_after, Took-after, Stops-moved, Stops-after}
-use Rattle.wot_io.proofs.Moving.{Took-moved}
+use Rattle.wot_io.proofs.LineCut.{feed_answers, rest_answers, long_after, Took-after, Stops-moved, Stops-after}
+use Rattle.wot_io.proofs.OctetsMoved.{Took-moved}
 use Rattle.wot_io.proofs.lines.read_line.Goals as goal
 
 pub returns-in-Err-clause-stops : goal.returns-in-Err-clause-stops

@@ -9,7 +9,7 @@ use Rattle.wot_gen.specs.Script.{below, certificate_commands, changes, commands_
 use Rattle.wot_gen.specs.Script.{view_commands}
 use Rattle.wot_gen.specs.declared.certification.Certification.{Certification}
 use Rattle.wot_gen.proofs.Below.{below_more}
-use Rattle.wot_gen.proofs.Certifying.{three_listed}
+use Rattle.wot_gen.proofs.ThreeCertifications.{three_listed}
 
 -- one step more
 next_length : (f : ℕ → List Command) (n size : ℕ) → length (f n) ≡ size →
