@@ -7,7 +7,7 @@ use Rattle.wot_types.specs.declared.name.Name.TheVariants.{Cert}
 use Rattle.wot_script.specs.declared.command.Command.{Command}
 use Rattle.wot_step.specs.declared.class.Class.{Class}
 use Rattle.wot_step.specs.declared.class.Class.TheVariants.{State as OfState}
-use Rattle.wot_step.specs.declared.class.StateCommand.{TheVariants as kinds}
+use Rattle.wot_step.specs.declared.class.StateCommand.TheVariants as kinds
 use Rattle.wot_step.specs.declared.class.ShelfCall.{ShelfCall, TheVariants as calls}
 use Rattle.wot_step.specs.Classes.{class_of}
 use Rattle.wot_held.specs.Held.{cert_in}

@@ -4,7 +4,7 @@ use Rattle.wot_types.specs.Limits.{standard_limits}
 use Rattle.wot_part.specs.Certificate.{Certificate}
 use Rattle.wot_part.specs.Text.{size_of}
 use Rattle.wot_step.specs.Outcome.{key_line_of}
-use Rattle.wot_command.proofs.listing.key_lines.{Given as goal}
+use Rattle.wot_command.proofs.listing.key_lines.Given as goal
 
 abbrev pub invariant-certs : goal.invariant-certs
 invariant-certs l =

@@ -5,7 +5,7 @@ use Rattle.wot_held.specs.declared.kept.Kept.{Kept}
 use Rattle.wot_held.specs.Keyring.{Keyring}
 use Rattle.wot_step.specs.Outcome.{key_line_of}
 use Rattle.wot_command.proofs.CertificateLines.{sized, keys_told}
-use Rattle.wot_command.proofs.listing.keys.{Goals as goal}
+use Rattle.wot_command.proofs.listing.keys.Goals as goal
 
 pub key_lines-requires : goal.key_lines-requires
 key_lines-requires c = rw c.certs.ensures.certs (sized standard_limits.certificate _ c.certs.ensures.sizes)

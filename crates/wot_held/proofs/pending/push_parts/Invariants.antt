@@ -1,7 +1,7 @@
 use Rattle.std.proofs.Common.{◌≡◌, ◌++◌, length}
 use Rattle.wot_part.specs.Counts.{sigs_on}
 use Rattle.wot_held.specs.Pending.{pending_among}
-use Rattle.wot_held.proofs.pending.push_parts.{Given as goal}
+use Rattle.wot_held.proofs.pending.push_parts.Given as goal
 
 abbrev pub invariant-parts : goal.invariant-parts
 invariant-parts l = l.out.items ++ pending_among l.verdicts l.fpr

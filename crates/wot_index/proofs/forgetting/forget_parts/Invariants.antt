@@ -3,7 +3,7 @@ use Rattle.wot_types.specs.declared.number.SigNumber.{SigNumber}
 use Rattle.wot_part.specs.Counts.{sigs_on}
 use Rattle.wot_index.specs.Index.{holder_of, unless}
 use Rattle.wot_held.specs.Verdict.{is_among}
-use Rattle.wot_index.proofs.forgetting.forget_parts.{Given as goal}
+use Rattle.wot_index.proofs.forgetting.forget_parts.Given as goal
 
 abbrev pub invariant-parts : goal.invariant-parts
 invariant-parts l = (n : SigNumber) → unless (is_among n (sigs_on l.left)) (holder_of l.holders.entries n) ≡ unless

@@ -2,7 +2,7 @@ use Rattle.std.proofs.Common.{List, ap}
 use Rattle.wot_part.specs.Certificate.{Certificate}
 use Rattle.wot_index.specs.Index.{stands_among, stands_on}
 use Rattle.wot_index.proofs.Indexed.{notes_on, still_logged}
-use Rattle.wot_index.proofs.noting.note_certs.{Goals as goal}
+use Rattle.wot_index.proofs.noting.note_certs.Goals as goal
 
 pub certs-preserved : goal.certs-preserved
 certs-preserved c = record {

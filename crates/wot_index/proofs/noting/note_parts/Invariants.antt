@@ -5,7 +5,7 @@ use Rattle.wot_part.specs.Counts.{sigs_on}
 use Rattle.wot_held.specs.Keyring.{is_fpr}
 use Rattle.wot_index.specs.Index.{NotesOn, StillLogged}
 use Rattle.wot_held.specs.Verdict.{is_among}
-use Rattle.wot_index.proofs.noting.note_parts.{Given as goal}
+use Rattle.wot_index.proofs.noting.note_parts.Given as goal
 
 abbrev pub invariant-parts : goal.invariant-parts
 invariant-parts l = record {

@@ -7,7 +7,7 @@ use Rattle.wot_held.specs.Keyring.{is_fpr}
 use Rattle.wot_held.specs.Verdict.{is_among}
 use Rattle.wot_index.proofs.Choices.{and_each}
 use Rattle.wot_index.proofs.Indexed.{notes_on, still_logged}
-use Rattle.wot_index.proofs.noting.note_sigs.{Goals as goal}
+use Rattle.wot_index.proofs.noting.note_sigs.Goals as goal
 
 pub sigs-preserved : goal.sigs-preserved
 sigs-preserved c = record {

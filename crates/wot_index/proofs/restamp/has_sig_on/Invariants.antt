@@ -1,7 +1,7 @@
 use Rattle.std.proofs.Common.{◌≡◌, length}
 use Rattle.wot_part.specs.Counts.{sigs_on}
 use Rattle.wot_held.specs.Verdict.{is_among}
-use Rattle.wot_index.proofs.restamp.has_sig_on.{Given as goal}
+use Rattle.wot_index.proofs.restamp.has_sig_on.Given as goal
 
 abbrev pub invariant-parts : goal.invariant-parts
 invariant-parts l = is_among l.number (sigs_on l.left) ≡ is_among l.number (sigs_on l.parts)

@@ -5,7 +5,7 @@ use Rattle.wot_part.specs.Judged.{judged}
 use Rattle.wot_merge.proofs.InPlace.{none_asked}
 use Rattle.wot_merge.proofs.ImportSteps.{not_asked}
 use Rattle.wot_merge.proofs.Unions.{step_on, union_few}
-use Rattle.wot_merge.proofs.in_place.grow_kept.{Goals as goal}
+use Rattle.wot_merge.proofs.in_place.grow_kept.Goals as goal
 
 pub returns-then-not-are_held-clause-asked : goal.returns-then-not-are_held-clause-asked
 returns-then-not-are_held-clause-asked g c =

@@ -7,7 +7,7 @@ use Rattle.wot_held.specs.Kept.{AreSortedByFpr}
 use Rattle.wot_merge.proofs.InPlace.{asked_less, no_more}
 use Rattle.wot_merge.proofs.ImportSteps.{sorted_insert, none_asked, not_asked}
 use Rattle.wot_merge.proofs.Steps.{may_move, tally_moved, fresh_moved, judged_moved, asked_moved}
-use Rattle.wot_merge.proofs.in_place.put_in_place.{Goals as goal}
+use Rattle.wot_merge.proofs.in_place.put_in_place.Goals as goal
 use Rattle.wot_merge.specs.Staging.{found_for}
 
 pub returns-in_default-clause-asked : goal.returns-in_default-clause-asked

@@ -1,7 +1,7 @@
 use Rattle.wot_policy.specs.Kept.{rows_of}
 use Rattle.wot_part.specs.Judged.{judged}
 use Rattle.wot_merge.proofs.Unions.{union_few}
-use Rattle.wot_merge.proofs.staging.grow.{Goals as goal}
+use Rattle.wot_merge.proofs.staging.grow.Goals as goal
 
 pub weigh_cert-requires : goal.weigh_cert-requires
 weigh_cert-requires g c =

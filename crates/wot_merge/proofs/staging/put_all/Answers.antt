@@ -4,7 +4,7 @@ use Rattle.wot_policy.specs.Kept.{rows_of}
 use Rattle.wot_part.specs.Judged.{sound_of}
 use Rattle.wot_merge.specs.Staging.{kept_with, weigh_kept}
 use Rattle.wot_merge.proofs.ImportSteps.{Put, run_on, asked_again, not_asked, none_yet, asked_on, asked_up_to, clash_told}
-use Rattle.wot_merge.proofs.staging.put_all.{Goals as goal}
+use Rattle.wot_merge.proofs.staging.put_all.Goals as goal
 
 pub left-init : goal.left-init
 left-init g c = record {

@@ -7,7 +7,7 @@ use Rattle.wot_part.specs.Judged.{sound_of}
 use Rattle.wot_held.specs.declared.kept.Kept.{Kept}
 use Rattle.wot_merge.specs.Staging.{begun, clash_at, found_by, found_for, stamp_over, IsClashTold}
 use Rattle.wot_merge.proofs.Unions.{step_on, step_new}
-use Rattle.wot_merge.proofs.staging.take_step.{Goals as goal}
+use Rattle.wot_merge.proofs.staging.take_step.Goals as goal
 use Rattle.wot_merge.proofs.ImportSteps.{none_asked, not_asked}
 
 -- a certificate clashes with what it is merged with if and only if it clashes with what is kept

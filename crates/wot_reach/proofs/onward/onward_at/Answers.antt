@@ -5,7 +5,7 @@ use Rattle.wot_types.specs.declared.fpr.Fpr.{Fpr}
 use Rattle.wot_edge.specs.Record.{Record}
 use Rattle.wot_reach.specs.declared.onward.Onward.{Onward}
 use Rattle.wot_reach.specs.Onward.{LeadsOnInto}
-use Rattle.wot_reach.proofs.onward.onward_at.{Goals as goal}
+use Rattle.wot_reach.proofs.onward.onward_at.Goals as goal
 
 given : (told : List ℕ → Record) (number : Fpr → ℕ) (fpr : Fpr) (one : Onward) (found : Option (Bor Onward))
     → LeadsOnInto told number one.fpr one

@@ -1,6 +1,6 @@
 use Rattle.wot_reach.specs.declared.slots.Slot.{Slot}
 use Rattle.wot_reach.proofs.SlotNumbers.{slot_added}
-use Rattle.wot_reach.proofs.rows.put_issuer.{Goals as goal}
+use Rattle.wot_reach.proofs.rows.put_issuer.Goals as goal
 
 pub returns : goal.returns
 returns c =

@@ -1,7 +1,7 @@
 use Rattle.std.proofs.Common.{None}
 use Rattle.wot_reach.specs.declared.slots.Slot.{Slot}
 use Rattle.wot_reach.proofs.SlotNumbers.{slot_added}
-use Rattle.wot_reach.proofs.slots.put_slot.{Goals as goal}
+use Rattle.wot_reach.proofs.slots.put_slot.Goals as goal
 
 pub returns : goal.returns
 returns c =
