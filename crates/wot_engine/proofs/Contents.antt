@@ -2,7 +2,7 @@
 use Rattle.std.proofs.Common.{ℕ, List, Option, Some, None, ap}
 use Rattle.wot_certd.specs.World.{World}
 use Rattle.wot_step.specs.Transcript.{IsNow}
-use Rattle.wot_step.proofs.Giving.{IsUncalled}
+use Rattle.wot_step.proofs.DirectoryGives.{IsUncalled}
 use Rattle.wot_engine.specs.Contents.{Contents, IsWorldOf, OnContents}
 
 -- the directory is in the world of the contents, if its world is known

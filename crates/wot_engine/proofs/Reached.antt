@@ -19,7 +19,7 @@ use Rattle.wot_engine.specs.Contents.{Contents}
 use Rattle.wot_engine.specs.Ended.{Finished, FinishedMost, FinishedTaken, IsBegun, IsLastTaken, IsLeft, IsTranscribed}
 use Rattle.wot_engine.specs.Ended.{MayPutNext, Reached, ReachedWhole}
 use Rattle.wot_engine.specs.Source.{IsTaken}
-use Rattle.wot_step.proofs.Giving.{over}
+use Rattle.wot_step.proofs.DirectoryGives.{over}
 use Rattle.wot_run_law.proofs.Runs.{Run-some, Run-append}
 use Rattle.wot_step.proofs.CutLines.{whole_lines_of-none}
 use Rattle.wot_policy.specs.declared.rows.PolicyRows.{PolicyRows}

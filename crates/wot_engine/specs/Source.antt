@@ -8,29 +8,29 @@ pub record IsTaken (input octets : List ℕ) (left : Option (List ℕ)) : Type 0
   pub input_is : input ≡ octets ++ rest
   pub left_is : left ≡ Some rest
 
--- at most 2 ^ 30 octets were taken
-pub record IsWithinMost (input : List ℕ) (left : Option (List ℕ)) : Type 0 where
-  pub octets : List ℕ
-  pub taken : IsTaken input octets left
-  pub few : length octets ≤ 2 ^ 30
-
 -- exactly 2 ^ 30 octets were taken
 pub record IsMost (input : List ℕ) (left : Option (List ℕ)) : Type 0 where
   pub octets : List ℕ
   pub taken : IsTaken input octets left
   pub size : length octets ≡ 2 ^ 30
 
--- ---- if the octets of the source are known
+-- at most 2 ^ 30 octets were taken
+pub record IsWithinMost (input : List ℕ) (left : Option (List ℕ)) : Type 0 where
+  pub octets : List ℕ
+  pub taken : IsTaken input octets left
+  pub few : length octets ≤ 2 ^ 30
 
--- at most 2 ^ 30 were taken
-abbrev pub TakesAtMost : Option (List ℕ) → Option (List ℕ) → Type 0
-TakesAtMost None left = Unit {0}
-TakesAtMost (Some input) left = IsWithinMost input left
+-- ---- if the octets of the source are known
 
 -- exactly 2 ^ 30 were taken
 abbrev pub TakesMost : Option (List ℕ) → Option (List ℕ) → Type 0
 TakesMost None left = Unit {0}
 TakesMost (Some input) left = IsMost input left
+
+-- at most 2 ^ 30 were taken
+abbrev pub TakesAtMost : Option (List ℕ) → Option (List ℕ) → Type 0
+TakesAtMost None left = Unit {0}
+TakesAtMost (Some input) left = IsWithinMost input left
 
 -- there were at least 2 ^ 30
 abbrev pub HasMost : Option (List ℕ) → Type 0
