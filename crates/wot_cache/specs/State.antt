@@ -9,7 +9,7 @@ use Rattle.wot_key.specs.Key.{fpr_of}
 use Rattle.wot_part.specs.Certificate.{Certificate}
 use Rattle.wot_held.specs.Held.{Held, nothing, held_of}
 use Rattle.wot_held.specs.Keyring.{Keyring}
-use Rattle.wot_held.specs.{Keyring as keyrings}
+use Rattle.wot_held.specs.Keyring as keyrings
 use Rattle.wot_network.specs.Net.{Marks}
 use Rattle.wot_kept.specs.Answers.{AllAnswers}
 use Rattle.wot_cache.specs.Turns.{Turns, no_turns}

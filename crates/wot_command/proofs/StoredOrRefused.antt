@@ -10,7 +10,8 @@ use Rattle.wot_types.specs.Limits.{standard_limits}
 use Rattle.wot_io.specs.Counts.{Rose}
 use Rattle.wot_part.specs.Certificate.{Certificate, unite, unmarked}
 use Rattle.wot_part.specs.Text.{size_of, text_of}
-use Rattle.wot_held.specs.declared.refusal.Refusal.{Refusal, TheVariants as refusals}
+use Rattle.wot_held.specs.declared.refusal.Refusal.{Refusal}
+use Rattle.wot_held.specs.declared.refusal.Refusal.TheVariants as refusals
 use Rattle.wot_held.specs.Entry.{TellsEntry, entry_in}
 use Rattle.wot_script.specs.declared.reply.Reply.{Reply}
 use Rattle.wot_script.specs.declared.reply.Reply.TheVariants as replies

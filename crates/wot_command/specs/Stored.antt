@@ -7,7 +7,8 @@ use Rattle.wot_types.specs.declared.name.Name.TheVariants.{Cert}
 use Rattle.wot_io.specs.Counts.{Rose}
 use Rattle.wot_part.specs.Certificate.{Certificate}
 use Rattle.wot_part.specs.Text.{text_of}
-use Rattle.wot_held.specs.declared.refusal.Refusal.{Refusal, TheVariants as refusals}
+use Rattle.wot_held.specs.declared.refusal.Refusal.{Refusal}
+use Rattle.wot_held.specs.declared.refusal.Refusal.TheVariants as refusals
 use Rattle.wot_script.specs.declared.reply.Reply.{Reply}
 use Rattle.wot_script.specs.Replies.{is_short}
 use Rattle.wot_certd.specs.declared.shelf.Given.{Given}

@@ -5,7 +5,8 @@ use Rattle.std.specs.List.{AllByRecursion}
 use Rattle.wot_types.specs.declared.fpr.Fpr.{Fpr}
 use Rattle.wot_edge.specs.Record.{Record, Has}
 use Rattle.wot_reach.specs.declared.checking.Checking.{Checking}
-use Rattle.wot_reach.specs.declared.making.Making.{Making, TheVariants as stages}
+use Rattle.wot_reach.specs.declared.making.Making.{Making}
+use Rattle.wot_reach.specs.declared.making.Making.TheVariants as stages
 use Rattle.wot_reach.specs.Onward.{AreOnward}
 use Rattle.wot_reach.specs.Reach.{HasEnough, IsReach, Table, number_at}
 

@@ -8,7 +8,8 @@ use Rattle.wot_script.specs.declared.command.Command.{Command}
 use Rattle.wot_step.specs.declared.class.Class.{Class}
 use Rattle.wot_step.specs.declared.class.Class.TheVariants.{State as OfState}
 use Rattle.wot_step.specs.declared.class.StateCommand.TheVariants as kinds
-use Rattle.wot_step.specs.declared.class.ShelfCall.{ShelfCall, TheVariants as calls}
+use Rattle.wot_step.specs.declared.class.ShelfCall.{ShelfCall}
+use Rattle.wot_step.specs.declared.class.ShelfCall.TheVariants as calls
 use Rattle.wot_step.specs.Classes.{class_of}
 use Rattle.wot_held.specs.Held.{cert_in}
 use Rattle.wot_certd.specs.World.{Answer, World, after_replace, called, fails_next, read_answer, with_entry}

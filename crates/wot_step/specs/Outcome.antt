@@ -16,7 +16,8 @@ use Rattle.wot_part.specs.Certificate.{Certificate}
 use Rattle.wot_part.specs.Counts.{signatures_of}
 use Rattle.wot_part.specs.Text.{text_of}
 use Rattle.wot_held.specs.declared.imported.Imported.{Imported}
-use Rattle.wot_held.specs.declared.refusal.Refusal.{Refusal, TheVariants as refusals}
+use Rattle.wot_held.specs.declared.refusal.Refusal.{Refusal}
+use Rattle.wot_held.specs.declared.refusal.Refusal.TheVariants as refusals
 use Rattle.wot_keyring.specs.Dump.{lines_of}
 use Rattle.wot_held.specs.Held.{cert_in, removing, verdict_set, verdict_cleared}
 use Rattle.wot_held.specs.Import.{answer_to, answer_under, importing, is_entry}

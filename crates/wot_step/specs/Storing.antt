@@ -9,7 +9,8 @@ use Rattle.wot_types.specs.declared.name.Name.TheVariants.{Cert}
 use Rattle.wot_types.specs.Limits.{standard_limits}
 use Rattle.wot_part.specs.Certificate.{Certificate, unite}
 use Rattle.wot_part.specs.Text.{size_of, text_of}
-use Rattle.wot_held.specs.declared.refusal.Refusal.{Refusal, TheVariants as refusals}
+use Rattle.wot_held.specs.declared.refusal.Refusal.{Refusal}
+use Rattle.wot_held.specs.declared.refusal.Refusal.TheVariants as refusals
 use Rattle.wot_held.specs.Entry.{entry_in}
 use Rattle.wot_held.specs.Held.{cert_in}
 use Rattle.wot_certd.specs.World.{Answer}
