@@ -57,7 +57,7 @@ impl Basis {
     }
 
     /// Adds these fingerprints. False when out of memory: then only some of them are added.
-    #[tactic(auto, using(crate::proofs::Resting::grown_by))]
+    #[tactic(auto, using(crate::proofs::BasisStaysTrue::grown_by))]
     fn rest_on(&mut self, looked: &[Looked]) -> bool
         ensures all { result ≡ true → AllIn self.new.fprs looked.now }
         ensures grown { HasGrown self.old self.new }
@@ -66,7 +66,7 @@ impl Basis {
     }
 
     /// Whether no fingerprint of the basis has a stamp above its count of changes.
-    #[tactic(auto, using(crate::proofs::Resting::calm_by))]
+    #[tactic(auto, using(crate::proofs::BasisStaysTrue::calm_by))]
     fn is_calm(&self, keyring: &Keyring) -> bool
         ensures calm { result ≡ true → AreCalm keyring.now self.now.changes self.now.fprs }
     {
@@ -121,7 +121,7 @@ fn add(set: &mut Set, fpr: Fpr) -> bool
 }
 
 /// Adds these fingerprints. False when out of memory: then only some of them are added.
-#[tactic(auto, using(crate::proofs::Resting::put_in))]
+#[tactic(auto, using(crate::proofs::BasisStaysTrue::put_in))]
 fn add_all(set: &mut Set, looked: &[Looked]) -> bool
     ensures all { result ≡ true → AllIn set.new.keys looked.now }
     ensures grows { Includes set.old.keys set.new.keys }
@@ -137,7 +137,7 @@ fn add_all(set: &mut Set, looked: &[Looked]) -> bool
 }
 
 /// Whether none of these is in the set.
-#[tactic(auto, using(crate::proofs::Resting::free_more))]
+#[tactic(auto, using(crate::proofs::BasisStaysTrue::free_more))]
 fn is_free_of(set: &Set, changed: &[(u64, Fpr)]) -> bool
     ensures free { result ≡ true → IsFreeOf set.now.keys changed.now }
 {
@@ -153,7 +153,7 @@ fn is_free_of(set: &Set, changed: &[(u64, Fpr)]) -> bool
 
 /// The sum of a kept answer, if it is for this question and everything that it depends on is unchanged. The basis then
 /// depends on that too.
-#[tactic(auto, using(crate::proofs::Resting::sum_rests))]
+#[tactic(auto, using(crate::proofs::BasisStaysTrue::sum_rests))]
 fn sum_of(
     kept: &KeptAnswer,
     keyring: &Keyring,

@@ -137,7 +137,7 @@ fn put_slot(slots: &mut Vec<Slot>, numbers: &BTreeMap<Fpr, u8>, fpr: &Fpr) -> Re
 }
 
 /// The number of a slot, if it is this fingerprint's.
-#[tactic(auto, using(crate::proofs::Slotting::tells_equal))]
+#[tactic(auto, using(crate::proofs::SlotNumbers::tells_equal))]
 fn number_if(slot: &Slot, fpr: &Fpr) -> Option<u8>
     ensures tells { (numbers : List (Print × ℕ)) → HasNumber numbers slot.now.fpr slot.now.number
         → HasNumberIfSome numbers fpr.now result }
