@@ -22,7 +22,7 @@ use std::alloc::Global;
 use wot_certd::MemoryShelf;
 use wot_gen::{Summary, Tally, put_summary, script};
 use wot_io::{Sink, first_line, write_all};
-use wot_machine::{Machine, Told};
+use wot_machine::{DraftReply, Machine};
 use wot_policy::{Ask, Policy};
 use wot_run_law::each_line_has_one_outcome;
 use wot_script::Reply;
@@ -183,7 +183,7 @@ fn add_reply<F: Fn(Ask) -> bool>(
     ensures rows { rows_of policy.new ≡ rows_of policy.old }
 {
     match machine.reply(line, shelf, policy)? {
-        Some(Told { reply, moved }) => {
+        Some(DraftReply { reply, moved }) => {
             tally.add(&reply)?;
             machine.settle(moved);
             Ok(())

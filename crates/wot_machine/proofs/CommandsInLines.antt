@@ -15,8 +15,8 @@ use Rattle.wot_held.specs.Keyring.{Keyring}
 use Rattle.wot_step.specs.declared.class.Class.{Class}
 use Rattle.wot_step.specs.declared.class.Class.TheVariants.{State as OfState}
 use Rattle.wot_step.specs.declared.class.StateCommand.{StateCommand}
-use Rattle.wot_step.specs.declared.told.Moved.{Moved}
-use Rattle.wot_step.specs.declared.told.Told.{Told}
+use Rattle.wot_step.specs.declared.draft.CursorMove.{CursorMove}
+use Rattle.wot_step.specs.declared.draft.DraftReply.{DraftReply}
 use Rattle.wot_cursor.specs.Cursors.{Cursors}
 use Rattle.wot_watch.specs.Watches.{Watches}
 use Rattle.wot_held.specs.Import.{IsOneChange}
@@ -62,11 +62,11 @@ ran_alone rows class old seen reply new none obeys = record {
 }
 
 -- a command of a cursor
-pub paced_ran : {E : Type 0} (r : Result Told E) (rows : PolicyRows) (class : Class) (old new : Engine)
+pub paced_ran : {E : Type 0} (r : Result DraftReply E) (rows : PolicyRows) (class : Class) (old new : Engine)
     (before after : Cursors) (watches : Watches) (seen : Seen)
     → is_pacing class ≡ true → StaysButMarks old new →
-    IfOk r (λ (told : Told). Paces (session_of old before) class told.reply (settled told.moved after))
-    → IfOk r (λ (told : Told). ClassRun rows class (watched (session_of old before) watches) seen told.reply
+    IfOk r (λ (told : DraftReply). Paces (session_of old before) class told.reply (settled told.moved after))
+    → IfOk r (λ (told : DraftReply). ClassRun rows class (watched (session_of old before) watches) seen told.reply
     (watched (session_of new (settled told.moved after)) watches) seen)
 paced_ran (Err e) rows class old new before after watches seen pacing stays paces = tt
 paced_ran (Ok told) rows class old new before after watches seen pacing stays paces =
@@ -102,31 +102,31 @@ watched_ran rows class old new cursors before after seen reply watching stays pu
     })
 
 -- a command of a watch, with a reply by itself
-pub watched_told : {E : Type 0} (r : Result Reply E) (t : Result Told E) (rows : PolicyRows) (class : Class)
+pub watched_told : {E : Type 0} (r : Result Reply E) (t : Result DraftReply E) (rows : PolicyRows) (class : Class)
     (old new : Engine) (cursors : Cursors) (before after : Watches)
     (seen : Seen) → IfOk r (λ reply. t ≡ Ok (record { reply = reply; moved = None })) → is_ok t ≡ is_ok r →
     is_watching class ≡ true → StaysButMarks old new
     → IfOk r (λ reply. Watching (watched (session_of old cursors) before) class reply after)
-    → IfOk t (λ (told : Told). ClassRun rows class (watched (session_of old cursors) before) seen told.reply
+    → IfOk t (λ (told : DraftReply). ClassRun rows class (watched (session_of old cursors) before) seen told.reply
     (watched (session_of new (settled told.moved cursors)) after) seen)
 watched_told (Err e) (Err d) rows class old new cursors before after seen is ok watching stays puts = tt
 watched_told (Err e) (Ok told) rows class old new cursors before after seen is ok watching stays puts =
     let never : true ≡ false = ok in absurd cc
 watched_told (Ok reply) t rows class old new cursors before after seen is ok watching stays puts =
-    subst (λ (t : Result Told _). IfOk t (λ (told : Told). ClassRun rows class
+    subst (λ (t : Result DraftReply _). IfOk t (λ (told : DraftReply). ClassRun rows class
     (watched (session_of old cursors) before) seen told.reply
     (watched (session_of new (settled told.moved cursors)) after) seen))
     (sym is) (watched_ran rows class old new cursors before after seen reply watching stays puts)
 
 -- a command of a watch whose reply moves no cursor
-pub watched_alone : (told : Told) (rows : PolicyRows) (class : Class) (engine : Engine) (cursors : Cursors)
+pub watched_alone : (told : DraftReply) (rows : PolicyRows) (class : Class) (engine : Engine) (cursors : Cursors)
     (before after : Watches) (seen : Seen) (reply : Reply)
     → told.reply ≡ reply → told.moved ≡ None → is_watching class ≡ true → StaysButMarks engine engine →
     Watching (watched (session_of engine cursors) before) class reply after
     → ClassRun rows class (watched (session_of engine cursors) before) seen told.reply
     (watched (session_of engine (settled told.moved cursors)) after) seen
 watched_alone told rows class engine cursors before after seen reply is none watching stays puts =
-    subst (λ (o : Option Moved). ClassRun rows class (watched (session_of engine cursors) before) seen told.reply
+    subst (λ (o : Option CursorMove). ClassRun rows class (watched (session_of engine cursors) before) seen told.reply
     (watched (session_of engine (settled o cursors)) after) seen)
     (sym none) (watched_ran rows class engine engine cursors before after seen told.reply watching stays
     (subst (λ (r : Reply). Watching (watched (session_of engine cursors) before) class r after) (sym is) puts))
@@ -154,12 +154,12 @@ ran_plain (Ok reply) rows command old new before after cursors watches counted t
 }
 
 module _ {E : Type 0} where
-  pub ran_told : (r : Result Reply E) (t : Result Told E) (rows : PolicyRows) (command : StateCommand) (old new : Engine)
+  pub ran_told : (r : Result Reply E) (t : Result DraftReply E) (rows : PolicyRows) (command : StateCommand) (old new : Engine)
       (before after : Seen) (cursors : Cursors) (watches : Watches)
       → IfOk r (λ reply. t ≡ Ok (record { reply = reply; moved = None })) → is_ok t ≡ is_ok r
       → IsOneChange old.keyring new.keyring → OnOk r (IsTurnedBy (OfState command) old.views old.turns new.views new.turns)
       → IfOk r (λ reply. StateRun rows command (state_of old) before reply (state_of new) after)
-      → IfOk t (λ (told : Told). ClassRun rows (OfState command) (watched (session_of old cursors) watches) before told.reply
+      → IfOk t (λ (told : DraftReply). ClassRun rows (OfState command) (watched (session_of old cursors) watches) before told.reply
       (watched (session_of new (settled told.moved cursors)) watches) after)
   ran_told (Err e) (Err d) rows command old new before after cursors watches is ok counted turned did = tt
   ran_told (Err e) (Ok told) rows command old new before after cursors watches is ok counted turned did =
@@ -168,17 +168,17 @@ module _ {E : Type 0} where
       let ran : ClassRun rows (OfState command) (watched (session_of old cursors) watches) before reply
       (watched (session_of new cursors) watches) after =
       ran_plain {E = E} (Ok reply) rows command old new before after cursors watches counted turned did in
-      subst (λ (t : Result Told E). IfOk t (λ (told : Told). ClassRun rows (OfState command)
+      subst (λ (t : Result DraftReply E). IfOk t (λ (told : DraftReply). ClassRun rows (OfState command)
       (watched (session_of old cursors) watches) before told.reply
       (watched (session_of new (settled told.moved cursors)) watches) after)) (sym is) ran
 
 -- what holds of a result and of its success holds of the reply with its cursor
-pub told_as : {E : Type 0} (r : Result Reply E) (t : Result Told E) (P : Reply → Type 0) →
+pub told_as : {E : Type 0} (r : Result Reply E) (t : Result DraftReply E) (P : Reply → Type 0) →
     IfOk r (λ reply. t ≡ Ok (record { reply = reply; moved = None })) → is_ok t ≡ is_ok r
-    → IfOk r P → IfOk t (λ (told : Told). P told.reply)
+    → IfOk r P → IfOk t (λ (told : DraftReply). P told.reply)
 told_as (Err e) (Err d) P is ok p = tt
 told_as (Err e) (Ok told) P is ok p = let never : true ≡ false = ok in absurd cc
-told_as (Ok reply) t P is ok p = subst (λ (t : Result Told _). IfOk t (λ (told : Told). P told.reply)) (sym is) p
+told_as (Ok reply) t P is ok p = subst (λ (t : Result DraftReply _). IfOk t (λ (told : DraftReply). P told.reply)) (sym is) p
 
 pub on_ok_told : {A B E F : Type 0} (r : Result A E) (t : Result B F) (P : Type 0) → is_ok t ≡ is_ok r → OnOk r P →
     OnOk t P
@@ -208,14 +208,14 @@ ran_line rows command old seen e =
     subst (λ (c : Option Command). CommandRun rows c old seen replies.Line old seen) (sym e)
     (ran_uncalled rows None old seen replies.Line old refl (refl, refl))
 
-pub ran_told_line : (told : Told) (rows : PolicyRows) (command : Option Command) (old : Engine) (cursors : Cursors)
+pub ran_told_line : (told : DraftReply) (rows : PolicyRows) (command : Option Command) (old : Engine) (cursors : Cursors)
     (watches : Watches) (seen : Seen)
     → told.reply ≡ replies.Line → told.moved ≡ None → command ≡ None
     → CommandRun rows command (watched (session_of old cursors) watches) seen told.reply
     (watched (session_of old (settled told.moved cursors)) watches) seen
 ran_told_line told rows command old cursors watches seen r m e =
     let whole : Session = watched (session_of old cursors) watches in
-    subst (λ (o : Option Moved). CommandRun rows command whole seen told.reply
+    subst (λ (o : Option CursorMove). CommandRun rows command whole seen told.reply
     (watched (session_of old (settled o cursors)) watches) seen) (sym m)
     (subst (λ (x : Reply). CommandRun rows command whole seen x whole seen) (sym r) (ran_line rows command whole seen e))
 
@@ -262,13 +262,13 @@ replied_alone rows line old seen new reply e step =
 
 -- a line that is too long
 pub replied_long : (rows : PolicyRows) (line : List ℕ) (engine : Engine) (cursors : Cursors) (watches : Watches)
-    (seen : Seen) (told : Told) → longest < length line
+    (seen : Seen) (told : DraftReply) → longest < length line
     → told.reply ≡ replies.Long → told.moved ≡ None
     → Replied rows line (watched (session_of engine cursors) watches) seen (Some told.reply)
     (watched (session_of engine (settled told.moved cursors)) watches) seen
 replied_long rows line engine cursors watches seen told long r m =
     let whole : Session = watched (session_of engine cursors) watches in
-    subst (λ (o : Option Moved). Replied rows line whole seen (Some told.reply)
+    subst (λ (o : Option CursorMove). Replied rows line whole seen (Some told.reply)
     (watched (session_of engine (settled o cursors)) watches) seen) (sym m)
     (subst (λ (x : Reply). Replied rows line whole seen (Some x) whole seen) (sym r)
     (replied_alone rows line whole seen whole (Some replies.Long) (ap use_of (heard_long line long))
@@ -314,7 +314,7 @@ passed rows line old before new after had has p same = record {
 module _ {T E : Type 0} where
   pub told_step : (r : Result T E) (rows : PolicyRows) (line : List ℕ) (old : Session) (before : Seen) (mid : Engine)
       (at : Cursors) (watches : Watches) (new : Engine)
-      (cursors : Cursors) (left : Watches) (after : Seen) (had kept has : List ℕ) (told : Told)
+      (cursors : Cursors) (left : Watches) (after : Seen) (had kept has : List ℕ) (told : DraftReply)
       → Replied rows line old before (Some told.reply) (watched (session_of mid (settled told.moved at)) watches) after →
       new ≡ mid → left ≡ watches
       → OnOk r (cursors ≡ settled told.moved at) → kept ≡ had → OnOk r (has ≡ kept ++ reply_text told.reply)
@@ -329,13 +329,13 @@ module _ {T E : Type 0} where
 -- a reply that moves no cursor was written
 pub told_settled : (rows : PolicyRows) (line : List ℕ) (old : Session) (before : Seen) (mid : Engine) (at : Cursors)
     (watches : Watches) (new : Engine) (cursors : Cursors)
-    (left : Watches) (after : Seen) (told : Told) (reply : Reply) (moved : Option Moved) → told.reply ≡ reply →
+    (left : Watches) (after : Seen) (told : DraftReply) (reply : Reply) (moved : Option CursorMove) → told.reply ≡ reply →
     told.moved ≡ moved
     → Replied rows line old before (Some told.reply) (watched (session_of mid (settled told.moved at)) watches) after →
     new ≡ mid → cursors ≡ settled moved at → left ≡ watches
     → Replied rows line old before (Some reply) (watched (session_of new cursors) left) after
 told_settled rows line old before mid at watches new cursors left after told reply moved r m p e s w =
-    let there : cursors ≡ settled told.moved at = s ∙ ap (λ (o : Option Moved). settled o at) (sym m) in
+    let there : cursors ≡ settled told.moved at = s ∙ ap (λ (o : Option CursorMove). settled o at) (sym m) in
     subst (λ (x : Reply). Replied rows line old before (Some x) (watched (session_of new cursors) left) after) r
     (subst (λ (x : Session). Replied rows line old before (Some told.reply) x after)
     (λ i. watched (session_of (sym e i) (sym there i)) (sym w i)) p)

@@ -5,7 +5,7 @@ use Rattle.wot_policy.specs.declared.rows.PolicyRows.{PolicyRows}
 use Rattle.wot_script.specs.declared.command.Command.{Command}
 use Rattle.wot_script.specs.declared.reply.Reply.{Reply}
 use Rattle.wot_step.specs.declared.class.Class.{Class}
-use Rattle.wot_step.specs.declared.told.Told.{Told}
+use Rattle.wot_step.specs.declared.draft.DraftReply.{DraftReply}
 use Rattle.wot_step.specs.Both.{Ends}
 use Rattle.wot_step.specs.Entry.{IsServed, has_failed, put_for, use_of}
 use Rattle.wot_step.specs.Lines.{heard}
@@ -29,20 +29,20 @@ pub record Replied (rows : PolicyRows) (line : List ℕ) (old : Session) (before
       → Rose before.faults after.faults
 
 -- A machine's reply to a line. A cursor moves once the reply is written.
-abbrev pub Replies : PolicyRows → List ℕ → Ends Machine → Ends Seen → Option Told → Type 0
+abbrev pub Replies : PolicyRows → List ℕ → Ends Machine → Ends Seen → Option DraftReply → Type 0
 Replies rows line machine shelf told =
     Replied rows line (kept machine.old) shelf.old (reply_in told)
     (watched (session_of machine.new.engine (left_by told machine.new.cursors)) machine.new.watches) shelf.new
 
 -- what a machine's parts do with a command, or with a line that isn't one
-abbrev pub RunsIn : PolicyRows → Option Command → Ends Parts → Ends Seen → Told → Type 0
+abbrev pub RunsIn : PolicyRows → Option Command → Ends Parts → Ends Seen → DraftReply → Type 0
 RunsIn rows command parts shelf told =
     CommandRun rows command (watched (session_of parts.old.engine parts.old.cursors) parts.old.watches) shelf.old
     told.reply
     (watched (session_of parts.new.engine (settled told.moved parts.new.cursors)) parts.new.watches) shelf.new
 
 -- what a command does, by its class, in terms of a machine's parts
-abbrev pub ClassRunsIn : PolicyRows → Class → Ends Parts → Ends Seen → Told → Type 0
+abbrev pub ClassRunsIn : PolicyRows → Class → Ends Parts → Ends Seen → DraftReply → Type 0
 ClassRunsIn rows class parts shelf told =
     ClassRun rows class (watched (session_of parts.old.engine parts.old.cursors) parts.old.watches) shelf.old told.reply
     (watched (session_of parts.new.engine (settled told.moved parts.new.cursors)) parts.new.watches) shelf.new

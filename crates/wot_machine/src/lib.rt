@@ -7,4 +7,4 @@ mod machine;
 
 pub use machine::Machine;
 pub use wot_command::dump_makes_the_state_anew;
-pub use wot_step::{Moved, Told};
+pub use wot_step::{CursorMove, DraftReply};

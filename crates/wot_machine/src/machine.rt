@@ -41,7 +41,7 @@ use wot_cursor::Cursors;
 use wot_pacing::pace;
 use wot_policy::{Ask, Policy};
 use wot_script::{LineFault, Reply, print_reply, read_line};
-use wot_step::{Class, Moved, Told, alone, plain, settle, sort};
+use wot_step::{Class, CursorMove, DraftReply, alone, plain, settle, sort};
 use wot_types::{Limits, Memory, Steps};
 use wot_watch::Watches;
 use wot_watching::{are_settled, tell_all, watch, watch_lines};
@@ -165,7 +165,7 @@ impl Machine {
         line: &[u8],
         shelf: &mut D,
         policy: &mut Policy<F>,
-    ) -> Result<Option<Told>, Memory>
+    ) -> Result<Option<DraftReply>, Memory>
         requires countable { self.old.engine.keyring.changes < 2 ^ 64 - 1 }
         requires turnable { self.old.engine.turns.count < 2 ^ 64 - 1 }
         requires judged { IsJudgedBy (rows_of policy.old) self.old.engine.keyring }
@@ -222,7 +222,7 @@ impl Machine {
     }
 
     /// Appends a reply, and moves the cursor if the reply is its piece. After `Memory` nothing changed.
-    fn put(&mut self, told: Told, out: &mut Vec<u8>) -> Result<(), Memory>
+    fn put(&mut self, told: DraftReply, out: &mut Vec<u8>) -> Result<(), Memory>
         requires words { HasWords told.reply }
         ensures appended { OnOk result (out.new.items ≡ out.old.items ++ reply_text told.reply) }
         ensures settled { OnOk result (self.new.cursors ≡ settled told.moved self.old.cursors) }
@@ -233,14 +233,14 @@ impl Machine {
         ensures watches { self.new.watches ≡ self.old.watches }
         ensures made { self.new.made ≡ self.old.made }
     {
-        let Told { reply, moved } = told;
+        let DraftReply { reply, moved } = told;
         print_reply(&reply, out)?;
         self.settle(moved);
         Ok(())
     }
 
     /// Moves the cursor whose piece was written.
-    pub fn settle(&mut self, moved: Option<Moved>)
+    pub fn settle(&mut self, moved: Option<CursorMove>)
         ensures settled { self.new.cursors ≡ settled moved self.old.cursors }
         ensures engine { self.new.engine ≡ self.old.engine }
         ensures watches { self.new.watches ≡ self.old.watches }
@@ -411,7 +411,7 @@ fn answer<D: Shelf, F: Fn(Ask) -> bool>(
     line: &[u8],
     shelf: &mut D,
     policy: &mut Policy<F>,
-) -> Result<Told, Memory>
+) -> Result<DraftReply, Memory>
     requires short { length line.now ≤ 16777216 }
     requires standard { engine.old.keyring.limits ≡ standard_limits }
     requires countable { engine.old.keyring.changes < 2 ^ 64 - 1 }
@@ -468,7 +468,7 @@ fn act<D: Shelf, F: Fn(Ask) -> bool>(
     class: Class,
     shelf: &mut D,
     policy: &mut Policy<F>,
-) -> Result<Told, Memory>
+) -> Result<DraftReply, Memory>
     requires fit { IsFit class }
     requires small { IsSmall class }
     requires standard { engine.old.keyring.limits ≡ standard_limits }

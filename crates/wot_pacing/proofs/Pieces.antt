@@ -26,8 +26,8 @@ use Rattle.wot_cursor.specs.declared.stamps.Stamps.{Stamps}
 use Rattle.wot_explain.specs.declared.bind.Bind.{Bind}
 use Rattle.wot_explain.specs.Listing.{HasList, IsOfEachList, pairs_in}
 use Rattle.wot_explain.specs.Piece.{IsThePiece, piece_of}
-use Rattle.wot_step.specs.declared.told.Moved.{Moved}
-use Rattle.wot_step.specs.declared.told.Told.{Told}
+use Rattle.wot_step.specs.declared.draft.CursorMove.{CursorMove}
+use Rattle.wot_step.specs.declared.draft.DraftReply.{DraftReply}
 use Rattle.wot_step.specs.Listing.{bind_line}
 use Rattle.wot_step.specs.Pacing.{ReturnsPiece, GivesPiece, Goes, GoesBy, GoesFrom, Leaves, OnTold, TellsPiece, behind}
 use Rattle.wot_step.specs.Pacing.{piece, settled, stamps_in}
@@ -35,9 +35,9 @@ use Rattle.wot_step.specs.Session.{Session, session_of}
 use Rattle.wot_step.proofs.Results.{if_ok}
 
 -- a reply that moves no cursor
-pub left : (s : Session) (told : Told) (reply : Reply) → told.reply ≡ reply → told.moved ≡ None →
+pub left : (s : Session) (told : DraftReply) (reply : Reply) → told.reply ≡ reply → told.moved ≡ None →
     Leaves reply s.cursors told.reply (settled told.moved s.cursors)
-left s told reply r m = (r, ap (λ (o : Option Moved). settled o s.cursors) m)
+left s told reply r m = (r, ap (λ (o : Option CursorMove). settled o s.cursors) m)
 
 -- the two current numbers
 pub stamps_now : (s : Session) (view : List ℕ) (now : Stamps) → now.keyring ≡ s.changes →
@@ -50,21 +50,21 @@ stamps_now s view now k t =
 
 module _ (found : Option Cursor) (cursor : Cursor) (s : Session) (name : List ℕ) (count : ℕ) (is : Some cursor ≡ found)
     (shown : is_some (view_at s.state.views cursor.view) ≡ true) where
-  from_cursor : (told : Told) → GoesFrom (view_at s.state.views cursor.view) s name count cursor told.reply
+  from_cursor : (told : DraftReply) → GoesFrom (view_at s.state.views cursor.view) s name count cursor told.reply
       (settled told.moved s.cursors)
       → Goes found s name count told.reply (settled told.moved s.cursors)
   from_cursor told goes = subst (λ (o : Option Cursor). Goes o s name count told.reply (settled told.moved s.cursors))
       is goes
 
   -- if both numbers are unchanged, the piece is returned
-  pub given_by : {E : Type 0} (r : Result Told E) → age_of cursor.stamps (stamps_in s cursor.view) ≡ ages.Same
+  pub given_by : {E : Type 0} (r : Result DraftReply E) → age_of cursor.stamps (stamps_in s cursor.view) ≡ ages.Same
       → IfOk r (λ told. IfSome (view_at s.state.views cursor.view)
       (λ view. GivesPiece s name count cursor view told.reply (settled told.moved s.cursors)))
       → IfOk r (λ told. Goes found s name count told.reply (settled told.moved s.cursors))
   given_by r e gives = if_ok r _ _ (λ told g. from_cursor told (by told (view_at s.state.views cursor.view) shown g))
       gives
     where
-      by : (told : Told) (o : Option View) → is_some o ≡ true →
+      by : (told : DraftReply) (o : Option View) → is_some o ≡ true →
           IfSome o (λ view. GivesPiece s name count cursor view told.reply (settled told.moved s.cursors))
           → GoesFrom o s name count cursor told.reply (settled told.moved s.cursors)
       by told None there g = absurd cc
@@ -88,7 +88,7 @@ piece_is binds lines items l i =
     λ j. replies.Piece (n j) (l j)
 
 -- a piece over the parts of a view is a piece from that view
-pub gives_piece : {E : Type 0} (r : Result Told E) (engine : Engine) (cursors : Cursors) (name : List ℕ) (count : ℕ)
+pub gives_piece : {E : Type 0} (r : Result DraftReply E) (engine : Engine) (cursors : Cursors) (name : List ℕ) (count : ℕ)
     (cursor : Cursor) (parts : Parts)
     → 1 ≤ cursor.wanted → IsSomeAnd (view_at engine.views cursor.view) (λ v. ArePartsOf engine.keyring v parts) →
     IsOfEachList HasList

@@ -17,7 +17,7 @@ use wot_cursor::{Age, Cursor, Cursors, Stamps, age};
 use wot_explain::laws::list_is_one;
 use wot_explain::{Bind, list_after};
 use wot_script::{BindLines, Reply};
-use wot_step::{CursorCommand, Moved, Refused, Told, alone, bind_lines, reply_to};
+use wot_step::{CursorCommand, CursorMove, DraftReply, Refused, alone, bind_lines, reply_to};
 use wot_types::{Memory, Place, Steps, UserId, ViewName};
 
 /// Runs a command about the cursor of this name. A cursor moves only once the reply is written.
@@ -28,7 +28,7 @@ pub fn pace(
     cursors: &mut Cursors,
     name: &ViewName,
     command: &CursorCommand,
-) -> Result<Told, Memory>
+) -> Result<DraftReply, Memory>
     ensures paces { OnTold result cursors.new
         (PacesCursor (session_of engine.old cursors.old) name.now command.now) }
     ensures stays { StaysButMarks engine.old engine.new }
@@ -53,7 +53,7 @@ pub fn over(
     name: &ViewName,
     view: &ViewName,
     wanted: u32,
-) -> Result<Told, Memory>
+) -> Result<DraftReply, Memory>
     ensures begins { OnTold result cursors.new
         (PacesCursor (session_of engine.now cursors.old) name.now (paces.Over view.now wanted)) }
     ensures short { IfOk result (λ told. is_short told.reply ≡ true) }
@@ -75,7 +75,7 @@ pub fn over(
 }
 
 /// `cursor C close`: removes a cursor, or replies that there is none of this name. Takes no memory.
-pub fn close(engine: &Engine, cursors: &mut Cursors, name: &ViewName) -> Told
+pub fn close(engine: &Engine, cursors: &mut Cursors, name: &ViewName) -> DraftReply
     ensures ends { PacesCursor (session_of engine.now cursors.old) name.now paces.Close
         result.reply (settled result.moved cursors.new) }
     ensures short { is_short result.reply ≡ true }
@@ -98,7 +98,7 @@ pub fn next(
     cursors: &Cursors,
     name: &ViewName,
     count: u32,
-) -> Result<Told, Memory>
+) -> Result<DraftReply, Memory>
     ensures goes { OnTold result cursors.now
         (PacesCursor (session_of engine.old cursors.now) name.now (paces.Next count)) }
     ensures stays { StaysButMarks engine.old engine.new }
@@ -130,7 +130,7 @@ fn give(
     cursor: &Cursor,
     name: &ViewName,
     count: u32,
-) -> Result<Told, Memory>
+) -> Result<DraftReply, Memory>
     requires open { is_some (view_at engine.old.views cursor.now.view) ≡ true }
     ensures gives { (cursors : TheCursors) → OnTold result cursors
         (ReturnsPiece (session_of engine.old cursors) name.now count cursor.now) }
@@ -155,7 +155,7 @@ fn piece(
     cursor: &Cursor,
     name: &ViewName,
     count: u32,
-) -> Result<Told, Memory>
+) -> Result<DraftReply, Memory>
     requires wanted { 1 ≤ cursor.now.wanted }
     requires few { length parts.now.roots.now ≤ 64 }
     ensures piece { IfOk result (λ told. TellsPiece parts.now name.now count cursor.now told) }
@@ -174,11 +174,15 @@ fn piece(
     let moved = moved_behind(alloc, name, &binds)?;
     let lines = bind_lines(alloc, binds)?;
     let reply = Reply::Piece(lines.items().len() as u64, lines);
-    Ok(Told { reply, moved })
+    Ok(DraftReply { reply, moved })
 }
 
 /// The place of the cursor once these bindings are written.
-fn moved_behind(alloc: Global, name: &ViewName, binds: &[Bind]) -> Result<Option<Moved>, Memory>
+fn moved_behind(
+    alloc: Global,
+    name: &ViewName,
+    binds: &[Bind],
+) -> Result<Option<CursorMove>, Memory>
     ensures moved { IfOk result (λ moved. (cursors : TheCursors) →
         settled moved cursors ≡ behind cursors name.now binds.now) }
 {
@@ -190,5 +194,5 @@ fn moved_behind(alloc: Global, name: &ViewName, binds: &[Bind]) -> Result<Option
         uid: UserId::new(alloc, last.uid.octets())?,
     };
     let cursor = name.duplicate(alloc)?;
-    Ok(Some(Moved { cursor, place }))
+    Ok(Some(CursorMove { cursor, place }))
 }

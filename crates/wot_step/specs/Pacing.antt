@@ -25,8 +25,8 @@ use Rattle.wot_cursor.specs.declared.stamps.Stamps.{Stamps}
 use Rattle.wot_explain.specs.declared.bind.Bind.{Bind}
 use Rattle.wot_explain.specs.Listing.{pairs_in}
 use Rattle.wot_explain.specs.Piece.{IsThePiece, piece_of}
-use Rattle.wot_step.specs.declared.told.Moved.{Moved}
-use Rattle.wot_step.specs.declared.told.Told.{Told}
+use Rattle.wot_step.specs.declared.draft.CursorMove.{CursorMove}
+use Rattle.wot_step.specs.declared.draft.DraftReply.{DraftReply}
 use Rattle.wot_step.specs.Listing.{AreBindings, bind_line}
 use Rattle.wot_step.specs.Session.{Session}
 
@@ -95,12 +95,12 @@ Goes (Some cursor) s name count reply cursors =
     GoesFrom (view_at s.state.views cursor.view) s name count cursor reply cursors
 
 -- the cursors after this one moved
-abbrev pub settled : Option Moved → Cursors → Cursors
+abbrev pub settled : Option CursorMove → Cursors → Cursors
 settled None cursors = cursors
 settled (Some moved) cursors = with_place cursors moved.cursor moved.place
 
 -- P holds of the reply, and of the cursors once the reply is written
-abbrev pub OnTold : {E : Type 0} → Result Told E → Cursors → (Reply → Cursors → Type 0) → Type 0
+abbrev pub OnTold : {E : Type 0} → Result DraftReply E → Cursors → (Reply → Cursors → Type 0) → Type 0
 OnTold result cursors P = IfOk result (λ told. P told.reply (settled told.moved cursors))
 
 -- the piece, from the cursor's view if it is open
@@ -109,7 +109,7 @@ ReturnsPiece s name count cursor reply cursors =
     IfSome (view_at s.state.views cursor.view) (λ view. GivesPiece s name count cursor view reply cursors)
 
 -- The reply is the piece of the list over these parts, and the cursor moves behind it.
-abbrev pub TellsPiece : Parts → List ℕ → ℕ → Cursor → Told → Type 0
+abbrev pub TellsPiece : Parts → List ℕ → ℕ → Cursor → DraftReply → Type 0
 TellsPiece parts name count cursor told =
     (binds : List Bind)
     × IsThePiece (told_of (present_of parts.roads)) parts.roots.now cursor.wanted
@@ -117,11 +117,11 @@ TellsPiece parts name count cursor told =
     × (told.reply ≡ piece binds) × ((cursors : Cursors) → settled told.moved cursors ≡ behind cursors name binds)
 
 -- the reply to a line and the cursors once it is written; None for a silent line
-abbrev pub reply_in : Option Told → Option Reply
+abbrev pub reply_in : Option DraftReply → Option Reply
 reply_in None = None
 reply_in (Some told) = Some told.reply
 
-abbrev pub left_by : Option Told → Cursors → Cursors
+abbrev pub left_by : Option DraftReply → Cursors → Cursors
 left_by None cursors = cursors
 left_by (Some told) cursors = settled told.moved cursors
 

@@ -6,13 +6,13 @@
 
 mod bindings;
 mod class;
+mod draft;
 mod refusal;
-mod told;
 
 pub use bindings::bind_lines;
 pub use class::{
     Change, Class, CursorCommand, Read, ShelfCall, StateCommand, ViewChange, ViewQuestion,
     WatchCommand, sort,
 };
+pub use draft::{CursorMove, DraftReply, alone, plain, settle};
 pub use refusal::{Refused, reply_to};
-pub use told::{Moved, Told, alone, plain, settle};

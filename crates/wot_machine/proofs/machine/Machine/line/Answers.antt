@@ -3,7 +3,7 @@ use Rattle.wot_types.specs.declared.memory.Memory.{Memory}
 use Rattle.wot_policy.specs.Kept.{rows_of}
 use Rattle.wot_machine.specs.Machine.{kept}
 use Rattle.wot_cache.specs.State.{Engine, state_of}
-use Rattle.wot_step.specs.declared.told.Told.{Told}
+use Rattle.wot_step.specs.declared.draft.DraftReply.{DraftReply}
 use Rattle.wot_step.specs.Entry.{use_of}
 use Rattle.wot_step.specs.Lines.{heard}
 use Rattle.wot_step.specs.Made.{LineMakes}
@@ -53,7 +53,7 @@ returns-in-None-clause-step g c =
 
 pub returns-in-Some-clause-makes : goal.returns-in-Some-clause-makes
 returns-in-Some-clause-makes g c =
-    let done : Result (Option Told) Memory = Ok c.in_ok-told.field-0 in
+    let done : Result (Option DraftReply) Memory = Ok c.in_ok-told.field-0 in
     let line = heard c.args.line.now in
     let made : LineMakes done line c.args.self.now.cursors c.args.self.now.engine c.put.new.self.engine
     c.args.self.now.made c.put.new.self.made =
@@ -82,7 +82,7 @@ returns-in-Some-clause-entries g c =
 
 pub returns-in-Some-clause-asked : goal.returns-in-Some-clause-asked
 returns-in-Some-clause-asked g c =
-    let done : Result (Option Told) Memory = Ok c.in_ok-told.field-0 in
+    let done : Result (Option DraftReply) Memory = Ok c.in_ok-told.field-0 in
     let line = heard c.args.line.now in
     let asked : LineAsks done line (state_of c.args.self.now.engine) (state_of c.put.new.self.engine) c.args.policy.now
     c.reply.new.policy =
@@ -94,7 +94,7 @@ returns-in-Some-clause-asked g c =
 
 pub returns-in-None-clause-asked : goal.returns-in-None-clause-asked
 returns-in-None-clause-asked g c =
-    let done : Result (Option Told) Memory = Ok c.in_ok-told.field-0 in
+    let done : Result (Option DraftReply) Memory = Ok c.in_ok-told.field-0 in
     asks_as done _ (λ ok. refl) (heard c.args.line.now) (state_of c.args.self.now.engine)
     (state_of c.reply.new.self.engine) c.args.policy.now c.reply.new.policy
     c.in_ok-told.ensures.asked

@@ -2,7 +2,7 @@ use Rattle.std.proofs.Common.{rules, ◌≡◌, false, Option, Some, Result, Ok,
 use Rattle.wot_types.specs.declared.memory.Memory.{Memory}
 use Rattle.wot_policy.specs.Kept.{rows_of}
 use Rattle.wot_script.specs.Grammar.{command_of}
-use Rattle.wot_step.specs.declared.told.Told.{Told}
+use Rattle.wot_step.specs.declared.draft.DraftReply.{DraftReply}
 use Rattle.wot_step.specs.Lines.{heard, is_silent}
 use Rattle.wot_machine.specs.Machine.{Machine, kept}
 use Rattle.wot_step.specs.Made.{LineMakes}
@@ -21,7 +21,7 @@ use Rattle.wot_machine.proofs.machine.Machine.reply.Goals as goal
 pub returns-clause-makes : goal.returns-clause-makes
 returns-clause-makes g c =
     let loud : is_silent c.args.line.now ≡ false = search rules in
-    let done : Result (Option Told) Memory = Ok (Some c.in_ok-told.told) in
+    let done : Result (Option DraftReply) Memory = Ok (Some c.in_ok-told.told) in
     subst (λ (m : Machine). LineMakes done (heard c.args.line.now) m.cursors m.engine c.answer.new.engine m.made
     c.answer.new.steps.made) c.self.view_is
     (makes_heard done c.args.line.now c.self.inside.cursors c.self.inside.engine c.answer.new.engine
@@ -67,7 +67,7 @@ invariant_of-self-2 g c =
 pub returns-clause-asked : goal.returns-clause-asked
 returns-clause-asked g c =
     let loud : is_silent c.args.line.now ≡ false = search rules in
-    let done : Result (Option Told) Memory = Ok (Some c.in_ok-told.told) in
+    let done : Result (Option DraftReply) Memory = Ok (Some c.in_ok-told.told) in
     subst (λ (m : Machine). LineAsks done (heard c.args.line.now) (state_of m.engine) (state_of c.answer.new.engine)
     c.args.policy.now c.answer.new.policy) c.self.view_is
     (asks_heard done c.args.line.now (state_of c.self.inside.engine) (state_of c.answer.new.engine) c.args.policy.now

@@ -9,29 +9,29 @@ use wot_types::{Memory, Place, ViewName};
 
 /// The last binding that a cursor returned.
 #[derive(Drop)]
-pub struct Moved {
+pub struct CursorMove {
     pub cursor: ViewName,
     pub place: Place,
 }
 
-/// A reply. If it is a piece, the cursor moves only once it is written, so that the piece is sent again after running
-/// out of memory.
+/// A reply before it is written. If it is a piece, the cursor moves only once it is written, so that the piece is sent
+/// again after running out of memory.
 #[derive(Drop)]
-pub struct Told {
+pub struct DraftReply {
     pub reply: Reply,
-    pub moved: Option<Moved>,
+    pub moved: Option<CursorMove>,
 }
 
 /// A reply that moves no cursor.
-pub fn alone(reply: Reply) -> Told
+pub fn alone(reply: Reply) -> DraftReply
     ensures reply { result.reply ≡ reply }
     ensures moved { result.moved ≡ None }
 {
-    Told { reply, moved: None }
+    DraftReply { reply, moved: None }
 }
 
 /// A reply that moves no cursor, or out of memory.
-pub fn plain(reply: Result<Reply, Memory>) -> Result<Told, Memory>
+pub fn plain(reply: Result<Reply, Memory>) -> Result<DraftReply, Memory>
     ensures told { IfOk reply (λ r. result ≡ Ok (record { reply = r; moved = None })) }
     ensures same { is_ok result ≡ is_ok reply }
 {
@@ -42,10 +42,10 @@ pub fn plain(reply: Result<Reply, Memory>) -> Result<Told, Memory>
 }
 
 /// Moves the cursor.
-pub fn settle(moved: Option<Moved>, cursors: &mut Cursors)
+pub fn settle(moved: Option<CursorMove>, cursors: &mut Cursors)
     ensures settled { cursors.new ≡ settled moved cursors.old }
 {
-    if let Some(Moved { cursor, place }) = moved {
+    if let Some(CursorMove { cursor, place }) = moved {
         let _ = cursors.advance(&cursor, place);
     }
 }
