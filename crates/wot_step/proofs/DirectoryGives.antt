@@ -12,7 +12,7 @@ use Rattle.wot_step.specs.Lines.{heard}
 use Rattle.wot_step.specs.LineStep.{LineStep}
 use Rattle.wot_step.specs.Scene.{Scene, Step, served_in, world_behind}
 use Rattle.wot_step.specs.Served.{Served, unserved}
-use Rattle.wot_step.specs.Transcript.{AllTold, IsNow}
+use Rattle.wot_step.specs.Transcript.{IsNow}
 use Rattle.wot_step.specs.Watching.{ReportsWatches}
 
 -- what is kept, with a directory in this world
@@ -107,27 +107,3 @@ goes rows (Some origin) before after now old mid new line use_ given reply told 
           (put_for old.state use_ x.read))) g;
       step = step_by rows now old mid new line reply told use_ given e g does tells;
     }
-
--- ---- if everything is known
-
-pub all_told : (left written : Option (List ℕ)) (origin : Option World) (P : List ℕ → List ℕ → World → Type 0)
-    → ((input before : List ℕ) (world : World) → left ≡ Some input → written ≡ Some before → IsNow origin origin world →
-    P input before world) → AllTold left written origin P
-all_told None written origin P f = tt
-all_told (Some input) None origin P f = tt
-all_told (Some input) (Some before) None P f = λ nothing world. f input before world refl refl tt
-all_told (Some input) (Some before) (Some world) P f = f input before world refl refl refl
-
--- what holds of all contents holds of known ones
-pub told_always : (left written : Option (List ℕ)) (origin : Option World) (P : List ℕ → List ℕ → World → Type 0)
-    → ((input before : List ℕ) (world : World) → P input before world) → AllTold left written origin P
-told_always left written origin P f =
-    all_told left written origin P (λ input before world e f' is. f input before world)
-
-pub all_weaker : (left written : Option (List ℕ)) (origin : Option World) (P Q : List ℕ → List ℕ → World → Type 0)
-    → ((input before : List ℕ) (world : World) → IsUncalled origin input → P input before world →
-    Q input before world) → AllTold left written origin P → AllTold left written origin Q
-all_weaker None written origin P Q f t = tt
-all_weaker (Some input) None origin P Q f t = tt
-all_weaker (Some input) (Some before) None P Q f t = λ nothing world. f input before world nothing (t nothing world)
-all_weaker (Some input) (Some before) (Some world) P Q f t = f input before world tt t
