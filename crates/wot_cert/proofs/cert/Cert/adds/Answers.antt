@@ -1,6 +1,6 @@
 use Rattle.std.proofs.Common.{ℕ, ◌≤◌, ◌<◌, arith}
 use Rattle.wot_part.proofs.TextSize.{size_less}
-use Rattle.wot_cert.proofs.adds.Cert.adds.Goals as goal
+use Rattle.wot_cert.proofs.cert.Cert.adds.Goals as goal
 
 below : (n m p : ℕ) → n ≤ m → m < p → n < p
 below n m p h k = omega arith
