@@ -1,5 +1,5 @@
-//! Laws of the definitions. Each function does nothing: its contract is the law. wot_machine calls them for cursors and
-//! watches: what a change leaves alone, and what an answer depends on.
+//! Laws of the definitions. Each function does nothing: its contract is the law. wot_machine and wot_watching call
+//! them for cursors and watches: what a change leaves alone, and what an answer depends on.
 ghost use Rattle.std.specs.Prelude.{◌≤◌, ℕ, List, length};
 ghost use Rattle.wot_types.specs.declared.fpr.Fpr.{Fpr};
 ghost use Rattle.wot_held.specs.Import.{IsOneChange};

@@ -1,4 +1,4 @@
-//! An entry of the list of bindings. wot_machine prints it, and the paced listings remember the last one as a place.
+//! An entry of the list of bindings. Replies print it, and a cursor remembers the last one as its place.
 use wot_types::{Fpr, UserId};
 
 /// A binding of a user ID to a key, with the amount to which it is authenticated.

@@ -1,5 +1,5 @@
-//! Questions whose answers are watched: the sum of an answer, together with what it depends on. wot_machine calls it
-//! for each watch; `basis` then says how long the sum stays the same.
+//! Questions whose answers are watched: the sum of an answer, together with what it depends on. wot_watching calls
+//! it for each watch; `basis` then says how long the sum stays the same.
 ghost use Rattle.std.specs.Prelude.{◌≡◌, ◌≤◌, ◌+◌, false, true, IfOk, IfSome, OnErr};
 ghost use Rattle.wot_edge.specs.Answer.{IsAnswer, amount_of};
 ghost use Rattle.wot_network.specs.Net.{signatures_in};
