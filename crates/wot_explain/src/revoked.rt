@@ -1,5 +1,6 @@
-//! Whether an issuer revoked a certification: the rule about revocations that `words` uses. wot_standing has the rule
-//! for edges; the law `zero_is_usable` shows that both agree.
+//! Whether an issuer revoked a certification: the rule about revocations that `words` uses. It stands on the tests of one
+//! signature in wot_standing, and on `is_unrevoked` of `wot_cert/specs/Revoked.antt`, which the rule for edges in
+//! wot_standing uses too.
 ghost use Rattle.std.specs.Prelude.{◌≡◌, ◌||◌, not, nat_lt};
 ghost use Rattle.std.specs.List.{list_all};
 ghost use Rattle.wot_cert.specs.Revoked.{is_unrevoked as is_unrevoked_spec, revokes_by};
