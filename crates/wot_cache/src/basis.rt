@@ -1,5 +1,5 @@
-//! What the answers to a set of questions depend on, so that it is known without asking again that none has changed. The
-//! machine keeps one for all watches, and wot_watching asks it and renews it. It stands on the turns of views, the
+//! What the answers to a set of questions depend on, so that it is known without asking again that none has changed.
+//! The machine keeps one for all watches, and wot_watching asks it and renews it. It stands on the turns of views, the
 //! keyring's log of changes and the kept answers.
 ghost use Rattle.std.specs.Prelude.{◌≡◌, false, true, IfSome};
 ghost use Rattle.wot_kept.specs.Answers.{AreAllRight, IsRight};

@@ -1,5 +1,5 @@
-//! How many looks a view's searches may take before making a table of reach pays off. `answers` keeps one for each view:
-//! `ask` reads it, and `making` takes the looks that were spent from it. Only speed depends on it.
+//! How many looks a view's searches may take before making a table of reach pays off. `answers` keeps one for each
+//! view: `ask` reads it, and `making` takes the looks that were spent from it. Only speed depends on it.
 use wot_keyring::Keyring;
 use wot_search::Making;
 

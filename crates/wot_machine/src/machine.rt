@@ -1,8 +1,8 @@
 //! The machine between two lines. `line` does one: it is read as a command, the command is run on the engine and the
 //! certificate directory, and its reply is printed. `tell` then prints the watch lines.
-//! `specs/Outcome.antt` and `specs/LineStep.antt` of wot_step define the outcome of each command. A further command of a
-//! class gets its arm where the class is run, in wot_command, wot_pacing or wot_watching. A further class needs an arm of
-//! `act` here, and `goes_on` says whether watches are still up to date after it.
+//! `specs/Outcome.antt` and `specs/LineStep.antt` of wot_step define the outcome of each command. A further command of
+//! a class gets its arm where the class is run, in wot_command, wot_pacing or wot_watching. A further class needs an
+//! arm of `act` here, and `goes_on` says whether watches are still up to date after it.
 ghost use Rattle.std.specs.Prelude.{◌≡◌, ◌≤◌, ◌<◌, ◌+◌, ◌-◌, ◌^◌, [], ◌++◌};
 ghost use Rattle.std.specs.Prelude.{length, vec_items, vec_len, vec_capacity};
 ghost use Rattle.std.specs.Prelude.{Some, None, false, true, IfOk, IfSome, IsOk, OnOk, OnErr};
