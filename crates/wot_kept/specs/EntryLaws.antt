@@ -95,7 +95,7 @@ one_there None v e = absurd cc
 one_there (Some x) v e = refl
 
 -- a value replaces another one
-length_replaced : {K X : Type 0} (cmp : K → K → Ordering) → IsTotalOrder cmp → (es : List (K × X)) (k : K) (v w : X)
+pub length_replaced : {K X : Type 0} (cmp : K → K → Ordering) → IsTotalOrder cmp → (es : List (K × X)) (k : K) (v w : X)
     → Rattle.std.specs.List.Sorted.IsStrictlySortedBy cmp (keys_of es) → lookup (is_at (cmp k)) es ≡ Some w
     → length (insert_entry cmp es k v) ≡ length es
 unfolding one

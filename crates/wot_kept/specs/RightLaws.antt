@@ -98,7 +98,7 @@ some_reaching_later : (old new : Keyring) (roots : Amounts) (turn : ℕ) (o : Op
 some_reaching_later old new roots turn None one is = is
 some_reaching_later old new roots turn (Some r) one is = reaching_later old new roots turn r one is
 
-all_right_later : LaterStill → (old new : Keyring) (answers : AllAnswers) → IsLater old new → IsOneChange old new
+pub all_right_later : LaterStill → (old new : Keyring) (answers : AllAnswers) → IsLater old new → IsOneChange old new
     → AreAllRight old answers → AreAllRight new answers
 all_right_later further old new [] later one all = tt
 all_right_later further old new (e ∷ es) later one all = (
