@@ -11,7 +11,7 @@ from pages import ROOT, Page, Span, page, pages
 # The most lines of a page.
 SIZES = {
     "README.md": 110,
-    "docs/ARCHITECTURE.md": 250,
+    "docs/ARCHITECTURE.md": 280,
     "docs/CHANGING.md": 200,
     "docs/SEARCH.md": 150,
     "docs/DECISIONS.md": 300,
