@@ -4,6 +4,7 @@ import random
 import subprocess
 import sys
 from collections.abc import Iterator
+from concurrent.futures import ThreadPoolExecutor
 from pathlib import Path
 
 from .night import FAILED, PASSED, SKIPPED, Night, Part, last_line
@@ -18,13 +19,13 @@ SECONDS = 600
 def scripts(night: Night) -> Part:
     """Random scripts of all commands from new seeds, over each program."""
     count, first = night.size(4000, 20), night.drawn("scripts").randrange(10**9)
-    seeds, wrong = f"{first}..{first + count - 1}", []
-    for program in night.programs:
-        words = [sys.executable, str(night.root / "model/compare"), "--seeds", seeds, "--program", str(program)]
-        words += ["--jobs", str(night.jobs), "--keep", str(night.folder / "scripts")]
-        status, output = night.run(f"scripts-{program.name}", words)
-        if status != 0 or last_line(output) != f"{count} same, 0 different":
-            wrong += [f"{program}: {line}" for line in output.splitlines()[-20:]]
+    seeds = f"{first}..{first + count - 1}"
+    words = [sys.executable, str(night.root / "model/compare"), "--seeds", seeds]
+    words += ["--jobs", str(night.jobs), "--keep", str(night.folder / "scripts")]
+    words += [word for program in night.programs for word in ("--program", str(program))]
+    status, output = night.run("scripts", words, hours=6)
+    same = status == 0 and last_line(output) == f"{count} same, 0 different"
+    wrong = [] if same else output.splitlines()[-20:]
     summary = f"{count} scripts (seeds {seeds}) over {len(night.programs)} programs"
     return Part("scripts", FAILED if wrong else PASSED, summary, wrong)
 
@@ -83,15 +84,12 @@ def lines_of(draw: random.Random, chosen: list[list[bytes]]) -> Iterator[str]:
     yield from ("pending", "keys", "dump")
 
 
-def differing(program: Path, script: bytes) -> str:
+def differing(program: Path, script: bytes, wanted: bytes) -> str:
     """Where the program's replies part from the model's; the empty text if they don't."""
-    from wot_model.machine import Machine  # type: ignore[import]
-
     try:
         ended = subprocess.run([program, "run"], input=script, capture_output=True, timeout=SECONDS, check=False)
     except subprocess.TimeoutExpired:
         return f"no end within {SECONDS} seconds"
-    wanted = Machine().transcript(script)
     if ended.returncode != 0 or ended.stderr:
         return f"status {ended.returncode}, {ended.stderr[:200]!r}"
     if ended.stdout == wanted:
@@ -101,20 +99,27 @@ def differing(program: Path, script: bytes) -> str:
     return f"reply line {number}: {said[:200]!r} and not {model[:200]!r}"
 
 
+def tried(night: Night, number: int, script: bytes) -> list[str]:
+    """What is wrong with each program's replies to a script, which is kept if it shows something."""
+    model = [sys.executable, str(night.root / "model/run"), "/dev/null/none"]
+    wanted = subprocess.run(model, input=script, stdout=subprocess.PIPE, check=True).stdout
+    file = night.folder / f"mutants-{number}.wot"
+    whys = [(program, differing(program, script, wanted)) for program in night.programs]
+    wrong = [f"{program} on {file}: {why}" for program, why in whys if why]
+    if wrong:
+        file.write_bytes(script)
+    return wrong
+
+
 def mutants(night: Night) -> Part:
     """Real certificates with mistakes: the program says of each what the model says."""
     if not KEYRING.exists():
         return Part("mutants", SKIPPED, "the package debian-keyring isn't installed")
-    draw, wrong, count = night.drawn("mutants"), [], night.size(400, 4)
-    real = certificates(KEYRING.read_bytes(), night)
-    for number in range(count):
-        chosen = draw.sample(real, TOGETHER)
-        script = "".join(line + "\n" for line in lines_of(draw, chosen)).encode()
-        for program in night.programs:
-            why = differing(program, script)
-            if why:
-                file = night.folder / f"mutants-{number}.wot"
-                file.write_bytes(script)
-                wrong.append(f"{program} on {file}: {why}")
+    draw, count, real = night.drawn("mutants"), night.size(400, 4), certificates(KEYRING.read_bytes(), night)
+    drawn = (lines_of(draw, draw.sample(real, TOGETHER)) for _ in range(count))
+    scripts_drawn = ["".join(line + "\n" for line in lines).encode() for lines in drawn]
+    with ThreadPoolExecutor(night.jobs) as pool:
+        told = pool.map(lambda each: tried(night, *each), enumerate(scripts_drawn))
+        wrong = [line for lines in told for line in lines]
     summary = f"{count * TOGETHER} certificates with mistakes, of {len(real)} real ones (seed {night.seed})"
     return Part("mutants", FAILED if wrong else PASSED, summary, wrong)

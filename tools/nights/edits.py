@@ -2,13 +2,16 @@
 
 Edits of different functions of a crate are tried in one check of these functions alone. A refusal counts if the check
 doesn't prove the edited function and names a place in it. What a shared check leaves open is tried alone, and then over
-the whole crate, before it counts as not refused.
+the whole crate, before it counts as not refused. The checks of a crate are made one after another, since each keeps
+what the next doesn't have to check again.
 """
 
 import re
+import tempfile
 from collections import defaultdict
 from concurrent.futures import ThreadPoolExecutor
 from dataclasses import dataclass
+from pathlib import Path
 
 from checks.edits import applied, crate_of
 from checks.finding import CannotRun
@@ -46,9 +49,12 @@ def read(night: Night) -> tuple[list[Edit], list[str]]:
     return found, bad
 
 
-def batches(edits: list[Edit]) -> list[list[Edit]]:
-    """Edits of one crate, of different functions in different files; those that change more than a function alone."""
-    made: dict[str, list[list[Edit]]] = defaultdict(list)
+Batch = list[Edit]
+
+
+def batches(edits: list[Edit]) -> dict[str, list[Batch]]:
+    """For each crate its edits of different functions in different files, and each that changes more alone."""
+    made: dict[str, list[Batch]] = defaultdict(list)
     for edit in edits:
         places = {*edit.texts}
         for batch in made[edit.crate]:
@@ -58,7 +64,7 @@ def batches(edits: list[Edit]) -> list[list[Edit]]:
                 break
         else:
             made[edit.crate].append([edit])
-    return [batch for each in made.values() for batch in each]
+    return made
 
 
 def says(output: str, edit: Edit) -> str:
@@ -77,13 +83,13 @@ def says(output: str, edit: Edit) -> str:
     return "refused" if any(not GONE.search(said) for said in inside) else ""
 
 
-def tried_alone(kit: Kit, edit: Edit) -> str:
+def tried_alone(kit: Kit, edit: Edit, kept: Path) -> str:
     """What comes of one edit: first its function, then the whole crate. The empty text if it was refused."""
     if edit.function:
-        _, output = kit.check(edit.crate, edit.texts, [edit.function.path])
+        _, output = kit.check(edit.crate, edit.texts, [edit.function.path], kept)
         if says(output, edit) == "refused":
             return ""
-    status, output = kit.check(edit.crate, edit.texts, [])
+    status, output = kit.check(edit.crate, edit.texts, [], kept)
     if status == 1 and "logic=not-proved" in output:
         return ""
     if status == 0:
@@ -93,14 +99,20 @@ def tried_alone(kit: Kit, edit: Edit) -> str:
     return f"{edit.path}: no verdict (status {status}): {said:.300}"
 
 
-def tried(kit: Kit, batch: list[Edit]) -> list[str]:
+def tried(kit: Kit, batch: Batch, kept: Path) -> list[str]:
     """Tries a batch; what is wrong with each of its edits that wasn't refused."""
     left = batch
     if len(batch) > 1:
         texts = {path: text for edit in batch for path, text in edit.texts.items()}
-        _, output = kit.check(batch[0].crate, texts, [edit.function.path for edit in batch if edit.function])
+        _, output = kit.check(batch[0].crate, texts, [edit.function.path for edit in batch if edit.function], kept)
         left = [edit for edit in batch if says(output, edit) != "refused"]
-    return [wrong for wrong in (tried_alone(kit, edit) for edit in left) if wrong]
+    return [wrong for wrong in (tried_alone(kit, edit, kept) for edit in left) if wrong]
+
+
+def tried_in_turn(kit: Kit, of_crate: list[Batch]) -> list[str]:
+    """Tries the batches of one crate; what is wrong with each edit that wasn't refused."""
+    with tempfile.TemporaryDirectory(prefix="wot-kept-") as kept:
+        return [wrong for batch in of_crate for wrong in tried(kit, batch, Path(kept))]
 
 
 def edits(night: Night) -> Part:
@@ -113,9 +125,11 @@ def edits(night: Night) -> Part:
     if night.is_short:
         small = [edit for edit in found if not kit.below(edit.crate) and edit.function]
         found = night.drawn("edits").sample(small, min(4, len(small)))
-    work = batches(found)
+    # Crates with many checks begin first, so that the last ones to end are short.
+    work = sorted(batches(found).values(), key=len, reverse=True)
     with ThreadPoolExecutor(night.jobs) as pool:
-        for lines in pool.map(lambda batch: tried(kit, batch), work):
+        for lines in pool.map(lambda of_crate: tried_in_turn(kit, of_crate), work):
             wrong += lines
-    summary = f"{len(found)} edits in {len(work)} checks: {len(found) - len(wrong)} refused, {len(wrong)} not"
+    count = sum(map(len, work))
+    summary = f"{len(found)} edits in {count} checks: {len(found) - len(wrong)} refused, {len(wrong)} not"
     return Part("edits", FAILED if wrong else PASSED, summary, wrong)

@@ -24,15 +24,21 @@ class Part:
 
 @dataclass(frozen=True)
 class Night:
-    """What all parts are given."""
+    """What all parts are given. The page and the logs go to the folder; the room is for what goes in the end."""
 
     root: Path
     folder: Path
+    room: Path
     programs: list[Path]
     libraries: Path
     seed: int
     jobs: int
     is_short: bool
+
+    @property
+    def clone(self) -> Path:
+        """Where the gate runs: outside the checkout, since the toolchain refuses one that has another inside."""
+        return self.room / "clone"
 
     def size(self, whole: int, short: int) -> int:
         return short if self.is_short else whole

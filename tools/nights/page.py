@@ -28,7 +28,6 @@ def told(night: Night, parts: list[Part], head: dict[str, Any]) -> dict[str, Any
         "seed": night.seed,
         "short": night.is_short,
         "programs": [str(program) for program in night.programs],
-        "seconds": round(sum(part.seconds for part in parts), 1),
         "parts": [asdict(part) for part in parts],
     }
 

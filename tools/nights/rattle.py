@@ -56,8 +56,9 @@ class Kit:
         project = kit / "rattle/logic/antt-project.json"
         return [*words, "--antt-project", str(project), "--logic-built", str(kit / "logic_built"), "--jobs", "1"]
 
-    def check(self, crate: str, texts: dict[str, str], functions: list[str]) -> tuple[int, str]:
-        """Checks these functions, or the whole crate if there are none, with these texts in place of its own."""
+    def check(self, crate: str, texts: dict[str, str], functions: list[str], kept: Path) -> tuple[int, str]:
+        """Checks these functions, or the whole crate if there are none, with these texts in place of its own. What the
+        folder has kept of earlier checks of the crate isn't checked again."""
         with tempfile.TemporaryDirectory(prefix="wot-edit-") as room:
             for part in ("src", "specs", "proofs"):
                 if (self.crates / crate / part).is_dir():
@@ -65,7 +66,7 @@ class Kit:
             for path, text in texts.items():
                 (Path(room) / path).write_text(text, encoding="utf-8")
             only = [word for name in functions for word in ("--only", name)]
-            words = [str(self.rattle), "check", *self.words(crate), *only]
+            words = [str(self.rattle), "check", *self.words(crate), "--incremental", str(kept), *only]
             try:
                 ran = subprocess.run(
                     words, cwd=room, stdin=subprocess.DEVNULL, stdout=subprocess.PIPE, stderr=subprocess.STDOUT,

@@ -9,12 +9,10 @@ from .night import FAILED, PASSED, SKIPPED, Night, Part, last_line
 
 def gate(night: Night) -> Part:
     """`rt ci` in a clean clone of this commit, as the merge runs it. What it builds is what the other parts run."""
-    clone = night.folder / "clone"
     if not shutil.which("rt"):
         return Part("gate", SKIPPED, "the Rattle toolchain (the command rt) isn't installed")
-    shutil.rmtree(clone, ignore_errors=True)
-    subprocess.run(["git", "clone", "-q", str(night.root), str(clone)], check=True)
-    status, output = night.run("gate", ["rt", "ci"], hours=6, cwd=clone)
+    subprocess.run(["git", "clone", "-q", str(night.root), str(night.clone)], check=True)
+    status, output = night.run("gate", ["rt", "ci"], hours=6, cwd=night.clone)
     return Part("gate", PASSED if status == 0 else FAILED, last_line(output))
 
 

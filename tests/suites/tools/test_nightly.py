@@ -1,6 +1,7 @@
-"""The edits and the page of `tools/nightly`."""
+"""The edits, the order and the page of `tools/nightly`."""
 
 import tempfile
+import threading
 import unittest
 from pathlib import Path
 
@@ -10,6 +11,7 @@ from checks.edits import applied  # noqa: I100
 from nights.edits import Edit, batches, says
 from nights.functions import all_functions, changed_function
 from nights.night import Night, Part, timed
+from nights.order import PARTS, side_by_side, steps_of
 from nights.page import page, status_of, told
 
 SOURCE = """\
@@ -89,7 +91,7 @@ class Edits(unittest.TestCase):
         first, second, outside = (self.edit(old) for old in ("        3", "            return 1;", "//! Planted."))
         (self.crate / "src/b.rt").write_text("fn lone() {\n    one\n}\n", encoding="utf-8")
         other = self.edit("    one", file="src/b.rt")
-        self.assertEqual(batches([first, second, outside, other]), [[first, other], [second], [outside]])
+        self.assertEqual(batches([first, second, outside, other]), {"planted": [[first, other], [second], [outside]]})
 
     def test_the_repository_s_edits_change_functions(self) -> None:
         """Nearly all edits of code change one function; the others, and those of definitions, need a whole crate."""
@@ -99,11 +101,37 @@ class Edits(unittest.TestCase):
         self.assertGreater(sum(each is not None for each in found), len(found) * 9 // 10)
 
 
+class Order(unittest.TestCase):
+    """Which parts run side by side."""
+
+    def test_the_gate_is_first_and_the_benches_are_alone(self) -> None:
+        steps = steps_of(list(PARTS), has_programs=False)
+        self.assertEqual([each for step in steps for each in step], list(PARTS))
+        self.assertEqual((steps[0], steps[-1]), (["gate"], ["benches"]))
+
+    def test_named_parts_run_in_the_order_of_a_whole_night(self) -> None:
+        steps = steps_of(["benches", "memory", "checks", "edits"], has_programs=False)
+        self.assertEqual(steps, [["checks"], ["edits", "memory"], ["benches"]])
+
+    def test_nothing_waits_for_the_gate_where_there_is_a_program(self) -> None:
+        steps = steps_of(["gate", "checks", "edits", "benches"], has_programs=True)
+        self.assertEqual(steps, [["checks"], ["gate", "edits"], ["benches"]])
+
+    def test_parts_of_one_step_run_at_the_same_time(self) -> None:
+        both = threading.Barrier(2, timeout=20)
+
+        def run_beside(name: str) -> Part:
+            both.wait()
+            return Part(name, "passed", "")
+
+        self.assertEqual([part.name for part in side_by_side(["edits", "memory"], run_beside)], ["edits", "memory"])
+
+
 class Pages(unittest.TestCase):
     """The page of a night."""
 
     def night(self, folder: str) -> Night:
-        return Night(ROOT, Path(folder), [Path("/bin/true")], ROOT / "crates", 7, 1, True)
+        return Night(ROOT, Path(folder), Path(folder), [Path("/bin/true")], ROOT / "crates", 7, 1, True)
 
     def test_untrusted_text_is_no_markup(self) -> None:
         parts = [Part("scripts", "failed", "<script>alert(1)</script>", ["a & b <i>"])]
