@@ -150,8 +150,8 @@ class Names(unittest.TestCase):
         lines = page("SECURITY.md").lines
         rows = [line for line in lines[lines.index("## Who may attack, and what stops them"):] if line.startswith("| ")]
         cells = [row.split("|")[3].strip() for row in rows if not row.startswith("| what they try")]
-        nightly = re.search(r"for part in \(([\w, ]+)\)", (ROOT / "tools/nightly").read_text())
-        parts = set(nightly[1].split(", ")) if nightly else set()
+        steps = re.search(r"STEPS.*? = \[(.*?)\n\]", (ROOT / "tools/nights/order.py").read_text(), re.DOTALL)
+        parts = set(re.findall(r"\w+", steps[1])) if steps else set()
         absent = []
         for cell in filter(None, cells):
             for name in re.sub(r" *\(.*?\)", "", cell).split(", "):

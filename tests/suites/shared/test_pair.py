@@ -28,7 +28,8 @@ class Pair(unittest.TestCase):
             self.primary.url(self.standby), self.standby.url(self.primary))]
         with Client(self.servers[0].path) as client:
             for line in self.kept_before:
-                self.assertTrue(client.tell(line).startswith(b"ok"))
+                reply = client.tell(line)
+                self.assertTrue(reply.startswith(b"ok"), reply)
         wait_until_same(self.servers)
 
     def is_synchronous(self):

@@ -22,6 +22,7 @@ IS_FIXED = "WOT_SEEDS" not in os.environ
 SEEDS = [int(seed) for seed in os.environ.get("WOT_SEEDS", "1,2,3,4,5").split(",")]
 TOGETHER = 40
 
+
 class Night:
     """What `certificates` asks of a night."""
     root = ROOT
@@ -68,16 +69,19 @@ class Mutated(unittest.TestCase):
 
     @unittest.skipUnless(shutil.which("gpg"), "gpg isn't installed")
     def test_a_signature_is_good_where_it_is_for_gpg(self):
-        """Of the certificates that both take. gpg keeps one binding of a subkey, looks at no certification by a key
-        that is revoked or bound by nothing, and finds a subkey's binding among user IDs too. It leaves out more when it
-        merges damaged user IDs, so that its good ones are ours for every seed, and ours are its for the fixed ones."""
+        """Of the certificates that both take, and by keys of these: gpg takes the packets before one that is cut short.
+        gpg keeps one binding of a subkey, looks at no certification by a key that is revoked or bound by nothing, and
+        finds a subkey's binding among user IDs too. It leaves out more when it merges damaged user IDs, so that its
+        good ones are ours for every seed, and ours are its for the fixed ones."""
         compared = 0
         for seed in SEEDS:
             files = self.files(seed)
             theirs, owners, unusable = readers.by_gpg(gnupg.make_home(f"mutated-{seed}"), files)
             signatures = self.verdicts(*files)
             ours, common = self.good(signatures), owners & {one.owner for one, _ in signatures}
-            theirs = {one for one in theirs if one.certificate in common and one.place in readers.PLACES[one.kind]}
+            issuers = {owner[-16:] for owner in common}
+            theirs = {one for one in theirs if one.certificate in common and one.issuer in issuers
+                      and one.place in readers.PLACES[one.kind]}
             ours = {one for one in ours if one.certificate in common and one.place != "uat"}
             compared += len(ours)
             ids = {owner[-16:] for owner in unusable}
