@@ -49,8 +49,9 @@ class Night:
 
     @property
     def environment(self) -> dict[str, str]:
-        """What suites and benches need to find the first program."""
-        return {**os.environ, "WOT_PROGRAM": str(self.programs[0]), "WOT_ROOT": str(self.root)}
+        """What suites and benches need to find the first program, if there is one: the gate makes the programs."""
+        program = {"WOT_PROGRAM": str(self.programs[0])} if self.programs else {}
+        return {**os.environ, **program, "WOT_ROOT": str(self.root)}
 
     def run(self, name: str, words: list[str], hours: float = 2.0, cwd: Path | None = None) -> tuple[int, str]:
         """Runs a program with its output in a file of this name; its status (-1 if it took too long) and its output."""

@@ -3,6 +3,7 @@
 import tempfile
 import threading
 import unittest
+from dataclasses import replace
 from pathlib import Path
 
 from outside import MACHINE, ROOT, run
@@ -158,6 +159,12 @@ class Pages(unittest.TestCase):
             part = timed(broken, self.night(folder))
         self.assertEqual((part.name, part.status), ("broken", "failed"))
         self.assertIn("no disk", part.summary)
+
+    def test_a_part_runs_before_there_is_a_program(self) -> None:
+        """As the gate does, which makes the programs."""
+        with tempfile.TemporaryDirectory() as folder:
+            before = replace(self.night(folder), programs=[])
+            self.assertEqual(before.run("said", ["sh", "-c", 'echo "in $WOT_ROOT"']), (0, f"in {ROOT}\n"))
 
     def test_a_seed_gives_the_same_choices(self) -> None:
         with tempfile.TemporaryDirectory() as folder:
