@@ -109,7 +109,8 @@ class Turns:
         for task in self._tasks:
             task.cancel()
         await asyncio.gather(*self._tasks, return_exceptions=True)
-        self._database.cut()
+        if self.is_busy:  # Else whoever makes the changes from now on goes on with this connection.
+            self._database.cut()
         self._follower.cut()
         self._following.shutdown()
         self._follower.close()

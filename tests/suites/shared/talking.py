@@ -42,6 +42,18 @@ def serve(url, *options, **named):
     return Server("--database", url, "--engines", "1", *options, **named)
 
 
+def change(server, lines, patience=200):
+    """Has these changes made, one after another. `fault database` says that nothing was changed, as where a connection
+    couldn't be had in time: then the line is told again, as clients do."""
+    end = time.monotonic() + patience
+    with Client(server.path) as client:
+        for line in lines:
+            while not (reply := client.tell(line)).startswith(b"ok"):
+                if reply != b"fault database" or time.monotonic() > end:
+                    raise AssertionError(f"{reply} to {line[:40]}; the service said: {server.said()}")
+                time.sleep(0.05)
+
+
 class Writer(threading.Thread):
     """A client that changes something of its own with each line, for as long as it may. It notes the reply to
     each, and connects again when the service is gone."""

@@ -6,7 +6,7 @@ import unittest
 
 from clusters import Cluster, needs_postgres, wait_for
 from outside import Client, alone, needs_engine
-from talking import Writer, check_kept, dump_of, serve, status_of, told, wait_until_same
+from talking import Writer, change, check_kept, dump_of, serve, status_of, told, wait_until_same
 from world import World
 
 
@@ -26,10 +26,7 @@ class Pair(unittest.TestCase):
         self.addCleanup(self.stack.close)
         self.servers = [self.stack.enter_context(serve(url, *self.options)) for url in (
             self.primary.url(self.standby), self.standby.url(self.primary))]
-        with Client(self.servers[0].path) as client:
-            for line in self.kept_before:
-                reply = client.tell(line)
-                self.assertTrue(reply.startswith(b"ok"), reply)
+        change(self.servers[0], self.kept_before)
         wait_until_same(self.servers)
 
     def is_synchronous(self):
