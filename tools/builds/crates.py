@@ -3,6 +3,8 @@
 from graphlib import TopologicalSorter
 from pathlib import Path
 
+from .listed import LIST, listed_in
+
 PROGRAM = "wot_cli"
 SUFFIXES = {".rt", ".antt"}
 
@@ -11,9 +13,8 @@ Graph = dict[str, list[str]]
 
 def crates(root: Path) -> Graph:
     """The crates of the repository that the program stands on, each with those that it uses."""
-    lines = [line.partition(":") for line in (root / "crates.txt").read_text().splitlines() if line[:1].isalpha()]
-    names = {name for name, _, _ in lines}
-    uses = {name: [used for used in below.split() if used in names] for name, _, below in lines}
+    listed = listed_in((root / LIST).read_text(encoding="utf-8"))
+    uses = {name: [used for used in libraries if used in listed] for name, (_, libraries) in listed.items()}
     found: Graph = {}
     left = [PROGRAM]
     while left:

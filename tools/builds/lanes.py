@@ -14,6 +14,8 @@ from contextlib import contextmanager
 from pathlib import Path
 from queue import SimpleQueue
 
+from .listed import LIST
+
 # What the toolchain keeps of a crate: its library, and what speeds up the next proof.
 LIBRARY, KEPT = "out/rlib", "out/incremental"
 
@@ -54,7 +56,7 @@ class Lane:
     def __init__(self, root: Path, top: Path) -> None:
         self.root, self.top = root, top
         shutil.copytree(root / "crates", top / "crates", ignore=shutil.ignore_patterns("out"))
-        shutil.copy2(root / "crates.txt", top)
+        shutil.copy2(root / LIST, top)
 
     def begin(self, name: str, below: list[str]) -> Path:
         """Takes the libraries below a crate that aren't here yet, and what was kept of the crate; gives its folder."""

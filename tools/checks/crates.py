@@ -3,25 +3,16 @@
 import re
 from collections.abc import Iterator
 
+from builds.listed import LIST, listed_in
+
 from .finding import Finding
 from .tree import Tree
 
-LIST = "crates.txt"
 COMMENT = re.compile(r"(?://|--)[^\n]*")
 USE = re.compile(r"\b([a-z_][a-z0-9_]*)::")
 CITED = re.compile(r"\bRattle\.([a-z_][a-z0-9_]*)\.")
 MODULE = re.compile(r"\bmod ([a-z_][a-z0-9_]*)")
 ALWAYS = {"std", "core", "crate", "self", "super"}
-
-
-def listed_in(text: str) -> dict[str, tuple[int, list[str]]]:
-    """The line and the libraries of each crate."""
-    listed = {}
-    for number, line in enumerate(text.splitlines(), 1):
-        name, colon, libraries = line.partition(":")
-        if colon and not line.startswith("#"):
-            listed[name.split()[0]] = number, libraries.split()
-    return listed
 
 
 def named_by(tree: Tree, crate: str) -> dict[str, tuple[str, int]]:

@@ -7,7 +7,7 @@ import tempfile
 from dataclasses import dataclass
 from pathlib import Path
 
-from checks.crates import listed_in
+from builds.listed import LIST, listed_in
 from checks.layout import formatter
 
 SECONDS = 3600
@@ -25,7 +25,7 @@ class Kit:
 
     @classmethod
     def of(cls, root: Path, built: Path) -> "Kit":
-        listed = listed_in((root / "crates.txt").read_text(encoding="utf-8"))
+        listed = listed_in((root / LIST).read_text(encoding="utf-8"))
         lines = {name: libraries for name, (_, libraries) in listed.items()}
         return cls(Path(formatter()), root / "crates", built, lines)
 
