@@ -39,7 +39,8 @@ def parentheses_after(tokens: Tokens, at: int) -> int:
     """The index where the parameters of the function whose name stands at this index begin, past its generics."""
     depth, at = 0, at + 1
     while at < len(tokens) - 1 and (depth or tokens[at][0] != "("):
-        depth += {"<": 1, ">": -1}.get(tokens[at][0], 0)
+        is_arrow = tokens[at][0] == ">" and tokens[at - 1][0].endswith("-")
+        depth += 0 if is_arrow else {"<": 1, ">": -1}.get(tokens[at][0], 0)
         at += 1
     return at
 

@@ -44,7 +44,7 @@ def serve(url, *options, **named):
 
 def change(server, lines, patience=200):
     """Has these changes made, one after another. `fault database` says that nothing was changed, as where a connection
-    couldn't be had in time: then the line is told again, as clients do."""
+    couldn't be had in time: then the line is sent again, as clients do."""
     end = time.monotonic() + patience
     with Client(server.path) as client:
         for line in lines:
