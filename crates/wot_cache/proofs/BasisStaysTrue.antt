@@ -21,11 +21,12 @@ use Rattle.wot_held.specs.Kept.{AreStamped}
 use Rattle.wot_held.specs.Later.{IsLater, IsLaterAt, IsUnaltered, SaysSame}
 use Rattle.wot_index.specs.Log.{HasChangedSince, Logged, is_listed}
 use Rattle.wot_kept.specs.declared.answers.KeptAnswer.{KeptAnswer}
-use Rattle.wot_kept.specs.declared.answers.Looked.{Looked}
+use Rattle.wot_looked.specs.declared.looked.Looked.{Looked}
 use Rattle.wot_kept.specs.declared.fault.AskFault.{AskFault}
 use Rattle.wot_kept.specs.declared.fault.AskFault.TheVariants as asked
 use Rattle.wot_cache.specs.declared.view.View.{View}
-use Rattle.wot_kept.specs.Answers.{AllAnswers, AllStill, Amounts, AreStill, IsOf, IsRight}
+use Rattle.wot_kept.specs.Answers.{AllAnswers, AllStill, IsOf, IsRight}
+use Rattle.wot_looked.specs.Looked.{Amounts, AreStill}
 use Rattle.wot_cache.specs.Basis.{AllIn, AreCalm, AreViewsOn, Basis, CarriesOn, HasAmount, HasGrown, Includes, IsFreeOf}
 use Rattle.wot_cache.specs.Basis.{IsKeptAt, IsKeptOn, IsKeyringOn, IsPresent, IsSameOrClosed, IsUndisturbed, RestsAt}
 use Rattle.wot_cache.specs.Basis.{RestsOn, is_in, question_on}

@@ -5,7 +5,8 @@ use Rattle.std.specs.Map.{lookup}
 use Rattle.std.specs.Option.{option_map_or}
 use Rattle.wot_held.specs.Keyring.{Keyring}
 use Rattle.wot_kept.specs.declared.answers.KeptAnswer.{KeptAnswer}
-use Rattle.wot_kept.specs.Answers.{AllAnswers, Amounts, AreAllRight, AreRight, Entries, KeepsFor, OfView, RestsOnLeads}
+use Rattle.wot_kept.specs.Answers.{AllAnswers, AreAllRight, AreRight, Entries, KeepsFor, OfView, RestsOnLeads}
+use Rattle.wot_looked.specs.Looked.{Amounts}
 use Rattle.wot_cache.specs.Consulted.{ConsultsLeads}
 use Rattle.wot_cache.specs.Inside.{Networks}
 use Rattle.wot_cache.specs.Marks.{shown}

@@ -29,7 +29,8 @@ use Rattle.wot_step.specs.LineStep.{DoesTo, ComesTo}
 use Rattle.wot_step.specs.Outcome.{load}
 use Rattle.wot_command.specs.CommandRun.{StateRun, Seen}
 use Rattle.wot_step.specs.Served.{Served, unserved}
-use Rattle.wot_command.specs.Stored.{Puts, Stores, answer_of}
+use Rattle.wot_command.specs.Stored.{Puts, Stores}
+use Rattle.wot_stored.specs.Stored.{answer_of}
 use Rattle.wot_step.specs.Storing.{put_from, stored, stored_from, writing}
 use Rattle.wot_step.proofs.Results.{if_ok}
 

@@ -6,4 +6,4 @@ mod CertificateLines
 pub mod DirectoryAfterFailure
 pub mod RefusedReplies
 mod Short
-mod StoredOrRefused
+mod FailedPut

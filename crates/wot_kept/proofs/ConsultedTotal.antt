@@ -11,7 +11,8 @@ use Rattle.std.specs.Ordering.{nat_cmp}
 use Rattle.std.proofs.lemmas.Cmp.{nat_cmp_total}
 use Rattle.wot_held.specs.Keyring.{Keyring}
 use Rattle.wot_kept.specs.declared.answers.KeptAnswer.{KeptAnswer}
-use Rattle.wot_kept.specs.Answers.{Amounts, AreFew, AreRight, Entries, IsGood, IsRight, IsSameBut, looked_by, looked_in}
+use Rattle.wot_kept.specs.Answers.{AreFew, AreRight, Entries, IsGood, IsRight, IsSameBut, looked_by, looked_in}
+use Rattle.wot_looked.specs.Looked.{Amounts}
 use Rattle.wot_kept.specs.EntryLaws.{each_inserted, length_inserted}
 
 pub right_put : (k : Keyring) (roots : Amounts) (turn : ℕ) (entries : Entries) (a : KeptAnswer) →

@@ -23,9 +23,11 @@ use Rattle.wot_network.specs.Local.{AgreeAt, IsLocal}
 use Rattle.wot_network.specs.Told.{record_of}
 use Rattle.wot_kept.specs.declared.answers.KeptAnswer.{KeptAnswer}
 use Rattle.wot_kept.specs.declared.reach.KeptReach.{KeptReach}
-use Rattle.wot_kept.specs.declared.answers.Looked.{Looked}
-use Rattle.wot_kept.specs.Answers.{AllLead, AllLed, AllStill, Amounts, IsTheAnswer, AreRight, AreStill, Entries, IsFound}
-use Rattle.wot_kept.specs.Answers.{IsGood, IsReaching, IsRight, IsSameBut, IsStill, look, question_at}
+use Rattle.wot_looked.specs.declared.looked.Looked.{Looked}
+use Rattle.wot_kept.specs.Answers.{AllLead, AllLed, AllStill, IsTheAnswer, AreRight, Entries, IsFound}
+use Rattle.wot_looked.specs.Looked.{Amounts, AreStill}
+use Rattle.wot_kept.specs.Answers.{IsGood, IsReaching, IsRight, IsSameBut, question_at}
+use Rattle.wot_looked.specs.Looked.{IsStill, look}
 use Rattle.wot_kept.specs.Question.{IsAnswerAround}
 use Rattle.wot_kept.specs.RightLaws.{stamped_there, stamp_past}
 

@@ -11,33 +11,17 @@ use Rattle.wot_edge.specs.Answer.{IsAnswer, amount_of}
 use Rattle.wot_edge.specs.Leads.{Leads}
 use Rattle.wot_edge.specs.Path.{Question, asks}
 use Rattle.wot_edge.specs.Record.{Has, Record}
-use Rattle.wot_edge.specs.Roots.{root_amount}
 use Rattle.wot_held.specs.Keyring.{Keyring, certificates_in, stamp_at}
 use Rattle.wot_held.specs.Later.{IsLater}
 use Rattle.wot_network.specs.Told.{record_of}
 use Rattle.wot_reach.specs.Making.{IsMaking}
 use Rattle.wot_kept.specs.declared.answers.KeptAnswer.{KeptAnswer}
 use Rattle.wot_kept.specs.declared.reach.KeptReach.{KeptReach}
-use Rattle.wot_kept.specs.declared.answers.Looked.{Looked}
+use Rattle.wot_looked.specs.declared.looked.Looked.{Looked}
+use Rattle.wot_looked.specs.Looked.{Amounts, AreStill}
 use Rattle.wot_kept.specs.Names.{is_name}
 
 -- ---- what an answer depends on
-
--- roots with their amounts
-abbrev pub Amounts : Type 0
-Amounts = List (Fpr × ℕ)
-
--- a lookup at a fingerprint: its stamp, and its amount as a root
-abbrev pub look : Keyring → Amounts → Fpr → Looked
-look k roots fpr = record { fpr = fpr; stamp = stamp_at k fpr; amount = root_amount roots fpr }
-
--- the stamp and the amount are still those that were noted
-pub record IsStill (k : Keyring) (roots : Amounts) (looked : Looked) : Type 0 where
-  pub stamp : stamp_at k looked.fpr ≡ looked.stamp
-  pub amount : root_amount roots looked.fpr ≡ looked.amount
-
-abbrev pub AreStill : Keyring → Amounts → List Looked → Type 0
-AreStill k roots looked = AllByRecursion (IsStill k roots) looked
 
 -- the fingerprints that an answer depends on; None if it depends on the whole keyring
 abbrev pub Grounds : Type 0

@@ -15,8 +15,9 @@ use Rattle.wot_held.specs.Keyring.{Keyring}
 use Rattle.wot_held.specs.Later.{IsLater}
 use Rattle.wot_kept.specs.declared.answers.KeptAnswer.{KeptAnswer}
 use Rattle.wot_kept.specs.declared.reach.KeptReach.{KeptReach}
-use Rattle.wot_kept.specs.declared.answers.Looked.{Looked}
-use Rattle.wot_kept.specs.Answers.{AllAnswers, AllLed, Amounts, AreAllRight, AreRight, AreRightIn, Entries, IsGood}
+use Rattle.wot_looked.specs.declared.looked.Looked.{Looked}
+use Rattle.wot_kept.specs.Answers.{AllAnswers, AllLed, AreAllRight, AreRight, AreRightIn, Entries, IsGood}
+use Rattle.wot_looked.specs.Looked.{Amounts}
 use Rattle.wot_kept.specs.Answers.{IsReaching, IsRight, OfView}
 use Rattle.wot_kept.specs.Names.{is_name}
 use Rattle.std.specs.Option.{option_map_or}

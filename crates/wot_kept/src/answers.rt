@@ -1,7 +1,7 @@
 //! The answers that a view keeps, each with its question and with the fingerprints that it depends on. An answer is
 //! returned again only if their stamps and root amounts are unchanged. The table of reach of the view is here too.
 //! `ask` and `recall` use it; `basis` asks it whether watches may have changed.
-ghost use Rattle.std.specs.Prelude.{◌≡◌, ◌≤◌, ◌<◌, ◌+◌, ℕ, [], true, map, length, IfOk, IfSome, OnOk, OnErr, None};
+ghost use Rattle.std.specs.Prelude.{◌≡◌, ◌≤◌, ◌<◌, ◌+◌, ℕ, [], true, length, IfOk, IfSome, OnOk, OnErr, None};
 ghost use Rattle.std.specs.BTreeMap.{insert_entry, is_at};
 ghost use Rattle.std.specs.List.Sorted.{IsStrictlySortedBy};
 ghost use Rattle.std.specs.Map.{keys_of, lookup};
@@ -10,9 +10,9 @@ ghost use Rattle.wot_held.specs.Keyring.{Keyring as Held};
 ghost use Rattle.wot_reach.specs.Making.{IsMaking};
 ghost use Rattle.wot_reach.specs.Reach.{IsReach};
 ghost use Rattle.wot_network.specs.Net.{told_of};
-ghost use Rattle.wot_kept.specs.Answers.{AllStill, AreFew, AreRight, AreRightIn, AreStill, StayRight, StayRightWith};
+ghost use Rattle.wot_kept.specs.Answers.{AllStill, AreFew, AreRight, AreRightIn, StayRight, StayRightWith};
 ghost use Rattle.wot_kept.specs.Answers.{IsAmong, IsTheAnswer, IsFound, IsGood, IsRight};
-ghost use Rattle.wot_kept.specs.Answers.{look, looked_by, looked_in, IsSameBut};
+ghost use Rattle.wot_kept.specs.Answers.{looked_by, looked_in, IsSameBut};
 ghost use Rattle.wot_kept.specs.Asked.{AreSettled, IsAnswered, IsAskedIn};
 ghost use Rattle.wot_kept.specs.Question.{present_in};
 
@@ -29,7 +29,8 @@ use wot_auth::Answer;
 use wot_edge::Roots;
 use wot_keyring::Keyring;
 use wot_keyring::laws::later_is_order;
-use wot_search::{Consulted, Making, Reach};
+use wot_looked::{Looked, are_still};
+use wot_search::{Making, Reach};
 use wot_types::{Fpr, Memory, UserId};
 
 /// The most answers that a view keeps.
@@ -37,14 +38,6 @@ const MOST: usize = 1024;
 
 /// The most consulted fingerprints that a view keeps with its answers.
 const MOST_LOOKED: usize = 1_048_576;
-
-/// A consulted fingerprint, with its stamp in the keyring and its amount as a root (0 if it is none).
-#[derive(Clone, Copy)]
-pub struct Looked {
-    pub fpr: Fpr,
-    pub stamp: u64,
-    pub amount: u8,
-}
 
 /// A question from a view at a time, its answer, and the fingerprints that were consulted for it. `looked` is None if a
 /// table of reach was used: then the answer depends on the whole keyring.
@@ -126,38 +119,6 @@ fn all_still(grounds: &Option<Vec<Looked>>, keyring: &Keyring, roots: &Roots) ->
         Some(looked) => are_still(looked.as_slice(), keyring, roots),
         None => false,
     }
-}
-
-/// Whether all stamps and root amounts are unchanged.
-pub fn are_still(looked: &[Looked], keyring: &Keyring, roots: &Roots) -> bool
-    ensures still { result ≡ true → AreStill keyring.now roots.now looked.now }
-{
-    let mut rest = looked;
-    'rest: while let Some((first, later)) = rest.split_first() {
-        if keyring.stamp(&first.fpr) != first.stamp || roots.get(&first.fpr) != first.amount {
-            return false;
-        }
-        rest = later;
-    }
-    true
-}
-
-/// The consulted fingerprints, each with its stamp and its amount as a root.
-pub fn look_at(
-    alloc: Global,
-    consulted: &Consulted,
-    keyring: &Keyring,
-    roots: &Roots,
-) -> Result<Vec<Looked>, Memory>
-    ensures looked { IfOk result (λ looked. looked.items ≡ map (look keyring.now roots.now) consulted.now) }
-{
-    let mut looked = Vec::new(alloc);
-    'fprs: for fpr in consulted.iter() {
-        let stamp = keyring.stamp(&fpr);
-        let amount = roots.get(&fpr);
-        looked.push(Looked { fpr, stamp, amount })?;
-    }
-    Ok(looked)
 }
 
 type Table = BTreeMap<u64, KeptAnswer, Global>;

@@ -15,7 +15,7 @@ mod reach;
 mod recall;
 mod roots;
 
-pub use answers::{Answers, KeptAnswer, Looked, are_still};
+pub use answers::{Answers, KeptAnswer};
 pub use ask::answer;
 pub use asked::Asked;
 pub use fault::AskFault;

@@ -7,7 +7,7 @@ ghost use Rattle.wot_kept.specs.Answers.{AreAllRight, AreRightIn, IsFound, IsRig
 ghost use Rattle.wot_kept.specs.Names.{IsForgotten, is_name};
 ghost use Rattle.wot_kept.specs.Asked.{AreSettled, IsAnswered, IsConsulted};
 
-use crate::answers::{Answers, KeptAnswer, look_at};
+use crate::answers::{Answers, KeptAnswer};
 use crate::asked::Asked;
 use crate::key::key_of;
 use crate::parts::Parts;
@@ -15,6 +15,7 @@ use std::alloc::Global;
 use std::collections::BTreeMap;
 use wot_auth::Answer;
 use wot_keyring::laws::later_is_order;
+use wot_looked::look_at;
 use wot_network::laws::records_agree;
 use wot_search::Consulted;
 use wot_types::{Memory, UserId, ViewName};

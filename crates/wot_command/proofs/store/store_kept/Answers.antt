@@ -5,7 +5,7 @@ use Rattle.wot_certd.specs.World.{Answer, World, read_answer}
 use Rattle.wot_script.specs.declared.reply.Reply.TheVariants as replies
 use Rattle.wot_step.specs.Entry.{stores}
 use Rattle.wot_command.specs.CommandRun.{Seen}
-use Rattle.wot_command.specs.Stored.{answer_of}
+use Rattle.wot_stored.specs.Stored.{answer_of}
 use Rattle.wot_step.proofs.Faults.{failed}
 use Rattle.wot_step.proofs.Results.{any_err}
 use Rattle.wot_command.proofs.DirectoryAfterFailure.{on_err_as, puts_none, stored_may}

@@ -1,5 +1,6 @@
 use Rattle.std.proofs.Common.{sym, subst, ◌∙◌}
-use Rattle.wot_kept.specs.Answers.{Amounts, IsFound}
+use Rattle.wot_kept.specs.Answers.{IsFound}
+use Rattle.wot_looked.specs.Looked.{Amounts}
 use Rattle.wot_kept.proofs.recall.remember_now.Goals as goal
 
 pub returns-in-Ok : goal.returns-in-Ok

@@ -1,5 +1,6 @@
 use Rattle.std.proofs.Common.{sym, ap, subst, ◌∙◌}
-use Rattle.wot_kept.specs.Answers.{Amounts, AreRight, AreRightIn, OfView}
+use Rattle.wot_kept.specs.Answers.{AreRight, AreRightIn, OfView}
+use Rattle.wot_looked.specs.Looked.{Amounts}
 use Rattle.wot_kept.proofs.answers.Answers.give.Goals as goal
 
 pub give-requires : goal.give-requires

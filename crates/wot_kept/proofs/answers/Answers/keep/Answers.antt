@@ -1,5 +1,6 @@
 use Rattle.std.proofs.Common.{refl, sym, ap, subst}
-use Rattle.wot_kept.specs.Answers.{Amounts, AreRightIn, IsFound, OfView}
+use Rattle.wot_kept.specs.Answers.{AreRightIn, IsFound, OfView}
+use Rattle.wot_looked.specs.Looked.{Amounts}
 use Rattle.wot_kept.proofs.Grounds.{good_at, right_again}
 use Rattle.wot_kept.proofs.answers.Answers.keep.Goals as goal
 

@@ -1,5 +1,6 @@
 use Rattle.std.proofs.Common.{sym, ap, subst, ◌∙◌}
-use Rattle.wot_kept.specs.Answers.{Amounts, AreRightIn, IsReaching, OfView}
+use Rattle.wot_kept.specs.Answers.{AreRightIn, IsReaching, OfView}
+use Rattle.wot_looked.specs.Looked.{Amounts}
 use Rattle.wot_kept.proofs.answers.Answers.keep_making.Goals as goal
 
 pub returns : goal.returns

@@ -1,7 +1,8 @@
 use Rattle.std.specs.Prelude.{IfSome}
 use Rattle.std.proofs.Common.{Option, sym, ap, subst, ◌∙◌}
 use Rattle.wot_kept.specs.declared.reach.KeptReach.{KeptReach}
-use Rattle.wot_kept.specs.Answers.{Amounts, AreRightIn, IsReaching, OfView}
+use Rattle.wot_kept.specs.Answers.{AreRightIn, IsReaching, OfView}
+use Rattle.wot_looked.specs.Looked.{Amounts}
 use Rattle.wot_kept.proofs.answers.Answers.reach.Goals as goal
 
 pub give-requires : goal.give-requires

@@ -1,27 +1,22 @@
 -- The merged certificate that is stored, or the reply if nothing is.
-use Rattle.std.proofs.Common.{◌≡◌, ◌≢◌, ℕ, Bool, true, false, List, length, Option, Some, None, Result, Ok, Err}
+use Rattle.std.proofs.Common.{◌≡◌, ◌≢◌, ℕ, Bool, true, false, List, length, Result, Ok, Err}
 use Rattle.std.proofs.Common.{refl, sym, ap, subst, ◌∙◌}
-use Rattle.std.specs.Prelude.{if◌then◌else◌, nat_lt, IfErr, IfSome}
+use Rattle.std.specs.Prelude.{if◌then◌else◌, nat_lt, IfErr}
 use Rattle.std.specs.Str.{bytes_eq}
 use Rattle.std.proofs.lemmas.Slice.Eq.{bytes_eq-Decides}
 use Rattle.wot_types.specs.declared.limits.Limit.TheVariants as limits
 use Rattle.wot_types.specs.declared.name.Name.{Name}
 use Rattle.wot_types.specs.Limits.{standard_limits}
-use Rattle.wot_io.specs.Counts.{Rose}
 use Rattle.wot_part.specs.Certificate.{Certificate, unite, unmarked}
 use Rattle.wot_part.specs.Text.{size_of, text_of}
 use Rattle.wot_held.specs.declared.refusal.Refusal.{Refusal}
 use Rattle.wot_held.specs.declared.refusal.Refusal.TheVariants as refusals
 use Rattle.wot_held.specs.Entry.{TellsEntry, entry_in}
 use Rattle.wot_script.specs.declared.reply.Reply.{Reply}
-use Rattle.wot_script.specs.declared.reply.Reply.TheVariants as replies
-use Rattle.wot_certd.specs.declared.shelf.ShelfFault.TheVariants as shelves
-use Rattle.wot_certd.specs.Shelf.{ReplaceReturns, Replaces}
-use Rattle.wot_certd.specs.World.{World, fails_next}
-use Rattle.wot_command.specs.declared.store.Unwritten.{Unwritten}
-use Rattle.wot_command.specs.declared.store.Unwritten.TheVariants.{Memory}
+use Rattle.wot_stored.specs.declared.text.Unwritten.{Unwritten}
+use Rattle.wot_stored.specs.declared.text.Unwritten.TheVariants.{Memory}
 use Rattle.wot_step.specs.Outcome.{refusal}
-use Rattle.wot_command.specs.Stored.{Puts, TellsCert, TellsUnwritten}
+use Rattle.wot_stored.specs.Stored.{TellsCert, TellsUnwritten}
 use Rattle.wot_step.specs.Storing.{text_unless, united, merged_entry, unless_great}
 
 -- depending on whether it is too large
@@ -111,15 +106,3 @@ nothing_told told why e = subst (λ (w : Unwritten). TellsUnwritten told w) (sym
 pub if_err : {A E : Type 0} (r : Result A E) (P Q : E → Type 0) → ((e : E) → P e → Q e) → IfErr r P → IfErr r Q
 if_err (Ok a) P Q f p = tt
 if_err (Err e) P Q f p = f e p
-
--- ---- putting
-
--- the directory failed when the octets were put
-pub put_failed : (world after : Option World) (old new : ℕ) (name : Name) (octets : List ℕ)
-    → IfSome world (λ (w : World). ReplaceReturns (Err shelves.Failed) (fails_next w))
-    → Replaces world name octets (Err shelves.Failed) after → Rose old new
-    → Puts name octets (record { world = world; faults = old }) replies.Shelf (record { world = after; faults = new })
-put_failed None after old new name octets answers becomes rose =
-    record { fails = true; reply_is = refl; fails_by = tt; world = tt; cause = λ t. rose }
-put_failed (Some w) after old new name octets answers becomes rose =
-    record { fails = true; reply_is = refl; fails_by = sym answers; world = becomes; cause = λ t. rose }

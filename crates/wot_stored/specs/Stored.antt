@@ -1,0 +1,37 @@
+-- What the steps towards the text that `store` writes return.
+use Rattle.std.specs.Prelude.{◌≡◌, ℕ, true, List, Result, Ok, Err}
+use Rattle.wot_part.specs.Certificate.{Certificate}
+use Rattle.wot_part.specs.Text.{text_of}
+use Rattle.wot_held.specs.declared.refusal.Refusal.{Refusal}
+use Rattle.wot_held.specs.declared.refusal.Refusal.TheVariants as refusals
+use Rattle.wot_script.specs.declared.reply.Reply.{Reply}
+use Rattle.wot_script.specs.Replies.{is_short}
+use Rattle.wot_certd.specs.declared.shelf.Given.{Given}
+use Rattle.wot_certd.specs.declared.shelf.Given.TheVariants.{Bytes, Absent, Long}
+use Rattle.wot_certd.specs.World.{Answer}
+use Rattle.wot_step.specs.Outcome.{refusal}
+use Rattle.wot_step.specs.Storing.{text_unless}
+use Rattle.wot_stored.specs.declared.text.Unwritten.{Unwritten}
+use Rattle.wot_stored.specs.declared.text.Unwritten.TheVariants.{Told, Memory}
+
+-- the answer that was returned
+abbrev pub answer_of : Given → Answer
+answer_of (Bytes bytes) = Answer.entry bytes.items
+answer_of Absent = Answer.absent
+answer_of Long = Answer.long
+
+-- The text of the certificate, or the reply to the refusal, unless it is out of memory.
+abbrev pub TellsCert : Result Certificate Refusal → Result Certificate Refusal → Type 0
+TellsCert (Ok c) told = text_unless told ≡ Ok (text_of c)
+TellsCert (Err refusals.Memory) told = Unit {0}
+TellsCert (Err other) told = text_unless told ≡ Err (refusal other)
+
+-- why nothing is written, unless it is out of memory
+abbrev pub TellsUnwritten : Result (List ℕ) Reply → Unwritten → Type 0
+TellsUnwritten told (Told reply) = told ≡ Err reply
+TellsUnwritten told Memory = Unit {0}
+
+-- the reply is one line
+abbrev pub IsShort : Unwritten → Type 0
+IsShort (Told reply) = is_short reply ≡ true
+IsShort Memory = Unit {0}

@@ -1,0 +1,7 @@
+//! What `store` writes: a kept certificate, merged with its entry of the certificate directory. It stands on wot_cert
+//! for the merge, and on wot_keyring for reading an entry by the rules of `load`. wot_command writes it.
+#![tactic(auto)]
+
+mod text;
+
+pub use text::{Unwritten, text_for};
