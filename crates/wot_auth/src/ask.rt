@@ -9,16 +9,23 @@ ghost use Rattle.wot_edge.specs.Path.{asks, use_of, IsSpent};
 ghost use Rattle.wot_edge.specs.Answer.{IsAnswer, amount_of};
 ghost use Rattle.wot_edge.specs.Capacity.{AllFit};
 ghost use Rattle.wot_edge.specs.Leads.{Grows, GainsLeads};
-ghost use Rattle.wot_reach.specs.Reach.{IsReach};
-ghost use Rattle.wot_auth.specs.Agreed.{IsOnlyAnswer, IsAnswerOfAgreeing, IsOnlyOfAgreeing};
+ghost use Rattle.wot_search.specs.Asked.{HasItsReach, question_of};
+ghost use Rattle.wot_auth.specs.Agreed.{IsOnlyAnswer, IsAnswerOfAgreeing, IsOnlyOfAgreeing, asks_for};
 
 use crate::Answer;
 use crate::take::take;
 use std::alloc::Global;
 use wot_edge::laws::{answer_is_one, paths_fit, zero_is_no_path};
 use wot_edge::{Roads, Roots};
-use wot_search::{Consulted, LookFault, Metered, Reach, Unnoted};
+use wot_search::{Asked, Consulted, LookFault, Metered, Reach, Unnoted};
 use wot_types::{Fpr, Memory};
+
+/// A user ID, and the certificate that it may belong to.
+#[derive(Clone, Copy)]
+pub struct Binding<'a> {
+    pub target: &'a Fpr,
+    pub uid: &'a [u8],
+}
 
 /// Computes to which amount a user ID of the target is authenticated: next paths until their sum reaches the wanted
 /// amount or no valid path of positive amount is left. The last path isn't cut, and the sum isn't claimed to be a
@@ -52,7 +59,13 @@ pub fn authenticate<R: Roads>(
         consulted.new) }
 {
     let reach = Reach::everywhere(alloc);
-    let answer = take(alloc, roads, roots, &reach, target, uid, wanted, consulted)?;
+    let asked = Asked {
+        roots,
+        reach: &reach,
+        target,
+        uid,
+    };
+    let answer = take(alloc, roads, &asked, wanted, consulted)?;
     // The laws that the clauses on the answer rest on.
     answer_is_one();
     zero_is_no_path();
@@ -66,27 +79,33 @@ pub fn authenticate_metered<R: Roads>(
     alloc: Global,
     roads: &R,
     roots: &Roots,
-    target: &Fpr,
-    uid: &[u8],
+    binding: &Binding,
     wanted: u32,
     metered: &mut Metered,
 ) -> Result<Answer, LookFault>
     requires wanted { 1 ≤ wanted }
     requires few { length roots.now ≤ 64 }
-    ensures answer { IfOk result (λ answer. IsAnswer (asks (R.told roads.now uid.now) roots.now target.now) wanted
+    ensures answer { IfOk result (λ answer. IsAnswer (asks_for (R.told roads.now) roots.now binding.now) wanted
         answer.paths) }
     ensures sum { IfOk result (λ answer. answer.sum ≡ amount_of answer.paths) }
-    ensures local { IfOk result (IsAnswerOfAgreeing (asks (R.told roads.now uid.now) roots.now target.now) wanted
+    ensures local { IfOk result (IsAnswerOfAgreeing (asks_for (R.told roads.now) roots.now binding.now) wanted
         metered.new.consulted) }
 
     // An error is `Spent` if and only if the search asked for one look too many.
     ensures spent { result ≡ Err LookFault.Spent → metered.new.left ≡ None }
     ensures wanting { result ≡ Err LookFault.Memory → is_some metered.new.left ≡ true }
     ensures grows { Grows metered.old.consulted metered.new.consulted }
-    ensures leads { GainsLeads (R.told roads.now uid.now) target.now metered.old.consulted metered.new.consulted }
+    ensures leads { GainsLeads (R.told roads.now binding.now.uid.now) binding.now.target.now
+        metered.old.consulted metered.new.consulted }
 {
     let reach = Reach::everywhere(alloc);
-    match take(alloc, roads, roots, &reach, target, uid, wanted, metered) {
+    let asked = Asked {
+        roots,
+        reach: &reach,
+        target: binding.target,
+        uid: binding.uid,
+    };
+    match take(alloc, roads, &asked, wanted, metered) {
         Ok(answer) => Ok(answer),
         Err(Memory) => Err(look_fault(metered.left)),
     }
@@ -107,30 +126,17 @@ fn look_fault(left: Option<u64>) -> LookFault
 pub fn authenticate_within<R: Roads>(
     alloc: Global,
     roads: &R,
-    roots: &Roots,
-    reach: &Reach,
-    target: &Fpr,
-    uid: &[u8],
+    asked: &Asked,
     wanted: u32,
 ) -> Result<Answer, Memory>
     requires wanted { 1 ≤ wanted }
-    requires few { length roots.now ≤ 64 }
-    requires reach { IsReach (R.told roads.now) roots.now reach.now }
-    ensures answer { IfOk result (λ answer. IsAnswer (asks (R.told roads.now uid.now) roots.now target.now) wanted
-        answer.paths) }
-    ensures one { IfOk result (IsOnlyAnswer (asks (R.told roads.now uid.now) roots.now target.now) wanted) }
+    requires few { length asked.now.roots.now ≤ 64 }
+    requires reach { HasItsReach (R.told roads.now) asked.now }
+    ensures answer { IfOk result (λ answer. IsAnswer (question_of (R.told roads.now) asked.now) wanted answer.paths) }
+    ensures one { IfOk result (IsOnlyAnswer (question_of (R.told roads.now) asked.now) wanted) }
     ensures sum { IfOk result (λ answer. answer.sum ≡ amount_of answer.paths) }
 {
-    let answer = take(
-        alloc,
-        roads,
-        roots,
-        reach,
-        target,
-        uid,
-        wanted,
-        &mut Unnoted,
-    )?;
+    let answer = take(alloc, roads, asked, wanted, &mut Unnoted)?;
     answer_is_one();
     Ok(answer)
 }

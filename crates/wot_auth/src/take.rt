@@ -3,60 +3,48 @@
 //! It stands on `next_offered` of `wot_search` and on `Used` of `wot_edge`. `ask` wraps it for each kind of call.
 ghost use Rattle.std.specs.Prelude.{◌≡◌, ◌≤◌, length, IfOk};
 ghost use Rattle.wot_edge.specs.Record.{IsRecord};
-ghost use Rattle.wot_edge.specs.Path.{asks};
 ghost use Rattle.wot_edge.specs.Answer.{IsAnswer, amount_of};
-ghost use Rattle.wot_edge.specs.Leads.{Leads};
 ghost use Rattle.wot_layer.specs.Looked.{Gains, Widens};
-ghost use Rattle.wot_reach.specs.Reach.{IsReach};
+ghost use Rattle.wot_search.specs.Asked.{HasItsReach, LeadsToAsked, question_of};
 ghost use Rattle.wot_auth.specs.Agreed.{IsAnswerLocally};
 
 use crate::Answer;
 use std::alloc::Global;
 use wot_edge::laws::paths_fit;
-use wot_edge::{Path, PathList, Roads, Roots, Used};
-use wot_search::{Asked, Notes, Reach, next_offered};
-use wot_types::{Fpr, Memory};
+use wot_edge::{Path, PathList, Roads, Used};
+use wot_search::{Asked, Notes, next_offered};
+use wot_types::Memory;
 
 /// Takes next paths until their sum reaches the wanted amount, or none is left.
 pub fn take<R: Roads, N: Notes>(
     alloc: Global,
     roads: &R,
-    roots: &Roots,
-    reach: &Reach,
-    target: &Fpr,
-    uid: &[u8],
+    asked: &Asked,
     wanted: u32,
     notes: &mut N,
 ) -> Result<Answer, Memory>
     requires wanted { 1 ≤ wanted }
-    requires few { length roots.now ≤ 64 }
-    requires reach { IsReach (R.told roads.now) roots.now reach.now }
-    ensures answer { IfOk result (λ answer. IsAnswer (asks (R.told roads.now uid.now) roots.now target.now) wanted
-        answer.paths) }
+    requires few { length asked.now.roots.now ≤ 64 }
+    requires reach { HasItsReach (R.told roads.now) asked.now }
+    ensures answer { IfOk result (λ answer. IsAnswer (question_of (R.told roads.now) asked.now) wanted answer.paths) }
     ensures sum { IfOk result (λ answer. answer.sum ≡ amount_of answer.paths) }
-    ensures lawful { IfOk result (λ answer. IsRecord (R.told roads.now uid.now)) }
+    ensures lawful { IfOk result (λ answer. IsRecord (R.told roads.now asked.now.uid.now)) }
     ensures grows { Widens (N.noted notes.old) (N.noted notes.new) }
-    ensures leads { Gains (Leads (R.told roads.now uid.now) target.now) (N.noted notes.old) (N.noted notes.new) }
-    ensures local { IfOk result (IsAnswerLocally reach.now (asks (R.told roads.now uid.now) roots.now target.now) wanted
+    ensures leads { Gains (LeadsToAsked (R.told roads.now) asked.now) (N.noted notes.old) (N.noted notes.new) }
+    ensures local { IfOk result (IsAnswerLocally asked.now.reach.now (question_of (R.told roads.now) asked.now) wanted
         (N.noted notes.new)) }
 {
     // Laws for the bounds: no root has more than 255, and next paths use no more than there is.
-    let _count = roots.len();
+    let _count = asked.roots.len();
     paths_fit();
     // The record is lawful.
-    let _rows = roads.rows(target);
-    let asked = Asked {
-        roots,
-        reach,
-        target,
-        uid,
-    };
+    let _rows = roads.rows(asked.target);
     let mut used = Used::new(alloc);
     let mut paths: Vec<Path> = Vec::new(alloc);
     let mut offers: Vec<Path> = Vec::new(alloc);
     let mut sum: u32 = 0;
     'paths: while sum < wanted {
-        let next = next_offered(alloc, roads, &asked, &used, &mut offers, notes)?;
+        let next = next_offered(alloc, roads, asked, &used, &mut offers, notes)?;
         match next {
             None => {
                 let paths = PathList::new(paths);

@@ -11,7 +11,7 @@ use wot_auth::sum_within;
 use wot_cert::{Cert, Part};
 use wot_edge::{Roads, Roots};
 use wot_keyring::{CertsIter, Keyring};
-use wot_search::make_reach;
+use wot_search::{Asked, make_reach};
 use wot_types::{Fpr, Memory, UserId};
 
 /// Appends a binding if its sum reaches the wanted amount.
@@ -27,15 +27,13 @@ pub(crate) fn list_pair<R: Roads>(
     ensures { OnOk result (AddsSought (R.told roads.now) sought.now
         ((fpr.now, uid.now) ∷ []) out.old.items out.new.items) }
 {
-    let sum = sum_within(
-        alloc,
-        roads,
-        sought.roots,
-        sought.reach,
-        fpr,
+    let asked = Asked {
+        roots: sought.roots,
+        reach: sought.reach,
+        target: fpr,
         uid,
-        sought.wanted,
-    )?;
+    };
+    let sum = sum_within(alloc, roads, &asked, sought.wanted)?;
     if sum < sought.wanted {
         return Ok(());
     }

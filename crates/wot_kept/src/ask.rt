@@ -17,7 +17,7 @@ use crate::making::{fprs_of, spend};
 use crate::parts::Parts;
 use crate::recall::{AllAnswers, begin, remember, remember_now};
 use std::alloc::Global;
-use wot_auth::{Answer, authenticate_metered, authenticate_within};
+use wot_auth::{Answer, Binding, authenticate_metered, authenticate_within};
 use wot_edge::laws::{answer_is_one, paths_fit, zero_is_no_path};
 use wot_search::{LookFault, Making, Metered, Reach, make_reach};
 use wot_types::{Memory, ViewName};
@@ -42,15 +42,13 @@ fn search_within(
     requires reach { IsReach (told_of (present_in parts.now)) parts.now.roots.now reach.now }
     ensures answered { IfOk result (IsAnswered parts.now asked.now) }
 {
-    authenticate_within(
-        alloc,
-        &parts.roads,
-        parts.roots,
+    let question = wot_search::Asked {
+        roots: parts.roots,
         reach,
-        asked.target,
-        asked.uid,
-        asked.wanted,
-    )
+        target: asked.target,
+        uid: asked.uid,
+    };
+    authenticate_within(alloc, &parts.roads, &question, asked.wanted)
 }
 
 /// The answer, by a search within the table that is kept for the view. None if no current table is kept, or when out of
@@ -117,12 +115,15 @@ fn search_near(
 {
     let most = of_view.most_looks(parts);
     let mut metered = Metered::new(alloc, most);
+    let binding = Binding {
+        target: asked.target,
+        uid: asked.uid,
+    };
     match authenticate_metered(
         alloc,
         &parts.roads,
         parts.roots,
-        asked.target,
-        asked.uid,
+        &binding,
         asked.wanted,
         &mut metered,
     ) {

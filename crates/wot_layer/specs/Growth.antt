@@ -14,6 +14,7 @@ use Rattle.wot_layer.specs.declared.node.Node.{Node}
 use Rattle.wot_layer.specs.declared.node.Goal.{Goal}
 use Rattle.wot_layer.specs.declared.reached.Reached.{Reached}
 use Rattle.wot_layer.specs.declared.quest.Quest.{Quest as Told}
+use Rattle.wot_layer.specs.declared.search.Search.{Search}
 use Rattle.wot_layer.specs.Quest.{Quest, quest_of}
 use Rattle.wot_layer.specs.Suffix.{Serves, Found, Kept, width}
 use Rattle.wot_layer.specs.Layer.{Covered, IsEntry, IsLayer, IsComplete, IsGrowing, Onward, is_kept, Begins}
@@ -22,6 +23,7 @@ use Rattle.wot_layer.specs.Demand.{candidate_of}
 use Rattle.wot_layer.specs.Looked.{Gains, IsLooked, IsSeen}
 use Rattle.wot_layer.specs.Reached.{look}
 use Rattle.wot_layer.specs.Rooted.{Rooted, IsFirst}
+use Rattle.wot_layer.specs.Search.{quest_in}
 
 -- ---- one edge
 
@@ -137,23 +139,24 @@ pub record Considers (quest : Quest) (size : ℕ) (from : Fpr → Type 0) (old n
   pub seen : AreNoted (look old.nodes) before → (rest : List Step) → BeginsIn quest size from rest
       → IsSeen quest after rest
 
--- ---- the program's forms of both, for its quest, given what the network says, and for what its states have noted
+-- ---- the program's forms of both, for one layer of a search, and for what its states have noted
 
 abbrev pub TriesEdge :
-    {S : Type 0} → (S → Fpr → Type 0) → (List ℕ → Record) → Told → ℕ → ℕ → EdgeFacts → Reached → Reached → S → S
+    {R S : Type 0} → (S → Fpr → Type 0) → (R → List ℕ → Record) → Search R → ℕ → EdgeFacts → Reached → Reached → S → S
     → Type 0
-TriesEdge {S} noted told quest size wide edge old new before after =
-    ConsidersEdge (quest_of told quest) size wide edge old new (noted before) (noted after)
+TriesEdge noted told search wide edge old new before after =
+    ConsidersEdge (quest_in told search) search.size wide edge old new (noted before) (noted after)
 
 abbrev pub ConsidersInto :
-    {S : Type 0} → (S → Fpr → Type 0) → (List ℕ → Record) → Told → ℕ → Fpr → Reached → Reached → S → S → Type 0
-ConsidersInto {S} noted told quest size at old new before after =
-    Considers (quest_of told quest) size (Only at) old new (noted before) (noted after)
+    {R S : Type 0} → (S → Fpr → Type 0) → (R → List ℕ → Record) → Search R → Fpr → Reached → Reached → S → S → Type 0
+ConsidersInto noted told search at old new before after =
+    Considers (quest_in told search) search.size (Only at) old new (noted before) (noted after)
 
 abbrev pub ConsidersLayer :
-    {S : Type 0} → (S → Fpr → Type 0) → (List ℕ → Record) → Told → ℕ → List Fpr → Reached → Reached → S → S → Type 0
-ConsidersLayer {S} noted told quest size layer old new before after =
-    Considers (quest_of told quest) size (Has layer) old new (noted before) (noted after)
+    {R S : Type 0} → (S → Fpr → Type 0) → (R → List ℕ → Record) → Search R → List Fpr → Reached → Reached → S → S
+    → Type 0
+ConsidersLayer noted told search layer old new before after =
+    Considers (quest_in told search) search.size (Has layer) old new (noted before) (noted after)
 
 -- ---- one layer
 

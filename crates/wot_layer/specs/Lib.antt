@@ -6,5 +6,6 @@ pub mod Choice
 pub mod Rooted
 pub mod Demand
 pub mod Reached
+pub mod Search
 pub mod Growth
 pub mod Metered

@@ -4,8 +4,9 @@
 //! search's time is spent here.
 ghost use Rattle.std.specs.Prelude.{◌≡◌, ◌<◌, ℕ, List, true, IfOk, OnOk};
 ghost use Rattle.wot_edge.specs.Demand.{demand_of};
-ghost use Rattle.wot_edge.specs.Record.{Record, Has, IsRecord, EachRow, edges_into};
-ghost use Rattle.wot_layer.specs.Quest.{quest_of};
+ghost use Rattle.wot_edge.specs.Record.{Has, IsRecord, EachRow, edges_into};
+ghost use Rattle.wot_layer.specs.Quest.{WhateverTold};
+ghost use Rattle.wot_layer.specs.Search.{quest_in, record_in};
 ghost use Rattle.wot_layer.specs.Reached.{look};
 ghost use Rattle.wot_layer.specs.Growth.{wanted_of, may_stand_of, PutsIfStands, TriesEdge};
 ghost use Rattle.wot_layer.specs.Looked.{Gains, Widens};
@@ -16,31 +17,34 @@ use crate::node::{Hint, Node};
 use crate::notes::Notes;
 use crate::quest::Quest;
 use crate::reached::{Reached, node_at, put};
-use wot_edge::{Demand, Edge, EdgeFacts, Roads};
-use wot_types::Memory;
+use crate::search::{Rest, Search};
+use std::collections::BTreeMap;
+use wot_edge::{Edge, EdgeFacts, Roads};
+use wot_types::{Fpr, Memory};
 
 /// The node to keep for an edge, if the edge may come there.
-fn wanted(
-    quest: &Quest,
-    demand: Demand,
-    size: u8,
-    width: u8,
+fn wanted<R: Roads>(
+    search: &Search<'_, R>,
+    rest: Rest,
     place: usize,
     edge: &EdgeFacts,
-    reached: &Reached,
+    nodes: &BTreeMap<Fpr, Node>,
 ) -> Option<Node>
-    requires { size < 255 }
-    ensures { (told : List ℕ → Record)
-        → result ≡ wanted_of (quest_of told quest.now) (look reached.now.nodes) demand size width edge.now }
+    requires { search.now.size < 255 }
+    ensures { WhateverTold search.now.quest.now
+        (λ q. result ≡ wanted_of q (look nodes.now) rest.demand search.now.size rest.width edge.now) }
 {
-    match candidate(quest, demand, size, width, place, edge) {
+    match candidate(
+        search.quest,
+        rest.demand,
+        search.size,
+        rest.width,
+        place,
+        edge,
+    ) {
         None => None,
         Some(node) => {
-            if keeps(
-                quest.goal,
-                &node,
-                node_at(&reached.nodes, &node.step.issuer),
-            ) {
+            if keeps(search.quest.goal, &node, node_at(nodes, &node.step.issuer)) {
                 Some(node)
             } else {
                 None
@@ -85,65 +89,52 @@ fn may_stand<R: Roads>(
 
 /// Keeps a node for its issuer if its edge may come there.
 fn keep<R: Roads, N: Notes>(
-    roads: &R,
-    quest: &Quest,
-    size: u8,
+    search: &Search<'_, R>,
     hint: Hint,
     edge: &Edge,
     node: Node,
     reached: &mut Reached,
     notes: &mut N,
 ) -> Result<(), Memory>
-    requires row { (id : List ℕ) → Has (edges_into (R.told roads.now id) edge.now.target) edge.now }
-    requires known { hint.usable ≡ true → IsUsable (R.told roads.now) edge.now }
-    ensures put { OnOk result (PutsIfStands (R.told roads.now quest.now.uid.now) size edge.now
+    requires row { (id : List ℕ) → Has (edges_into (R.told search.now.roads.now id) edge.now.target) edge.now }
+    requires known { hint.usable ≡ true → IsUsable (R.told search.now.roads.now) edge.now }
+    ensures put { OnOk result (PutsIfStands (record_in R.told search.now) search.now.size edge.now
         reached.old reached.new node) }
     ensures has { OnOk result (N.noted notes.new node.step.issuer) }
     ensures grows { Widens (N.noted notes.old) (N.noted notes.new) }
     ensures gains { Gains (λ fpr. fpr ≡ node.step.issuer) (N.noted notes.old) (N.noted notes.new) }
 {
     notes.note(&node.step.issuer)?;
-    if may_stand(roads, quest, size, hint.usable, edge)? {
-        return put(reached, node, quest.reach.issuer_place(hint.place));
+    if may_stand(search.roads, search.quest, search.size, hint.usable, edge)? {
+        return put(reached, node, search.quest.reach.issuer_place(hint.place));
     }
     Ok(())
 }
 
-/// Considers an edge in front of a suffix with this number of edges and this width. The issuer's reach, and whether the
-/// edge is usable, are looked up only if the hint doesn't say.
+/// Considers an edge in front of the suffixes. The issuer's reach, and whether the edge is usable, are looked up only
+/// if the hint doesn't say.
 pub fn consider<R: Roads, N: Notes>(
-    roads: &R,
-    quest: &Quest,
-    demand: Demand,
-    size: u8,
-    width: u8,
+    search: &Search<'_, R>,
+    rest: Rest,
     hint: Hint,
     edge: &Edge,
     reached: &mut Reached,
     notes: &mut N,
 ) -> Result<(), Memory>
-    requires row { (id : List ℕ) → Has (edges_into (R.told roads.now id) edge.now.target) edge.now }
-    requires known { hint.usable ≡ true → IsUsable (R.told roads.now) edge.now }
-    requires lawful { (id : List ℕ) → IsRecord (R.told roads.now id) }
-    requires demand { demand ≡ demand_of (quest_of (R.told roads.now) quest.now).question size }
-    requires size { size < 255 }
-    ensures all { OnOk result (TriesEdge N.noted (R.told roads.now) quest.now size width edge.now
+    requires row { (id : List ℕ) → Has (edges_into (R.told search.now.roads.now id) edge.now.target) edge.now }
+    requires known { hint.usable ≡ true → IsUsable (R.told search.now.roads.now) edge.now }
+    requires lawful { (id : List ℕ) → IsRecord (R.told search.now.roads.now id) }
+    requires demand { rest.demand ≡ demand_of (quest_in R.told search.now).question search.now.size }
+    requires size { search.now.size < 255 }
+    ensures all { OnOk result (TriesEdge N.noted R.told search.now rest.width edge.now
         reached.old reached.new notes.old notes.new) }
     ensures grows { Widens (N.noted notes.old) (N.noted notes.new) }
     ensures gains { Gains (λ fpr. fpr ≡ edge.now.issuer) (N.noted notes.old) (N.noted notes.new) }
 {
-    match wanted(
-        quest,
-        demand,
-        size,
-        width,
-        hint.place,
-        &edge.facts(),
-        reached,
-    ) {
+    match wanted(search, rest, hint.place, &edge.facts(), &reached.nodes) {
         None => Ok(()),
         Some(node) => {
-            keep(roads, quest, size, hint, edge, node, reached, notes)?;
+            keep(search, hint, edge, node, reached, notes)?;
             Ok(())
         }
     }

@@ -8,13 +8,14 @@ ghost use Rattle.wot_layer.specs.Quest.{LeadsOn};
 ghost use Rattle.wot_reach.specs.Reach.{number_at};
 ghost use Rattle.wot_layer.specs.Looked.{Gains, IsNear, Widens};
 ghost use Rattle.wot_layer.specs.Growth.{ConsidersInto};
+ghost use Rattle.wot_layer.specs.Search.{record_in};
 
 use crate::consider::consider;
 use crate::demand::demand;
 use crate::node::Hint;
 use crate::notes::Notes;
-use crate::quest::Quest;
 use crate::reached::{Reached, width_at};
+use crate::search::{Rest, Search};
 use wot_edge::{Edge, Roads};
 use wot_reach::Onward;
 use wot_types::{Fpr, Memory};
@@ -44,56 +45,52 @@ fn hint_of(hints: Hints<'_>, index: usize) -> Hint
 /// Considers the edges into a fingerprint of the last layer that may come there. Its place in the table of reach may be
 /// known.
 pub fn extend<R: Roads, N: Notes>(
-    roads: &R,
-    quest: &Quest,
-    size: u8,
+    search: &Search<'_, R>,
     at: &Fpr,
     known: Option<u32>,
     reached: &mut Reached,
     notes: &mut N,
 ) -> Result<(), Memory>
-    requires size { size < 255 }
-    requires lawful { (id : List ℕ) → IsRecord (R.told roads.now id) }
-    requires onward { LeadsOn (R.told roads.now) quest.now }
-    ensures all { OnOk result (ConsidersInto N.noted (R.told roads.now) quest.now size at.now
+    requires size { search.now.size < 255 }
+    requires lawful { (id : List ℕ) → IsRecord (R.told search.now.roads.now id) }
+    requires onward { LeadsOn (R.told search.now.roads.now) search.now.quest.now }
+    ensures all { OnOk result (ConsidersInto N.noted R.told search.now at.now
         reached.old reached.new notes.old notes.new) }
     ensures grows { Widens (N.noted notes.old) (N.noted notes.new) }
-    ensures gains { Gains (IsNear (R.told roads.now quest.now.uid.now) at.now) (N.noted notes.old) (N.noted notes.new) }
+    ensures gains { Gains (IsNear (record_in R.told search.now) at.now) (N.noted notes.old) (N.noted notes.new) }
 {
-    let place = quest.reach.place_known(known, at);
-    let start = quest.reach.start(place);
-    match quest.reach.onward(place, at) {
+    let place = search.quest.reach.place_known(known, at);
+    let start = search.quest.reach.start(place);
+    match search.quest.reach.onward(place, at) {
         Some(onward) => {
-            if size == 0 {
-                let usable = onward.all_usable;
-                extend_all(roads, quest, size, at, start, usable, reached, notes)
+            if search.size == 0 {
+                extend_all(search, at, start, onward.all_usable, reached, notes)
             } else {
-                extend_onward(roads, quest, size, at, start, onward, reached, notes)
+                extend_onward(search, at, start, onward, reached, notes)
             }
         }
-        None => extend_all(roads, quest, size, at, start, false, reached, notes),
+        None => extend_all(search, at, start, false, reached, notes),
     }
 }
 
 /// Considers the edges that lead on into a fingerprint.
 fn extend_onward<R: Roads, N: Notes>(
-    roads: &R,
-    quest: &Quest,
-    size: u8,
+    search: &Search<'_, R>,
     at: &Fpr,
     start: usize,
     onward: &Onward,
     reached: &mut Reached,
     notes: &mut N,
 ) -> Result<(), Memory>
-    requires some { 0 < size }
-    requires size { size < 255 }
-    requires lawful { (id : List ℕ) → IsRecord (R.told roads.now id) }
-    requires leads { LeadsOnInto (R.told roads.now) (number_at quest.now.reach.now) at.now onward.now }
-    ensures all { OnOk result (ConsidersInto N.noted (R.told roads.now) quest.now size at.now
+    requires some { 0 < search.now.size }
+    requires size { search.now.size < 255 }
+    requires lawful { (id : List ℕ) → IsRecord (R.told search.now.roads.now id) }
+    requires leads { LeadsOnInto (R.told search.now.roads.now) (number_at search.now.quest.now.reach.now) at.now
+        onward.now }
+    ensures all { OnOk result (ConsidersInto N.noted R.told search.now at.now
         reached.old reached.new notes.old notes.new) }
     ensures grows { Widens (N.noted notes.old) (N.noted notes.new) }
-    ensures gains { Gains (IsNear (R.told roads.now quest.now.uid.now) at.now) (N.noted notes.old) (N.noted notes.new) }
+    ensures gains { Gains (IsNear (record_in R.told search.now) at.now) (N.noted notes.old) (N.noted notes.new) }
 {
     let edges = onward.edges.as_slice();
     let places = onward.places.as_slice();
@@ -102,66 +99,62 @@ fn extend_onward<R: Roads, N: Notes>(
         places,
         usable: onward.usable,
     };
-    extend_by(roads, quest, size, at, edges, hints, reached, notes)
+    extend_by(search, at, edges, hints, reached, notes)
 }
 
 /// Considers each edge into a fingerprint. All of them may be known to be usable. Their numbers begin at `start` in the
 /// table.
 fn extend_all<R: Roads, N: Notes>(
-    roads: &R,
-    quest: &Quest,
-    size: u8,
+    search: &Search<'_, R>,
     at: &Fpr,
     start: usize,
     usable: bool,
     reached: &mut Reached,
     notes: &mut N,
 ) -> Result<(), Memory>
-    requires size { size < 255 }
-    requires usable { AreAllUsableIf (R.told roads.now) usable at.now }
-    ensures all { OnOk result (ConsidersInto N.noted (R.told roads.now) quest.now size at.now
+    requires size { search.now.size < 255 }
+    requires usable { AreAllUsableIf (R.told search.now.roads.now) usable at.now }
+    ensures all { OnOk result (ConsidersInto N.noted R.told search.now at.now
         reached.old reached.new notes.old notes.new) }
     ensures grows { Widens (N.noted notes.old) (N.noted notes.new) }
-    ensures gains { Gains (IsNear (R.told roads.now quest.now.uid.now) at.now) (N.noted notes.old) (N.noted notes.new) }
+    ensures gains { Gains (IsNear (record_in R.told search.now) at.now) (N.noted notes.old) (N.noted notes.new) }
 {
-    let edges = roads.rows(at);
+    let edges = search.roads.rows(at);
     let hints = Hints {
         start,
         places: &[],
         usable,
     };
-    extend_by(roads, quest, size, at, edges, hints, reached, notes)
+    extend_by(search, at, edges, hints, reached, notes)
 }
 
 /// Considers these edges into a fingerprint, which are all that matter.
 fn extend_by<R: Roads, N: Notes>(
-    roads: &R,
-    quest: &Quest,
-    size: u8,
+    search: &Search<'_, R>,
     at: &Fpr,
     edges: &[Edge],
     hints: Hints<'_>,
     reached: &mut Reached,
     notes: &mut N,
 ) -> Result<(), Memory>
-    requires size { size < 255 }
-    requires lawful { (id : List ℕ) → IsRecord (R.told roads.now id) }
-    requires matter { MatterBefore (R.told roads.now) (number_at quest.now.reach.now) size at.now edges.now }
-    requires usable { AreUsableIf (R.told roads.now) hints.usable edges.now }
-    ensures all { OnOk result (ConsidersInto N.noted (R.told roads.now) quest.now size at.now
+    requires size { search.now.size < 255 }
+    requires lawful { (id : List ℕ) → IsRecord (R.told search.now.roads.now id) }
+    requires matter { MatterBefore (R.told search.now.roads.now) (number_at search.now.quest.now.reach.now)
+        search.now.size at.now edges.now }
+    requires usable { AreUsableIf (R.told search.now.roads.now) hints.usable edges.now }
+    ensures all { OnOk result (ConsidersInto N.noted R.told search.now at.now
         reached.old reached.new notes.old notes.new) }
     ensures grows { Widens (N.noted notes.old) (N.noted notes.new) }
-    ensures gains { Gains (IsNear (R.told roads.now quest.now.uid.now) at.now) (N.noted notes.old) (N.noted notes.new) }
+    ensures gains { Gains (IsNear (record_in R.told search.now) at.now) (N.noted notes.old) (N.noted notes.new) }
 {
-    let demand = demand(roads, quest, size);
-    let width = width_at(reached, size, at);
+    let demand = demand(search.roads, search.quest, search.size);
+    let width = width_at(reached, search.size, at);
+    let rest = Rest { demand, width };
     let mut index: usize = 0;
     notes.note(at)?;
     'edges: for edge in edges {
         let hint = hint_of(hints, index);
-        consider(
-            roads, quest, demand, size, width, hint, edge, reached, notes,
-        )?;
+        consider(search, rest, hint, edge, reached, notes)?;
         index = index.saturating_add(1);
     }
     Ok(())

@@ -7,11 +7,13 @@ ghost use Rattle.wot_edge.specs.Record.{IsRecord};
 ghost use Rattle.wot_layer.specs.Quest.{LeadsOn};
 ghost use Rattle.wot_layer.specs.Looked.{Gains, IsNearOne, Widens};
 ghost use Rattle.wot_layer.specs.Growth.{ConsidersLayer, GoesOn, StaysUnrooted, GainsAfter};
+ghost use Rattle.wot_layer.specs.Search.{record_in};
 
 use crate::extend::extend;
 use crate::notes::Notes;
 use crate::quest::Quest;
 use crate::reached::Reached;
+use crate::search::Search;
 use std::alloc::Global;
 use std::mem;
 use wot_edge::Roads;
@@ -19,27 +21,24 @@ use wot_types::{Fpr, Memory};
 
 /// Considers the edges into each fingerprint of a layer. Their places in the table of reach may be known.
 fn grow<R: Roads, N: Notes>(
-    roads: &R,
-    quest: &Quest,
-    size: u8,
+    search: &Search<'_, R>,
     layer: &[Fpr],
     places: &[Option<u32>],
     reached: &mut Reached,
     notes: &mut N,
 ) -> Result<(), Memory>
-    requires size { size < 255 }
-    requires lawful { (id : List ℕ) → IsRecord (R.told roads.now id) }
-    requires onward { LeadsOn (R.told roads.now) quest.now }
-    ensures all { OnOk result (ConsidersLayer N.noted (R.told roads.now) quest.now size layer.now
+    requires size { search.now.size < 255 }
+    requires lawful { (id : List ℕ) → IsRecord (R.told search.now.roads.now id) }
+    requires onward { LeadsOn (R.told search.now.roads.now) search.now.quest.now }
+    ensures all { OnOk result (ConsidersLayer N.noted R.told search.now layer.now
         reached.old reached.new notes.old notes.new) }
     ensures grows { Widens (N.noted notes.old) (N.noted notes.new) }
-    ensures gains { Gains (IsNearOne (R.told roads.now quest.now.uid.now) layer.now)
-        (N.noted notes.old) (N.noted notes.new) }
+    ensures gains { Gains (IsNearOne (record_in R.told search.now) layer.now) (N.noted notes.old) (N.noted notes.new) }
 {
     let mut index: usize = 0;
     'layer: for at in layer {
         let known = places.get(index).copied().unwrap_or(None);
-        extend(roads, quest, size, at, known, reached, notes)?;
+        extend(search, at, known, reached, notes)?;
         index = index.saturating_add(1);
     }
     Ok(())
@@ -66,6 +65,7 @@ pub fn advance<R: Roads, N: Notes>(
 {
     let layer = mem::replace(&mut reached.layer, Vec::new(alloc));
     let places = mem::replace(&mut reached.places, Vec::new(alloc));
-    grow(roads, quest, size, &layer, &places, reached, notes)?;
+    let search = Search { roads, quest, size };
+    grow(&search, &layer, &places, reached, notes)?;
     Ok(())
 }

@@ -18,6 +18,7 @@ mod node;
 mod notes;
 mod quest;
 mod reached;
+mod search;
 mod turn;
 
 pub use consulted::{Consulted, ConsultedIter};

@@ -1,8 +1,7 @@
-//! The last steps of making a table of reach: its numbers are put into the table, and checked one fingerprint after
-//! another.
+//! The last steps of making a table of reach: its numbers go into the table, and each fingerprint is checked.
 //!
-//! It stands on `reach` and `numbers`. A table that fails the check is replaced by one that leaves nothing out, so a
-//! fault in how the numbers were found can cost time and never an answer.
+//! It stands on `reach` and `numbers`, and `making` takes the steps. If the check fails, a table that leaves nothing
+//! out takes its place: wrong numbers can cost time but never an answer.
 ghost use Rattle.std.specs.Prelude.{ℕ, List, IfOk};
 ghost use Rattle.wot_types.specs.declared.fpr.Fpr.{Fpr as Print};
 ghost use Rattle.wot_edge.specs.Record.{Record};

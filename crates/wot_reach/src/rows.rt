@@ -4,7 +4,7 @@
 //! It stands on `slots`, and `reach` reads it through checks that compare fingerprints.
 ghost use Rattle.std.specs.Prelude.{ℕ, List};
 ghost use Rattle.wot_types.specs.declared.fpr.Fpr.{Fpr as Print};
-ghost use Rattle.wot_reach.specs.Slots.{AreSlots, HasNumberIfSome};
+ghost use Rattle.wot_reach.specs.Slots.{AreSlots, HasNumber, HasNumberIfSome};
 
 use crate::slots::{Slot, Slots, number_by, number_from};
 use std::alloc::Global;
@@ -90,28 +90,20 @@ fn put_row<R: Roads>(
 {
     let edges = roads.rows(fpr);
     'edges: for edge in edges {
-        put_issuer(&edge.facts().issuer, slots, numbers, rows)?;
+        let slot = slot_of(&edge.facts().issuer, slots, numbers);
+        rows.push(slot)?;
     }
     Ok(())
 }
 
-/// Appends the slot of an issuer.
-fn put_issuer(
-    fpr: &Fpr,
-    slots: &Slots,
-    numbers: &BTreeMap<Fpr, u8>,
-    rows: &mut Vec<Slot>,
-) -> Result<(), Memory>
-    requires slots { AreSlots numbers.now.entries slots.now.slots.items }
-    requires rows { AreSlots numbers.now.entries rows.old.items }
-    ensures rows { AreSlots numbers.now.entries rows.new.items }
+/// The slot of an issuer.
+fn slot_of(fpr: &Fpr, slots: &Slots, numbers: &BTreeMap<Fpr, u8>) -> Slot
+    requires { AreSlots numbers.now.entries slots.now.slots.items }
+    ensures { HasNumber numbers.now.entries result.fpr result.number }
 {
-    let number = number_by(slots, numbers, fpr);
-    let place = slots.short_place(fpr);
-    rows.push(Slot {
+    Slot {
         fpr: *fpr,
-        number,
-        place,
-    })?;
-    Ok(())
+        number: number_by(slots, numbers, fpr),
+        place: slots.short_place(fpr),
+    }
 }

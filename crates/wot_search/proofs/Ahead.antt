@@ -1,12 +1,14 @@
 -- The amount of the next path, of the widest one.
-use Rattle.std.proofs.Common.{◌≡◌, ◌⊎◌, inl, inr, ℕ, ◌<◌, true, List, length, sym, ◌∙◌, arith}
+use Rattle.std.proofs.Common.{◌≡◌, ◌⊎◌, inl, inr, ℕ, ◌<◌, true, List, [], ◌∷◌, length, sym, subst, ◌∙◌, arith}
 use Rattle.std.proofs.lemmas.Bool.{cases_lt}
 use Rattle.wot_types.specs.declared.fpr.Fpr.{Fpr}
 use Rattle.wot_edge.specs.declared.path.Path.{Path}
 use Rattle.wot_edge.specs.declared.path.Step.{Step}
 use Rattle.wot_edge.specs.Path.{Question, Use, IsNextPath, IsOpen, path_amount}
 use Rattle.wot_edge.specs.Record.{entry_at}
-use Rattle.wot_search.specs.Below.{IsNextAmount}
+use Rattle.wot_search.specs.declared.below.Next.{Next}
+use Rattle.wot_search.specs.Below.{IsNextAmount, IsNextBelow, next_of}
+use Rattle.wot_search.specs.Offers.{AreNextFor, first_path}
 use Rattle.wot_layer.specs.declared.node.Goal.TheVariants.{Widest}
 use Rattle.wot_layer.specs.Rooted.{IsFirst, IsGood}
 use Rattle.wot_layer.proofs.Rooted.{widest_quest, first_open, valid_rooted}
@@ -43,3 +45,9 @@ module _ (reach : Fpr → ℕ) (q : Question) (used : Use) (holds : Holds reach 
     pub is_next_amount : (amount : ℕ) → amount ≡ path_amount q used wide → IsNextAmount q used amount
     is_next_amount amount e =
         record { left = λ spent. spent wide wide_open; amount = λ path n. next_amount path n ∙ sym e }
+
+-- the first of the next paths, or that none is left
+pub next_of_paths : (q : Question) (used : Use) (enough : ℕ) (paths : List Path) (next : Next)
+    → next ≡ next_of (first_path paths) → AreNextFor q used paths → IsNextBelow q used enough next
+next_of_paths q used enough [] next e n = subst (IsNextBelow q used enough) (sym e) n
+next_of_paths q used enough (path ∷ paths) next e n = subst (IsNextBelow q used enough) (sym e) n.0

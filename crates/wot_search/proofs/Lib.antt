@@ -4,3 +4,4 @@ pub mod PathsAreOffers
 pub mod OfRoots
 pub mod TakenOffer
 pub mod OneSearch
+pub mod WidestFound

@@ -1,5 +1,6 @@
 -- A question to a search, and to the network that it searches.
-use Rattle.std.specs.Prelude.{◌≡◌, ℕ, List, Option}
+use Rattle.std.specs.Prelude.{◌≡◌, ℕ, List, Vec, Option, Some, None}
+use Rattle.std.specs.declared.alloc.Global.{Global}
 use Rattle.wot_types.specs.declared.fpr.Fpr.{Fpr}
 use Rattle.wot_edge.specs.declared.path.Path.{Path}
 use Rattle.wot_edge.specs.Leads.{Leads}
@@ -7,7 +8,7 @@ use Rattle.wot_edge.specs.Path.{Question, asks}
 use Rattle.wot_edge.specs.Record.{Record}
 use Rattle.wot_edge.specs.Sums.{Sums, use_in}
 use Rattle.wot_search.specs.Nexting.{IsNextWhereAgreed}
-use Rattle.wot_search.specs.Offers.{AreNextWhereAgreed, TakesWhereAgreed}
+use Rattle.wot_search.specs.Offers.{AreNextFor, AreNextWhereAgreed, TakesWhereAgreed}
 use Rattle.wot_reach.specs.Reach.{Table, IsReach, number_at}
 use Rattle.wot_search.specs.declared.asked.Asked.{Asked}
 
@@ -45,3 +46,14 @@ abbrev pub TakesLocally :
 TakesLocally told asked used noted old new found =
     HasAll asked.reach.now
     → TakesWhereAgreed asked.roots.now (question_of told asked) (use_in used) noted old new found
+
+-- ---- what a search found, if it served
+
+abbrev pub AreNextIfSome : (List ℕ → Record) → Asked → Sums → Option (Vec Path Global) → Type 0
+AreNextIfSome told asked used None = Unit {0}
+AreNextIfSome told asked used (Some paths) = AreNextFor (question_of told asked) (use_in used) paths.items
+
+abbrev pub AreNextLocallyIfSome :
+    (List ℕ → Record) → Asked → Sums → (Fpr → Type 0) → Option (Vec Path Global) → Type 0
+AreNextLocallyIfSome told asked used noted None = Unit {0}
+AreNextLocallyIfSome told asked used noted (Some paths) = AreNextLocally told asked used noted paths.items

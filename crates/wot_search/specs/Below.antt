@@ -1,5 +1,5 @@
 -- What comes next, if its amount can be enough.
-use Rattle.std.specs.Prelude.{◌≡◌, ℕ, ◌≤◌}
+use Rattle.std.specs.Prelude.{◌≡◌, ℕ, ◌≤◌, Option, Some, None}
 use Rattle.wot_edge.specs.declared.path.Path.{Path as ThePath}
 use Rattle.wot_edge.specs.Path.{Question, Use, IsNextPath, IsSpent}
 use Rattle.wot_search.specs.declared.below.Next.{Next}
@@ -14,3 +14,8 @@ abbrev pub IsNextBelow : Question → Use → ℕ → Next → Type 0
 IsNextBelow q used enough Spent = IsSpent q used
 IsNextBelow q used enough (Enough amount) = (enough ≤ amount) × IsNextAmount q used amount
 IsNextBelow q used enough (Path path) = IsNextPath q used path
+
+-- this path, or that none is left
+abbrev pub next_of : Option ThePath → Next
+next_of None = Spent
+next_of (Some path) = Path path

@@ -1,20 +1,19 @@
 //! The next path, or only its amount if that is enough: then the least path of this amount isn't looked for.
 //!
-//! It stands on `offered` and `offers`, and on the searches of `wot_layer`. `wot_auth` uses it when only the sum of an
-//! answer is wanted.
-ghost use Rattle.std.specs.Prelude.{IfOk, OnOk};
+//! It stands on `widest`, `offered` and `offers`. `wot_auth` uses it when only the sum of an answer is wanted.
+ghost use Rattle.std.specs.Prelude.{◌≡◌, IfOk, OnOk};
 ghost use Rattle.wot_edge.specs.Sums.{use_in};
 ghost use Rattle.wot_search.specs.Asked.{HasItsReach, question_of};
-ghost use Rattle.wot_search.specs.Below.{IsNextBelow};
-ghost use Rattle.wot_search.specs.Offers.{AreOffersFor};
+ghost use Rattle.wot_search.specs.Below.{IsNextBelow, next_of};
+ghost use Rattle.wot_search.specs.Offers.{AreOffersFor, first_path};
 
 use crate::asked::Asked;
-use crate::next::bound_amounts;
 use crate::offered::{drop_spent, first_of, open_offer};
-use crate::offers::offers_by;
+use crate::offers::offers_after;
+use crate::widest::widest;
 use std::alloc::Global;
 use wot_edge::{Path, Roads, Used};
-use wot_layer::{Goal, Quest, Unnoted, first};
+use wot_layer::Unnoted;
 use wot_types::Memory;
 
 /// What comes next.
@@ -28,58 +27,13 @@ pub enum Next {
     Path(Path),
 }
 
-/// Finds what comes next by a search, which leaves its offers unless it finds enough.
-fn search_below<R: Roads>(
-    alloc: Global,
-    roads: &R,
-    asked: &Asked,
-    used: &Used,
-    enough: u32,
-    offers: &mut Vec<Path>,
-) -> Result<Next, Memory>
-    requires reach { HasItsReach (R.told roads.now) asked.now }
-    requires offers { AreOffersFor (question_of (R.told roads.now) asked.now) (use_in used.now) offers.old.items }
-    ensures next { IfOk result (IsNextBelow (question_of (R.told roads.now) asked.now) (use_in used.now) enough) }
-    ensures offers { OnOk result (AreOffersFor (question_of (R.told roads.now) asked.now) (use_in used.now)
-        offers.new.items) }
+/// The first of these paths comes next.
+fn first_next(paths: &[Path]) -> Result<Next, Memory>
+    ensures { IfOk result (λ next. next ≡ next_of (first_path paths.now)) }
 {
-    if !roads.in_order(asked.target, asked.uid) {
-        return Ok(Next::Spent);
-    }
-    bound_amounts(asked.roots);
-    // The order of the roots, as a fact.
-    let _count = asked.roots.len();
-    let widest = Quest {
-        roots: asked.roots,
-        used,
-        reach: asked.reach,
-        target: asked.target,
-        uid: asked.uid,
-        goal: Goal::Widest,
-        least: 1,
-    };
-    match first(alloc, roads, &widest, &mut Unnoted)? {
+    match first_of(paths)? {
         None => Ok(Next::Spent),
-        Some(wide) => {
-            if enough <= u32::from(wide.amount) {
-                return Ok(Next::Enough(wide.amount));
-            }
-            let least = Quest {
-                roots: asked.roots,
-                used,
-                reach: asked.reach,
-                target: asked.target,
-                uid: asked.uid,
-                goal: Goal::Least,
-                least: wide.amount,
-            };
-            let size = wide.steps.as_slice().len() as u8;
-            *offers = offers_by(alloc, roads, &least, size)?;
-            match first_of(offers.as_slice())? {
-                None => Ok(Next::Spent),
-                Some(path) => Ok(Next::Path(path)),
-            }
-        }
+        Some(path) => Ok(Next::Path(path)),
     }
 }
 
@@ -103,5 +57,15 @@ pub fn next_below<R: Roads>(
     if let Some(path) = open_offer(asked.roots, used, offers.as_slice())? {
         return Ok(Next::Path(path));
     }
-    search_below(alloc, roads, asked, used, enough, offers)
+    match widest(alloc, roads, asked, used, &mut Unnoted)? {
+        None => Ok(Next::Spent),
+        Some(wide) => {
+            if enough <= u32::from(wide.amount) {
+                return Ok(Next::Enough(wide.amount));
+            }
+            *offers = offers_after(alloc, roads, asked, used, &wide)?;
+            let next = first_next(offers.as_slice())?;
+            Ok(next)
+        }
+    }
 }

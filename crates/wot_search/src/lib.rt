@@ -9,6 +9,7 @@ mod below;
 mod next;
 mod offered;
 mod offers;
+mod widest;
 
 pub use asked::Asked;
 pub use below::{Next, next_below};

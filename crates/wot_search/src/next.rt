@@ -1,7 +1,7 @@
 //! `next_path`: the next path after what earlier paths use.
 //!
-//! It stands on the searches of `wot_layer`, and its contract is the definition in `wot_edge/specs/Path.antt`.
-//! `wot_auth` makes answers of it; a faster search has to keep these clauses.
+//! It stands on `widest` and on the searches of `wot_layer`, and its contract is the definition in
+//! `wot_edge/specs/Path.antt`. `wot_auth` makes answers of it; a faster search has to keep these clauses.
 ghost use Rattle.std.specs.Prelude.{◌≤◌, IfOk};
 ghost use Rattle.wot_types.specs.declared.fpr.Fpr.{Fpr as Print};
 ghost use Rattle.wot_edge.specs.Answer.{IsNextOrSpent};
@@ -15,6 +15,7 @@ ghost use Rattle.wot_search.specs.Asked.{IsNextLocally, HasItsReach, LeadsToAske
 ghost use Rattle.wot_search.specs.Nexting.{IsNextOfAgreeing};
 
 use crate::asked::Asked;
+use crate::widest::widest;
 use std::alloc::Global;
 use wot_edge::{Path, Roads, Roots, Used};
 use wot_layer::{Consulted, Goal, Notes, Quest, first};
@@ -82,24 +83,11 @@ pub fn next_path_within<R: Roads, N: Notes>(
     ensures local { IfOk result (IsNextLocally (R.told roads.now) asked.now used.now (N.noted notes.new)) }
     ensures lawful { IfOk result (λ found. IsRecord (R.told roads.now asked.now.uid.now)) }
 {
-    notes.note(asked.target)?;
-    if !roads.in_order(asked.target, asked.uid) {
-        return Ok(None);
-    }
-    bound_amounts(asked.roots);
-    let widest = Quest {
-        roots: asked.roots,
-        used,
-        reach: asked.reach,
-        target: asked.target,
-        uid: asked.uid,
-        goal: Goal::Widest,
-        least: 1,
-    };
-    let amount = match first(alloc, roads, &widest, notes)? {
+    let amount = match widest(alloc, roads, asked, used, notes)? {
         None => return Ok(None),
         Some(path) => path.amount,
     };
+    bound_amounts(asked.roots);
     let least = Quest {
         roots: asked.roots,
         used,

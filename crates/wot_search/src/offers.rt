@@ -1,28 +1,31 @@
 //! Offers: the next paths of several roots, found by one search.
 //!
-//! It stands on the searches of `wot_layer`, and on `specs/Offers.antt`. `offered` takes paths from them while their
-//! amounts last.
-ghost use Rattle.std.specs.Prelude.{◌≡◌, ℕ, List, nat_le, true, IfOk, OnOk};
+//! It stands on `widest`, on the searches of `wot_layer`, and on `specs/Offers.antt`. `offered` takes paths from them
+//! while their amounts last.
+ghost use Rattle.std.specs.Prelude.{◌≡◌, ℕ, List, nat_le, true, IfOk, IfSome, OnOk};
 ghost use Rattle.std.specs.List.{list_all};
 ghost use Rattle.std.specs.Map.{values_of};
 ghost use Rattle.wot_edge.specs.Record.{IsRecord};
 ghost use Rattle.wot_edge.specs.Roots.{NoneOver};
 ghost use Rattle.wot_edge.specs.Sums.{use_in};
-ghost use Rattle.wot_search.specs.Asked.{AreNextLocally, HasItsReach, LeadsToAsked, question_of};
+ghost use Rattle.wot_search.specs.Asked.{AreNextIfSome, AreNextLocally, AreNextLocallyIfSome};
+ghost use Rattle.wot_search.specs.Asked.{HasItsReach, LeadsToAsked, question_of};
 ghost use Rattle.wot_layer.specs.Growth.{IsAfter};
 ghost use Rattle.wot_layer.specs.Looked.{Gains, Widens};
 ghost use Rattle.wot_search.specs.Offers.{AddsOffer, AreFoundOffers, AreNextFor, AreOfferedBy, AreWide, IsOfferIf};
+ghost use Rattle.wot_search.specs.Widest.{AreNextByWidest, IsWidest};
 ghost use Rattle.wot_layer.specs.Quest.{LeadsOn, WhateverTold, quest_of};
 ghost use Rattle.wot_layer.specs.Reached.{look};
 
 use crate::asked::Asked;
 use crate::next::bound_amounts;
+use crate::widest::widest;
 use std::alloc::Global;
 use std::collections::BTreeMap;
 use wot_edge::{Path, Roads, Roots, Used};
 use wot_layer::{
-    Choice, Goal, Node, Notes, Quest, Reached, Unnoted, advance, begin, first, first_from,
-    left_of_root, node_at, path_from,
+    Choice, Goal, Node, Notes, Quest, Reached, Unnoted, advance, begin, first_from, left_of_root,
+    node_at, path_from,
 };
 use wot_types::{Fpr, Memory};
 
@@ -127,58 +130,36 @@ pub(crate) fn offers_by<R: Roads>(
     Ok(paths)
 }
 
-/// Next paths by two searches: one finds the greatest amount, and one the least lists of this amount.
-fn next_paths_by_two<R: Roads, N: Notes>(
+/// Next paths by a search for the least lists of the greatest amount, once a path of this amount was found.
+pub(crate) fn offers_after<R: Roads>(
     alloc: Global,
     roads: &R,
     asked: &Asked,
     used: &Used,
-    notes: &mut N,
+    wide: &Path,
 ) -> Result<Vec<Path>, Memory>
     requires reach { HasItsReach (R.told roads.now) asked.now }
+    requires lawful { (id : List ℕ) → IsRecord (R.told roads.now id) }
+    requires widest { IsWidest (R.told roads.now) asked.now used.now wide.now }
     ensures next { IfOk result (λ paths. AreNextFor (question_of (R.told roads.now) asked.now) (use_in used.now)
         paths.items) }
-    ensures grows { Widens (N.noted notes.old) (N.noted notes.new) }
-    ensures leads { Gains (LeadsToAsked (R.told roads.now) asked.now) (N.noted notes.old) (N.noted notes.new) }
-
-    // If the table leaves nothing out, every question that agrees on a set with all that was noted has them too.
-    ensures local { IfOk result (λ paths. AreNextLocally (R.told roads.now) asked.now used.now (N.noted notes.new)
-        paths.items) }
-    ensures lawful { IfOk result (λ paths. IsRecord (R.told roads.now asked.now.uid.now)) }
+    ensures local { IfOk result (λ paths. AreNextByWidest (R.told roads.now) asked.now used.now wide.now paths.items) }
 {
-    notes.note(asked.target)?;
-    if !roads.in_order(asked.target, asked.uid) {
-        return Ok(Vec::new(alloc));
-    }
     bound_amounts(asked.roots);
     // The order of the roots, as a fact.
     let _count = asked.roots.len();
-    let widest = Quest {
+    let quest = Quest {
         roots: asked.roots,
         used,
         reach: asked.reach,
         target: asked.target,
         uid: asked.uid,
-        goal: Goal::Widest,
-        least: 1,
+        goal: Goal::Least,
+        least: wide.amount,
     };
-    match first(alloc, roads, &widest, notes)? {
-        None => Ok(Vec::new(alloc)),
-        Some(path) => {
-            let least = Quest {
-                roots: asked.roots,
-                used,
-                reach: asked.reach,
-                target: asked.target,
-                uid: asked.uid,
-                goal: Goal::Least,
-                least: path.amount,
-            };
-            let size = path.steps.as_slice().len() as u8;
-            let paths = offers_by(alloc, roads, &least, size)?;
-            Ok(paths)
-        }
-    }
+    let size = wide.steps.as_slice().len() as u8;
+    let paths = offers_by(alloc, roads, &quest, size)?;
+    Ok(paths)
 }
 
 /// Whether no root has more.
@@ -211,11 +192,62 @@ fn serves(roots: &Roots, nodes: &BTreeMap<Fpr, Node>, amount: u8) -> bool
     are_wide(nodes, amount)
 }
 
-/// Finds several next paths by one search: the next one, and for each later root the one that is next once the roots
+/// Next paths by one search, which finds both the greatest amount and the least lists if all amounts are equal, as most
+/// are. `None` if it doesn't: then two searches have to. It isn't tried if the table leaves nothing out.
+fn next_paths_by_one<R: Roads, N: Notes>(
+    alloc: Global,
+    roads: &R,
+    asked: &Asked,
+    used: &Used,
+    notes: &mut N,
+) -> Result<Option<Vec<Path>>, Memory>
+    requires reach { HasItsReach (R.told roads.now) asked.now }
+    ensures next { IfOk result (AreNextIfSome (R.told roads.now) asked.now used.now) }
+    ensures local { IfOk result (AreNextLocallyIfSome (R.told roads.now) asked.now used.now (N.noted notes.new)) }
+    ensures grows { Widens (N.noted notes.old) (N.noted notes.new) }
+    ensures leads { Gains (LeadsToAsked (R.told roads.now) asked.now) (N.noted notes.old) (N.noted notes.new) }
+    ensures lawful { IfOk result (λ found. IfSome found (λ paths. IsRecord (R.told roads.now asked.now.uid.now))) }
+{
+    if asked.reach.is_everywhere() {
+        return Ok(None);
+    }
+    notes.note(asked.target)?;
+    if !roads.in_order(asked.target, asked.uid) {
+        return Ok(Some(Vec::new(alloc)));
+    }
+    bound_amounts(asked.roots);
+    // The order of the roots, as a fact.
+    let _count = asked.roots.len();
+    let any = Quest {
+        roots: asked.roots,
+        used,
+        reach: asked.reach,
+        target: asked.target,
+        uid: asked.uid,
+        goal: Goal::Least,
+        least: 1,
+    };
+    let mut reached = begin(alloc, asked.target)?;
+    match first_from(alloc, roads, &any, &mut reached, notes)? {
+        None => Ok(Some(Vec::new(alloc))),
+        Some(path) => {
+            if !serves(asked.roots, &reached.nodes, path.amount) {
+                return Ok(None);
+            }
+            let least = Quest {
+                least: path.amount,
+                ..any
+            };
+            let size = path.steps.as_slice().len() as u8;
+            let paths = offers_of(alloc, &least, &reached.nodes, size)?;
+            Ok(Some(paths))
+        }
+    }
+}
+
+/// Finds several next paths at once: the next one, and for each later root the one that is next once the roots
 /// before it have less left, as long as its own root and edges still have its amount. None if no valid path of positive
 /// amount is left. The search skips issuers beyond their reach. Every fingerprint that was looked at is noted.
-///
-/// If all amounts are equal, as most are, the first search finds both the greatest amount and the least lists.
 pub fn next_paths_within<R: Roads, N: Notes>(
     alloc: Global,
     roads: &R,
@@ -234,39 +266,14 @@ pub fn next_paths_within<R: Roads, N: Notes>(
         paths.items) }
     ensures lawful { IfOk result (λ paths. IsRecord (R.told roads.now asked.now.uid.now)) }
 {
-    if asked.reach.is_everywhere() {
-        return next_paths_by_two(alloc, roads, asked, used, notes);
-    }
-    notes.note(asked.target)?;
-    if !roads.in_order(asked.target, asked.uid) {
-        return Ok(Vec::new(alloc));
-    }
-    bound_amounts(asked.roots);
-    // The order of the roots, as a fact.
-    let _count = asked.roots.len();
-    let any = Quest {
-        roots: asked.roots,
-        used,
-        reach: asked.reach,
-        target: asked.target,
-        uid: asked.uid,
-        goal: Goal::Least,
-        least: 1,
-    };
-    let mut reached = begin(alloc, asked.target)?;
-    match first_from(alloc, roads, &any, &mut reached, notes)? {
-        None => Ok(Vec::new(alloc)),
-        Some(path) => {
-            if !serves(asked.roots, &reached.nodes, path.amount) {
-                return next_paths_by_two(alloc, roads, asked, used, notes);
+    match next_paths_by_one(alloc, roads, asked, used, notes)? {
+        Some(paths) => Ok(paths),
+        None => match widest(alloc, roads, asked, used, notes)? {
+            None => Ok(Vec::new(alloc)),
+            Some(path) => {
+                let paths = offers_after(alloc, roads, asked, used, &path)?;
+                Ok(paths)
             }
-            let least = Quest {
-                least: path.amount,
-                ..any
-            };
-            let size = path.steps.as_slice().len() as u8;
-            let paths = offers_of(alloc, &least, &reached.nodes, size)?;
-            Ok(paths)
-        }
+        },
     }
 }

@@ -7,13 +7,13 @@ use Rattle.wot_auth.proofs.sum.sum_within.Given as goal
 
 abbrev pub invariant-paths : goal.invariant-paths
 invariant-paths g l =
-    let q = asks (g.R.Roads.told l.roads l.uid) l.roots l.target in
+    let q = asks (g.R.Roads.told l.roads l.asked.uid.now) l.asked.roots.now l.asked.target.now in
     record {
       each : EachNext q [] l.paths.items;
       short : amount_of (but_last l.paths.items) < l.wanted;
       used : use_in l.used ≡ use_of l.paths.items;
       sum : l.sum ≡ amount_of l.paths.items;
-      offers : AreOffers l.roots q (use_in l.used) l.offers.items;
+      offers : AreOffers l.asked.roots.now q (use_in l.used) l.offers.items;
     }
 
 abbrev pub decreases-paths : goal.decreases-paths

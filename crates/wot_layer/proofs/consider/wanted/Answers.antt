@@ -5,17 +5,17 @@ use Rattle.wot_layer.proofs.OneEdgeConsidered.{wanted_none, wanted_kept, wanted_
 use Rattle.wot_layer.proofs.consider.wanted.Goals as goal
 
 pub returns-in-None : goal.returns-in-None
-returns-in-None c told =
-    wanted_none c.args.quest.now.goal (look c.args.reached.now.nodes) _ (sym c.in-None.is ∙ c.candidate.ensures told)
+returns-in-None g c told =
+    wanted_none c.args.search.now.quest.now.goal (look c.args.nodes.now) _ (sym c.in-None.is ∙ c.candidate.ensures told)
 
 pub returns-then-keeps : goal.returns-then-keeps
-returns-then-keeps c told =
-    wanted_kept c.args.quest.now.goal (look c.args.reached.now.nodes) _ c.in-Some.node
+returns-then-keeps g c told =
+    wanted_kept c.args.search.now.quest.now.goal (look c.args.nodes.now) _ c.in-Some.node
     (sym c.in-Some.is ∙ c.candidate.ensures told)
-    (ap (is_kept c.args.quest.now.goal c.in-Some.node) (sym c.node_at.ensures) ∙ sym c.keeps.ensures ∙ c.if-keeps.true)
+    (ap (is_kept c.args.search.now.quest.now.goal c.in-Some.node) (sym c.node_at.ensures) ∙ sym c.keeps.ensures ∙ c.if-keeps.true)
 
 pub returns-else-keeps : goal.returns-else-keeps
-returns-else-keeps c told =
-    wanted_unkept c.args.quest.now.goal (look c.args.reached.now.nodes) _ c.in-Some.node
+returns-else-keeps g c told =
+    wanted_unkept c.args.search.now.quest.now.goal (look c.args.nodes.now) _ c.in-Some.node
     (sym c.in-Some.is ∙ c.candidate.ensures told)
-    (ap (is_kept c.args.quest.now.goal c.in-Some.node) (sym c.node_at.ensures) ∙ sym c.keeps.ensures ∙ c.if-keeps.false)
+    (ap (is_kept c.args.search.now.quest.now.goal c.in-Some.node) (sym c.node_at.ensures) ∙ sym c.keeps.ensures ∙ c.if-keeps.false)

@@ -6,8 +6,8 @@ use Rattle.wot_layer.proofs.extend.extend_all.Goals as goal
 
 pub extend_by-requires-clause-usable : goal.extend_by-requires-clause-usable
 extend_by-requires-clause-usable g c =
-    subst (AreUsableIf (g.R.Roads.told c.args.roads.now) c.args.usable)
-    (sym (c.rows-edges.ensures.rows c.args.quest.now.uid.now)) (c.requires.usable c.args.quest.now.uid.now)
+    subst (AreUsableIf (g.R.Roads.told c.args.search.now.roads.now) c.args.usable)
+    (sym (c.rows-edges.ensures.rows c.args.search.now.quest.now.uid.now)) (c.requires.usable c.args.search.now.quest.now.uid.now)
 
 pub extend_by-requires-clause-matter : goal.extend_by-requires-clause-matter
 extend_by-requires-clause-matter g c = record {

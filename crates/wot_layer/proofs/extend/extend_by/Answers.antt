@@ -16,7 +16,7 @@ consider-requires-clause-row g c id =
     let x = c.edge-item.result in
     let has = subst (λ (e : EdgeFacts). Has edges e) (sym c.edge-item.is)
     (has_at edges c.edges.edge-index x c.edges-test.true) in
-    (edge_into (g.R.Roads.told c.args.roads.now id) (c.requires.lawful id) c.args.at.now x
+    (edge_into (g.R.Roads.told c.args.search.now.roads.now id) (c.requires.lawful id) c.args.at.now x
     (c.requires.matter.into id x has)).0
 
 pub consider-requires-clause-known : goal.consider-requires-clause-known
@@ -29,8 +29,8 @@ consider-requires-clause-known g c known =
 
 pub returns-in_err-consider-clause-gains : goal.returns-in_err-consider-clause-gains
 returns-in_err-consider-clause-gains g c fpr h =
-    let uid = c.args.quest.now.uid.now in
-    let told = g.R.Roads.told c.args.roads.now uid in
+    let uid = c.args.search.now.quest.now.uid.now in
+    let told = g.R.Roads.told c.args.search.now.roads.now uid in
     let edges = c.args.edges.now in
     let x = c.edge-item.result in
     let has = subst (λ (e : EdgeFacts). Has edges e) (sym c.edge-item.is)
@@ -44,15 +44,15 @@ returns-in_err-consider-clause-gains g c fpr h =
 
 pub edges-preserved : goal.edges-preserved
 edges-preserved g c =
-    let told = g.R.Roads.told c.args.roads.now c.args.quest.now.uid.now in
-    let quest = quest_of (g.R.Roads.told c.args.roads.now) c.args.quest.now in
-    let size = c.args.size in
+    let told = g.R.Roads.told c.args.search.now.roads.now c.args.search.now.quest.now.uid.now in
+    let quest = quest_of (g.R.Roads.told c.args.search.now.roads.now) c.args.search.now.quest.now in
+    let size = c.args.search.now.size in
     let edges = c.args.edges.now in
     let x = c.edge-item.result in
     let i = c.edges.edge-index in
     let has = subst (λ (e : EdgeFacts). Has edges e) (sym c.edge-item.is) (has_at edges i x c.edges-test.true) in
-    let into = c.requires.matter.into c.args.quest.now.uid.now x has in
-    let t = (edge_into told (c.requires.lawful c.args.quest.now.uid.now) c.args.at.now x into).1 in
+    let into = c.requires.matter.into c.args.search.now.quest.now.uid.now x has in
+    let t = (edge_into told (c.requires.lawful c.args.search.now.quest.now.uid.now) c.args.at.now x into).1 in
     let inv = c.edges.invariant in
     let ok = c.in_ok-consider.ensures in
     let one = ok.all in
@@ -85,19 +85,19 @@ edges-preserved g c =
 
 pub returns-clause-all : goal.returns-clause-all
 returns-clause-all g c =
-    let quest = quest_of (g.R.Roads.told c.args.roads.now) c.args.quest.now in
+    let quest = quest_of (g.R.Roads.told c.args.search.now.roads.now) c.args.search.now.quest.now in
     let inv = c.edges.invariant in
-    let all = c.requires.matter.all c.args.quest.now.uid.now in
+    let all = c.requires.matter.all c.args.search.now.quest.now.uid.now in
     record {
       grows = inv.grows;
       taken = λ ready rest begins k.
-          taken_all quest c.args.size (look c.edges.reached.nodes) c.args.edges.now c.args.at.now rest all begins.long
+          taken_all quest c.args.search.now.size (look c.edges.reached.nodes) c.args.edges.now c.args.at.now rest all begins.long
           begins.there
-          (taken_end quest c.args.size (look c.edges.reached.nodes) c.args.edges.now c.edges.edge-index rest
+          (taken_end quest c.args.search.now.size (look c.edges.reached.nodes) c.args.edges.now c.edges.edge-index rest
           c.edges-test.false (inv.taken ready rest begins k));
       noted = inv.noted;
       seen = λ n rest begins.
-          noted_all quest c.args.size (g.N.Notes.noted c.edges.notes) c.args.edges.now c.args.at.now rest all
+          noted_all quest c.args.search.now.size (g.N.Notes.noted c.edges.notes) c.args.edges.now c.args.at.now rest all
           begins.long begins.there inv.it
           (noted_end quest (g.N.Notes.noted c.edges.notes) c.args.edges.now c.edges.edge-index rest
           c.edges-test.false (inv.seen n rest begins));

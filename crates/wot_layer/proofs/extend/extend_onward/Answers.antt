@@ -6,7 +6,7 @@ use Rattle.wot_layer.proofs.extend.extend_onward.Goals as goal
 
 pub extend_by-requires-clause-matter : goal.extend_by-requires-clause-matter
 extend_by-requires-clause-matter g c =
-    let told = g.R.Roads.told c.args.roads.now in
+    let told = g.R.Roads.told c.args.search.now.roads.now in
     let e = sym c.as_slice-edges.ensures.value in
     record {
       into = subst (AreInto told c.args.at.now) e c.requires.leads.into;
@@ -16,5 +16,5 @@ extend_by-requires-clause-matter g c =
 
 pub extend_by-requires-clause-usable : goal.extend_by-requires-clause-usable
 extend_by-requires-clause-usable g c =
-    subst (AreUsableIf (g.R.Roads.told c.args.roads.now) c.args.onward.now.usable) (sym c.as_slice-edges.ensures.value)
+    subst (AreUsableIf (g.R.Roads.told c.args.search.now.roads.now) c.args.onward.now.usable) (sym c.as_slice-edges.ensures.value)
     c.requires.leads.usable

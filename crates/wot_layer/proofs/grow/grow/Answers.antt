@@ -8,7 +8,7 @@ use Rattle.wot_layer.proofs.grow.grow.Goals as goal
 
 pub layer-preserved : goal.layer-preserved
 layer-preserved g c =
-    let quest = quest_of (g.R.Roads.told c.args.roads.now) c.args.quest.now in
+    let quest = quest_of (g.R.Roads.told c.args.search.now.roads.now) c.args.search.now.quest.now in
     let layer = c.args.layer.now in
     let i = c.layer.at-index in
     let has = has_at layer i _ c.layer-test.true in
@@ -16,16 +16,16 @@ layer-preserved g c =
     let ok = c.in_ok-extend.ensures in
     let one = ok.all in
     record {
-      grows = λ ready. advances_trans quest c.args.size c.args.reached.now c.layer.reached c.extend.new.reached
+      grows = λ ready. advances_trans quest c.args.search.now.size c.args.reached.now c.layer.reached c.extend.new.reached
           (inv.grows ready)
-          (one.grows (ready_at quest c.args.size c.args.reached.now c.layer.reached layer _ ready (inv.grows ready) has));
+          (one.grows (ready_at quest c.args.search.now.size c.args.reached.now c.layer.reached layer _ ready (inv.grows ready) has));
       taken = λ ready.
-          let r = ready_at quest c.args.size c.args.reached.now c.layer.reached layer _ ready (inv.grows ready) has in
-          layer_more quest c.args.size (look c.layer.reached.nodes) (look c.extend.new.reached.nodes) layer i _
+          let r = ready_at quest c.args.search.now.size c.args.reached.now c.layer.reached layer _ ready (inv.grows ready) has in
+          layer_more quest c.args.search.now.size (look c.layer.reached.nodes) (look c.extend.new.reached.nodes) layer i _
           c.layer-test.true (inv.taken ready) (one.grows r).onward
           (λ rest k l there. one.taken r rest (record { long = l; there = there }) k);
       noted = λ n. one.noted (inv.noted n);
-      seen = λ n. seen_more quest c.args.size (g.N.Notes.noted c.layer.notes) (g.N.Notes.noted c.extend.new.notes) layer
+      seen = λ n. seen_more quest c.args.search.now.size (g.N.Notes.noted c.layer.notes) (g.N.Notes.noted c.extend.new.notes) layer
           i _ c.layer-test.true (inv.seen n) ok.grows
           (λ rest l there. one.seen (inv.noted n) rest (record { long = l; there = there }));
       widens = λ f h. ok.grows f (inv.widens f h);
@@ -42,17 +42,17 @@ returns-in_err-extend-clause-gains g c fpr h =
 
 pub returns-clause-all : goal.returns-clause-all
 returns-clause-all g c =
-    let quest = quest_of (g.R.Roads.told c.args.roads.now) c.args.quest.now in
+    let quest = quest_of (g.R.Roads.told c.args.search.now.roads.now) c.args.search.now.quest.now in
     let inv = c.layer.invariant in
     record {
       grows = inv.grows;
       taken = λ ready rest begins k.
           let l = begins.long in
-          layer_end quest c.args.size (look c.layer.reached.nodes) c.args.layer.now c.layer.at-index
+          layer_end quest c.args.search.now.size (look c.layer.reached.nodes) c.args.layer.now c.layer.at-index
           c.layer-test.false (inv.taken ready) rest ((inv.grows ready).onward.keeps rest (omega (arith, l)) k) l
           begins.there;
       noted = inv.noted;
       seen = λ n rest begins.
-          seen_end quest c.args.size (g.N.Notes.noted c.layer.notes) c.args.layer.now c.layer.at-index
+          seen_end quest c.args.search.now.size (g.N.Notes.noted c.layer.notes) c.args.layer.now c.layer.at-index
           c.layer-test.false (inv.seen n) rest begins.long begins.there;
     }

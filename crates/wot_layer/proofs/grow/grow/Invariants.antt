@@ -8,16 +8,16 @@ use Rattle.wot_layer.proofs.grow.grow.Given as goal
 
 abbrev pub invariant-layer : goal.invariant-layer
 invariant-layer g l =
-    let told = g.R.Roads.told l.roads in
-    let quest = quest_of told l.quest in
+    let told = g.R.Roads.told l.search.roads.now in
+    let quest = quest_of told l.search.quest.now in
     record {
-      grows : IsReady quest l.size (Has l.layer) l.fn.reached → Advances quest l.size l.fn.reached l.reached;
-      taken : IsReady quest l.size (Has l.layer) l.fn.reached
-          → LayerFrom quest l.size (look l.reached.nodes) l.layer l.at-index;
+      grows : IsReady quest l.search.size (Has l.layer) l.fn.reached → Advances quest l.search.size l.fn.reached l.reached;
+      taken : IsReady quest l.search.size (Has l.layer) l.fn.reached
+          → LayerFrom quest l.search.size (look l.reached.nodes) l.layer l.at-index;
       noted : AreNoted (look l.fn.reached.nodes) (g.N.Notes.noted l.fn.notes)
           → AreNoted (look l.reached.nodes) (g.N.Notes.noted l.notes);
       seen : AreNoted (look l.fn.reached.nodes) (g.N.Notes.noted l.fn.notes)
-          → SeenFrom quest l.size (g.N.Notes.noted l.notes) l.layer l.at-index;
+          → SeenFrom quest l.search.size (g.N.Notes.noted l.notes) l.layer l.at-index;
       widens : Widens (g.N.Notes.noted l.fn.notes) (g.N.Notes.noted l.notes);
-      gains : Gains (IsNearOne (told l.quest.uid.now) l.layer) (g.N.Notes.noted l.fn.notes) (g.N.Notes.noted l.notes);
+      gains : Gains (IsNearOne (told l.search.quest.now.uid.now) l.layer) (g.N.Notes.noted l.fn.notes) (g.N.Notes.noted l.notes);
     }

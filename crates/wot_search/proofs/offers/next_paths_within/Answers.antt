@@ -1,109 +1,109 @@
-use Rattle.std.proofs.Common.{ℕ, Option, length, ap, sym, subst, ◌∙◌}
+use Rattle.std.proofs.Common.{inl, inr, length, Option, sym, subst}
+use Rattle.std.specs.Prelude.{IfSome, Vec}
+use Rattle.std.specs.declared.alloc.Global.{Global}
 use Rattle.wot_edge.specs.declared.path.Path.{Path}
 use Rattle.wot_edge.specs.Path.{asks}
-use Rattle.wot_edge.specs.Record.{Has}
+use Rattle.wot_edge.specs.Record.{Has, IsRecord}
 use Rattle.wot_edge.specs.Sums.{use_in}
-use Rattle.wot_layer.specs.Growth.{IsAfterPath, IsResult, IsLookedBy}
-use Rattle.wot_search.specs.Offers.{AreNext, AreOfferedBy}
-use Rattle.wot_reach.specs.Reach.{number_at}
-use Rattle.wot_layer.specs.Reached.{look}
 use Rattle.wot_layer.proofs.Layers.{looked_grows}
-use Rattle.wot_search.proofs.NextOfTwo.{spent_next, spent_local}
-use Rattle.wot_search.proofs.OfRoots.{found_next, found_there}
-use Rattle.wot_search.proofs.OneSearch.{none_wide, some_wide, looked_wide, path_some, roots_left, after_more}
-use Rattle.wot_layer.proofs.Rooted.{widest_quest, least_quest}
-use Rattle.wot_reach.proofs.Within.{reach_holds}
+use Rattle.wot_search.specs.Asked.{AreNextIfSome, AreNextLocallyIfSome}
+use Rattle.wot_search.specs.Offers.{AreNext}
+use Rattle.wot_search.specs.Widest.{widest_of, IsWidestNoted, IsWidestOrSpent}
 use Rattle.wot_search.proofs.offers.next_paths_within.Goals as goal
 
-pub returns-in-None-clause-next : goal.returns-in-None-clause-next
-returns-in-None-clause-next g c =
-    let told = g.R.Roads.told c.args.roads.now in
-    let q = asks (told c.args.asked.now.uid.now) c.args.asked.now.roots.now c.args.asked.now.target.now in
-    let used = use_in c.args.used.now in
-    let reach = number_at c.args.asked.now.reach.now in
-    let holds = reach_holds told c.args.asked.now.roots.now reach c.requires.reach.enough c.args.asked.now.uid.now
-    c.args.asked.now.target.now used in
-    subst (AreNext c.args.asked.now.roots.now q used) (sym c.new-in-None.ensures.items)
-    (spent_next reach q used holds
-    (none_wide reach q used
-    (subst (λ (o : Option Path). IsResult (least_quest reach q used 1) o) c.in-None.is
-    c.in_ok-first_from.ensures.first)))
+pub offers_after-requires-clause-widest : goal.offers_after-requires-clause-widest
+offers_after-requires-clause-widest g c =
+    subst (IsWidestOrSpent (g.R.Roads.told c.args.roads.now) c.args.asked.now c.args.used.now) c.in-Some-2.is
+    c.in_ok-widest-in-None.ensures.widest
 
-pub returns-in-None-clause-local : goal.returns-in-None-clause-local
-returns-in-None-clause-local g c all set has other a =
-    let told = g.R.Roads.told c.args.roads.now in
-    let q = asks (told c.args.asked.now.uid.now) c.args.asked.now.roots.now c.args.asked.now.target.now in
-    let used = use_in c.args.used.now in
-    let reach = number_at c.args.asked.now.reach.now in
-    let holds = reach_holds told c.args.asked.now.roots.now reach c.requires.reach.enough c.args.asked.now.uid.now
-    c.args.asked.now.target.now used in
-    let l = subst
-    (λ (o : Option Path). IsLookedBy (least_quest reach q used 1) (g.N.Notes.noted c.first_from.new.notes) o)
-    c.in-None.is c.in_ok-first_from.ensures.looked in
-    subst (AreNext c.args.asked.now.roots.now other used) (sym c.new-in-None.ensures.items)
-    (spent_local reach all q used holds set
-    (none_wide reach q used
-    (subst (λ (o : Option Path). IsResult (least_quest reach q used 1) o) c.in-None.is
-    c.in_ok-first_from.ensures.first))
-    (looked_grows (widest_quest reach q used) 255 (g.N.Notes.noted c.first_from.new.notes) (Has set) has
-    (looked_wide reach q used 255 (g.N.Notes.noted c.first_from.new.notes) l)) other a)
+pub returns-in-Some-clause-next : goal.returns-in-Some-clause-next
+returns-in-Some-clause-next g c =
+    subst (AreNextIfSome (g.R.Roads.told c.args.roads.now) c.args.asked.now c.args.used.now) c.in-Some.is
+    c.in_ok-paths.ensures.next
 
-pub returns-clause-next : goal.returns-clause-next
-returns-clause-next g c =
-    let told = g.R.Roads.told c.args.roads.now in
-    let q = asks (told c.args.asked.now.uid.now) c.args.asked.now.roots.now c.args.asked.now.target.now in
-    let used = use_in c.args.used.now in
-    let reach = number_at c.args.asked.now.reach.now in
-    let holds = reach_holds told c.args.asked.now.roots.now reach c.requires.reach.enough c.args.asked.now.uid.now
-    c.args.asked.now.target.now used in
-    let path = c.in-Some.path in
-    let most = roots_left q used path.amount (c.serves.ensures.most c.if-not-serves.false) in
-    let least = subst (λ (o : Option Path). IsResult (least_quest reach q used 1) o) c.in-Some.is
-    c.in_ok-first_from.ensures.first in
-    let after = subst
-    (λ (o : Option Path). IsAfterPath (least_quest reach q used 1) c.first_from.new.reached
-    (g.N.Notes.noted c.first_from.new.notes) o) c.in-Some.is c.in_ok-first_from.ensures.after in
-    let more = after_more reach q used path.amount (length path.steps) c.first_from.new.reached
-    (g.N.Notes.noted c.first_from.new.notes) (path_some reach q used path least)
-    (c.serves.ensures.wide c.if-not-serves.false) after in
-    let offered =
-    subst (λ (n : ℕ). AreOfferedBy (least_quest reach q used path.amount) (look c.first_from.new.reached.nodes) n
-    c.args.asked.now.roots.now c.in_ok-paths-in-Some.paths.items) (ap length c.as_slice.ensures.items)
-    (c.in_ok-paths-in-Some.ensures told) in
-    found_next reach q (c.in_order.ensures.lawful c.args.asked.now.uid.now) used holds
-    (sym c.in_order.ensures.in_order ∙ c.if-not-in_order.false) path (some_wide reach q used path most least)
-    (look c.first_from.new.reached.nodes) more.entries more.complete
-    c.in_ok-paths-in-Some.paths.items c.len-count.ensures.roots.order offered
+pub returns-in-Some-clause-local : goal.returns-in-Some-clause-local
+returns-in-Some-clause-local g c =
+    subst
+    (AreNextLocallyIfSome (g.R.Roads.told c.args.roads.now) c.args.asked.now c.args.used.now
+    (g.N.Notes.noted c.next_paths_by_one.new.notes)) c.in-Some.is c.in_ok-paths.ensures.local
 
-pub returns-clause-local : goal.returns-clause-local
-returns-clause-local g c all set has other a =
+pub returns-in-Some-clause-lawful : goal.returns-in-Some-clause-lawful
+returns-in-Some-clause-lawful g c =
+    subst
+    (λ (found : Option (Vec Path Global)). IfSome found
+    (λ (paths : Vec Path Global). IsRecord (g.R.Roads.told c.args.roads.now c.args.asked.now.uid.now))) c.in-Some.is
+    c.in_ok-paths.ensures.lawful
+
+pub returns-in-None-2-clause-next : goal.returns-in-None-2-clause-next
+returns-in-None-2-clause-next g c =
+    let asked = c.args.asked.now in
     let told = g.R.Roads.told c.args.roads.now in
-    let q = asks (told c.args.asked.now.uid.now) c.args.asked.now.roots.now c.args.asked.now.target.now in
-    let used = use_in c.args.used.now in
-    let reach = number_at c.args.asked.now.reach.now in
-    let holds = reach_holds told c.args.asked.now.roots.now reach c.requires.reach.enough c.args.asked.now.uid.now
-    c.args.asked.now.target.now used in
-    let path = c.in-Some.path in
-    let most = roots_left q used path.amount (c.serves.ensures.most c.if-not-serves.false) in
-    let least = subst (λ (o : Option Path). IsResult (least_quest reach q used 1) o) c.in-Some.is
-    c.in_ok-first_from.ensures.first in
-    let after = subst
-    (λ (o : Option Path). IsAfterPath (least_quest reach q used 1) c.first_from.new.reached
-    (g.N.Notes.noted c.first_from.new.notes) o) c.in-Some.is c.in_ok-first_from.ensures.after in
-    let looked = subst
-    (λ (o : Option Path). IsLookedBy (least_quest reach q used 1) (g.N.Notes.noted c.first_from.new.notes) o)
-    c.in-Some.is c.in_ok-first_from.ensures.looked in
-    let more = after_more reach q used path.amount (length path.steps) c.first_from.new.reached
-    (g.N.Notes.noted c.first_from.new.notes) (path_some reach q used path least)
-    (c.serves.ensures.wide c.if-not-serves.false) after in
-    let offered =
-    subst (λ (n : ℕ). AreOfferedBy (least_quest reach q used path.amount) (look c.first_from.new.reached.nodes) n
-    c.args.asked.now.roots.now c.in_ok-paths-in-Some.paths.items) (ap length c.as_slice.ensures.items)
-    (c.in_ok-paths-in-Some.ensures told) in
-    found_there reach q (c.in_order.ensures.lawful c.args.asked.now.uid.now) used holds
-    (sym c.in_order.ensures.in_order ∙ c.if-not-in_order.false) path (some_wide reach q used path most least)
-    (look c.first_from.new.reached.nodes) more.entries more.complete
-    c.in_ok-paths-in-Some.paths.items c.len-count.ensures.roots.order offered
-    all other set a
-    (looked_grows (widest_quest reach q used) (length path.steps) (g.N.Notes.noted c.first_from.new.notes) (Has set) has
-    (looked_wide reach q used (length path.steps) (g.N.Notes.noted c.first_from.new.notes) looked))
+    subst (AreNext asked.roots.now (asks (told asked.uid.now) asked.roots.now asked.target.now) (use_in c.args.used.now))
+    (sym c.new.ensures.items)
+    (subst (IsWidestOrSpent told asked c.args.used.now) c.in-None-2.is c.in_ok-widest-in-None.ensures.widest)
+
+pub returns-in-None-2-clause-local : goal.returns-in-None-2-clause-local
+returns-in-None-2-clause-local g c all set has other a =
+    subst (AreNext c.args.asked.now.roots.now other (use_in c.args.used.now)) (sym c.new.ensures.items)
+    (subst
+    (IsWidestNoted (g.R.Roads.told c.args.roads.now) c.args.asked.now c.args.used.now
+    (g.N.Notes.noted c.widest.new.notes)) c.in-None-2.is c.in_ok-widest-in-None.ensures.noted all set has other a)
+
+pub returns-in_ok-paths-in-Some-2-clause-next : goal.returns-in_ok-paths-in-Some-2-clause-next
+returns-in_ok-paths-in-Some-2-clause-next g c = c.in_ok-paths-in-Some-2.ensures.next
+
+pub returns-in_ok-paths-in-Some-2-clause-local : goal.returns-in_ok-paths-in-Some-2-clause-local
+returns-in_ok-paths-in-Some-2-clause-local g c all set has other a =
+    let told = g.R.Roads.told c.args.roads.now in
+    let noted = g.N.Notes.noted c.widest.new.notes in
+    c.in_ok-paths-in-Some-2.ensures.local all other set a
+    (looked_grows (widest_of told c.args.asked.now c.args.used.now) (length c.in-Some-2.path.steps) noted (Has set) has
+    (subst (IsWidestNoted told c.args.asked.now c.args.used.now noted) c.in-Some-2.is c.in_ok-widest-in-None.ensures.noted))
+
+pub returns-in_err-paths-clause-grows : goal.returns-in_err-paths-clause-grows
+returns-in_err-paths-clause-grows g c = c.in_err-paths.ensures.grows
+
+pub returns-in_err-paths-clause-leads : goal.returns-in_err-paths-clause-leads
+returns-in_err-paths-clause-leads g c = c.in_err-paths.ensures.leads
+
+pub returns-in-Some-clause-grows : goal.returns-in-Some-clause-grows
+returns-in-Some-clause-grows g c = c.in_ok-paths.ensures.grows
+
+pub returns-in-Some-clause-leads : goal.returns-in-Some-clause-leads
+returns-in-Some-clause-leads g c = c.in_ok-paths.ensures.leads
+
+pub returns-in_err-widest-in-None-clause-grows : goal.returns-in_err-widest-in-None-clause-grows
+returns-in_err-widest-in-None-clause-grows g c fpr h =
+    c.in_err-widest-in-None.ensures.grows fpr (c.in_ok-paths.ensures.grows fpr h)
+
+pub returns-in_err-widest-in-None-clause-leads : goal.returns-in_err-widest-in-None-clause-leads
+returns-in_err-widest-in-None-clause-leads g c fpr h =
+    elim (c.in_err-widest-in-None.ensures.leads fpr h)
+    [ inl k ↦ c.in_ok-paths.ensures.leads fpr k | inr l ↦ inr l ]
+
+pub returns-in-None-2-clause-grows : goal.returns-in-None-2-clause-grows
+returns-in-None-2-clause-grows g c fpr h =
+    c.in_ok-widest-in-None.ensures.grows fpr (c.in_ok-paths.ensures.grows fpr h)
+
+pub returns-in-None-2-clause-leads : goal.returns-in-None-2-clause-leads
+returns-in-None-2-clause-leads g c fpr h =
+    elim (c.in_ok-widest-in-None.ensures.leads fpr h)
+    [ inl k ↦ c.in_ok-paths.ensures.leads fpr k | inr l ↦ inr l ]
+
+pub returns-in_err-paths-in-Some-2-clause-grows : goal.returns-in_err-paths-in-Some-2-clause-grows
+returns-in_err-paths-in-Some-2-clause-grows g c fpr h =
+    c.in_ok-widest-in-None.ensures.grows fpr (c.in_ok-paths.ensures.grows fpr h)
+
+pub returns-in_err-paths-in-Some-2-clause-leads : goal.returns-in_err-paths-in-Some-2-clause-leads
+returns-in_err-paths-in-Some-2-clause-leads g c fpr h =
+    elim (c.in_ok-widest-in-None.ensures.leads fpr h)
+    [ inl k ↦ c.in_ok-paths.ensures.leads fpr k | inr l ↦ inr l ]
+
+pub returns-in_ok-paths-in-Some-2-clause-grows : goal.returns-in_ok-paths-in-Some-2-clause-grows
+returns-in_ok-paths-in-Some-2-clause-grows g c fpr h =
+    c.in_ok-widest-in-None.ensures.grows fpr (c.in_ok-paths.ensures.grows fpr h)
+
+pub returns-in_ok-paths-in-Some-2-clause-leads : goal.returns-in_ok-paths-in-Some-2-clause-leads
+returns-in_ok-paths-in-Some-2-clause-leads g c fpr h =
+    elim (c.in_ok-widest-in-None.ensures.leads fpr h)
+    [ inl k ↦ c.in_ok-paths.ensures.leads fpr k | inr l ↦ inr l ]

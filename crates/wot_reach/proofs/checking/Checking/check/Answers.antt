@@ -2,8 +2,19 @@ use Rattle.std.proofs.Common.{◌<◌, ℕ, List, length, drop, sym, subst, arit
 use Rattle.wot_types.specs.declared.fpr.Fpr.{Fpr}
 use Rattle.wot_reach.specs.Making.{HaveEnoughBut}
 use Rattle.wot_reach.specs.Reach.{number_at, number_of}
-use Rattle.wot_reach.proofs.Checked.{one_checked}
+use Rattle.wot_reach.proofs.Checked.{all_checked, one_checked}
 use Rattle.wot_reach.proofs.checking.Checking.check.Goals as goal
+
+pub returns-then-self-len : goal.returns-then-self-len
+returns-then-self-len g c =
+    let checking = c.requires.checking in
+    record {
+      making = record {
+        enough = all_checked (g.R.Roads.told c.args.roads.now) c.args.roots.now (number_at c.args.self.reach)
+            c.args.self.fprs.items c.args.self.next (omega (arith, c.if-self-len.true)) checking.enough;
+        onward = checking.onward;
+      };
+    }
 
 pub returns-then-not-branch : goal.returns-then-not-branch
 returns-then-not-branch g c =

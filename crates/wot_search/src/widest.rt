@@ -1,0 +1,49 @@
+//! A path of the greatest amount. A search for next paths begins with it, unless one search finds both.
+//!
+//! It stands on the searches of `wot_layer` and on `specs/Widest.antt`. `next`, `offers` and `below` call it.
+ghost use Rattle.std.specs.Prelude.{ℕ, List, IfOk};
+ghost use Rattle.wot_edge.specs.Record.{IsRecord};
+ghost use Rattle.wot_layer.specs.Looked.{Gains, Widens};
+ghost use Rattle.wot_search.specs.Asked.{HasItsReach, LeadsToAsked};
+ghost use Rattle.wot_search.specs.Widest.{IsWidestNoted, IsWidestOrSpent};
+
+use crate::asked::Asked;
+use crate::next::bound_amounts;
+use std::alloc::Global;
+use wot_edge::{Path, Roads, Used};
+use wot_layer::{Goal, Notes, Quest, first};
+use wot_types::Memory;
+
+/// Finds a path of the greatest amount, one with the fewest edges. `None` if no valid path of positive amount is left.
+/// Every fingerprint that was looked at is noted.
+pub(crate) fn widest<R: Roads, N: Notes>(
+    alloc: Global,
+    roads: &R,
+    asked: &Asked,
+    used: &Used,
+    notes: &mut N,
+) -> Result<Option<Path>, Memory>
+    requires { HasItsReach (R.told roads.now) asked.now }
+    ensures widest { IfOk result (IsWidestOrSpent (R.told roads.now) asked.now used.now) }
+    ensures noted { IfOk result (IsWidestNoted (R.told roads.now) asked.now used.now (N.noted notes.new)) }
+    ensures grows { Widens (N.noted notes.old) (N.noted notes.new) }
+    ensures leads { Gains (LeadsToAsked (R.told roads.now) asked.now) (N.noted notes.old) (N.noted notes.new) }
+    ensures lawful { IfOk result (λ found. (id : List ℕ) → IsRecord (R.told roads.now id)) }
+{
+    notes.note(asked.target)?;
+    if !roads.in_order(asked.target, asked.uid) {
+        return Ok(None);
+    }
+    bound_amounts(asked.roots);
+    let quest = Quest {
+        roots: asked.roots,
+        used,
+        reach: asked.reach,
+        target: asked.target,
+        uid: asked.uid,
+        goal: Goal::Widest,
+        least: 1,
+    };
+    let found = first(alloc, roads, &quest, notes)?;
+    Ok(found)
+}
