@@ -1,7 +1,7 @@
 //! What a merge would add, without merging: how many keys, components, signatures and octets.
 //!
-//! It stands on `wot_part`, which says it of sorted lists. `Cert::adds` hands it on; the program itself learns from
-//! `Cert::grow` what a merge added.
+//! It stands on `wot_part`, which says it of sorted lists. No crate of the program calls it: `Cert::grow` merges and
+//! says what was added.
 ghost use Rattle.std.specs.Prelude.{◌≡◌, ◌<◌, ◌^◌, ◌+◌};
 ghost use Rattle.wot_part.specs.Certificate.{unite};
 ghost use Rattle.wot_part.specs.Counts.{items_of, signatures_of};

@@ -11,6 +11,7 @@ use Rattle.wot_edge.specs.Record.{Row, Has, entry_at, rows_into}
 use Rattle.wot_edge.specs.Path.{Question, Use, use_of, step_of, step_left, root_left, IsOpen, IsSpent}
 use Rattle.wot_check.specs.declared.checking.Checked.{Checked}
 use Rattle.wot_check.specs.declared.checking.Checked.TheVariants.{Yes, BadPaths, BadTable}
+use Rattle.wot_check.specs.declared.checking.Claims.{Claims}
 use Rattle.wot_check.specs.Claim.{Claim, AreGood, EachShows, claim_of}
 use Rattle.wot_check.specs.Table.{Labels, label_at, IsAtMost, IsTable}
 
@@ -107,6 +108,10 @@ abbrev pub IsChecked : Question → List Claim → Labels → Checked → Type 0
 IsChecked q claims table Yes = Accepts q claims table
 IsChecked q claims table BadPaths = AreGood q claims → ⊥
 IsChecked q claims table BadTable = Rejects q claims table
+
+-- a client's paths and table have this result
+abbrev pub AreJudged : Question → Claims → Checked → Type 0
+AreJudged q claims checked = IsChecked q claims.paths.now claims.table.now checked
 
 -- if a check has a result, it is this one if and only if a fact holds
 abbrev pub SaysIff : Result Checked Memory → Checked → Type 0 → Type 0

@@ -6,7 +6,7 @@ ghost use Rattle.std.specs.Prelude.{◌≡◌, ◌<◌, ◌^◌, length, IfOk};
 ghost use Rattle.wot_edge.specs.Path.{asks};
 ghost use Rattle.wot_edge.specs.Record.{IsRecord};
 ghost use Rattle.wot_check.specs.declared.checking.Checked.TheVariants as answers;
-ghost use Rattle.wot_check.specs.Absence.{Accepts, AreSpent, IsChecked, Rejects, SaysIff};
+ghost use Rattle.wot_check.specs.Absence.{Accepts, AreJudged, AreSpent, IsChecked, Rejects, SaysIff};
 ghost use Rattle.wot_check.specs.Claim.{AreGood};
 
 use crate::asked::Asked;
@@ -30,27 +30,33 @@ pub enum Checked {
     BadTable,
 }
 
+/// What a client claims: paths, and a table that proves absence after them.
+#[derive(Clone, Copy)]
+pub struct Claims<'a> {
+    pub paths: &'a [Claimed],
+    pub table: &'a Table,
+}
+
 fn judge<R: Roads>(
     alloc: Global,
     roads: &R,
     roots: &Roots,
-    paths: &[Claimed],
-    table: &Table,
+    claims: &Claims,
     target: &Fpr,
     uid: &[u8],
 ) -> Result<Checked, Memory>
-    requires few { length paths.now < 2 ^ 24 }
-    ensures checked { IfOk result (λ checked.
-        IsChecked (asks (R.told roads.now uid.now) roots.now target.now) paths.now table.now checked) }
+    requires few { length claims.now.paths.now < 2 ^ 24 }
+    ensures checked { IfOk result
+        (λ checked. AreJudged (asks (R.told roads.now uid.now) roots.now target.now) claims.now checked) }
     ensures lawful { IfOk result (λ checked. IsRecord (R.told roads.now uid.now)) }
 {
     if !roads.in_order(target, uid) {
-        if paths.is_empty() {
+        if claims.paths.is_empty() {
             return Ok(Checked::Yes);
         }
         return Ok(Checked::BadPaths);
     }
-    match show_all(alloc, roads, roots, paths, target, uid)? {
+    match show_all(alloc, roads, roots, claims.paths, target, uid)? {
         None => Ok(Checked::BadPaths),
         Some(used) => {
             let asked = Asked {
@@ -59,7 +65,7 @@ fn judge<R: Roads>(
                 target,
                 uid,
             };
-            if excludes(roads, &asked, table)? {
+            if excludes(roads, &asked, claims.table)? {
                 Ok(Checked::Yes)
             } else {
                 Ok(Checked::BadTable)
@@ -93,6 +99,7 @@ pub fn check<R: Roads>(
     ensures spent { IfOk result (λ checked. checked ≡ answers.Yes
         → AreSpent (asks (R.told roads.now uid.now) roots.now target.now) paths.now) }
 {
-    let checked = judge(alloc, roads, roots, paths, table, target, uid)?;
+    let claims = Claims { paths, table };
+    let checked = judge(alloc, roads, roots, &claims, target, uid)?;
     Ok(checked)
 }

@@ -1,6 +1,6 @@
 //! Claimed paths: what a client says about a path, which may be false.
 //!
-//! `specs/Claim.antt` says when a claim is right. `wot_machine` makes them of the fields of `check`, and `absence`
+//! `specs/Claim.antt` says when a claim is right. `wot_command` makes them of the fields of `check`, and `absence`
 //! prints those of an answer.
 ghost use Rattle.std.specs.Prelude.{◌≡◌, ◌++◌, ◌∷◌, [], map, IfOk, OnOk, OnErr};
 ghost use Rattle.wot_check.specs.Claim.{claim_of, claimed_step};

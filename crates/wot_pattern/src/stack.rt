@@ -1,4 +1,6 @@
-//! A stack with reserved room, kept in a vector. Both passes of the matcher keep what they computed for parts on one.
+//! Two functions over a vector that serves as a stack with reserved room: one pops a value or a default, the other
+//! pushes a value. Both passes of the matcher, `advance` and `settle`, keep what they computed for parts on such a
+//! stack, and `specs/Passes.antt` says what they find there.
 ghost use Rattle.std.specs.Prelude.{◌≡◌, ◌+◌, ◌<◌, ◌≤◌, ◌∷◌, reverse, vec_len, vec_capacity};
 ghost use Rattle.wot_pattern.specs.Passes.{top_or, below};
 

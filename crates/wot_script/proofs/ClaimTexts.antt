@@ -18,8 +18,8 @@ use Rattle.wot_words.specs.Fields.{◌>>=◌, cut_at}
 use Rattle.wot_script.specs.declared.reply.ClaimLine.{ClaimLine}
 use Rattle.wot_script.specs.declared.reply.ClaimStepLine.{ClaimStepLine}
 use Rattle.wot_script.specs.declared.reply.LabelLine.{LabelLine}
-use Rattle.wot_script.proofs.Items.{all_follow, field_read, IsItem, items_read, lacks-append, lacks_field, lacks_items}
-use Rattle.wot_words.proofs.LineParts.{length-fpr_digits}
+use Rattle.wot_script.proofs.Items.{all_follow, field_read, IsItem, items_read, lacks_field, lacks_items}
+use Rattle.wot_words.proofs.LineParts.{lacks-append, length-fpr_digits}
 use Rattle.wot_words.proofs.StateLines.{bound}
 use Rattle.wot_words.proofs.Spaceless.{Lacks, cut_lacking, lacks_decimal, lacks_digits, lacks_test}
 

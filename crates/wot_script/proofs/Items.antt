@@ -10,6 +10,7 @@ use Rattle.std.proofs.lemmas.List.{take_all}
 use Rattle.std.proofs.lemmas.Option.{same_Some}
 use Rattle.wot_script.specs.Claims.{field_of, field_text, items_of, items_text}
 use Rattle.wot_words.specs.Fields.{cut_at}
+use Rattle.wot_words.proofs.LineParts.{lacks-append}
 use Rattle.wot_words.proofs.Spaceless.{Lacks}
 
 -- the parts between separators
@@ -121,10 +122,6 @@ items_read separator read text item (next ∷ items) is all =
 apart_dash : (text : List ℕ) → Lacks 45 text → bytes_eq text (codes "-") ≡ false
 apart_dash [] none = refl
 apart_dash (octet ∷ octets) none = rw (ne_eqb octet 45 none.0) refl
-
-pub lacks-append : (x : ℕ) (a b : List ℕ) → Lacks x a → Lacks x b → Lacks x (a ++ b)
-lacks-append x [] b ha hb = hb
-lacks-append x (octet ∷ octets) b ha hb = (ha.0, lacks-append x octets b ha.1 hb)
 
 lacks_others : {A : Type 0} (x separator : ℕ) (text : A → List ℕ) (items : List A) → (separator ≡ x → ⊥)
     → AllByRecursion (λ item. Lacks x (text item)) items → Lacks x (flat_map (λ other. separator ∷ text other) items)

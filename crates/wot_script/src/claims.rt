@@ -28,39 +28,39 @@ pub trait Item: Drop {
         ensures { IfOk result (λ item. item ≡ item_of text.now) };
 }
 
-#[tactic(auto, unfolding(crate::specs::Claims::step_of))]
-fn read_step(text: &[u8]) -> Option<ClaimStepLine>
-    ensures { result ≡ step_of text.now }
-{
-    let parts = cut_at(b'.', text)?;
-    let issuer = Fpr::read(parts.field)?;
-    let place = read_decimal(u32::MAX, parts.rest)?;
-    Some(ClaimStepLine(issuer, place))
-}
-
 impl Item for ClaimStepLine {
     ghost item_of = { step_of };
 
+    #[tactic(auto, unfolding(crate::specs::Claims::step_of))]
     fn read(_alloc: Global, text: &[u8]) -> Result<Option<ClaimStepLine>, Memory> {
-        Ok(read_step(text))
+        let Some(parts) = cut_at(b'.', text) else {
+            return Ok(None);
+        };
+        let Some(issuer) = Fpr::read(parts.field) else {
+            return Ok(None);
+        };
+        let Some(place) = read_decimal(u32::MAX, parts.rest) else {
+            return Ok(None);
+        };
+        Ok(Some(ClaimStepLine(issuer, place)))
     }
-}
-
-#[tactic(auto, unfolding(crate::specs::Claims::label_of))]
-fn read_label(text: &[u8]) -> Option<LabelLine>
-    ensures { result ≡ label_of text.now }
-{
-    let parts = cut_at(b'=', text)?;
-    let fpr = Fpr::read(parts.field)?;
-    let label = read_positive(255, parts.rest)?;
-    Some(LabelLine(fpr, label as u8))
 }
 
 impl Item for LabelLine {
     ghost item_of = { label_of };
 
+    #[tactic(auto, unfolding(crate::specs::Claims::label_of))]
     fn read(_alloc: Global, text: &[u8]) -> Result<Option<LabelLine>, Memory> {
-        Ok(read_label(text))
+        let Some(parts) = cut_at(b'=', text) else {
+            return Ok(None);
+        };
+        let Some(fpr) = Fpr::read(parts.field) else {
+            return Ok(None);
+        };
+        let Some(label) = read_positive(255, parts.rest) else {
+            return Ok(None);
+        };
+        Ok(Some(LabelLine(fpr, label as u8)))
     }
 }
 
@@ -83,30 +83,24 @@ fn read_items<T: Item>(alloc: Global, separator: u8, text: &[u8]) -> Result<Opti
     Ok(Some(items))
 }
 
-#[tactic(auto, unfolding(crate::specs::Claims::claim_of))]
-fn read_claim(alloc: Global, text: &[u8]) -> Result<Option<ClaimLine>, Memory>
-    ensures { IfOk result (λ claim. claim ≡ claim_of text.now) }
-{
-    let Some(parts) = cut_at(b'/', text) else {
-        return Ok(None);
-    };
-    let Some(amount) = read_positive(255, parts.field) else {
-        return Ok(None);
-    };
-    let Some(steps) = read_items::<ClaimStepLine>(alloc, b'/', parts.rest)? else {
-        return Ok(None);
-    };
-    if steps.len() > 255 {
-        return Ok(None);
-    }
-    Ok(Some(ClaimLine(amount as u8, Lines::from_vec(steps))))
-}
-
 impl Item for ClaimLine {
     ghost item_of = { claim_of };
 
+    #[tactic(auto, unfolding(crate::specs::Claims::claim_of))]
     fn read(alloc: Global, text: &[u8]) -> Result<Option<ClaimLine>, Memory> {
-        read_claim(alloc, text)
+        let Some(parts) = cut_at(b'/', text) else {
+            return Ok(None);
+        };
+        let Some(amount) = read_positive(255, parts.field) else {
+            return Ok(None);
+        };
+        let Some(steps) = read_items::<ClaimStepLine>(alloc, b'/', parts.rest)? else {
+            return Ok(None);
+        };
+        if steps.len() > 255 {
+            return Ok(None);
+        }
+        Ok(Some(ClaimLine(amount as u8, Lines::from_vec(steps))))
     }
 }
 

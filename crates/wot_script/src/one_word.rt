@@ -4,7 +4,7 @@
 //! row there, and a row in each of `command_word` and `read_single` here.
 ghost use Rattle.std.specs.Prelude.{◌≡◌};
 ghost use Rattle.wot_script.specs.Grammar.{single_of};
-ghost use Rattle.wot_script.specs.OneWord.{named_or, word_of};
+ghost use Rattle.wot_script.specs.OneWord.{word_of};
 
 use crate::Command;
 
@@ -20,22 +20,19 @@ pub fn command_word(command: &Command) -> &'static [u8]
     }
 }
 
-/// This command if the line is its word, and otherwise the other.
-fn read_word(command: Command, line: &[u8], other: Option<Command>) -> Option<Command>
-    ensures { result ≡ named_or command line.now other }
-{
-    if line == command_word(&command) {
-        return Some(command);
-    }
-    other
-}
-
 /// Reads a line that is a command of one word.
 #[tactic(auto, unfolding(crate::specs::Grammar::single_of))]
 pub fn read_single(line: &[u8]) -> Option<Command>
     ensures { result ≡ single_of line.now }
 {
-    let found = read_word(Command::Dump, line, None);
-    let found = read_word(Command::Keys, line, found);
-    read_word(Command::Pending, line, found)
+    if line == b"pending".as_slice() {
+        return Some(Command::Pending);
+    }
+    if line == b"keys".as_slice() {
+        return Some(Command::Keys);
+    }
+    if line == b"dump".as_slice() {
+        return Some(Command::Dump);
+    }
+    None
 }

@@ -2,11 +2,13 @@
 //!
 //! It stands on `wot_words` and `one_word`, and on `specs/Spelling.antt`. Generated scripts are printed through it, and
 //! its contract says that `read_line` reads each line back.
-ghost use Rattle.std.specs.Prelude.{◌≡◌, ◌++◌, true, OnOk, OnErr};
+ghost use Rattle.std.specs.Prelude.{◌≡◌, ◌++◌, ◌∷◌, [], true, OnOk, OnErr};
+ghost use Rattle.std.specs.Fmt.{decimal};
 ghost use Rattle.wot_words.specs.Appends.{Appends};
 ghost use Rattle.wot_script.specs.Grammar.{command_of};
 ghost use Rattle.wot_script.specs.OneWord.{has_word};
 ghost use Rattle.wot_words.specs.Pieces.{piece_text};
+ghost use Rattle.wot_words.specs.Texts.{joined};
 ghost use Rattle.wot_script.specs.Spelling.{HasSpelling, IsLineFor, asking, entry_text, spelling};
 
 use crate::claims::put_claimed;
@@ -50,13 +52,19 @@ fn put_question<'a>(
     )
 }
 
-#[tactic(auto, unfolding(crate::specs::Spelling::spelling))]
-fn put_list(view: &ViewName, wanted: u32, out: &mut Vec<u8>) -> Result<(), Memory>
-    ensures { Appends (spelling (Command.List view.now wanted)) out.old out.new result }
+/// Appends a word, a name, what follows it, and a number.
+fn put_numbered<'a>(
+    word: &'a [u8],
+    name: &'a ViewName,
+    middle: &'a [u8],
+    number: u32,
+    out: &mut Vec<u8>,
+) -> Result<(), Memory>
+    ensures { Appends (joined (word.now ∷ name.now ∷ middle.now ∷ decimal number ∷ [])) out.old out.new result }
 {
-    let view = Text(view.octets());
-    let wanted = Decimal(u64::from(wanted));
-    put_pieces(&[Text(b"list "), view, Text(b" "), wanted], out)
+    let name = Text(name.octets());
+    let number = Decimal(u64::from(number));
+    put_pieces(&[Text(word), name, Text(middle), number], out)
 }
 
 #[tactic(auto, unfolding(crate::specs::Spelling::spelling))]
@@ -118,15 +126,6 @@ fn put_cursor_over<'a>(
         ],
         out,
     )
-}
-
-#[tactic(auto, unfolding(crate::specs::Spelling::spelling))]
-fn put_cursor_next(cursor: &ViewName, count: u32, out: &mut Vec<u8>) -> Result<(), Memory>
-    ensures { Appends (spelling (Command.CursorNext cursor.now count)) out.old out.new result }
-{
-    let cursor = Text(cursor.octets());
-    let count = Decimal(u64::from(count));
-    put_pieces(&[Text(b"cursor "), cursor, Text(b" next "), count], out)
 }
 
 #[tactic(auto, unfolding(crate::specs::Spelling::spelling))]
@@ -196,7 +195,7 @@ fn put_command(command: &Command, out: &mut Vec<u8>) -> Result<(), Memory>
         Command::Root(view, fpr, amount) => put_root(view, fpr, *amount, out),
         Command::Close(view) => put_close(view, out),
         Command::Ask(view, fpr, wanted, uid) => put_question(b"ask ", view, fpr, *wanted, uid, out),
-        Command::List(view, wanted) => put_list(view, *wanted, out),
+        Command::List(view, wanted) => put_numbered(b"list ", view, b" ", *wanted, out),
         Command::Explain(view, fpr, uid) => put_explain(view, fpr, uid, out),
         Command::Absence(view, fpr, wanted, uid) => {
             put_question(b"absence ", view, fpr, *wanted, uid, out)
@@ -206,7 +205,9 @@ fn put_command(command: &Command, out: &mut Vec<u8>) -> Result<(), Memory>
         }
         Command::Export(fpr) => put_pieces(&[Text(b"export "), Key(fpr)], out),
         Command::CursorOver(cursor, view, wanted) => put_cursor_over(cursor, view, *wanted, out),
-        Command::CursorNext(cursor, count) => put_cursor_next(cursor, *count, out),
+        Command::CursorNext(cursor, count) => put_numbered(
+            b"cursor ", cursor, b" next ", *count, out,
+        ),
         Command::CursorClose(cursor) => put_pieces(
             &[Text(b"cursor "), Text(cursor.octets()), Text(b" close")],
             out,

@@ -5,20 +5,19 @@
 ghost use Rattle.std.specs.Prelude.{◌≡◌, ◌<◌, ◌≤◌, ◌+◌, ◌∷◌, [], ◌++◌, codes, length, vec_len, vec_capacity, true};
 ghost use Rattle.std.specs.Prelude.{OnOk, OnErr, IsOk};
 ghost use Rattle.std.specs.Fmt.{decimal};
+ghost use Rattle.std.specs.List.{flat_map};
 ghost use Rattle.wot_words.specs.Appends.{Appends};
 ghost use Rattle.wot_script.specs.Replies.{HasWords, is_refusal, is_short, refused, reply_text, stale};
 ghost use Rattle.wot_words.specs.Texts.{joined_line};
 
 use crate::claims::put_claimed;
-use crate::lines::put_headed;
+use crate::lines::{Printed, put_headed};
 use crate::numbered::{reply_number, reply_words};
 use crate::short::short_replies_fit;
 use crate::words::target_word;
-use crate::{
-    AnswerLines, BindLines, ClaimLines, KeyLines, LabelLines, PendingLines, ReasonLines, Reply,
-};
+use crate::{AnswerLines, ClaimLines, LabelLines, Lines, ReasonLines, Reply};
 use wot_types::{Memory, ViewName};
-use wot_words::{Piece, put_pieces};
+use wot_words::{Piece, put_pieces, put_text};
 
 #[tactic(auto, unfolding(crate::specs::Replies::reply_text))]
 fn put_amount(sum: u32, paths: u64, lines: &AnswerLines, out: &mut Vec<u8>) -> Result<(), Memory>
@@ -34,12 +33,18 @@ fn put_amount(sum: u32, paths: u64, lines: &AnswerLines, out: &mut Vec<u8>) -> R
     )
 }
 
-#[tactic(auto, unfolding(crate::specs::Replies::reply_text))]
-fn put_list(count: u64, lines: &BindLines, out: &mut Vec<u8>) -> Result<(), Memory>
-    ensures { Appends (reply_text (Reply.List count lines.now)) out.old out.new result }
+/// Appends a line with a word and a count, and the lines after it.
+fn put_counted<T: Printed>(
+    word: &[u8],
+    count: u64,
+    lines: &Lines<T>,
+    out: &mut Vec<u8>,
+) -> Result<(), Memory>
+    ensures { Appends (joined_line (word.now ∷ decimal count ∷ []) ++ flat_map T.text lines.now)
+        out.old out.new result }
 {
     use Piece::{Decimal, Text};
-    put_headed(&[Text(b"list "), Decimal(count), Text(b"\n")], lines, out)
+    put_headed(&[Text(word), Decimal(count), Text(b"\n")], lines, out)
 }
 
 #[tactic(auto, unfolding(crate::specs::Replies::reply_text))]
@@ -57,26 +62,6 @@ fn put_explained(word: u8, count: u64, lines: &ReasonLines, out: &mut Vec<u8>) -
 }
 
 #[tactic(auto, unfolding(crate::specs::Replies::reply_text))]
-fn put_pending(count: u64, lines: &PendingLines, out: &mut Vec<u8>) -> Result<(), Memory>
-    ensures { Appends (reply_text (Reply.Pending count lines.now)) out.old out.new result }
-{
-    use Piece::{Decimal, Text};
-    put_headed(
-        &[Text(b"pending "), Decimal(count), Text(b"\n")],
-        lines,
-        out,
-    )
-}
-
-#[tactic(auto, unfolding(crate::specs::Replies::reply_text))]
-fn put_keys(count: u64, lines: &KeyLines, out: &mut Vec<u8>) -> Result<(), Memory>
-    ensures { Appends (reply_text (Reply.Keys count lines.now)) out.old out.new result }
-{
-    use Piece::{Decimal, Text};
-    put_headed(&[Text(b"keys "), Decimal(count), Text(b"\n")], lines, out)
-}
-
-#[tactic(auto, unfolding(crate::specs::Replies::reply_text))]
 fn put_missed(
     sum: u32,
     claims: &ClaimLines,
@@ -89,14 +74,6 @@ fn put_missed(
     let sum = Decimal(u64::from(sum));
     let head = [Text(b"absence missed "), sum, Text(b"\n"), Text(b"claim ")];
     put_claimed(&head, claims, labels, &[Text(b"\n")], out)
-}
-
-#[tactic(auto, unfolding(crate::specs::Replies::reply_text))]
-fn put_piece(count: u64, lines: &BindLines, out: &mut Vec<u8>) -> Result<(), Memory>
-    ensures { Appends (reply_text (Reply.Piece count lines.now)) out.old out.new result }
-{
-    use Piece::{Decimal, Text};
-    put_headed(&[Text(b"piece "), Decimal(count), Text(b"\n")], lines, out)
 }
 
 /// Appends a line with words and a number.
@@ -234,12 +211,12 @@ fn put_reply(reply: &Reply, out: &mut Vec<u8>) -> Result<(), Memory>
                 out,
             )
         }
-        Reply::Done => put_pieces(&[Text(b"ok\n")], out),
+        Reply::Done => put_text(b"ok\n", out),
         Reply::Amount(sum, paths, lines) => put_amount(*sum, *paths, lines, out),
-        Reply::List(count, lines) => put_list(*count, lines, out),
+        Reply::List(count, lines) => put_counted(b"list ", *count, lines, out),
         Reply::Explained(word, count, lines) => put_explained(*word, *count, lines, out),
-        Reply::Pending(count, lines) => put_pending(*count, lines, out),
-        Reply::Keys(count, lines) => put_keys(*count, lines, out),
+        Reply::Pending(count, lines) => put_counted(b"pending ", *count, lines, out),
+        Reply::Keys(count, lines) => put_counted(b"keys ", *count, lines, out),
         Reply::Export(octets) => put_pieces(
             &[Text(b"export "), Hex(octets.items()), Text(b"\n")],
             out,
@@ -256,10 +233,10 @@ fn put_reply(reply: &Reply, out: &mut Vec<u8>) -> Result<(), Memory>
             )
         }
         Reply::Missed(sum, claims, labels) => put_missed(*sum, claims, labels, out),
-        Reply::CheckedNoPaths => put_pieces(&[Text(b"checked no paths\n")], out),
-        Reply::CheckedNoTable => put_pieces(&[Text(b"checked no table\n")], out),
-        Reply::Shelf => put_pieces(&[Text(b"fault shelf\n")], out),
-        Reply::Piece(count, lines) => put_piece(*count, lines, out),
+        Reply::CheckedNoPaths => put_text(b"checked no paths\n", out),
+        Reply::CheckedNoTable => put_text(b"checked no table\n", out),
+        Reply::Shelf => put_text(b"fault shelf\n", out),
+        Reply::Piece(count, lines) => put_counted(b"piece ", *count, lines, out),
         Reply::StaleKeyring(was, now) => put_stale(b"keyring ", *was, *now, out),
         Reply::StaleView(was, now) => put_stale(b"view ", *was, *now, out),
         Reply::WatchAmount(watch, sum) => put_watch_amount(watch, *sum, out),

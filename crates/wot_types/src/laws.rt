@@ -1,5 +1,5 @@
-//! Laws of fingerprints. Each function does nothing: its contract is the law, and the crates above cite it by a call.
-//! They stand on `specs/Fpr.antt` and `specs/FprOrder.antt`.
+//! Laws of fingerprints, on `specs/Fpr.antt` and `specs/FprOrder.antt`. Each function does nothing: its contract is the
+//! law. No code calls them; proofs of the crates above cite the order's facts from `specs/FprLaws.antt`.
 ghost use Rattle.std.specs.Prelude.{◌≡◌, ◌↔◌, ℕ, List, Some, IsTrue};
 ghost use Rattle.std.specs.Cmp.{IsTotalOrder};
 ghost use Rattle.hex.specs.Hex.{encode_lower};

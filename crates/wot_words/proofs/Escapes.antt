@@ -1,21 +1,22 @@
 -- User IDs are printed and read back.
-use Rattle.std.proofs.Common.{◌≡◌, ℕ, zero, suc, ◌+◌, ◌<◌, ◌==◌, Bool, true, false, ◌&&◌, inl, inr, List, [], ◌∷◌, ◌++◌}
+use Rattle.std.proofs.Common.{◌≡◌, ℕ, zero, suc, ◌+◌, ◌<◌, ◌≤◌, ◌==◌, Bool, true, false, ◌&&◌, inl, inr, List, [], ◌∷◌}
 use Rattle.std.proofs.Common.{Option, Some, None, length, drop, get_or, refl, sym, ap, ◌∙◌, arith, add-one, drop-cons}
-use Rattle.std.proofs.Common.{append_assoc}
+use Rattle.std.proofs.Common.{◌++◌, append_assoc, append-nil}
 use Rattle.std.specs.Prelude.{nat_le}
 use Rattle.std.specs.Option.{option_map}
 use Rattle.std.specs.Result.{result_ok}
 use Rattle.std.specs.List.{flat_map}
 use Rattle.std.proofs.lemmas.Bool.{cases_eq, ne_eqb}
+use Rattle.std.proofs.lemmas.List.{drop_all}
 use Rattle.std.proofs.lemmas.Option.{same_Some}
 use Rattle.hex.specs.Hex.{IsBytes, encode_lower, encode_with}
 use Rattle.hex.proofs.HexLemmas.{decode_sized-encode_lower}
 use Rattle.wot_types.specs.Digits.{array_of_digits}
 use Rattle.wot_words.specs.Fields.{◌>>=◌}
 use Rattle.wot_words.specs.Turned.{Turned}
-use Rattle.wot_words.specs.Uid.{escape, escaped, turn, unescaped, unescaped_from}
+use Rattle.wot_words.specs.Uid.{ended, escape, escaped, turn, unescaped, unescaped_from}
 use Rattle.wot_words.specs.declared.uid.Place.{Place}
-use Rattle.wot_words.specs.declared.uid.Place.TheVariants.{Outside, High}
+use Rattle.wot_words.specs.declared.uid.Place.TheVariants.{Outside, Backslash, High, Low}
 
 -- ---- reading
 
@@ -48,15 +49,63 @@ turn_kept old new text i place next h t =
     turned old new next (drop (i + 1) text) (turn place (get_or text i 0)) t
     ∙ ap (λ rest. option_map (λ others. old ++ others) (unescaped_from rest place)) (sym (drop_first text i h))
 
+failed : (old new octets : List ℕ) (t : Option (List ℕ × Place)) → Turned old new t None
+    → option_map (λ others. old ++ others)
+    (t >>= (λ n. option_map (λ others. n.0 ++ others) (unescaped_from octets n.1)))
+    ≡ None
+failed old new octets None h = refl
+failed old new octets (Some read) h = cc (h.1)
+
+-- after a step that fails, nothing is read
+pub turn_fails : (old new text : List ℕ) (i : ℕ) (place : Place) → i < length text
+    → Turned old new (turn place (get_or text i 0)) None
+    → option_map (λ others. old ++ others) (unescaped_from (drop i text) place) ≡ None
+turn_fails old new text i place h t =
+    ap (λ rest. option_map (λ others. old ++ others) (unescaped_from rest place)) (drop_first text i h)
+    ∙ failed old new (drop (i + 1) text) (turn place (get_or text i 0)) t
+
+at_end : (old text : List ℕ) (i : ℕ) (place : Place) → length text ≤ i
+    → option_map (λ others. old ++ others) (unescaped_from (drop i text) place)
+    ≡ option_map (λ others. old ++ others) (ended place)
+at_end old text i place h =
+    ap (λ rest. option_map (λ others. old ++ others) (unescaped_from rest place)) (drop_all i text h)
+
+-- a text that ends outside of an escape was read
+pub end_outside : (old text : List ℕ) (i : ℕ) (place : Place) → length text ≤ i → place ≡ Outside
+    → option_map (λ others. old ++ others) (unescaped_from (drop i text) place) ≡ Some old
+end_outside old text i place h e =
+    at_end old text i place h
+    ∙ ap (λ (p : Place). option_map (λ others. old ++ others) (ended p)) e
+    ∙ ap Some (append-nil old)
+
+-- one that ends within an escape wasn't
+pub end_inside : (old text : List ℕ) (i : ℕ) (place : Place) → length text ≤ i → (place ≡ Outside → ⊥)
+    → option_map (λ others. old ++ others) (unescaped_from (drop i text) place) ≡ None
+end_inside old text i place h apart = at_end old text i place h ∙ by place apart
+  where
+    by : (p : Place) → (p ≡ Outside → ⊥) → option_map (λ others. old ++ others) (ended p) ≡ None
+    by Outside apart = absurd (apart refl)
+    by Backslash apart = refl
+    by High apart = refl
+    by (Low high) apart = refl
+
+nothing_put : (o : Option (List ℕ)) → option_map (λ others. [] ++ others) o ≡ o
+nothing_put None = refl
+nothing_put (Some others) = refl
+
+-- before the first step
+pub none_turned : (old text : List ℕ) → old ≡ []
+    → option_map (λ others. old ++ others) (unescaped_from (drop 0 text) Outside) ≡ unescaped text
+unfolding unescaped
+none_turned old text e =
+    ap (λ front. option_map (λ others. front ++ others) (unescaped_from text Outside)) e
+    ∙ nothing_put (unescaped_from text Outside)
+
 -- ---- printing
 
 -- what an octet and the ones after it spell
 abbrev with_octet : ℕ → Option (List ℕ) → Option (List ℕ)
 with_octet octet o = option_map (λ others. octet ∷ others) o
-
-nothing_put : (o : Option (List ℕ)) → option_map (λ others. [] ++ others) o ≡ o
-nothing_put None = refl
-nothing_put (Some others) = refl
 
 one_byte : (octet : ℕ) → octet < 256 → IsBytes (octet ∷ [])
 one_byte octet small zero = small

@@ -27,7 +27,7 @@ use Rattle.wot_words.proofs.Spaceless.{lacks_view_name}
 
 -- ---- no line feed
 
-lacks-append : (x : ℕ) (a b : List ℕ) → Lacks x a → Lacks x b → Lacks x (a ++ b)
+pub lacks-append : (x : ℕ) (a b : List ℕ) → Lacks x a → Lacks x b → Lacks x (a ++ b)
 lacks-append x [] b ha hb = hb
 lacks-append x (octet ∷ octets) b ha hb = (ha.0, lacks-append x octets b ha.1 hb)
 
