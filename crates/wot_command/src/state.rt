@@ -39,7 +39,7 @@ use wot_cache::Engine;
 use wot_certd::Shelf;
 use wot_policy::{Ask, Policy};
 use wot_script::Reply;
-use wot_step::{Change, Read, ShelfCall, StateCommand, ViewChange, ViewQuestion};
+use wot_step::{AskedBinding, Change, Read, ShelfCall, StateCommand, ViewChange, ViewQuestion};
 use wot_types::{Memory, Steps, ViewName};
 
 /// Runs a command that doesn't change cursors or watches. If the reply isn't short, and after `Memory`, nothing has
@@ -161,14 +161,26 @@ fn answer(
 {
     match what {
         ViewQuestion::Ask(target, wanted, uid) => {
-            ask(alloc, engine, steps, view, target, *wanted, uid.octets())
+            let asked = AskedBinding {
+                view,
+                target,
+                wanted: *wanted,
+                uid: uid.octets(),
+            };
+            ask(alloc, engine, steps, &asked)
         }
         ViewQuestion::List(wanted) => list(alloc, engine, steps, view, *wanted),
         ViewQuestion::Explain(fpr, uid) => {
             explain(alloc, engine, steps, view, fpr, uid.octets())
         }
         ViewQuestion::Absence(target, wanted, uid) => {
-            absence(alloc, engine, steps, view, target, *wanted, uid.octets())
+            let asked = AskedBinding {
+                view,
+                target,
+                wanted: *wanted,
+                uid: uid.octets(),
+            };
+            absence(alloc, engine, steps, &asked)
         }
         ViewQuestion::Check(target, claims, labels, uid) => check(
             alloc,
