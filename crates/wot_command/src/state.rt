@@ -27,7 +27,7 @@ ghost use Rattle.wot_step.specs.Session.{AreTurned, IsTurnedBy, turning_in};
 use crate::absence::absence;
 use crate::answer::ask;
 use crate::bindings::list;
-use crate::checking::check;
+use crate::checking::{ClaimedAbsence, check};
 use crate::commands::{clear_verdict, close, import, remove, root, set_verdict, time};
 use crate::listing::{dump, export, keys};
 use crate::load::load;
@@ -182,16 +182,15 @@ fn answer(
             };
             absence(alloc, engine, steps, &asked)
         }
-        ViewQuestion::Check(target, claims, labels, uid) => check(
-            alloc,
-            engine,
-            steps,
-            view,
-            target,
-            claims,
-            labels,
-            uid.octets(),
-        ),
+        ViewQuestion::Check(target, claims, labels, uid) => {
+            let claim = ClaimedAbsence {
+                target,
+                claims,
+                labels,
+                uid: uid.octets(),
+            };
+            check(alloc, engine, steps, view, &claim)
+        }
     }
 }
 
