@@ -1,4 +1,6 @@
 pub mod Asked
+pub mod Claimed
 pub mod CommandRun
 pub mod EdgeLines
+pub mod Questions
 pub mod Stored

@@ -3,9 +3,8 @@
 ghost use Rattle.std.specs.Prelude.{◌≡◌, ◌≤◌, length, map, IfOk};
 ghost use Rattle.wot_edge.specs.Answer.{amount_of};
 ghost use Rattle.wot_cache.specs.Marks.{IsRefreshed};
-ghost use Rattle.wot_cache.specs.State.{state_of};
-ghost use Rattle.wot_cache.specs.Views.{view_at};
-ghost use Rattle.wot_step.specs.Absent.{Misses, MissesBy, asked_from, claim_line, claim_step, label_line, missed};
+ghost use Rattle.wot_command.specs.Questions.{MissesFor};
+ghost use Rattle.wot_step.specs.Absent.{MissesBy, asked_from, claim_line, claim_step, label_line, missed};
 
 use std::alloc::Global;
 use wot_auth::authenticate;
@@ -17,8 +16,8 @@ use wot_script::{
     ClaimLine, ClaimLines, ClaimStepLine, ClaimStepLines, LabelLine, LabelLines, Reply,
 };
 use wot_search::Consulted;
-use wot_step::{Refused, reply_to};
-use wot_types::{Fpr, Memory, Steps, ViewName};
+use wot_step::{AskedBinding, Refused, reply_to};
+use wot_types::{Fpr, Memory, Steps};
 
 /// The reply to `absence`: why the answer to a question doesn't reach the amount `wanted`, from a view: its paths, and
 /// the least table after them. If the answer does reach it, the reply is its sum. Refused if the view isn't open.
@@ -26,20 +25,16 @@ pub fn absence(
     alloc: Global,
     engine: &mut Engine,
     steps: &mut Steps,
-    view: &ViewName,
-    target: &Fpr,
-    wanted: u32,
-    uid: &[u8],
+    asked: &AskedBinding<'_>,
 ) -> Result<Reply, Memory>
-    requires wanted { 1 ≤ wanted }
-    ensures misses { IfOk result (λ reply.
-        Misses (state_of engine.old) (view_at engine.old.views view.now) target.now wanted uid.now reply) }
+    requires wanted { 1 ≤ asked.now.wanted }
+    ensures misses { IfOk result (MissesFor engine.old asked.now) }
     ensures keyring { engine.new.keyring ≡ engine.old.keyring }
     ensures views { engine.new.views ≡ engine.old.views }
-    ensures refreshed { IsRefreshed result view.now engine.old engine.new steps.old.made steps.new.made }
+    ensures refreshed { IsRefreshed result asked.now.view.now engine.old engine.new steps.old.made steps.new.made }
 {
-    match engine.parts(view, steps) {
-        Ok(parts) => absence_from(alloc, &parts, target, wanted, uid),
+    match engine.parts(asked.view, steps) {
+        Ok(parts) => absence_from(alloc, &parts, asked.target, asked.wanted, asked.uid),
         Err(fault) => reply_to(Refused::from(fault)),
     }
 }

@@ -6,8 +6,8 @@ ghost use Rattle.wot_edge.specs.declared.path.Path.{Path as ThePath};
 ghost use Rattle.wot_edge.specs.Answer.{amount_of};
 ghost use Rattle.wot_cache.specs.Marks.{IsRefreshed};
 ghost use Rattle.wot_cache.specs.State.{state_of};
-ghost use Rattle.wot_cache.specs.Views.{view_at};
-ghost use Rattle.wot_step.specs.Answer.{Asks, uid_at, step_line, path_lines, told as told_of};
+ghost use Rattle.wot_command.specs.Questions.{AsksFor};
+ghost use Rattle.wot_step.specs.Answer.{uid_at, step_line, path_lines, told as told_of};
 
 use crate::listing::cert_of;
 use std::alloc::Global;
@@ -15,8 +15,8 @@ use wot_auth::Answer;
 use wot_cache::Engine;
 use wot_edge::{Path, Step};
 use wot_script::{AnswerLine, AnswerLines, Reply};
-use wot_step::{Refused, reply_to};
-use wot_types::{Fpr, Memory, Steps, UserId, ViewName};
+use wot_step::{AskedBinding, Refused, reply_to};
+use wot_types::{Fpr, Memory, Steps, UserId};
 
 /// The reply to `ask`: how confident one can be that a user ID belongs to a target, from a view. `wanted` is the amount
 /// at which no further path is needed. Refused if the view isn't open.
@@ -24,19 +24,15 @@ pub fn ask(
     alloc: Global,
     engine: &mut Engine,
     steps: &mut Steps,
-    view: &ViewName,
-    target: &Fpr,
-    wanted: u32,
-    uid: &[u8],
+    asked: &AskedBinding<'_>,
 ) -> Result<Reply, Memory>
-    requires wanted { 1 ≤ wanted }
-    ensures asks { IfOk result (λ reply.
-        Asks (state_of engine.old) (view_at engine.old.views view.now) target.now wanted uid.now reply) }
+    requires wanted { 1 ≤ asked.now.wanted }
+    ensures asks { IfOk result (AsksFor engine.old asked.now) }
     ensures keyring { engine.new.keyring ≡ engine.old.keyring }
     ensures views { engine.new.views ≡ engine.old.views }
-    ensures refreshed { IsRefreshed result view.now engine.old engine.new steps.old.made steps.new.made }
+    ensures refreshed { IsRefreshed result asked.now.view.now engine.old engine.new steps.old.made steps.new.made }
 {
-    match engine.ask(view, target, wanted, uid, steps) {
+    match engine.ask(asked.view, asked.target, asked.wanted, asked.uid, steps) {
         Ok(answer) => told(alloc, engine, &answer),
         Err(fault) => reply_to(Refused::from(fault)),
     }

@@ -4,9 +4,8 @@ ghost use Rattle.std.specs.Prelude.{◌≡◌, ◌<◌, ◌^◌, length, map, If
 ghost use Rattle.wot_check.specs.Table.{IsTable};
 ghost use Rattle.wot_script.specs.Claims.{IsClaimSpelled};
 ghost use Rattle.wot_cache.specs.Marks.{IsRefreshed};
-ghost use Rattle.wot_cache.specs.State.{state_of};
-ghost use Rattle.wot_cache.specs.Views.{view_at};
-ghost use Rattle.wot_step.specs.Absent.{Checks, ChecksBy, asked_from, claim_in, sum_in, table_in, verdict_on};
+ghost use Rattle.wot_command.specs.Claimed.{ChecksFor, ChecksOver};
+ghost use Rattle.wot_step.specs.Absent.{claim_in, sum_in, table_in, verdict_on};
 
 use std::alloc::Global;
 use wot_cache::{Engine, Parts};
@@ -15,6 +14,15 @@ use wot_script::{ClaimLine, ClaimLines, LabelLine, LabelLines, Reply};
 use wot_step::{Refused, reply_to};
 use wot_types::{Fpr, Memory, Steps, ViewName};
 
+/// What `check` is given: the user ID of a key, the paths that are claimed for it, and the labels of the table.
+#[derive(Clone, Copy)]
+pub struct ClaimedAbsence<'a> {
+    pub target: &'a Fpr,
+    pub claims: &'a ClaimLines,
+    pub labels: &'a LabelLines,
+    pub uid: &'a [u8],
+}
+
 /// The reply to `check`: whether claimed paths and a table prove, from a view, that the amount isn't higher. Nothing is
 /// searched. Refused if the view isn't open.
 pub fn check(
@@ -22,43 +30,32 @@ pub fn check(
     engine: &mut Engine,
     steps: &mut Steps,
     view: &ViewName,
-    target: &Fpr,
-    claims: &ClaimLines,
-    labels: &LabelLines,
-    uid: &[u8],
+    claim: &ClaimedAbsence<'_>,
 ) -> Result<Reply, Memory>
-    requires few { length claims.now < 2 ^ 24 }
-    requires spelled { IsClaimSpelled claims.now labels.now }
-    ensures checks { IfOk result (Checks (state_of engine.old) (view_at engine.old.views view.now)
-        target.now claims.now labels.now uid.now) }
+    requires few { length claim.now.claims.now < 2 ^ 24 }
+    requires spelled { IsClaimSpelled claim.now.claims.now claim.now.labels.now }
+    ensures checks { IfOk result (ChecksFor engine.old view.now claim.now) }
     ensures keyring { engine.new.keyring ≡ engine.old.keyring }
     ensures views { engine.new.views ≡ engine.old.views }
     ensures refreshed { IsRefreshed result view.now engine.old engine.new steps.old.made steps.new.made }
 {
     match engine.parts(view, steps) {
-        Ok(parts) => check_from(alloc, &parts, target, claims, labels, uid),
+        Ok(parts) => check_from(alloc, &parts, claim),
         Err(fault) => reply_to(Refused::from(fault)),
     }
 }
 
 /// The reply over the parts of the view.
-fn check_from(
-    alloc: Global,
-    parts: &Parts<'_>,
-    target: &Fpr,
-    claims: &ClaimLines,
-    labels: &LabelLines,
-    uid: &[u8],
-) -> Result<Reply, Memory>
-    requires few { length claims.now < 2 ^ 24 }
-    requires spelled { IsClaimSpelled claims.now labels.now }
-    ensures checks { IfOk result (ChecksBy (asked_from parts.now target.now uid.now) claims.now labels.now) }
+fn check_from(alloc: Global, parts: &Parts<'_>, claim: &ClaimedAbsence<'_>) -> Result<Reply, Memory>
+    requires few { length claim.now.claims.now < 2 ^ 24 }
+    requires spelled { IsClaimSpelled claim.now.claims.now claim.now.labels.now }
+    ensures checks { IfOk result (ChecksOver parts.now claim.now) }
 {
-    let claims = claims.items();
+    let claims = claim.claims.items();
     let paths = claimed_paths(alloc, claims)?;
-    let table = claimed_table(alloc, labels.items())?;
+    let table = claimed_table(alloc, claim.labels.items())?;
     let (roads, roots) = (&parts.roads, parts.roots);
-    let paths = paths.as_slice();
+    let (paths, target, uid) = (paths.as_slice(), claim.target, claim.uid);
     let checked = wot_check::check(alloc, roads, roots, paths, &table, target, uid)?;
     Ok(verdict(claims, checked))
 }

@@ -27,7 +27,7 @@ ghost use Rattle.wot_step.specs.Session.{AreTurned, IsTurnedBy, turning_in};
 use crate::absence::absence;
 use crate::answer::ask;
 use crate::bindings::list;
-use crate::checking::check;
+use crate::checking::{ClaimedAbsence, check};
 use crate::commands::{clear_verdict, close, import, remove, root, set_verdict, time};
 use crate::listing::{dump, export, keys};
 use crate::load::load;
@@ -39,7 +39,7 @@ use wot_cache::Engine;
 use wot_certd::Shelf;
 use wot_policy::{Ask, Policy};
 use wot_script::Reply;
-use wot_step::{Change, Read, ShelfCall, StateCommand, ViewChange, ViewQuestion};
+use wot_step::{AskedBinding, Change, Read, ShelfCall, StateCommand, ViewChange, ViewQuestion};
 use wot_types::{Memory, Steps, ViewName};
 
 /// Runs a command that doesn't change cursors or watches. If the reply isn't short, and after `Memory`, nothing has
@@ -161,25 +161,36 @@ fn answer(
 {
     match what {
         ViewQuestion::Ask(target, wanted, uid) => {
-            ask(alloc, engine, steps, view, target, *wanted, uid.octets())
+            let asked = AskedBinding {
+                view,
+                target,
+                wanted: *wanted,
+                uid: uid.octets(),
+            };
+            ask(alloc, engine, steps, &asked)
         }
         ViewQuestion::List(wanted) => list(alloc, engine, steps, view, *wanted),
         ViewQuestion::Explain(fpr, uid) => {
             explain(alloc, engine, steps, view, fpr, uid.octets())
         }
         ViewQuestion::Absence(target, wanted, uid) => {
-            absence(alloc, engine, steps, view, target, *wanted, uid.octets())
+            let asked = AskedBinding {
+                view,
+                target,
+                wanted: *wanted,
+                uid: uid.octets(),
+            };
+            absence(alloc, engine, steps, &asked)
         }
-        ViewQuestion::Check(target, claims, labels, uid) => check(
-            alloc,
-            engine,
-            steps,
-            view,
-            target,
-            claims,
-            labels,
-            uid.octets(),
-        ),
+        ViewQuestion::Check(target, claims, labels, uid) => {
+            let claim = ClaimedAbsence {
+                target,
+                claims,
+                labels,
+                uid: uid.octets(),
+            };
+            check(alloc, engine, steps, view, &claim)
+        }
     }
 }
 

@@ -2,6 +2,7 @@
 use Rattle.std.proofs.Common.{◌≡◌, ℕ, ◌+◌, ◌<◌, ◌≤◌, true, false, List, ◌++◌, Option, Some, None, Result, Ok, Err}
 use Rattle.std.proofs.Common.{OnErr, length, refl, sym, ap, subst, ◌∙◌, inl}
 use Rattle.std.specs.Prelude.{IfOk, OnOk, is_ok}
+use Rattle.std.proofs.lemmas.Bool.{false≢true, true≢false}
 use Rattle.std.proofs.lemmas.List.{append-nil}
 use Rattle.wot_io.specs.Counts.{Rose}
 use Rattle.wot_policy.specs.declared.rows.PolicyRows.{PolicyRows}
@@ -111,25 +112,12 @@ pub watched_told : {E : Type 0} (r : Result Reply E) (t : Result DraftReply E) (
     (watched (session_of new (settled told.moved cursors)) after) seen)
 watched_told (Err e) (Err d) rows class old new cursors before after seen is ok watching stays puts = tt
 watched_told (Err e) (Ok told) rows class old new cursors before after seen is ok watching stays puts =
-    let never : true ≡ false = ok in absurd cc
+    absurd (true≢false ok)
 watched_told (Ok reply) t rows class old new cursors before after seen is ok watching stays puts =
     subst (λ (t : Result DraftReply _). IfOk t (λ (told : DraftReply). ClassRun rows class
     (watched (session_of old cursors) before) seen told.reply
     (watched (session_of new (settled told.moved cursors)) after) seen))
     (sym is) (watched_ran rows class old new cursors before after seen reply watching stays puts)
-
--- a command of a watch whose reply moves no cursor
-pub watched_alone : (told : DraftReply) (rows : PolicyRows) (class : Class) (engine : Engine) (cursors : Cursors)
-    (before after : Watches) (seen : Seen) (reply : Reply)
-    → told.reply ≡ reply → told.moved ≡ None → is_watching class ≡ true → StaysButMarks engine engine →
-    Watching (watched (session_of engine cursors) before) class reply after
-    → ClassRun rows class (watched (session_of engine cursors) before) seen told.reply
-    (watched (session_of engine (settled told.moved cursors)) after) seen
-watched_alone told rows class engine cursors before after seen reply is none watching stays puts =
-    subst (λ (o : Option CursorMove). ClassRun rows class (watched (session_of engine cursors) before) seen told.reply
-    (watched (session_of engine (settled o cursors)) after) seen)
-    (sym none) (watched_ran rows class engine engine cursors before after seen told.reply watching stays
-    (subst (λ (r : Reply). Watching (watched (session_of engine cursors) before) class r after) (sym is) puts))
 
 -- a change of the state, in terms of everything that is kept
 pub ran_plain : {E : Type 0} (r : Result Reply E) (rows : PolicyRows) (command : StateCommand) (old new : Engine)
@@ -163,7 +151,7 @@ module _ {E : Type 0} where
       (watched (session_of new (settled told.moved cursors)) watches) after)
   ran_told (Err e) (Err d) rows command old new before after cursors watches is ok counted turned did = tt
   ran_told (Err e) (Ok told) rows command old new before after cursors watches is ok counted turned did =
-      let never : true ≡ false = ok in absurd cc
+      absurd (true≢false ok)
   ran_told (Ok reply) t rows command old new before after cursors watches is ok counted turned did =
       let ran : ClassRun rows (OfState command) (watched (session_of old cursors) watches) before reply
       (watched (session_of new cursors) watches) after =
@@ -177,7 +165,7 @@ pub told_as : {E : Type 0} (r : Result Reply E) (t : Result DraftReply E) (P : R
     IfOk r (λ reply. t ≡ Ok (record { reply = reply; moved = None })) → is_ok t ≡ is_ok r
     → IfOk r P → IfOk t (λ (told : DraftReply). P told.reply)
 told_as (Err e) (Err d) P is ok p = tt
-told_as (Err e) (Ok told) P is ok p = let never : true ≡ false = ok in absurd cc
+told_as (Err e) (Ok told) P is ok p = absurd (true≢false ok)
 told_as (Ok reply) t P is ok p = subst (λ (t : Result DraftReply _). IfOk t (λ (told : DraftReply). P told.reply)) (sym is) p
 
 pub on_ok_told : {A B E F : Type 0} (r : Result A E) (t : Result B F) (P : Type 0) → is_ok t ≡ is_ok r → OnOk r P →
@@ -185,13 +173,13 @@ pub on_ok_told : {A B E F : Type 0} (r : Result A E) (t : Result B F) (P : Type 
 on_ok_told (Ok a) (Ok b) P ok p = p
 on_ok_told (Err e) (Err d) P ok p = tt
 on_ok_told (Ok a) (Err d) P ok p = tt
-on_ok_told (Err e) (Ok b) P ok p = let never : true ≡ false = ok in absurd cc
+on_ok_told (Err e) (Ok b) P ok p = absurd (true≢false ok)
 
 pub on_err_told : {A B E F : Type 0} (r : Result A E) (t : Result B F) (P : Type 0) → is_ok t ≡ is_ok r → OnErr r P →
     OnErr t P
 on_err_told (Ok a) (Ok b) P ok p = tt
 on_err_told (Err e) (Err d) P ok p = p
-on_err_told (Ok a) (Err d) P ok p = let never : false ≡ true = ok in absurd cc
+on_err_told (Ok a) (Err d) P ok p = absurd (false≢true ok)
 on_err_told (Err e) (Ok b) P ok p = tt
 
 pub kept_told : {A B E F : Type 0} (r : Result A E) (t : Result B F) (old new : Engine) (cursors : Cursors)
@@ -199,7 +187,7 @@ pub kept_told : {A B E F : Type 0} (r : Result A E) (t : Result B F) (old new : 
     → OnErr r (StaysButMarks old new) → OnErr t (StaysButMarks old new × (cursors ≡ cursors) × (watches ≡ watches))
 kept_told (Ok a) (Ok b) old new cursors watches ok p = tt
 kept_told (Err e) (Err d) old new cursors watches ok p = (p, refl, refl)
-kept_told (Ok a) (Err d) old new cursors watches ok p = let never : false ≡ true = ok in absurd cc
+kept_told (Ok a) (Err d) old new cursors watches ok p = absurd (false≢true ok)
 kept_told (Err e) (Ok b) old new cursors watches ok p = tt
 
 pub ran_line : (rows : PolicyRows) (command : Option Command) (old : Session) (seen : Seen) → command ≡ None →

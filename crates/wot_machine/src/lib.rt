@@ -3,6 +3,8 @@
 //! wot_engine gives it the lines of an input.
 #![tactic(auto)]
 
+mod counts;
+mod dispatch;
 mod machine;
 
 pub use machine::Machine;

@@ -2,9 +2,9 @@
 //! certificate directory, and its reply is printed. `tell` then prints the watch lines.
 //! `specs/Outcome.antt` and `specs/LineStep.antt` of wot_step define the outcome of each command. A further command of
 //! a class gets its arm where the class is run, in wot_command, wot_pacing or wot_watching. A further class needs an
-//! arm of `act` here, and `goes_on` says whether watches are still up to date after it.
+//! arm of `act` in `dispatch`, and `goes_on` in `counts` says whether watches are still up to date after it.
 ghost use Rattle.std.specs.Prelude.{◌≡◌, ◌≤◌, ◌<◌, ◌+◌, ◌-◌, ◌^◌, [], ◌++◌};
-ghost use Rattle.std.specs.Prelude.{length, vec_items, vec_len, vec_capacity};
+ghost use Rattle.std.specs.Prelude.{vec_items, vec_len, vec_capacity};
 ghost use Rattle.std.specs.Prelude.{Some, None, false, true, IfOk, IfSome, IsOk, OnOk, OnErr};
 ghost use Rattle.std.specs.List.{AllByRecursion};
 ghost use Rattle.wot_types.specs.Limits.{standard_limits};
@@ -12,40 +12,36 @@ ghost use Rattle.wot_policy.specs.declared.rows.PolicyRows.{PolicyRows};
 ghost use Rattle.wot_policy.specs.Kept.{IsFaithful, rows_of};
 ghost use Rattle.wot_held.specs.Kept.{IsJudgedBy};
 ghost use Rattle.wot_held.specs.Import.{IsOneChange};
-ghost use Rattle.wot_script.specs.Grammar.{command_of};
 ghost use Rattle.wot_script.specs.Replies.{HasWords, is_short, reply_text};
 ghost use Rattle.wot_cache.specs.State.{empty, state_of, StaysButMarks};
-ghost use Rattle.wot_command.specs.Asked.{AsksBy, LineAsks};
-ghost use Rattle.wot_step.specs.Classes.{IsFit, IsSmall};
-ghost use Rattle.wot_command.specs.EdgeLines.{CommandMarks, LineMarks};
+ghost use Rattle.wot_command.specs.Asked.{LineAsks};
+ghost use Rattle.wot_command.specs.EdgeLines.{LineMarks};
 ghost use Rattle.wot_step.specs.Lines.{heard, is_silent};
-ghost use Rattle.wot_step.specs.Entry.{MayPut, entry_for, use_by, use_of};
+ghost use Rattle.wot_step.specs.Entry.{MayPut, entry_for, use_of};
 ghost use Rattle.wot_step.specs.Both.{ends, itself};
 ghost use Rattle.wot_command.specs.CommandRun.{over};
-ghost use Rattle.wot_machine.specs.Stepped.{RunsIn, ClassRunsIn, Replies, LineRun, TellsBehind};
+ghost use Rattle.wot_machine.specs.Stepped.{Replies, LineRun, TellsBehind};
 ghost use Rattle.wot_step.specs.Transcript.{octets_of};
-ghost use Rattle.wot_machine.specs.Machine.{kept, parts, PartsStay, StaysKept};
+ghost use Rattle.wot_machine.specs.Machine.{kept, StaysKept};
 ghost use Rattle.wot_step.specs.Pacing.{settled};
-ghost use Rattle.wot_step.specs.Fresh.{IsDump, OnDump, IsMadeAnew};
-ghost use Rattle.wot_step.specs.Made.{LineMakes, Makes, TellingMakes, WatchesMake};
-ghost use Rattle.wot_script.specs.declared.reply.Reply.TheVariants as replies;
-ghost use Rattle.wot_watching.specs.Settled.{CountsDiffer, IsNoAmount};
+ghost use Rattle.wot_step.specs.Fresh.{IsDump, IsMadeAnew};
+ghost use Rattle.wot_step.specs.Made.{LineMakes, TellingMakes, WatchesMake};
 ghost use Rattle.wot_step.specs.Watching.{AreLines, IsWatchLine, told_all};
 
+use crate::counts::{Counts, kept_on};
+use crate::dispatch::answer;
 use std::alloc::Global;
 use std::marker::Model;
 use wot_cache::laws::{change_goes_on, rests_on, views_go_on};
 use wot_cache::{Basis, Engine};
 use wot_certd::Shelf;
-use wot_command::obey;
 use wot_cursor::Cursors;
-use wot_pacing::pace;
 use wot_policy::{Ask, Policy};
-use wot_script::{LineFault, Reply, print_reply, read_line};
-use wot_step::{Class, CursorMove, DraftReply, alone, plain, settle, sort};
+use wot_script::{Reply, print_reply};
+use wot_step::{CursorMove, DraftReply, alone, settle};
 use wot_types::{Limits, Memory, Steps};
 use wot_watch::Watches;
-use wot_watching::{are_settled, tell_all, watch, watch_lines};
+use wot_watching::{are_settled, tell_all, watch_lines};
 
 /// The most octets in a line, without its line feed.
 const LONGEST: usize = 16_777_216;
@@ -322,61 +318,6 @@ impl Machine {
     }
 }
 
-/// The engine's counts, which show whether a line may have closed a view or removed a certificate.
-#[derive(Clone, Copy)]
-struct Counts {
-    certificates: usize,
-    changes: u64,
-    turns: u64,
-}
-
-impl Counts {
-    fn of(engine: &Engine) -> Counts
-        ensures certificates { result.certificates ≡ length engine.now.keyring.certs }
-        ensures changes { result.changes ≡ engine.now.keyring.changes }
-        ensures turns { result.turns ≡ engine.now.turns.count }
-    {
-        Counts {
-            certificates: engine.keyring().len(),
-            changes: engine.keyring().changes(),
-            turns: engine.turns(),
-        }
-    }
-}
-
-/// The basis, if what was settled before a line still is.
-fn kept_on(basis: Option<Basis>, engine: &Engine, before: Counts, reply: &Reply) -> Option<Basis>
-    ensures same { IfSome result (λ kept. basis ≡ Some kept) }
-    ensures more { IfSome result (λ _. before.certificates ≤ length engine.now.keyring.certs) }
-    ensures none { IfSome result (λ _. IsNoAmount reply.now) }
-    ensures counted { IfSome result (λ _. reply.now ≡ replies.Done →
-        CountsDiffer engine.now before.changes before.turns) }
-{
-    if goes_on(engine, before, reply) {
-        return basis;
-    }
-    None
-}
-
-/// Whether what was settled before a line still is, by its reply: no certificate was removed, no watch began, and no
-/// view was closed. A line that closes a view has the reply `ok` and raises no count.
-fn goes_on(engine: &Engine, before: Counts, reply: &Reply) -> bool
-    ensures more { result ≡ true → before.certificates ≤ length engine.now.keyring.certs }
-    ensures none { result ≡ true → IsNoAmount reply.now }
-    ensures counted { result ≡ true → reply.now ≡ replies.Done →
-        CountsDiffer engine.now before.changes before.turns }
-{
-    let now = Counts::of(engine);
-    if now.certificates < before.certificates {
-        return false;
-    }
-    match reply {
-        Reply::WatchAmount(_, _) => false,
-        Reply::Done => now.changes != before.changes || now.turns != before.turns,
-        _ => true,
-    }
-}
-
 /// The octets of watch lines.
 fn text_of(alloc: Global, lines: &[Reply]) -> Result<Vec<u8>, Memory>
     requires each { AllByRecursion IsWatchLine lines.now }
@@ -398,109 +339,5 @@ fn test_silent(line: &[u8]) -> bool
     match line {
         [] => true,
         [octet, ..] => *octet == b'#',
-    }
-}
-
-/// Does what a line asks for. A command whose reply may be long changes nothing, except that a cursor moves once the
-/// reply is written.
-fn answer<D: Shelf, F: Fn(Ask) -> bool>(
-    alloc: Global,
-    engine: &mut Engine,
-    cursors: &mut Cursors,
-    watches: &mut Watches,
-    steps: &mut Steps,
-    line: &[u8],
-    shelf: &mut D,
-    policy: &mut Policy<F>,
-) -> Result<DraftReply, Memory>
-    requires short { length line.now ≤ 16777216 }
-    requires standard { engine.old.keyring.limits ≡ standard_limits }
-    requires countable { engine.old.keyring.changes < 2 ^ 64 - 1 }
-    requires turnable { engine.old.turns.count < 2 ^ 64 - 1 }
-    requires judged { IsJudgedBy (rows_of policy.old) engine.old.keyring }
-    requires faithful { IsFaithful F.Fn policy.old }
-    ensures ran { IfOk result (RunsIn (rows_of policy.old) (command_of line.now)
-        (parts engine cursors watches) (over D.world D.faults shelf)) }
-    ensures untouched { entry_for (state_of engine.old) (use_of (command_of line.now)) ≡ None → shelf.new ≡ shelf.old }
-    ensures entries { OnErr result (MayPut (state_of engine.old) (use_of (command_of line.now))
-        (D.world shelf.old) (D.world shelf.new)) }
-    ensures later { D.faults shelf.old ≤ D.faults shelf.new }
-    ensures words { IfOk result (λ told. HasWords told.reply) }
-    ensures anew { OnOk result (IsDump line.now → (rows : PolicyRows) → IsMadeAnew rows (state_of engine.old)) }
-    ensures edges { OnOk result (LineMarks engine.old (command_of line.now)) }
-    ensures quiet { IfOk result (λ told.
-        is_short told.reply ≡ false → PartsStay (parts engine cursors watches)) }
-    ensures kept { OnErr result (PartsStay (parts engine cursors watches)) }
-    ensures makes { LineMakes result (command_of line.now) cursors.old engine.old engine.new
-        steps.old.made steps.new.made }
-    ensures standard { engine.new.keyring.limits ≡ standard_limits }
-    ensures counted { IsOneChange engine.old.keyring engine.new.keyring }
-    ensures turned { engine.new.turns.count ≤ engine.old.turns.count + 1 }
-    ensures still { state_of engine.new ≡ state_of engine.old → engine.new.turns ≡ engine.old.turns }
-    ensures asked { LineAsks result (command_of line.now) (state_of engine.old) (state_of engine.new)
-        policy.old policy.new }
-    ensures judged { IsJudgedBy (rows_of policy.old) engine.new.keyring }
-    ensures faithful { IsFaithful F.Fn policy.new }
-    ensures rows { rows_of policy.new ≡ rows_of policy.old }
-{
-    match read_line(alloc, line) {
-        Ok(command) => act(
-            alloc,
-            engine,
-            cursors,
-            watches,
-            steps,
-            sort(command),
-            shelf,
-            policy,
-        ),
-        Err(LineFault::Line) => Ok(alone(Reply::Line)),
-        Err(LineFault::Memory) => Err(Memory),
-    }
-}
-
-/// Runs a command, by its class.
-fn act<D: Shelf, F: Fn(Ask) -> bool>(
-    alloc: Global,
-    engine: &mut Engine,
-    cursors: &mut Cursors,
-    watches: &mut Watches,
-    steps: &mut Steps,
-    class: Class,
-    shelf: &mut D,
-    policy: &mut Policy<F>,
-) -> Result<DraftReply, Memory>
-    requires fit { IsFit class }
-    requires small { IsSmall class }
-    requires standard { engine.old.keyring.limits ≡ standard_limits }
-    requires countable { engine.old.keyring.changes < 2 ^ 64 - 1 }
-    requires turnable { engine.old.turns.count < 2 ^ 64 - 1 }
-    requires judged { IsJudgedBy (rows_of policy.old) engine.old.keyring }
-    requires faithful { IsFaithful F.Fn policy.old }
-    ensures ran { IfOk result (ClassRunsIn (rows_of policy.old) class
-        (parts engine cursors watches) (over D.world D.faults shelf)) }
-    ensures untouched { entry_for (state_of engine.old) (use_by class) ≡ None → shelf.new ≡ shelf.old }
-    ensures entries { OnErr result (MayPut (state_of engine.old) (use_by class)
-        (D.world shelf.old) (D.world shelf.new)) }
-    ensures later { D.faults shelf.old ≤ D.faults shelf.new }
-    ensures anew { OnOk result (OnDump class ((rows : PolicyRows) → IsMadeAnew rows (state_of engine.old))) }
-    ensures edges { OnOk result (CommandMarks engine.old class) }
-    ensures quiet { IfOk result (λ told.
-        is_short told.reply ≡ false → PartsStay (parts engine cursors watches)) }
-    ensures kept { OnErr result (PartsStay (parts engine cursors watches)) }
-    ensures makes { Makes result class cursors.old engine.old engine.new steps.old.made steps.new.made }
-    ensures standard { engine.new.keyring.limits ≡ standard_limits }
-    ensures counted { IsOneChange engine.old.keyring engine.new.keyring }
-    ensures turned { engine.new.turns.count ≤ engine.old.turns.count + 1 }
-    ensures still { state_of engine.new ≡ state_of engine.old → engine.new.turns ≡ engine.old.turns }
-    ensures asked { AsksBy result class (state_of engine.old) (state_of engine.new) policy.old policy.new }
-    ensures judged { IsJudgedBy (rows_of policy.old) engine.new.keyring }
-    ensures faithful { IsFaithful F.Fn policy.new }
-    ensures rows { rows_of policy.new ≡ rows_of policy.old }
-{
-    match class {
-        Class::State(command) => plain(obey(alloc, engine, steps, &command, shelf, policy)),
-        Class::Cursor(name, command) => pace(alloc, engine, steps, cursors, &name, &command),
-        Class::Watch(name, command) => plain(watch(alloc, engine, steps, watches, &name, &command)),
     }
 }

@@ -112,12 +112,6 @@ state_paced rows old class given reply e =
     paced_cases (λ (c : Class). StateStep rows old c given reply old) (λ name view wanted. refl) (λ name count. refl)
     (λ name. refl) class e
 
-pub paced_state : (rows : PolicyRows) (old : State) (class : Class) (given : Served) (reply : Reply) (new : State) →
-    is_pacing class ≡ true → StateStep rows old class given reply new → new ≡ old
-paced_state rows old class given reply new e d =
-    paced_cases (λ (c : Class). StateStep rows old c given reply new → new ≡ old) (λ name view wanted p. p)
-    (λ name count p. p) (λ name p. p) class e d
-
 pub turns_paced : (class : Class) (old new : Views) (before after : Turns) → is_pacing class ≡ true →
     after ≡ before → IsTurnedBy class old before new after
 turns_paced class old new before after e same =

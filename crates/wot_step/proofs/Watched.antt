@@ -85,13 +85,6 @@ state_watched rows old class given reply e =
     watched_cases (λ (c : Class). StateStep rows old c given reply old) (λ name view target wanted uid. refl)
     (λ name. refl) class e
 
-pub watched_state : (rows : PolicyRows) (old : State) (class : Class) (given : Served) (reply : Reply)
-    (new : State) → is_watching class ≡ true
-    → StateStep rows old class given reply new → new ≡ old
-watched_state rows old class given reply new e d =
-    watched_cases (λ (c : Class). StateStep rows old c given reply new → new ≡ old) (λ name view target wanted uid p. p)
-    (λ name p. p) class e d
-
 pub turns_watched : (class : Class) (old new : Views) (before after : Turns) → is_watching class ≡ true →
     after ≡ before → IsTurnedBy class old before new after
 turns_watched class old new before after e same =
@@ -470,10 +463,3 @@ opens_answered s name view target wanted uid (Some there) paths sum reply watche
         paths × (sum ≡ amount_of paths))
     by true e = let none : wanted ≡ 0 = eqb-true wanted 0 e in absurd (omega (arith, none, some))
     by false e = (paths, answer, is)
-
--- if the view isn't open
-pub opens_unopened : (s : Session) (name view : List ℕ) (target : Fpr) (wanted : ℕ) (uid : List ℕ) (o : Option View) →
-    o ≡ None
-    → Opens s name view target wanted uid o replies.View s.watches
-opens_unopened s name view target wanted uid o none =
-    subst (λ (o : Option View). Opens s name view target wanted uid o replies.View s.watches) (sym none) (refl, refl)

@@ -4,11 +4,13 @@
 //! all of these stand on this crate and not on one another.
 #![tactic(auto)]
 
+mod asked;
 mod bindings;
 mod class;
 mod draft;
 mod refusal;
 
+pub use asked::AskedBinding;
 pub use bindings::bind_lines;
 pub use class::{
     Change, Class, CursorCommand, Read, ShelfCall, StateCommand, ViewChange, ViewQuestion,

@@ -3,24 +3,24 @@
 ghost use Rattle.std.specs.Prelude.{◌≡◌, ◌≤◌, [], None, true, IfOk, IfSome, OnErr};
 ghost use Rattle.std.specs.List.{AllByRecursion};
 ghost use Rattle.wot_script.specs.Replies.{is_short};
-ghost use Rattle.wot_cache.specs.Basis.{HasGrown, IsPresent, RestsOn};
+ghost use Rattle.wot_cache.specs.Basis.{HasGrown, IsPresent};
 ghost use Rattle.wot_cache.specs.Marks.{IsRefreshed};
 ghost use Rattle.wot_cache.specs.State.{StaysButMarks, state_of};
-ghost use Rattle.wot_cache.specs.Views.{view_at};
 ghost use Rattle.wot_step.specs.declared.class.WatchCommand.TheVariants as commands;
 ghost use Rattle.wot_step.specs.Classes.{IsWatched};
 ghost use Rattle.wot_step.specs.Made.{WatchMakes, WatchMakesMarks, WatchesMake};
+ghost use Rattle.wot_watching.specs.Asked.{AmountsTo, BeginsFor, OpensFor, RestsOn};
 ghost use Rattle.wot_watching.specs.Settled.{AllSettled, AreOpen, AreSettled, IsSettled};
-ghost use Rattle.wot_step.specs.Watching.{AreLines, BeginsWatch, HasAmount, IsLine, IsWatchLine};
-ghost use Rattle.wot_step.specs.Watching.{OpensOver, SetsOver, SetsWatch, told_all, told_by};
+ghost use Rattle.wot_step.specs.Watching.{AreLines, IsLine, IsWatchLine};
+ghost use Rattle.wot_step.specs.Watching.{SetsOver, SetsWatch, told_all, told_by};
 ghost use Rattle.wot_step.specs.Session.{Session, watched};
 
 use std::alloc::Global;
 use wot_cache::laws::{kept_on_is_order, rests_on};
 use wot_cache::{AskFault, Basis, Engine};
 use wot_script::Reply;
-use wot_step::{Refused, WatchCommand, reply_to};
-use wot_types::{Fpr, Memory, Steps, UserId, ViewName};
+use wot_step::{AskedBinding, Refused, WatchCommand, reply_to};
+use wot_types::{Memory, Steps, UserId, ViewName};
 use wot_watch::{Watch, Watches};
 
 /// Runs a command about the watch of this name. After `Memory` the watches are unchanged.
@@ -41,9 +41,15 @@ pub fn watch(
     ensures kept { OnErr result (watches.new ≡ watches.old) }
 {
     match command {
-        WatchCommand::On(view, target, wanted, uid) => on(
-            alloc, engine, steps, watches, name, view, target, *wanted, uid,
-        ),
+        WatchCommand::On(view, target, wanted, uid) => {
+            let asked = AskedBinding {
+                view,
+                target,
+                wanted: *wanted,
+                uid: uid.octets(),
+            };
+            on(alloc, engine, steps, watches, name, &asked)
+        }
         WatchCommand::Off => Ok(off(watches, name)),
     }
 }
@@ -56,21 +62,17 @@ pub fn on(
     steps: &mut Steps,
     watches: &mut Watches,
     name: &ViewName,
-    view: &ViewName,
-    target: &Fpr,
-    wanted: u32,
-    uid: &UserId,
+    asked: &AskedBinding<'_>,
 ) -> Result<Reply, Memory>
-    requires wanted { 1 ≤ wanted }
-    ensures watching { IfOk result (λ reply.
-        OpensOver engine.old watches.old name.now view.now target.now wanted uid.now reply watches.new) }
+    requires wanted { 1 ≤ asked.now.wanted }
+    ensures watching { IfOk result (λ reply. OpensFor engine.old watches.old name.now asked.now reply watches.new) }
     ensures stays { StaysButMarks engine.old engine.new }
-    ensures refreshed { IsRefreshed result view.now engine.old engine.new steps.old.made steps.new.made }
+    ensures refreshed { IsRefreshed result asked.now.view.now engine.old engine.new steps.old.made steps.new.made }
     ensures short { IfOk result (λ reply. is_short reply ≡ true) }
     ensures kept { OnErr result (watches.new ≡ watches.old) }
 {
-    match engine.ask(view, target, wanted, uid.octets(), steps) {
-        Ok(answer) => begin(alloc, watches, name, view, target, wanted, uid, answer.sum),
+    match engine.ask(asked.view, asked.target, asked.wanted, asked.uid, steps) {
+        Ok(answer) => begin(alloc, watches, name, asked, answer.sum),
         Err(fault) => reply_to(Refused::from(fault)),
     }
 }
@@ -80,22 +82,21 @@ fn begin(
     alloc: Global,
     watches: &mut Watches,
     name: &ViewName,
-    view: &ViewName,
-    target: &Fpr,
-    wanted: u32,
-    uid: &UserId,
+    asked: &AskedBinding<'_>,
     amount: u32,
 ) -> Result<Reply, Memory>
-    ensures begins { IfOk result (λ reply.
-        BeginsWatch watches.old name.now view.now target.now wanted uid.now amount reply watches.new) }
+    ensures begins { IfOk result (λ reply. BeginsFor watches.old name.now asked.now amount reply watches.new) }
     ensures short { IfOk result (λ reply. is_short reply ≡ true) }
     ensures kept { OnErr result (watches.new ≡ watches.old) }
 {
     let told = name.duplicate(alloc)?;
     let key = name.duplicate(alloc)?;
-    let view = view.duplicate(alloc)?;
-    let uid = UserId::new(alloc, uid.octets())?;
-    match watches.put(key, Watch::new(view, *target, wanted, uid, amount)) {
+    let view = asked.view.duplicate(alloc)?;
+    let uid = UserId::new(alloc, asked.uid)?;
+    match watches.put(
+        key,
+        Watch::new(view, *asked.target, asked.wanted, uid, amount),
+    ) {
         Ok(()) => Ok(Reply::WatchAmount(told, amount)),
         Err(fault) => reply_to(Refused::from(fault)),
     }
@@ -160,15 +161,13 @@ fn watch_line(
     ensures never_less { steps.old.made ≤ steps.new.made }
 {
     let target = watch.target();
-    let amount = amount_of(
-        engine,
-        steps,
-        watch.view(),
-        &target,
-        watch.wanted(),
-        watch.uid(),
-        basis,
-    )?;
+    let asked = AskedBinding {
+        view: watch.view(),
+        target: &target,
+        wanted: watch.wanted(),
+        uid: watch.uid(),
+    };
+    let amount = amount_of(engine, steps, &asked, basis)?;
     match amount {
         None => Ok(Some(Reply::WatchGone(name.duplicate(alloc)?))),
         Some(amount) => {
@@ -184,33 +183,31 @@ fn watch_line(
 fn amount_of(
     engine: &mut Engine,
     steps: &mut Steps,
-    view: &ViewName,
-    target: &Fpr,
-    wanted: u32,
-    uid: &[u8],
+    asked: &AskedBinding<'_>,
     basis: &mut Basis,
 ) -> Result<Option<u32>, Memory>
     requires present { IsPresent engine.old basis.old }
     ensures rests { IfOk result (λ sum. IfSome sum (λ n.
-        1 ≤ wanted → RestsOn engine.old basis.new view.now target.now wanted uid.now n)) }
-    ensures nothing { IfOk result (λ sum. IfSome sum (λ n. wanted ≡ 0 → n ≡ 0)) }
+        1 ≤ asked.now.wanted → RestsOn engine.old basis.new asked.now n)) }
+    ensures nothing { IfOk result (λ sum. IfSome sum (λ n. asked.now.wanted ≡ 0 → n ≡ 0)) }
     ensures grown { HasGrown basis.old basis.new }
-    ensures amount { IfOk result
-        (HasAmount (state_of engine.old) (view_at engine.old.views view.now) target.now wanted uid.now) }
-    ensures asked { 1 ≤ wanted →
-        IsRefreshed result view.now engine.old engine.new steps.old.made steps.new.made }
-    ensures unasked { wanted ≡ 0 → (engine.new ≡ engine.old) × (steps.new.made ≡ steps.old.made) }
+    ensures amount { IfOk result (AmountsTo engine.old asked.now) }
+    ensures asked { 1 ≤ asked.now.wanted →
+        IsRefreshed result asked.now.view.now engine.old engine.new steps.old.made steps.new.made }
+    ensures unasked { asked.now.wanted ≡ 0 → (engine.new ≡ engine.old) × (steps.new.made ≡ steps.old.made) }
     ensures stays { StaysButMarks engine.old engine.new }
     ensures never_less { steps.old.made ≤ steps.new.made }
 {
     // No command begins a watch that wants nothing.
+    let wanted = asked.wanted;
     if wanted == 0 {
-        return match engine.time(view) {
+        return match engine.time(asked.view) {
             Some(_) => Ok(Some(0)),
             None => Ok(None),
         };
     }
-    match engine.sum(view, target, wanted, uid, steps, basis) {
+    let (target, uid) = (asked.target, asked.uid);
+    match engine.sum(asked.view, target, wanted, uid, steps, basis) {
         Ok(sum) => Ok(Some(sum)),
         Err(AskFault::View) => Ok(None),
         Err(AskFault::Memory) => Err(Memory),

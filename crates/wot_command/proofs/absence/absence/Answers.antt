@@ -10,14 +10,18 @@ use Rattle.wot_command.proofs.absence.absence.Goals as goal
 
 pub returns-in-Err-clause-misses : goal.returns-in-Err-clause-misses
 returns-in-Err-clause-misses c =
-    unopened c.parts.result c.reply_to.result c.from.result c.in-Err.fault (view_at c.args.engine.now.views c.args.view.now)
-    (λ (v : Option View) (reply : Reply). Misses (state_of c.args.engine.now) v c.args.target.now c.args.wanted c.args.uid.now reply)
+    let asked = c.args.asked.now in
+    unopened c.parts.result c.reply_to.result c.from.result c.in-Err.fault
+    (view_at c.args.engine.now.views asked.view.now)
+    (λ (v : Option View) (reply : Reply). Misses (state_of c.args.engine.now) v asked.target.now asked.wanted
+    asked.uid.now reply)
     c.from.ensures c.reply_to.ensures.reply c.in-Err.ensures.open refl
 
 pub returns-in-Err-clause-refreshed : goal.returns-in-Err-clause-refreshed
 returns-in-Err-clause-refreshed c =
-    let made : IsRefreshed c.parts.result c.args.view.now c.args.engine.now c.parts.follows.lender-at-none
+    let asked = c.args.asked.now in
+    let made : IsRefreshed c.parts.result asked.view.now c.args.engine.now c.parts.follows.lender-at-none
     c.args.steps.now.made c.parts.new.steps.made = search rules in
-    refreshed_refused c.parts.result c.reply_to.result c.from.result c.in-Err.fault c.args.view.now c.args.engine.now
+    refreshed_refused c.parts.result c.reply_to.result c.from.result c.in-Err.fault asked.view.now c.args.engine.now
     c.parts.follows.lender-at-none c.args.steps.now.made c.parts.new.steps.made c.from.ensures
     c.reply_to.ensures.reply c.in-Err.ensures.open made

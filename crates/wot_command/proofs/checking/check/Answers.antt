@@ -11,14 +11,18 @@ use Rattle.wot_command.proofs.checking.check.Goals as goal
 
 pub returns-in-Ok-clause-checks : goal.returns-in-Ok-clause-checks
 returns-in-Ok-clause-checks c =
-    checks_shown c.args.engine.now (view_at c.args.engine.now.views c.args.view.now) c.in-Ok.parts c.args.target.now
-    c.args.claims.now c.args.labels.now c.args.uid.now
-    c.check_from.result c.in-Ok.ensures.parts c.check_from.ensures.checks
+    let claim = c.args.claim.now in
+    checks_shown c.args.engine.now (view_at c.args.engine.now.views c.args.view.now) c.in-Ok.parts claim.target.now
+    claim.claims.now claim.labels.now claim.uid.now c.check_from.result c.in-Ok.ensures.parts
+    c.check_from.ensures.checks
 
 pub returns-in-Err-clause-checks : goal.returns-in-Err-clause-checks
 returns-in-Err-clause-checks c =
-    unopened c.parts.result c.reply_to.result c.from.result c.in-Err.fault (view_at c.args.engine.now.views c.args.view.now)
-    (λ (v : Option View) (reply : Reply). Checks (state_of c.args.engine.now) v c.args.target.now c.args.claims.now c.args.labels.now c.args.uid.now reply)
+    let claim = c.args.claim.now in
+    unopened c.parts.result c.reply_to.result c.from.result c.in-Err.fault
+    (view_at c.args.engine.now.views c.args.view.now)
+    (λ (v : Option View) (reply : Reply). Checks (state_of c.args.engine.now) v claim.target.now claim.claims.now
+    claim.labels.now claim.uid.now reply)
     c.from.ensures c.reply_to.ensures.reply c.in-Err.ensures.open refl
 
 pub returns-in-Err-clause-refreshed : goal.returns-in-Err-clause-refreshed

@@ -8,9 +8,11 @@ use Rattle.wot_watching.proofs.watching.amount_of.Goals as goal
 
 pub returns-in-Ok-clause-amount : goal.returns-in-Ok-clause-amount
 returns-in-Ok-clause-amount c =
+    let asked = c.args.asked.now in
     let a = c.args in
     let some = c.if-wanted-eq0.false in
-    sum_has (state_of a.engine.now) (view_at a.engine.now.views a.view.now) a.target.now a.wanted a.uid.now c.in-Ok.sum
+    sum_has (state_of a.engine.now) (view_at a.engine.now.views asked.view.now) asked.target.now asked.wanted
+    asked.uid.now c.in-Ok.sum
     (omega (arith, some)) c.in-Ok.ensures.open c.in-Ok.ensures.sum
 
 pub returns-in-Ok-clause-rests : goal.returns-in-Ok-clause-rests
@@ -32,18 +34,21 @@ returns-in-Err-Memory-clause-stays c = c.sum.ensures.refreshed.stays
 
 pub returns-in-Ok-clause-asked : goal.returns-in-Ok-clause-asked
 returns-in-Ok-clause-asked c = λ some.
-    refreshed_as c.sum.result _ (λ ok. ap is_ok c.in-Ok.is) c.args.view.now c.args.engine.now c.sum.new.self
+    let asked = c.args.asked.now in
+    refreshed_as c.sum.result _ (λ ok. ap is_ok c.in-Ok.is) asked.view.now c.args.engine.now c.sum.new.self
     c.args.steps.now.made c.sum.new.steps.made c.sum.ensures.refreshed
 
 pub returns-in-Err-View-clause-asked : goal.returns-in-Err-View-clause-asked
 returns-in-Err-View-clause-asked c = λ some.
-    refreshed_unopened c.sum.result _ c.args.view.now c.args.engine.now c.sum.new.self c.args.steps.now.made
+    let asked = c.args.asked.now in
+    refreshed_unopened c.sum.result _ asked.view.now c.args.engine.now c.sum.new.self c.args.steps.now.made
     c.sum.new.steps.made
     (rw c.in-Err-View.field-0-is at c.in-Err-View.ensures.open) c.sum.ensures.refreshed
 
 pub returns-in-Err-Memory-clause-asked : goal.returns-in-Err-Memory-clause-asked
 returns-in-Err-Memory-clause-asked c = λ some.
-    refreshed_fault c.sum.result _ c.args.view.now c.args.engine.now c.sum.new.self c.args.steps.now.made
+    let asked = c.args.asked.now in
+    refreshed_fault c.sum.result _ asked.view.now c.args.engine.now c.sum.new.self c.args.steps.now.made
     c.sum.new.steps.made c.sum.ensures.refreshed
 
 pub returns-in-Ok-clause-unasked : goal.returns-in-Ok-clause-unasked

@@ -11,7 +11,7 @@ use Rattle.wot_step.proofs.Results.{any_err}
 use Rattle.wot_command.proofs.DirectoryAfterFailure.{puts_still}
 use Rattle.wot_step.proofs.Results.{if_ok}
 use Rattle.wot_machine.proofs.CommandsInLines.{few_turns, kept_told, on_err_told, on_ok_told, paced_ran, ran_told, still_turns, told_as, watched_told}
-use Rattle.wot_machine.proofs.machine.act.Goals as goal
+use Rattle.wot_machine.proofs.dispatch.act.Goals as goal
 
 -- ---- a command that leaves cursors and watches
 

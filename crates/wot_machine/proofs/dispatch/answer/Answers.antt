@@ -15,7 +15,7 @@ use Rattle.wot_command.proofs.DirectoryAfterFailure.{puts_still}
 use Rattle.wot_step.proofs.Results.{if_ok}
 use Rattle.wot_machine.proofs.CommandsInLines.{ran_told_line}
 use Rattle.wot_machine.proofs.Worded.{obeys_worded}
-use Rattle.wot_machine.proofs.machine.answer.Goals as goal
+use Rattle.wot_machine.proofs.dispatch.answer.Goals as goal
 
 pub returns-in-Ok-clause-words : goal.returns-in-Ok-clause-words
 returns-in-Ok-clause-words g c =
