@@ -16,4 +16,4 @@ mod views;
 pub use basis::Basis;
 pub use engine::Engine;
 pub use view::{NoView, View, ViewFault};
-pub use wot_kept::{AskFault, KeptAnswer, Looked, Parts};
+pub use wot_kept::{AskFault, Asked, KeptAnswer, Looked, Parts};

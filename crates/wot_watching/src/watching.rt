@@ -17,7 +17,7 @@ ghost use Rattle.wot_step.specs.Session.{Session, watched};
 
 use std::alloc::Global;
 use wot_cache::laws::{kept_on_is_order, rests_on};
-use wot_cache::{AskFault, Basis, Engine};
+use wot_cache::{AskFault, Asked, Basis, Engine};
 use wot_script::Reply;
 use wot_step::{Refused, WatchCommand, reply_to};
 use wot_types::{Fpr, Memory, Steps, UserId, ViewName};
@@ -210,7 +210,12 @@ fn amount_of(
             None => Ok(None),
         };
     }
-    match engine.sum(view, target, wanted, uid, steps, basis) {
+    let asked = Asked {
+        target,
+        wanted,
+        uid,
+    };
+    match engine.sum(view, &asked, steps, basis) {
         Ok(sum) => Ok(Some(sum)),
         Err(AskFault::View) => Ok(None),
         Err(AskFault::Memory) => Err(Memory),
