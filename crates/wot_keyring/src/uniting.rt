@@ -13,7 +13,7 @@ use std::collections::BTreeMap;
 use wot_cert::Cert;
 use wot_held::Kept;
 use wot_index::{Index, note_all};
-use wot_merge::{Fault, Tally, Terms, Weight, put_all, take_back};
+use wot_merge::{Fault, Progress, Tally, Terms, put_all, take_back};
 use wot_policy::{Ask, Policy};
 use wot_types::{Fpr, Memory};
 
@@ -23,14 +23,13 @@ pub(crate) fn unite_all<F: Fn(Ask) -> bool>(
     alloc: Global,
     certs: &mut BTreeMap<Fpr, Kept, Global>,
     index: &mut Index,
-    total: Weight,
     list: &[Cert],
     terms: &Terms,
     policy: &mut Policy<F>,
 ) -> Result<Tally, Fault>
     requires faithful { IsFaithful F.Fn policy.old }
     requires sorted { AreSortedByFpr certs.old.entries }
-    requires tallied { IsTally terms.now.limit certs.old.entries total }
+    requires tallied { IsTally terms.now.limit certs.old.entries terms.now.total }
     ensures put { OnOk result (certs.new.entries
         ≡ kept_all (rows_of policy.old) terms.now.stamp certs.old.entries list.now) }
     ensures same { OnErr result (certs.new.entries ≡ certs.old.entries) }
@@ -46,9 +45,15 @@ pub(crate) fn unite_all<F: Fn(Ask) -> bool>(
     ensures noted { OnOk result (Notes index.old index.new (stands_among list.now)) }
     ensures not_noted { OnErr result (NotesNothing index.old index.new) }
 {
-    let mut log = Vec::new(alloc);
-    let mut tally = Tally { total, fresh: 0 };
-    match put_all(alloc, certs, &mut log, &mut tally, list, terms, policy) {
+    let log = Vec::new(alloc);
+    let tally = Tally {
+        total: terms.total,
+        fresh: 0,
+    };
+    let mut progress = Progress { log, tally };
+    let united = put_all(alloc, certs, &mut progress, list, terms, policy);
+    let Progress { log, tally } = progress;
+    match united {
         Ok(()) => match note_all(alloc, index, list) {
             Ok(()) => Ok(tally),
             Err(Memory) => {

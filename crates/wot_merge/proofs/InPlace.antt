@@ -22,9 +22,9 @@ use Rattle.wot_held.specs.Kept.{AreSortedByFpr}
 use Rattle.wot_key.specs.Key.{fpr_of}
 use Rattle.wot_policy.specs.declared.rows.PolicyRows.{PolicyRows}
 use Rattle.wot_part.specs.Judged.{sound_of}
-use Rattle.wot_merge.specs.declared.staging.Grown.{Grown}
-use Rattle.wot_merge.specs.Staging.{LeadsBack, IsLog, IsGrownAt, IsStaged, MayShrink, StillLeadsBack, found_by}
-use Rattle.wot_merge.specs.Staging.{found_for, joined, kept_as, kept_with, shrunk_found, smaller, sound_in}
+use Rattle.wot_merge.specs.declared.staging.Step.{Step}
+use Rattle.wot_merge.specs.Staging.{LeadsBack, IsLog, IsMergedAt, IsStaged, MayShrink, StillLeadsBack, found_by}
+use Rattle.wot_merge.specs.Staging.{found_for, joined, kept_as, kept_with, shrunk_found, smaller, sound_in, staged_as}
 use Rattle.wot_merge.proofs.Logs.{log_more}
 use Rattle.wot_merge.proofs.Steps.{weighs_by}
 
@@ -113,29 +113,16 @@ set_here (e ∷ es) fpr x found =
 
 -- What one of the kept certificates became, among all of them.
 pub grown_at : (rows : PolicyRows) (stamp limit : ℕ) (c : Certificate) (es es' : Entries) (fpr : Fpr) (x y : Kept)
-    (s : Grown)
-    → IsStaged rows stamp limit (Some x) c (record {
-      kept = y;
-      before = s.before;
-      after = s.after;
-      items =
-          s.items;
-      keys = 0;
-    })
+    (s : Step)
+    → IsStaged rows stamp limit (Some x) c (staged_as y s)
     → Some x ≡ lookup (is_fpr fpr) es → fpr ≡ fpr_of c.key → AreSortedByFpr es → es' ≡ set_value (is_fpr fpr) es y →
-    IsGrownAt rows stamp limit c es es' s
+    IsMergedAt rows stamp limit c es es' s
 grown_at rows stamp limit c es es' fpr x y s staged found e sorted n = record {
   kept = y;
   put = n ∙ set_insert es fpr x y sorted (sym found) ∙ ap (λ (f : Fpr). insert_entry fpr_cmp es f y) e;
   staged =
-      subst (λ (o : Option Kept). IsStaged rows stamp limit o c (record {
-        kept = y;
-        before = s.before;
-        after =
-            s.after;
-        items = s.items;
-        keys = 0;
-      })) (found ∙ ap (λ (f : Fpr). lookup (is_fpr f) es) e) staged;
+      subst (λ (o : Option Kept). IsStaged rows stamp limit o c (staged_as y s))
+      (found ∙ ap (λ (f : Fpr). lookup (is_fpr f) es) e) staged;
 }
 
 none_more : (n m : ℕ) → n ≤ m → 0 + n ≤ m

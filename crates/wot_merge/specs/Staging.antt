@@ -24,13 +24,13 @@ use Rattle.wot_part.specs.Judged.{IsJudged, judged, sound_of}
 use Rattle.wot_part.specs.Text.{size_of}
 use Rattle.wot_held.specs.declared.kept.Kept.{Kept}
 use Rattle.wot_merge.specs.declared.in_place.Leap.{Leap}
-use Rattle.wot_merge.specs.declared.staging.Grown.{Grown}
 use Rattle.wot_merge.specs.declared.undo.Before.{Before}
 use Rattle.wot_merge.specs.declared.undo.Before.TheVariants.{Was, Smaller}
 use Rattle.wot_merge.specs.declared.undo.Was.{Was as TheWas}
 use Rattle.wot_merge.specs.declared.staging.Fault.{Fault}
 use Rattle.wot_merge.specs.declared.staging.Fault.TheVariants.{Clash, Memory}
 use Rattle.wot_merge.specs.declared.staging.Staged.{Staged}
+use Rattle.wot_merge.specs.declared.staging.Step.{Step}
 use Rattle.wot_merge.specs.declared.staging.Terms.{Terms}
 use Rattle.wot_merge.specs.declared.tally.Tally.{Tally}
 use Rattle.wot_merge.specs.declared.tally.Weight.{Weight}
@@ -241,19 +241,19 @@ pub record GrowsTo (rows : PolicyRows) (stamp limit : ℕ) (c : Certificate) (ol
   pub back : CertLeadsBack leap.growth old.cert new.cert
   pub was : leap.stamp ≡ old.stamp
 
--- The result of merging it into one of the kept certificates.
-pub record IsGrownAt (rows : PolicyRows) (stamp limit : ℕ) (c : Certificate) (es es' : Entries) (s : Grown)
+-- ---- one certificate among the kept ones
+
+-- what is kept afterwards, with what changed
+abbrev pub staged_as : Kept → Step → Staged
+staged_as kept s = record { kept = kept; before = s.before; after = s.after; items = s.items; keys = s.keys }
+
+-- The result of merging it with what is kept under its fingerprint.
+pub record IsMergedAt (rows : PolicyRows) (stamp limit : ℕ) (c : Certificate) (es es' : Entries) (s : Step)
     : Type 0 where
   pub kept : Kept
   pub put : es' ≡ insert_entry fpr_cmp es (fpr_of c.key) kept
-  pub staged : IsStaged rows stamp limit (found_for es c) c (record {
-    kept = kept;
-    before = s.before;
-    after = s.after;
-    items = s.items;
-    keys = 0;
-  })
+  pub staged : IsStaged rows stamp limit (found_for es c) c (staged_as kept s)
 
 -- The result of merging it under these terms.
-abbrev pub IsGrownOn : PolicyRows → Terms → Certificate → Entries → Entries → Grown → Type 0
-IsGrownOn rows terms c es es' s = IsGrownAt rows terms.stamp terms.limit c es es' s
+abbrev pub IsMergedOn : PolicyRows → Terms → Certificate → Entries → Entries → Step → Type 0
+IsMergedOn rows terms c es es' s = IsMergedAt rows terms.stamp terms.limit c es es' s

@@ -1,14 +1,14 @@
 //! Merges a small certificate into a kept one in place, so that an import costs what it brings, however large the kept
 //! certificate is. `staging` calls it and undoes it through the log. It stands on wot_cert's `grow` and `shrink`; its
 //! contracts are those of the merge by a copy, so callers see no difference.
-ghost use Rattle.std.specs.Prelude.{◌≡◌, ◌<◌, ◌∷◌, [], vec_len, vec_capacity, IfOk, OnOk, OnErr, Some};
+ghost use Rattle.std.specs.Prelude.{◌≡◌, ◌<◌, vec_len, vec_capacity, IfOk, OnErr, Some};
 ghost use Rattle.wot_policy.specs.Kept.{IsFaithful, rows_of};
-ghost use Rattle.wot_held.specs.Kept.{AreSortedByFpr, AreJudged};
-ghost use Rattle.wot_merge.specs.Staging.{clash_at, found_for, kept_with, AsksForNew, AsksToJoin};
-ghost use Rattle.wot_merge.specs.Staging.{Counts, GrowsTo, IsGrownOn, IsTally, StillLeadsBack, TellsClash};
+ghost use Rattle.wot_held.specs.Kept.{AreSortedByFpr};
+ghost use Rattle.wot_merge.specs.Staging.{clash_at, found_for, AsksToJoin, GrowsTo, IsMergedOn, StillLeadsBack};
+ghost use Rattle.wot_merge.specs.Staging.{TellsClash};
 
-use crate::staging::{Fault, Grown, Terms, stamp_of};
-use crate::tally::{Tally, Weight, are_held, count, weigh_cert};
+use crate::staging::{Fault, Step, Terms, stamp_of};
+use crate::tally::{Weight, are_held, weigh_cert};
 use crate::undo::{Before, Was, note};
 use std::alloc::Global;
 use std::collections::BTreeMap;
@@ -82,20 +82,21 @@ fn grow_kept<F: Fn(Ask) -> bool>(
     }
 }
 
-/// Merges a certificate into the kept one of its fingerprint, and logs how that grew. The log has room.
-fn grow_at<F: Fn(Ask) -> bool>(
+/// Merges a certificate in place into the kept one of its fingerprint under a policy, and logs how that grew. The log
+/// has room. On an error it still undoes everything.
+pub(crate) fn grow_at<F: Fn(Ask) -> bool>(
     alloc: Global,
+    cert: &Cert,
     certs: &mut BTreeMap<Fpr, Kept, Global>,
     log: &mut Vec<Was>,
-    cert: &Cert,
     terms: &Terms,
     policy: &mut Policy<F>,
-) -> Result<Grown, Fault>
+) -> Result<Step, Fault>
     requires faithful { IsFaithful F.Fn policy.old }
     requires sorted { AreSortedByFpr certs.old.entries }
     requires room { vec_len log.old < vec_capacity log.old }
-    ensures grown { IfOk result
-        (IsGrownOn (rows_of policy.old) terms.now cert.now certs.old.entries certs.new.entries) }
+    ensures merged { IfOk result
+        (IsMergedOn (rows_of policy.old) terms.now cert.now certs.old.entries certs.new.entries) }
     ensures log { StillLeadsBack log.old.items certs.old.entries log.new.items certs.new.entries }
     ensures clash { TellsClash result (clash_at (found_for certs.old.entries cert.now) cert.now) }
     ensures asked { AsksToJoin result policy.old policy.new (found_for certs.old.entries cert.now) cert.now }
@@ -119,54 +120,15 @@ fn grow_at<F: Fn(Ask) -> bool>(
                         before: Before::Smaller(growth, stamp),
                     },
                 );
-                Ok(Grown {
+                Ok(Step {
                     before,
                     after,
                     items,
+                    keys: 0,
                 })
             }
             Err(fault) => Err(fault),
         },
         None => Err(Fault::Memory),
     }
-}
-
-/// Merges a certificate in place into the kept one of its fingerprint under a policy, logs how that grew, and updates
-/// the tally. On an error the log still undoes everything.
-pub(crate) fn put_in_place<F: Fn(Ask) -> bool>(
-    alloc: Global,
-    certs: &mut BTreeMap<Fpr, Kept, Global>,
-    log: &mut Vec<Was>,
-    tally: &mut Tally,
-    cert: &Cert,
-    terms: &Terms,
-    policy: &mut Policy<F>,
-) -> Result<(), Fault>
-    requires faithful { IsFaithful F.Fn policy.old }
-    requires sorted { AreSortedByFpr certs.old.entries }
-    requires tallied { IsTally terms.now.limit certs.old.entries tally.old.total }
-    ensures put { OnOk result (certs.new.entries
-        ≡ kept_with (rows_of policy.old) terms.now.stamp certs.old.entries cert.now) }
-    ensures sorted { OnOk result (AreSortedByFpr certs.new.entries) }
-    ensures log { StillLeadsBack log.old.items certs.old.entries log.new.items certs.new.entries }
-    ensures tallied { OnOk result (IsTally terms.now.limit certs.new.entries tally.new.total) }
-    ensures fresh { OnOk result (Counts certs.old.entries certs.new.entries tally.old tally.new) }
-    ensures clash { TellsClash result (clash_at (found_for certs.old.entries cert.now) cert.now) }
-    ensures asked { AsksForNew result policy.old policy.new terms.now.stamp certs.old.entries (cert.now ∷ []) }
-    ensures judged { OnOk result (AreJudged (rows_of policy.old) certs.old.entries
-        → AreJudged (rows_of policy.old) certs.new.entries) }
-    ensures faithful { IsFaithful F.Fn policy.new }
-{
-    united_grows();
-    let Ok(()) = log.reserve(1) else {
-        return Err(Fault::Memory);
-    };
-    let step = match grow_at(alloc, certs, log, cert, terms, policy) {
-        Ok(step) => step,
-        Err(fault) => return Err(fault),
-    };
-    let Ok(()) = count(tally, &step.before, &step.after, step.items, 0) else {
-        return Err(Fault::Memory);
-    };
-    Ok(())
 }

@@ -13,7 +13,7 @@ mod undo;
 
 pub use gather::gathered;
 pub use room::{has_room, only};
-pub use staging::{Fault, Terms, put_all};
+pub use staging::{Fault, Progress, Terms, put_all};
 pub use tally::{Tally, Weight};
 pub use trial::try_all;
 pub use undo::take_back;

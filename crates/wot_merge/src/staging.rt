@@ -13,11 +13,11 @@ ghost use Rattle.wot_part.specs.Whole.{IsCertificate};
 ghost use Rattle.wot_held.specs.Kept.{AreSortedByFpr, AreJudged};
 ghost use Rattle.wot_held.specs.declared.kept.Kept.{Kept as TheKept};
 ghost use Rattle.wot_merge.specs.Staging.{begun, found_for, stamp_over, clash_at, kept_with, kept_all, clash_in};
-ghost use Rattle.wot_merge.specs.Staging.{IsStepOf, IsTally, Counts, TellsClash, Weighs, StillLeadsBack, AsksForNew};
-ghost use Rattle.wot_merge.specs.Staging.{AsksToJoin};
+ghost use Rattle.wot_merge.specs.Staging.{AsksForNew, AsksToJoin, Counts, IsMergedOn, IsStepOf, IsTally};
+ghost use Rattle.wot_merge.specs.Staging.{StillLeadsBack, TellsClash, Weighs};
 ghost use Rattle.wot_part.specs.Asking.{AsksOnOk};
 
-use crate::in_place::{is_small_beside, put_in_place};
+use crate::in_place::{grow_at, is_small_beside};
 use crate::tally::{NOTHING, Tally, Weight, are_held, count, weigh_cert};
 use crate::undo::{Was, put};
 use std::alloc::Global;
@@ -112,13 +112,22 @@ fn grow<F: Fn(Ask) -> bool>(
     }
 }
 
-/// The stamp and the size limit for the certificates that are merged.
+/// The stamp, the size limit and the totals for the certificates that are merged.
 #[derive(Clone, Copy)]
 pub struct Terms {
     /// The stamp for what is altered.
     pub stamp: u64,
     /// The limit on a certificate's size.
     pub limit: u64,
+    /// The totals before the merge.
+    pub total: Weight,
+}
+
+/// How far a merge has come: what undoes it, and the totals so far.
+#[derive(Drop)]
+pub struct Progress {
+    pub log: Vec<Was>,
+    pub tally: Tally,
 }
 
 /// The result of merging one certificate with what is kept.
@@ -201,75 +210,103 @@ fn take_step<F: Fn(Ask) -> bool>(
     }
 }
 
-/// Merges a certificate with a copy of what is kept under a policy, logs what was kept, and updates the tally. On an
-/// error the log still undoes everything.
+/// What one certificate changed among the kept ones.
+#[derive(Clone, Copy)]
+pub(crate) struct Step {
+    pub before: Weight,
+    pub after: Weight,
+    /// The components and signatures that are new.
+    pub items: u64,
+    /// 1 if the key is new, else 0.
+    pub keys: u64,
+}
+
+/// Merges one certificate under a policy and logs what was kept: in place if it is small compared with the kept one,
+/// else with a copy. On an error the log still undoes everything.
 fn put_one<F: Fn(Ask) -> bool>(
     alloc: Global,
     certs: &mut BTreeMap<Fpr, Kept, Global>,
     log: &mut Vec<Was>,
-    tally: &mut Tally,
     cert: &Cert,
     terms: &Terms,
     policy: &mut Policy<F>,
-) -> Result<(), Fault>
+) -> Result<Step, Fault>
     requires faithful { IsFaithful F.Fn policy.old }
     requires sorted { AreSortedByFpr certs.old.entries }
-    requires tallied { IsTally terms.now.limit certs.old.entries tally.old.total }
-    ensures put { OnOk result (certs.new.entries
-        ≡ kept_with (rows_of policy.old) terms.now.stamp certs.old.entries cert.now) }
-    ensures sorted { OnOk result (AreSortedByFpr certs.new.entries) }
+    ensures merged { IfOk result
+        (IsMergedOn (rows_of policy.old) terms.now cert.now certs.old.entries certs.new.entries) }
     ensures log { StillLeadsBack log.old.items certs.old.entries log.new.items certs.new.entries }
-    ensures tallied { OnOk result (IsTally terms.now.limit certs.new.entries tally.new.total) }
-    ensures fresh { OnOk result (Counts certs.old.entries certs.new.entries tally.old tally.new) }
     ensures clash { TellsClash result (clash_at (found_for certs.old.entries cert.now) cert.now) }
-    ensures asked { AsksForNew result policy.old policy.new terms.now.stamp certs.old.entries (cert.now ∷ []) }
-    ensures judged { OnOk result (AreJudged (rows_of policy.old) certs.old.entries
-        → AreJudged (rows_of policy.old) certs.new.entries) }
+    ensures asked { AsksToJoin result policy.old policy.new (found_for certs.old.entries cert.now) cert.now }
     ensures faithful { IsFaithful F.Fn policy.new }
 {
-    let step = match take_step(alloc, certs, cert, terms, policy) {
-        Ok(step) => step,
+    united_grows();
+    if is_small_beside(certs, cert) {
+        return match log.reserve(1) {
+            Ok(()) => grow_at(alloc, cert, certs, log, terms, policy),
+            Err(_) => Err(Fault::Memory),
+        };
+    }
+    let staged = match take_step(alloc, certs, cert, terms, policy) {
+        Ok(staged) => staged,
         Err(fault) => return Err(fault),
     };
-    let Ok(()) = count(tally, &step.before, &step.after, step.items, step.keys) else {
-        return Err(Fault::Memory);
-    };
-    match put(certs, log, cert.fpr(), step.kept) {
-        Ok(()) => Ok(()),
+    let Staged {
+        kept,
+        before,
+        after,
+        items,
+        keys,
+    } = staged;
+    match put(certs, log, cert.fpr(), kept) {
+        Ok(()) => Ok(Step {
+            before,
+            after,
+            items,
+            keys,
+        }),
         Err(Memory) => Err(Fault::Memory),
     }
 }
 
-/// Merges one certificate under a policy, logs what was kept, and updates the tally: in place if it is small compared
-/// with the kept one, else with a copy. On an error the log still undoes everything.
+/// Merges one certificate under a policy, logs what was kept, and updates the tally. On an error the log still undoes
+/// everything.
 fn put_next<F: Fn(Ask) -> bool>(
     alloc: Global,
     certs: &mut BTreeMap<Fpr, Kept, Global>,
-    log: &mut Vec<Was>,
-    tally: &mut Tally,
+    progress: &mut Progress,
     cert: &Cert,
     terms: &Terms,
     policy: &mut Policy<F>,
 ) -> Result<(), Fault>
-    requires faithful { IsFaithful F.Fn policy.old }
     requires sorted { AreSortedByFpr certs.old.entries }
-    requires tallied { IsTally terms.now.limit certs.old.entries tally.old.total }
+    requires tallied { IsTally terms.now.limit certs.old.entries progress.old.tally.total }
+    requires faithful { IsFaithful F.Fn policy.old }
     ensures put { OnOk result (certs.new.entries
         ≡ kept_with (rows_of policy.old) terms.now.stamp certs.old.entries cert.now) }
     ensures sorted { OnOk result (AreSortedByFpr certs.new.entries) }
-    ensures log { StillLeadsBack log.old.items certs.old.entries log.new.items certs.new.entries }
-    ensures tallied { OnOk result (IsTally terms.now.limit certs.new.entries tally.new.total) }
-    ensures fresh { OnOk result (Counts certs.old.entries certs.new.entries tally.old tally.new) }
+    ensures log { StillLeadsBack progress.old.log.items certs.old.entries progress.new.log.items certs.new.entries }
+    ensures tallied { OnOk result (IsTally terms.now.limit certs.new.entries progress.new.tally.total) }
+    ensures fresh { OnOk result (Counts certs.old.entries certs.new.entries progress.old.tally progress.new.tally) }
     ensures clash { TellsClash result (clash_at (found_for certs.old.entries cert.now) cert.now) }
     ensures asked { AsksForNew result policy.old policy.new terms.now.stamp certs.old.entries (cert.now ∷ []) }
     ensures judged { OnOk result (AreJudged (rows_of policy.old) certs.old.entries
         → AreJudged (rows_of policy.old) certs.new.entries) }
     ensures faithful { IsFaithful F.Fn policy.new }
 {
-    if is_small_beside(certs, cert) {
-        put_in_place(alloc, certs, log, tally, cert, terms, policy)
-    } else {
-        put_one(alloc, certs, log, tally, cert, terms, policy)
+    let step = match put_one(alloc, certs, &mut progress.log, cert, terms, policy) {
+        Ok(step) => step,
+        Err(fault) => return Err(fault),
+    };
+    match count(
+        &mut progress.tally,
+        &step.before,
+        &step.after,
+        step.items,
+        step.keys,
+    ) {
+        Ok(()) => Ok(()),
+        Err(Memory) => Err(Fault::Memory),
     }
 }
 
@@ -278,21 +315,20 @@ fn put_next<F: Fn(Ask) -> bool>(
 pub fn put_all<F: Fn(Ask) -> bool>(
     alloc: Global,
     certs: &mut BTreeMap<Fpr, Kept, Global>,
-    log: &mut Vec<Was>,
-    tally: &mut Tally,
+    progress: &mut Progress,
     list: &[Cert],
     terms: &Terms,
     policy: &mut Policy<F>,
 ) -> Result<(), Fault>
     requires faithful { IsFaithful F.Fn policy.old }
     requires sorted { AreSortedByFpr certs.old.entries }
-    requires tallied { IsTally terms.now.limit certs.old.entries tally.old.total }
+    requires tallied { IsTally terms.now.limit certs.old.entries progress.old.tally.total }
     ensures put { OnOk result (certs.new.entries
         ≡ kept_all (rows_of policy.old) terms.now.stamp certs.old.entries list.now) }
     ensures sorted { OnOk result (AreSortedByFpr certs.new.entries) }
-    ensures log { StillLeadsBack log.old.items certs.old.entries log.new.items certs.new.entries }
-    ensures tallied { OnOk result (IsTally terms.now.limit certs.new.entries tally.new.total) }
-    ensures fresh { OnOk result (Counts certs.old.entries certs.new.entries tally.old tally.new) }
+    ensures log { StillLeadsBack progress.old.log.items certs.old.entries progress.new.log.items certs.new.entries }
+    ensures tallied { OnOk result (IsTally terms.now.limit certs.new.entries progress.new.tally.total) }
+    ensures fresh { OnOk result (Counts certs.old.entries certs.new.entries progress.old.tally progress.new.tally) }
     ensures clash { TellsClash result (clash_in (rows_of policy.old) terms.now.stamp certs.old.entries list.now) }
     ensures asked { AsksForNew result policy.old policy.new terms.now.stamp certs.old.entries list.now }
     ensures judged { OnOk result (AreJudged (rows_of policy.old) certs.old.entries
@@ -302,7 +338,7 @@ pub fn put_all<F: Fn(Ask) -> bool>(
     united_grows();
     let mut left = list;
     'left: while let Some((cert, rest)) = left.split_first() {
-        match put_next(alloc, certs, log, tally, cert, terms, policy) {
+        match put_next(alloc, certs, progress, cert, terms, policy) {
             Ok(()) => {}
             Err(fault) => return Err(fault),
         }

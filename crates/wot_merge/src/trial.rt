@@ -8,7 +8,7 @@ ghost use Rattle.wot_held.specs.Kept.{AreNamed, AreSortedByFpr};
 ghost use Rattle.wot_held.specs.Keyring.{stripped};
 ghost use Rattle.wot_merge.specs.Staging.{full_by, IsTally, TellsClash};
 
-use crate::staging::{Fault, Terms, put_all};
+use crate::staging::{Fault, Progress, Terms, put_all};
 use crate::tally::{Tally, Weight};
 use crate::undo::take_back;
 use std::alloc::Global;
@@ -43,14 +43,13 @@ fn first_full_of(limits: &Limits, total: &Weight, count: u64) -> Option<Limit>
 pub fn try_all(
     alloc: Global,
     certs: &mut BTreeMap<Fpr, Kept, Global>,
-    total: Weight,
     list: &[Cert],
     terms: &Terms,
     limits: &Limits,
 ) -> Result<Option<Limit>, Fault>
     requires named { AreNamed certs.old.entries }
     requires sorted { AreSortedByFpr certs.old.entries }
-    requires tallied { IsTally terms.now.limit certs.old.entries total }
+    requires tallied { IsTally terms.now.limit certs.old.entries terms.now.total }
     requires limit { terms.now.limit ≡ limits.now.certificate }
     ensures same { certs.new.entries ≡ certs.old.entries }
     ensures full { IfOk result (IsFirstFull limits.now (stripped certs.old.entries) list.now) }
@@ -60,19 +59,16 @@ pub fn try_all(
     marks_weigh_nothing();
     let rows = standard_rows();
     let mut policy = Policy::new(rows, |ask| admits(&rows, ask));
-    let mut trial = Vec::new(alloc);
-    let mut tally = Tally { total, fresh: 0 };
-    let tried = put_all(
-        alloc,
-        certs,
-        &mut trial,
-        &mut tally,
-        list,
-        terms,
-        &mut policy,
-    );
+    let log = Vec::new(alloc);
+    let tally = Tally {
+        total: terms.total,
+        fresh: 0,
+    };
+    let mut progress = Progress { log, tally };
+    let tried = put_all(alloc, certs, &mut progress, list, terms, &mut policy);
+    let Progress { log, tally } = progress;
     let count = certs.len() as u64;
-    take_back(certs, trial);
+    take_back(certs, log);
     match tried {
         Ok(()) => Ok(first_full_of(limits, &tally.total, count)),
         Err(fault) => Err(fault),

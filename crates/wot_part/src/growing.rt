@@ -3,7 +3,7 @@
 //! It stands on `specs/Growing.antt`. `places` calls it for each list; `shrinking` undoes the log. What is already
 //! there is neither copied nor walked over.
 ghost use Rattle.std.specs.Prelude.{◌≡◌, ◌≤◌, ◌<◌, ◌+◌, ◌++◌, ◌∷◌, [], vec_len, vec_capacity};
-ghost use Rattle.std.specs.Prelude.{IfOk, Ok, Err, OnOk, OnErr};
+ghost use Rattle.std.specs.Prelude.{IfOk, OnOk, OnErr};
 ghost use Rattle.std.specs.List.{AllByRecursion, insert};
 ghost use Rattle.wot_part.specs.Asking.{Asks};
 ghost use Rattle.wot_part.specs.Certificate.{Signature as TheSig, Component, sig_cmp, part_cmp, kept};
@@ -171,39 +171,6 @@ fn settle_part<F: Fn(Ask) -> bool>(
     note(log, PartStep::New(at));
 }
 
-/// Merges a component into the one with its body. After `Memory` that is unchanged.
-fn grow_part<F: Fn(Ask) -> bool>(
-    alloc: Global,
-    parts: &mut Vec<Part>,
-    log: &mut Vec<PartStep>,
-    totals: &mut Adds,
-    at: usize,
-    part: &Part,
-    policy: &mut Policy<F>,
-) -> Result<(), Memory>
-    requires faithful { IsFaithful F.Fn policy.old }
-    requires fits { PartFits part.now }
-    requires within { at < vec_len parts.old }
-    requires log_room { vec_len log.old < vec_capacity log.old }
-    requires there { (like : Component) → like.body ≡ part.now.body
-        → TellsPlace part_cmp unite_part like parts.old.items (Ok at) }
-    ensures put { OnOk result (parts.new.items ≡ parts_with (rows_of policy.old) parts.old.items part.now) }
-    ensures same { OnErr result (parts.new.items ≡ parts.old.items) }
-    ensures back { parts_back log.new.items parts.new.items ≡ parts_back log.old.items parts.old.items }
-    ensures follow { OnOk result (FollowParts totals.old totals.new parts.old.items parts.new.items) }
-    ensures asked { AsksForPart result policy.old policy.new parts.old.items part.now }
-    ensures faithful { IsFaithful F.Fn policy.new }
-{
-    let there = &mut parts[at];
-    match there.grow(alloc, totals, part, policy) {
-        Ok(grown) => {
-            note(log, PartStep::Grown(at, grown));
-            Ok(())
-        }
-        Err(memory) => Err(memory),
-    }
-}
-
 /// A copy without marks, and room for it.
 fn copy_ready(alloc: Global, parts: &mut Vec<Part>, part: &Part) -> Result<Part, Memory>
     ensures copy { IfOk result (λ c. c ≡ part_with (copied Dropped) part.now) }
@@ -216,40 +183,8 @@ fn copy_ready(alloc: Global, parts: &mut Vec<Part>, part: &Part) -> Result<Part,
     Ok(copy)
 }
 
-/// Inserts a component, marked, if none with its body is there. After `Memory` nothing was inserted.
-fn put_new_part<F: Fn(Ask) -> bool>(
-    alloc: Global,
-    parts: &mut Vec<Part>,
-    log: &mut Vec<PartStep>,
-    totals: &mut Adds,
-    at: usize,
-    part: &Part,
-    policy: &mut Policy<F>,
-) -> Result<(), Memory>
-    requires faithful { IsFaithful F.Fn policy.old }
-    requires fits { PartFits part.now }
-    requires log_room { vec_len log.old < vec_capacity log.old }
-    requires within { at ≤ vec_len parts.old }
-    requires there { (like : Component) → like.body ≡ part.now.body
-        → TellsPlace part_cmp unite_part like parts.old.items (Err at) }
-    ensures put { OnOk result (parts.new.items ≡ parts_with (rows_of policy.old) parts.old.items part.now) }
-    ensures same { OnErr result (parts.new.items ≡ parts.old.items) }
-    ensures back { parts_back log.new.items parts.new.items ≡ parts_back log.old.items parts.old.items }
-    ensures follow { OnOk result (FollowParts totals.old totals.new parts.old.items parts.new.items) }
-    ensures asked { AsksForPart result policy.old policy.new parts.old.items part.now }
-    ensures faithful { IsFaithful F.Fn policy.new }
-{
-    match copy_ready(alloc, parts, part) {
-        Ok(copy) => {
-            *totals = with(*totals, of_part(part));
-            settle_part(parts, log, at, copy, policy);
-            Ok(())
-        }
-        Err(memory) => Err(memory),
-    }
-}
-
-/// Merges a component into its place, with new signatures marked. After `Memory` nothing was inserted.
+/// Merges a component into the one with its body, or inserts it, with what is new marked. After `Memory` nothing was
+/// inserted.
 fn put_part<F: Fn(Ask) -> bool>(
     alloc: Global,
     parts: &mut Vec<Part>,
@@ -273,8 +208,24 @@ fn put_part<F: Fn(Ask) -> bool>(
         Err(_) => return Err(Memory),
     }
     match find_part(parts, part) {
-        Ok(at) => grow_part(alloc, parts, log, totals, at, part, policy),
-        Err(at) => put_new_part(alloc, parts, log, totals, at, part, policy),
+        Ok(at) => {
+            let there = &mut parts[at];
+            match there.grow(alloc, totals, part, policy) {
+                Ok(grown) => {
+                    note(log, PartStep::Grown(at, grown));
+                    Ok(())
+                }
+                Err(memory) => Err(memory),
+            }
+        }
+        Err(at) => match copy_ready(alloc, parts, part) {
+            Ok(copy) => {
+                *totals = with(*totals, of_part(part));
+                settle_part(parts, log, at, copy, policy);
+                Ok(())
+            }
+            Err(memory) => Err(memory),
+        },
     }
 }
 

@@ -17,7 +17,7 @@ ghost use Rattle.wot_step.specs.Session.{Session, watched};
 
 use std::alloc::Global;
 use wot_cache::laws::{kept_on_is_order, rests_on};
-use wot_cache::{AskFault, Basis, Engine};
+use wot_cache::{AskFault, Asked, Basis, Engine};
 use wot_script::Reply;
 use wot_step::{AskedBinding, Refused, WatchCommand, reply_to};
 use wot_types::{Memory, Steps, UserId, ViewName};
@@ -207,7 +207,12 @@ fn amount_of(
         };
     }
     let (target, uid) = (asked.target, asked.uid);
-    match engine.sum(asked.view, target, wanted, uid, steps, basis) {
+    let of_view = Asked {
+        target,
+        wanted,
+        uid,
+    };
+    match engine.sum(asked.view, &of_view, steps, basis) {
         Ok(sum) => Ok(Some(sum)),
         Err(AskFault::View) => Ok(None),
         Err(AskFault::Memory) => Err(Memory),

@@ -3,7 +3,7 @@
 ghost use Rattle.std.specs.Prelude.{◌≡◌, ◌≤◌, ◌+◌, false, true, IfOk, IfSome, OnErr};
 ghost use Rattle.wot_edge.specs.Answer.{IsAnswer, amount_of};
 ghost use Rattle.wot_network.specs.Net.{signatures_in};
-ghost use Rattle.wot_cache.specs.Basis.{CarriesOn, HasAmount, HasGrown, IsPresent, IsRested, IsUndisturbed, RestsOn};
+ghost use Rattle.wot_cache.specs.Basis.{CarriesOn, HasGrown, IsPresent, IsRested, IsUndisturbed};
 ghost use Rattle.wot_cache.specs.Marks.{IsRefreshed};
 ghost use Rattle.wot_cache.specs.Question.{OfQuestion};
 ghost use Rattle.wot_cache.specs.Views.{view_at, TellsOpen};
@@ -13,7 +13,7 @@ use crate::engine::Engine;
 use crate::views;
 use wot_auth::Answer;
 use wot_kept::{AskFault, Asked};
-use wot_types::{Fpr, Steps, ViewName};
+use wot_types::{Steps, ViewName};
 
 impl Engine {
     /// The sum of the answer that `ask` returns. The basis has to be at the engine's current counts. Afterwards it
@@ -21,16 +21,13 @@ impl Engine {
     pub fn sum(
         &mut self,
         view: &ViewName,
-        target: &Fpr,
-        wanted: u32,
-        uid: &[u8],
+        asked: &Asked<'_>,
         steps: &mut Steps,
         basis: &mut Basis,
     ) -> Result<u32, AskFault>
-        requires wanted { 1 ≤ wanted }
+        requires wanted { 1 ≤ asked.now.wanted }
         requires present { IsPresent self.old basis.old }
-        ensures sum { IfOk result (λ n. OfQuestion self.old view.now target.now uid.now (HasAmount wanted n)) }
-        ensures rests { IfOk result (λ n. RestsOn self.old basis.new view.now target.now wanted uid.now n) }
+        ensures rested { IfOk result (IsRested self.old view.now asked.now basis.new) }
         ensures grown { HasGrown basis.old basis.new }
         ensures kept { OnErr result (basis.new ≡ basis.old) }
         ensures open { TellsOpen result (view_at self.old.views view.now) }
@@ -38,15 +35,8 @@ impl Engine {
         ensures made_most { steps.new.made ≤ steps.old.made + signatures_in self.old.keyring }
         ensures never_less { steps.old.made ≤ steps.new.made }
     {
-        match self.ask(view, target, wanted, uid, steps) {
-            Ok(answer) => {
-                let asked = Asked {
-                    target,
-                    wanted,
-                    uid,
-                };
-                Ok(self.rested(view, &asked, &answer, basis))
-            }
+        match self.ask(view, asked.target, asked.wanted, asked.uid, steps) {
+            Ok(answer) => Ok(self.rested(view, asked, &answer, basis)),
             Err(fault) => Err(fault),
         }
     }

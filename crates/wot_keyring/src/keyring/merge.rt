@@ -89,8 +89,7 @@ impl Keyring {
             return None;
         }
         let terms = self.terms();
-        let total = self.total();
-        match try_all(alloc, &mut self.certs, total, list, &terms, &self.limits) {
+        match try_all(alloc, &mut self.certs, list, &terms, &self.limits) {
             Ok(Some(limit)) => Some(Refusal::Full(limit)),
             Ok(None) => None,
             Err(Fault::Clash) => Some(Refusal::Clash),
@@ -124,13 +123,11 @@ impl Keyring {
         united_whole();
         nothing_added();
         let terms = self.terms();
-        let total = self.total();
         log::make_room(&mut self.log, list.len(), self.certs.len());
         match unite_all(
             alloc,
             &mut self.certs,
             &mut self.index,
-            total,
             list,
             &terms,
             policy,
@@ -151,15 +148,18 @@ impl Keyring {
         }
     }
 
-    /// The stamp of the next change, and the limit on a certificate's size.
+    /// The stamp of the next change, the limit on a certificate's size, and the totals of what is held.
     fn terms(&self) -> Terms
         requires countable { self.now.changes < 2 ^ 64 - 1 }
         ensures stamp { result.stamp ≡ self.now.changes + 1 }
         ensures limit { result.limit ≡ self.now.limits.certificate }
+        ensures total { IsTally self.now.limits.certificate self.now.certs result.total }
+        ensures keyring { IsKeyring self.now }
     {
         Terms {
             stamp: self.changes + 1,
             limit: self.limits.certificate,
+            total: self.total(),
         }
     }
 

@@ -7,12 +7,13 @@ pub returns-in-Err-clause-same : goal.returns-in-Err-clause-same
 returns-in-Err-clause-same g c =
     let es = c.args.certs.now.entries in
     c.take_back-in-Err.ensures.back es
-    (c.put_all.ensures.log es (subst (λ (ws : List TheWas). IsLog es ws es) (sym c.new-log.ensures.items) refl))
+    (c.put_all-united.ensures.log es (subst (λ (ws : List TheWas). IsLog es ws es)
+    (sym c.new-log.ensures.items) refl))
 
 pub returns-in-Err-note_all-clause-same : goal.returns-in-Err-note_all-clause-same
 returns-in-Err-note_all-clause-same g c =
     let es = c.args.certs.now.entries in
-    c.take_back.ensures.back es (c.put_all.ensures.log es (subst (λ (ws : List TheWas). IsLog es ws es)
+    c.take_back.ensures.back es (c.put_all-united.ensures.log es (subst (λ (ws : List TheWas). IsLog es ws es)
     (sym c.new-log.ensures.items) refl))
 
 pub take_back-requires : goal.take_back-requires
@@ -21,7 +22,7 @@ take_back-requires g c =
     record {
       leads = (
         es,
-        c.put_all.ensures.log es (subst (λ (ws : List TheWas). IsLog es ws es)
+        c.put_all-united.ensures.log es (subst (λ (ws : List TheWas). IsLog es ws es)
             (sym c.new-log.ensures.items) refl),
       );
     }
@@ -32,7 +33,7 @@ take_back-requires-in-Err g c =
     record {
       leads = (
         es,
-        c.put_all.ensures.log es (subst (λ (ws : List TheWas). IsLog es ws es)
+        c.put_all-united.ensures.log es (subst (λ (ws : List TheWas). IsLog es ws es)
             (sym c.new-log.ensures.items) refl),
       );
     }

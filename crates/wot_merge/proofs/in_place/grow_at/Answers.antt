@@ -12,8 +12,8 @@ use Rattle.wot_merge.proofs.ImportSteps.{not_asked}
 use Rattle.wot_held.specs.declared.kept.Kept.{Kept}
 use Rattle.wot_merge.proofs.in_place.grow_at.Goals as goal
 
-pub returns-in-Ok-clause-grown : goal.returns-in-Ok-clause-grown
-returns-in-Ok-clause-grown g c =
+pub returns-in-Ok-clause-merged : goal.returns-in-Ok-clause-merged
+returns-in-Ok-clause-merged g c =
     let es = c.args.certs.now.entries in
     let fpr = c.fpr-fpr.result in
     let new = c.grow_kept.new.kept in
@@ -25,9 +25,9 @@ returns-in-Ok-clause-grown g c =
     grown_at (rows_of c.args.policy.now) c.args.terms.now.stamp c.args.terms.now.limit c.args.cert.now es
     (c.get_mut.follows.lender new).entries fpr c.in-Some.kept.now new (record {
       before = leap.before;
-      after =
-          leap.after;
+      after = leap.after;
       items = leap.items;
+      keys = 0;
     })
     c.in-Ok.ensures.grows.staged found c.fpr-fpr.ensures.fpr c.requires.sorted written
 

@@ -26,12 +26,15 @@ left-preserved g c =
     let i = c.left.invariant in
     let more = c.in-Ok.ensures.asked in
     let es = c.left.certs.entries in
+    let new = c.put_next.new.certs.entries in
+    let was = c.left.progress in
+    let now = c.put_next.new.progress in
     let cert = c.in-Some.cert.now in
     let stamp = c.args.terms.now.stamp in
     let limit = c.args.terms.now.limit in
     let same = ap rows_of i.asked.1 in
-    let done : Put (rows_of c.left.policy) stamp limit cert es c.put_next.new.certs.entries c.left.log.items
-    c.put_next.new.log.items c.left.tally c.put_next.new.tally = record {
+    let done : Put (rows_of c.left.policy) stamp limit cert es new was.log.items now.log.items was.tally now.tally =
+    record {
       put = c.in-Ok.ensures.put;
       sorted = c.in-Ok.ensures.sorted;
       leads = c.in-Ok.ensures.log;
@@ -40,16 +43,16 @@ left-preserved g c =
       clash = c.in-Ok.ensures.clash;
       judged = c.in-Ok.ensures.judged;
     } in
-    let put = subst (λ (rows : PolicyRows). Put rows stamp limit cert es c.put_next.new.certs.entries c.left.log.items
-    c.put_next.new.log.items c.left.tally c.put_next.new.tally) same done in
+    let put = subst (λ (rows : PolicyRows). Put rows stamp limit cert es new was.log.items now.log.items was.tally
+    now.tally) same done in
     record {
-      run = run_on (rows_of c.args.policy.now) stamp limit c.args.list.now c.args.certs.now.entries c.args.log.now.items
-          c.args.tally.now c.left.left.now c.in-Some.rest.now cert es c.put_next.new.certs.entries c.left.log.items
-          c.put_next.new.log.items c.left.tally c.put_next.new.tally i.run c.in-Some.ensures.cases.0 put;
+      run = run_on (rows_of c.args.policy.now) stamp limit c.args.list.now c.args.certs.now.entries
+          c.args.progress.now.log.items c.args.progress.now.tally c.left.left.now c.in-Some.rest.now cert es new
+          was.log.items now.log.items was.tally now.tally i.run c.in-Some.ensures.cases.0 put;
       asked = (
         i.asked.0 + more.0,
         asked_again c.args.policy.now c.left.policy c.put_next.new.policy i.asked.0 more.0 i.asked.1 more.1,
-        asked_on (rows_of c.args.policy.now) stamp _ i.asked.0 more.0 es c.put_next.new.certs.entries cert i.asked.2
+        asked_on (rows_of c.args.policy.now) stamp _ i.asked.0 more.0 es new cert i.asked.2
             (subst (λ (rows : PolicyRows). more.0 + weigh_kept sound_of es ≡ weigh_kept sound_of
             (kept_with rows stamp es cert)) same more.2) put.put,
       );
@@ -66,8 +69,9 @@ returns-in-Err-clause-asked g c =
       i.asked.0 + more.0,
       asked_again c.args.policy.now c.left.policy c.put_next.new.policy i.asked.0 more.0 i.asked.1 more.1,
       asked_up_to c.united_grows.ensures.sound (rows_of c.args.policy.now) stamp c.args.terms.now.limit c.args.list.now
-          c.args.certs.now.entries c.args.log.now.items c.args.tally.now c.left.left.now c.in-Some.rest.now cert es
-          c.left.log.items c.left.tally i.asked.0 more.0 i.run c.in-Some.ensures.cases.0 i.asked.2
+          c.args.certs.now.entries c.args.progress.now.log.items c.args.progress.now.tally c.left.left.now
+          c.in-Some.rest.now cert es c.left.progress.log.items c.left.progress.tally i.asked.0 more.0 i.run
+          c.in-Some.ensures.cases.0 i.asked.2
           (subst (λ (rows : PolicyRows). more.0 + weigh_kept sound_of es ≤ weigh_kept sound_of
           (kept_with rows stamp es cert)) (ap rows_of i.asked.1) more.2),
     )
@@ -75,6 +79,6 @@ returns-in-Err-clause-asked g c =
 pub returns-in-Err-clause-clash : goal.returns-in-Err-clause-clash
 returns-in-Err-clause-clash g c =
     clash_told (rows_of c.args.policy.now) c.args.terms.now.stamp c.args.terms.now.limit c.args.list.now
-    c.args.certs.now.entries c.args.log.now.items c.args.tally.now c.left.left.now c.in-Some.rest.now
-    c.in-Some.cert.now c.left.certs.entries c.left.log.items c.left.tally c.in-Err.fault c.left.invariant.run
-    c.in-Some.ensures.cases.0 c.in-Err.ensures.clash
+    c.args.certs.now.entries c.args.progress.now.log.items c.args.progress.now.tally c.left.left.now
+    c.in-Some.rest.now c.in-Some.cert.now c.left.certs.entries c.left.progress.log.items c.left.progress.tally
+    c.in-Err.fault c.left.invariant.run c.in-Some.ensures.cases.0 c.in-Err.ensures.clash

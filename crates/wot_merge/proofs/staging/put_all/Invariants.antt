@@ -7,8 +7,9 @@ use Rattle.wot_merge.proofs.staging.put_all.Given as goal
 
 abbrev pub invariant-left : goal.invariant-left
 invariant-left g l = record {
-  run : Run (rows_of l.initial.policy) l.terms.stamp l.terms.limit l.list l.initial.certs.entries l.initial.log.items
-      l.initial.tally l.left l.certs.entries l.log.items l.tally;
+  run : Run (rows_of l.initial.policy) l.terms.stamp l.terms.limit l.list l.initial.certs.entries
+      l.initial.progress.log.items l.initial.progress.tally l.left l.certs.entries l.progress.log.items
+      l.progress.tally;
   asked : (k : ℕ) × (l.policy ≡ asked_more k l.initial.policy) × (k + weigh_kept sound_of
       l.initial.certs.entries ≡ weigh_kept sound_of l.certs.entries);
   faithful : IsFaithful g.F.Fn l.policy;

@@ -13,15 +13,15 @@ returns-in-Ok-clause-full c = λ rows.
     ∙ tried_full rows other c.judging.ensures.unmarked c.judging.ensures.forgotten c.judging.ensures.united
     (c.marks_weigh_nothing.ensures.judged_text rows) (c.marks_weigh_nothing.ensures.judged_signatures rows)
     c.args.limits.now c.args.terms.now.stamp c.args.certs.now.entries c.args.list.now c.put_all-tried.new.certs.entries
-    c.put_all-tried.new.tally.total c.len-count.result
+    c.put_all-tried.new.progress.tally.total c.len-count.result
     c.in-Ok.ensures.put (subst (λ limit. IsTally limit c.put_all-tried.new.certs.entries
-    c.put_all-tried.new.tally.total) c.requires.limit c.in-Ok.ensures.tallied) c.len-count.ensures.len
+    c.put_all-tried.new.progress.tally.total) c.requires.limit c.in-Ok.ensures.tallied) c.len-count.ensures.len
 
 pub returns-in-Ok-clause-same : goal.returns-in-Ok-clause-same
 returns-in-Ok-clause-same c =
     let es = c.args.certs.now.entries in
     c.take_back.ensures.back es (c.put_all-tried.ensures.log es (subst (λ (ws : List TheWas). IsLog es ws es)
-    (sym c.new-trial.ensures.items) refl))
+    (sym c.new-log.ensures.items) refl))
 
 pub returns-in-Ok-clause-clash : goal.returns-in-Ok-clause-clash
 returns-in-Ok-clause-clash c =
@@ -32,7 +32,7 @@ pub returns-in-Err-clause-same : goal.returns-in-Err-clause-same
 returns-in-Err-clause-same c =
     let es = c.args.certs.now.entries in
     c.take_back.ensures.back es (c.put_all-tried.ensures.log es (subst (λ (ws : List TheWas). IsLog es ws es)
-    (sym c.new-trial.ensures.items) refl))
+    (sym c.new-log.ensures.items) refl))
 
 pub returns-in-Err-clause-clash : goal.returns-in-Err-clause-clash
 returns-in-Err-clause-clash c =
@@ -47,6 +47,6 @@ take_back-requires c =
       leads = (
         es,
         c.put_all-tried.ensures.log es (subst (λ (ws : List TheWas). IsLog es ws es)
-            (sym c.new-trial.ensures.items) refl),
+            (sym c.new-log.ensures.items) refl),
       );
     }

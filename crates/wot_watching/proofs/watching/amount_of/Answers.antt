@@ -13,10 +13,10 @@ returns-in-Ok-clause-amount c =
     let some = c.if-wanted-eq0.false in
     sum_has (state_of a.engine.now) (view_at a.engine.now.views asked.view.now) asked.target.now asked.wanted
     asked.uid.now c.in-Ok.sum
-    (omega (arith, some)) c.in-Ok.ensures.open c.in-Ok.ensures.sum
+    (omega (arith, some)) c.in-Ok.ensures.open c.in-Ok.ensures.rested.sum
 
 pub returns-in-Ok-clause-rests : goal.returns-in-Ok-clause-rests
-returns-in-Ok-clause-rests c = λ some. c.in-Ok.ensures.rests
+returns-in-Ok-clause-rests c = λ some. c.in-Ok.ensures.rested.rests
 
 pub returns-in-Ok-clause-nothing : goal.returns-in-Ok-clause-nothing
 returns-in-Ok-clause-nothing c = λ none. let some = c.if-wanted-eq0.false in absurd (omega (arith, none, some))

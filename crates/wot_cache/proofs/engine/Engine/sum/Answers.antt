@@ -11,25 +11,26 @@ pub rested-requires : goal.rested-requires
 rested-requires c =
     let old = c.args.self.now in
     let mid = c.ask.new.self in
+    let asked = c.args.asked.now in
     record {
       present = present_still old mid c.args.basis.now c.ask.ensures.refreshed.stays c.requires.present;
-      answer = question_before (λ q. IsAnswer q c.args.wanted c.in-Ok.answer.paths) mid old c.args.view.now
-          c.args.target.now c.args.uid.now
-          (stays_back old mid c.ask.ensures.refreshed.stays) c.in-Ok.ensures.answer;
+      answer = question_before (λ q. IsAnswer q asked.wanted c.in-Ok.answer.paths) mid old c.args.view.now
+          asked.target.now asked.uid.now (stays_back old mid c.ask.ensures.refreshed.stays) c.in-Ok.ensures.answer;
       sum = c.in-Ok.ensures.sum;
     }
 
-pub returns-in-Ok-clause-sum : goal.returns-in-Ok-clause-sum
-returns-in-Ok-clause-sum c =
-    question_before (HasAmount c.args.wanted c.rested.result) c.args.self.now c.ask.new.self c.args.view.now
-    c.args.target.now c.args.uid.now
-    c.ask.ensures.refreshed.stays c.rested.ensures.rested.sum
-
-pub returns-in-Ok-clause-rests : goal.returns-in-Ok-clause-rests
-returns-in-Ok-clause-rests c =
-    rests_before c.args.self.now c.ask.new.self c.rested.new.basis c.args.view.now c.args.target.now c.args.wanted
-    c.args.uid.now c.rested.result
-    c.ask.ensures.refreshed.stays c.rested.ensures.rested.rests
+pub returns-in-Ok-clause-rested : goal.returns-in-Ok-clause-rested
+returns-in-Ok-clause-rested c =
+    let old = c.args.self.now in
+    let mid = c.ask.new.self in
+    let asked = c.args.asked.now in
+    let rested = c.rested.ensures.rested in
+    record {
+      sum = question_before (HasAmount asked.wanted c.rested.result) old mid c.args.view.now asked.target.now
+          asked.uid.now c.ask.ensures.refreshed.stays rested.sum;
+      rests = rests_before old mid c.rested.new.basis c.args.view.now asked.target.now asked.wanted asked.uid.now
+          c.rested.result c.ask.ensures.refreshed.stays rested.rests;
+    }
 
 pub returns-in-Ok-clause-refreshed : goal.returns-in-Ok-clause-refreshed
 returns-in-Ok-clause-refreshed c =
