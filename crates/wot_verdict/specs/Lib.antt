@@ -1,2 +1,3 @@
+pub mod Near
 pub mod Number
 pub mod Verdicts

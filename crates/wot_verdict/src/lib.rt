@@ -4,6 +4,7 @@
 //! verdicts, and edges exist only for signatures with a verdict.
 #![tactic(auto)]
 
+mod near;
 mod number;
 mod verdict;
 mod verdicts;

@@ -1,7 +1,7 @@
 //! Verdicts by signature number.
 //!
-//! It stands on std's map and on `specs/Verdicts.antt`. `wot_keyring` keeps one such map for all certificates, within
-//! the limit on verdicts, and a dump prints it.
+//! It stands on std's map, on `near` and on `specs/Verdicts.antt`. `wot_keyring` keeps one such map for all
+//! certificates, within the limit on verdicts, and a dump prints it.
 ghost use Rattle.std.specs.Prelude.{◌≡◌, ◌≢◌, ◌<◌, ◌^◌, ◌↔◌, [], length, IsTrue, IfOk, OnOk, OnErr, Some, None};
 ghost use Rattle.std.specs.Prelude.{is_some, cond};
 ghost use Rattle.std.specs.Iterator.{YieldsFirst, item_count};
@@ -9,6 +9,7 @@ ghost use Rattle.wot_types.specs.declared.number.SigNumber.{SigNumber as Number}
 ghost use Rattle.wot_verdict.specs.Verdicts.{verdict_at, with_verdict, without_verdict, is_number, AreSortedByNumber};
 
 use crate::Verdict;
+use crate::near::{Slot, forget_near, keep_near, make_room, near_at};
 use std::alloc::Global;
 use std::collections::BTreeMap;
 use std::collections::btree_map::Iter;
@@ -19,14 +20,19 @@ use wot_types::{Memory, SigNumber};
 #[derive(Drop)]
 pub struct Verdicts {
     by_number: BTreeMap<SigNumber, Verdict>,
+    /// Most of the same verdicts, to find one without a walk over the tree.
+    near: Vec<Slot>,
 }
 
 impl Model for Verdicts {
+    ghost use Rattle.wot_verdict.specs.Near.{Agrees};
     ghost use Rattle.wot_verdict.specs.Verdicts.{Entries};
 
     ghost Value = { Entries };
 
     ghost view = { λ v. v.by_number.entries };
+
+    ghost invariant = { λ v. Agrees v.near.items v.by_number.entries };
 }
 
 impl Verdicts {
@@ -36,6 +42,7 @@ impl Verdicts {
     {
         Verdicts {
             by_number: BTreeMap::new(alloc),
+            near: Vec::new(alloc),
         }
     }
 
@@ -43,7 +50,10 @@ impl Verdicts {
     pub fn get(&self, number: &SigNumber) -> Option<Verdict>
         ensures found { result ≡ verdict_at self.now number.now }
     {
-        self.by_number.get(number).copied()
+        match near_at(&self.near, number) {
+            Some(verdict) => Some(verdict),
+            None => self.by_number.get(number).copied(),
+        }
     }
 
     /// Sets the verdict on a number, in place of an earlier one. Returns whether something changed. After `Memory`
@@ -57,6 +67,8 @@ impl Verdicts {
         ensures was_absent { OnErr result (verdict_at self.old number ≡ None) }
     {
         let old = self.by_number.insert(number, verdict)?;
+        keep_near(&mut self.near, number, verdict);
+        make_room(&mut self.near, &self.by_number);
         Ok(differs(old, verdict))
     }
 
@@ -67,6 +79,7 @@ impl Verdicts {
             → verdict_at self.new q ≡ cond (is_number number.now q) None (verdict_at self.old q) }
         ensures was_there { result ≡ is_some (verdict_at self.old number.now) }
     {
+        forget_near(&mut self.near, number);
         self.by_number.remove(number).is_some()
     }
 
