@@ -34,17 +34,17 @@ between old new = record { old = old; new = new }
 pub no_run_writes : (status : ℕ) (words : List (List ℕ)) (rows : PolicyRows) (left written after : Option (List ℕ))
     (origin : Option World) → (IsRun words → ⊥) → (status ≡ 3 → ⊥) → (status ≡ 6 → ⊥)
     → Writes status words rows (same left) (between written after) (same origin)
-no_run_writes status words rows left written after origin no three six = record {
-  moved = λ form. absurd (no form);
-  prefix = λ form. absurd (no form);
-  reached = λ form. absurd (no form);
-  first = λ form. absurd (no form);
+no_run_writes status words rows left written after origin other three six = record {
+  moved = λ form. absurd (other form);
+  prefix = λ form. absurd (other form);
+  reached = λ form. absurd (other form);
+  first = λ form. absurd (other form);
   taken = λ e. absurd (three e);
   most = λ e. absurd (six e);
   most_only =
       weaker left written origin _ _ (λ contents none most. absurd (none most))
       (Most-untouched rows left written origin after);
-  ended = λ form. absurd (no form);
+  ended = λ form. absurd (other form);
   took = λ e. absurd (six e);
   at_most = takes_nothing left;
 }
@@ -73,11 +73,11 @@ module _ {T : Type 0} (r : Result T Stop) (status : ℕ) (is : status ≡ status
 pub no_script : {S D : Type 0} (status : ℕ) (words : List (List ℕ)) (rows : PolicyRows) (input : Ends S)
     (output : Octets) (shelf : Ends D) → ((start count : ℕ) → IsGenerated words start count → ⊥)
     → Generates status words rows input output shelf
-no_script status words rows input output shelf no = record {
-  generated = λ e start count p. absurd (no start count p);
-  begun = λ start count p. absurd (no start count p);
-  alone = λ start count p. absurd (no start count p);
-  ends = λ start count p. absurd (no start count p);
+no_script status words rows input output shelf other = record {
+  generated = λ e start count p. absurd (other start count p);
+  begun = λ start count p. absurd (other start count p);
+  alone = λ start count p. absurd (other start count p);
+  ends = λ start count p. absurd (other start count p);
 }
 
 module _ {T : Type 0} (r : Result T Stop) (status : ℕ) (is : status ≡ status_at r) (alone : WritesAlone r) where
@@ -97,13 +97,13 @@ module _ {T : Type 0} (r : Result T Stop) (status : ℕ) (is : status ≡ status
 pub wrong_words : {S K D : Type 0} (words : List (List ℕ)) (input : S) (output : K) (shelf : D) (left : Octets)
     (reads writes : Ends ℕ) → (IsForm words → ⊥)
     → HasStatus 2 words (same input) (same output) (same shelf) left reads writes
-wrong_words words input output shelf left reads writes no = record {
+wrong_words words input output shelf left reads writes wrong = record {
   statuses = inr (inl refl);
-  usage = (λ e. no, λ absent. refl);
+  usage = (λ e. wrong, λ absent. refl);
   untouched = λ e. (refl, refl, refl);
   source = λ e. absurd (omega (arith, e));
   sink = λ e. absurd (omega (arith, e));
-  complete = λ form. absurd (no form);
+  complete = λ form. absurd (wrong form);
 }
 
 module _ {T : Type 0} (r : Result T Stop) (status : ℕ) (is : status ≡ status_at r) where
