@@ -10,6 +10,7 @@ mod Fresh
 mod HasAsked
 mod Forms
 mod Statuses
+mod Promises
 mod Plays
 mod Summary
 pub mod Stops

@@ -9,3 +9,4 @@ pub mod Turn
 pub mod RunAsks
 pub mod Held
 pub mod Played
+pub mod Promises

@@ -2,6 +2,7 @@
 
 import re
 import unittest
+from pathlib import Path
 
 from pages import ROOT, SPAN, page
 
@@ -24,12 +25,16 @@ class Proof(unittest.TestCase):
         self.assertGreater(len(rows), 20)
         for sentence, clauses, call, file in rows:
             with self.subTest(sentence=sentence, call=call):
-                contract = contract_of((ROOT / file.strip("`")).read_text(encoding="utf-8"), call.strip("`"))
-                names = re.findall(r"`(\w+)`", clauses)
-                if not names:
+                path = ROOT / file.strip("`")
+                contract = contract_of(path.read_text(encoding="utf-8"), call.strip("`"))
+                if "`" not in clauses:
                     self.assertEqual(len(re.findall(r"\bensures\b", contract)), 1)
-                for name in names:
-                    self.assertRegex(contract, rf"\bensures\*? {name} \{{")
+                for named in clauses.split(";") if ":" in clauses else clauses.split(","):
+                    clause, *parts = re.findall(r"`(\w+)`", named) or [""]
+                    if clause:
+                        found = re.search(rf"\bensures\*? {clause} \{{\W*(\w*)", contract)
+                        self.assertTrue(found, clause)
+                        self.assertLessEqual(set(parts), fields_of(path.parent.parent, found.group(1) if found else ""))
 
     def test_each_sentence_has_its_clauses(self) -> None:
         """The sentences of the README are those of the table, by number."""
@@ -78,6 +83,15 @@ def words_in(crate: str) -> set[str]:
     """Each word of a crate's code."""
     files = (ROOT / "crates" / crate / "src").rglob("*.rt")
     return {word for file in files for word in re.findall(r"\w+", file.read_text(encoding="utf-8"))}
+
+
+def fields_of(crate: Path, record: str) -> set[str]:
+    """The fields of a record among a crate's definitions."""
+    for file in sorted((crate / "specs").rglob("*.antt")):
+        text = file.read_text(encoding="utf-8")
+        if found := re.search(rf"^pub record {record}\b.*?(?=^\S|\Z)", text, re.M | re.S):
+            return set(re.findall(r"^  pub (\w+) :", found.group(0), re.M))
+    return set()
 
 
 def contract_of(text: str, call: str) -> str:
