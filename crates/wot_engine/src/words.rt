@@ -1,12 +1,12 @@
 //! The top call, whose contract is what the program promises.
 //!
-//! It stands on `run` and `generate`. `specs/Promises.antt` has what its clauses say beside the headline. A change there or
-//! here changes the rows of `docs/PROOF.md` under "The clauses".
-ghost use Rattle.std.specs.Prelude.{◌≡◌, map, string_bytes};
+//! It stands on `run` and `generate`. `specs/Promises.antt` has what its clauses say beside the headline. A change here
+//! or there changes the rows of `docs/PROOF.md` under "The clauses".
+ghost use Rattle.std.specs.Prelude.{◌≡◌};
 ghost use Rattle.wot_policy.specs.Kept.{IsFaithful, rows_of};
 ghost use Rattle.wot_step.specs.Both.{ends, itself};
 ghost use Rattle.wot_engine.specs.Ends.{status_at};
-ghost use Rattle.wot_engine.specs.Promises.{Generates, HasStatus, Writes};
+ghost use Rattle.wot_engine.specs.Promises.{Generates, HasCauses, HasStatus, Writes};
 ghost use Rattle.wot_engine.specs.RunAsks.{RunAsks};
 ghost use Rattle.wot_engine.specs.RunDoes.{AreOfRun, Done, WritesAll};
 
@@ -44,20 +44,20 @@ pub fn run_words<S: Source, K: Sink, D: Shelf, F: Fn(Ask) -> bool>(
         (ends S.left input) (ends K.written output) (ends D.world shelf) }
 
     // What is written and taken with each status, and how the certificate directory is left.
-    ensures writes { Writes result (map string_bytes words.now) (rows_of policy.old)
+    ensures writes { Writes result words.now (rows_of policy.old)
         (ends S.left input) (ends K.written output) (ends D.world shelf) }
 
     // A generated run writes its three lines.
-    ensures generates { Generates result (map string_bytes words.now) (rows_of policy.old)
+    ensures generates { Generates result words.now (rows_of policy.old)
         (ends itself input) (ends K.written output) (ends itself shelf) }
 
-    // What each status means.
-    ensures status { HasStatus result (map string_bytes words.now) (ends itself input) (ends itself output)
-        (ends itself shelf) (ends S.left input) (ends S.faults input) (ends K.faults output) }
+    // What each status means, and what it comes from.
+    ensures status { HasStatus result words.now (ends itself input) (ends itself output) (ends itself shelf) }
+    ensures causes { HasCauses result words.now (S.left input.old) (ends S.faults input) (ends K.faults output) }
 
     // The policy keeps its rows. It is asked once for each well-formed signature that an import or a load adds, and for
-    // nothing else. With status 0 this covers all lines, with 3 and 6 all complete lines that were taken, and with 4 and
-    // 5 the first lines up to some line.
+    // nothing else. With status 0 this covers all lines, with 3 and 6 all complete lines that were taken, and with 4
+    // and 5 the first lines up to some line.
     ensures faithful { IsFaithful F.Fn policy.new }
     ensures rows { rows_of policy.new ≡ rows_of policy.old }
     ensures asked { AreOfRun words.now → RunAsks result
