@@ -147,11 +147,11 @@ def many_readings(size: int) -> Seen:
 
 
 def subpackets(size: int) -> Seen:
-    """A hundred signatures whose hashed areas are full of the shortest subpackets."""
+    """Sixty signatures whose hashed areas are full of the shortest subpackets: the most that fit a certificate."""
     draw, flood = random.Random(size), Flood()
     target, root = keys(draw, 2)
     octets = head(target)
-    for _ in range(100):
+    for _ in range(60):
         octets += packet(2, signature(0x10, MADE, root.fpr, b"\x01\x65" * (size // 2 - 20)) + draw.randbytes(25))
     read = flood.tell([imported(octets), root.line(), good(root.direct), *view([root])])
     return {"read": read, "asked": flood.tell([ask(target)])}, flood.end()
@@ -207,7 +207,7 @@ ROWS: dict[str, tuple[Row, list[int]]] = {
     "layers of two": (layers, [30, 120]),
     "regular expressions on one chain": (expressions, [25000, 100000]),
     "expressions with many matches": (many_readings, [20000, 200000]),
-    "subpackets of a hundred signatures": (subpackets, [16384, 65536]),
+    "subpackets of sixty signatures": (subpackets, [16384, 65536]),
     "octets of a user ID": (long_user_id, [1000000, 4000000]),
     "certificates at all limits": (at_limits, [16384, 65536]),
 }

@@ -62,6 +62,15 @@ class Compared(unittest.TestCase):
         self.assertIn("list: it is only in one of the runs", told)
 
 
+class Begun(unittest.TestCase):
+    """Benches that find something missing."""
+
+    def test_no_engine(self) -> None:
+        """It is said at once; nothing waits for a service that can't start."""
+        status, _, errors = run("bench/clients", WOT_PROGRAM="/dev/null/none")
+        self.assertEqual((status, errors), (1, "the engine isn't built: /dev/null/none\n"))
+
+
 class Shown(unittest.TestCase):
     """`bench/tables` and `bench/plot`."""
 
