@@ -194,14 +194,19 @@ class Turns:
         await self._call(self._database.end_turn)
 
     async def _follow(self) -> None:
-        """Looks after what other services do, for ever."""
+        """Looks after what other services do, for ever. A connection that is lost, or that can't be had at first, is
+        made once more before changes are refused."""
+        is_lost = False
         while True:
             try:
                 place = await called(self._following, self._follower.wait, self._follower.cut, _LONGEST_CALL)
             except DatabaseFault as fault:
-                self._committer.fault = str(fault)
-                await asyncio.sleep(_PAUSE)
+                if is_lost:
+                    self._committer.fault = str(fault)
+                    await asyncio.sleep(_PAUSE)
+                is_lost = True
                 continue
+            is_lost = False
             self._committer.fault = ""
             if place == self._database.place:
                 self._current = self._loop.time()

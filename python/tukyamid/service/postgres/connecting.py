@@ -80,7 +80,7 @@ class Servers:
     def connect(self, is_primary: bool) -> "Wire":
         """A connection to the primary, or to any server; DatabaseFault if there is none."""
         told = []
-        for server in list(self._servers):
+        for server in self._servers:
             wanted = "read-write" if is_primary else "any"
             try:
                 connection: psycopg.Connection[Any] = psycopg.connect(
@@ -89,8 +89,8 @@ class Servers:
             except psycopg.Error as error:
                 told.append(text_of(error))
                 continue
-            self._servers.remove(server)
-            self._servers.insert(0, server)
+            # Several threads connect: none may meet a list that lacks a server.
+            self._servers = [server, *(other for other in self._servers if other is not server)]
             return Wire(connection)
         raise DatabaseFault(f"{self.name}: {'; '.join(told)}")
 
