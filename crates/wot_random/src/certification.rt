@@ -1,17 +1,18 @@
-//! The certifications of the script: three on each user ID but the first, each by a key with a lower index. Words of
-//! the generator choose issuer, depth and amount.
+//! The certifications: three on each user ID but the first, each by a key with a lower index. Random words choose
+//! issuer, depth and amount.
 ghost use Rattle.std.specs.Prelude.{◌≡◌, ◌+◌, ◌<◌, ◌≤◌, ◌^◌, ℕ, length, IfOk, OnOk};
-ghost use Rattle.wot_gen.specs.Certifications.{certification_by, certifications_at, drawn_before};
-ghost use Rattle.wot_gen.specs.Identities.{AreIdentities};
+ghost use Rattle.wot_random.specs.Certifications.{certification_by, certifications_at, drawn_before, issuer_by};
+ghost use Rattle.wot_random.specs.Identities.{AreIdentities};
+ghost use Rattle.wot_random.specs.Words.{word};
 
 use crate::bodies::signature_body;
 use crate::identity::Identity;
 use crate::words::Words;
 use std::alloc::Global;
 use wot_packet::write_packet;
-use wot_script::Octets;
 use wot_types::{Fpr, Memory, SigNumber};
 use wot_verdict::number_of;
+use wot_words::Octets;
 
 /// A certification of a user ID.
 #[derive(Drop)]
@@ -21,7 +22,29 @@ pub struct Certification {
     pub issuer: Fpr,
 }
 
-/// The certification made in this turn. It takes two words: one for the issuer, one for depth and amount.
+/// What two words choose: the index of the issuer, and the word for depth and amount.
+#[derive(Clone, Copy)]
+struct Chosen {
+    issuer: u64,
+    trust: u64,
+}
+
+/// Draws the two words of a certification, below this index.
+fn choose(words: &mut Words, index: u32) -> Chosen
+    requires drawn { words.old.drawn < 2 ^ 32 }
+    requires index { 0 < index }
+    ensures issuer { result.issuer ≡ issuer_by words.old.start words.old.drawn index }
+    ensures below { result.issuer < index }
+    ensures trust { result.trust ≡ word words.old.start (words.old.drawn + 1) }
+    ensures start { words.new.start ≡ words.old.start }
+    ensures drawn { words.new.drawn ≡ words.old.drawn + 2 }
+{
+    let issuer = words.draw() % u64::from(index);
+    let trust = words.draw();
+    Chosen { issuer, trust }
+}
+
+/// The certification made in this turn.
 fn certify(
     alloc: Global,
     words: &mut Words,
@@ -37,8 +60,8 @@ fn certify(
     ensures start { words.new.start ≡ words.old.start }
     ensures drawn { words.new.drawn ≡ words.old.drawn + 2 }
 {
-    let issuer = identities[(words.draw() % u64::from(index)) as usize].fpr;
-    let trust = words.draw();
+    let Chosen { issuer, trust } = choose(words, index);
+    let issuer = identities[issuer as usize].fpr;
     let depth = (trust % 4) as u8;
     let amount = (60 + trust / 4 % 61) as u8;
     let made = 1_100_000_000 + turn;
