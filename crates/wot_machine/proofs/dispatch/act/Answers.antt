@@ -15,21 +15,48 @@ use Rattle.wot_machine.proofs.dispatch.act.Goals as goal
 
 -- ---- a command that leaves cursors and watches
 
+pub obey-requires-clause-ready : goal.obey-requires-clause-ready
+obey-requires-clause-ready g c = record {
+  standard = c.requires.standard;
+  counts = record { changes = c.requires.countable; turns = c.requires.turnable };
+}
+
+pub obey-requires-clause-judging : goal.obey-requires-clause-judging
+obey-requires-clause-judging g c = record { judged = c.requires.judged; faithful = c.requires.faithful }
+
 pub returns-in-State-clause-ran : goal.returns-in-State-clause-ran
 returns-in-State-clause-ran g c =
     rw c.in-State.is
     (ran_told c.obey.result c.plain.result (rows_of c.args.policy.now) c.in-State.command c.args.engine.now c.obey.new.engine
     (record { world = g.D.Shelf.world c.args.shelf.now; faults = g.D.Shelf.faults c.args.shelf.now })
     (record { world = g.D.Shelf.world c.obey.new.shelf; faults = g.D.Shelf.faults c.obey.new.shelf })
-    c.args.cursors.now c.args.watches.now c.plain.ensures.told c.plain.ensures.same c.obey.ensures.counted
+    c.args.cursors.now c.args.watches.now c.plain.ensures.told c.plain.ensures.same c.obey.ensures.changes.counted
     c.obey.ensures.turned c.obey.ensures.did)
 
 pub returns-in-State-clause-untouched : goal.returns-in-State-clause-untouched
-returns-in-State-clause-untouched g c = rw c.in-State.is c.obey.ensures.untouched
+returns-in-State-clause-untouched g c = rw c.in-State.is c.obey.ensures.directory.untouched
 
 pub returns-in-State-clause-entries : goal.returns-in-State-clause-entries
 returns-in-State-clause-entries g c =
-    rw c.in-State.is (on_err_told c.obey.result c.plain.result _ c.plain.ensures.same c.obey.ensures.entries)
+    rw c.in-State.is (on_err_told c.obey.result c.plain.result _ c.plain.ensures.same c.obey.ensures.directory.entries)
+
+pub returns-in-State-clause-later : goal.returns-in-State-clause-later
+returns-in-State-clause-later g c = c.obey.ensures.directory.later
+
+pub returns-in-State-clause-standard : goal.returns-in-State-clause-standard
+returns-in-State-clause-standard g c = c.obey.ensures.changes.standard
+
+pub returns-in-State-clause-counted : goal.returns-in-State-clause-counted
+returns-in-State-clause-counted g c = c.obey.ensures.changes.counted
+
+pub returns-in-State-clause-judged : goal.returns-in-State-clause-judged
+returns-in-State-clause-judged g c = c.obey.ensures.judging.judged
+
+pub returns-in-State-clause-faithful : goal.returns-in-State-clause-faithful
+returns-in-State-clause-faithful g c = c.obey.ensures.judging.faithful
+
+pub returns-in-State-clause-rows : goal.returns-in-State-clause-rows
+returns-in-State-clause-rows g c = c.obey.ensures.judging.rows
 
 pub returns-in-State-clause-anew : goal.returns-in-State-clause-anew
 returns-in-State-clause-anew g c =
