@@ -3,6 +3,7 @@ pub mod Calling
 pub mod EdgeLines
 pub mod PolicyAskedByLine
 mod CertificateLines
+pub mod Lasting
 pub mod DirectoryAfterFailure
 pub mod RefusedReplies
 mod Short

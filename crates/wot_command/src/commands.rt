@@ -2,14 +2,15 @@
 //! It stands on wot_cache's calls and on `Refused` of wot_step for their errors.
 ghost use Rattle.std.specs.Prelude.{◌≡◌, ◌<◌, ◌-◌, ◌^◌, [], length, None, true, IfOk, OnErr};
 ghost use Rattle.wot_types.specs.Limits.{standard_limits};
-ghost use Rattle.wot_policy.specs.Kept.{IsFaithful, rows_of};
-ghost use Rattle.wot_held.specs.Kept.{IsJudgedBy, StaysJudged};
+ghost use Rattle.wot_policy.specs.Kept.{rows_of};
+ghost use Rattle.wot_held.specs.Kept.{StaysJudged};
 ghost use Rattle.wot_held.specs.Import.{IsOneChange};
 ghost use Rattle.wot_script.specs.Replies.{is_short};
 ghost use Rattle.wot_cache.specs.State.{marks_at, state_of, OtherMarksStay};
 ghost use Rattle.wot_cache.specs.Turns.{IsOneClosing, IsOneTurn};
 ghost use Rattle.wot_cache.specs.Views.{view_at};
 ghost use Rattle.wot_command.specs.Asked.{AsksForNew};
+ghost use Rattle.wot_command.specs.Lasting.{CanChange, ChangesHeld, IsJudging, StaysJudging};
 ghost use Rattle.wot_step.specs.Outcome.{import as import_, remove as remove_of, set_verdict as set_verdict_of};
 ghost use Rattle.wot_step.specs.Outcome.{clear_verdict as clear_verdict_of, time as time_of, root as root_of};
 ghost use Rattle.wot_step.specs.Outcome.{close as close_of};
@@ -30,23 +31,16 @@ pub fn import<F: Fn(Ask) -> bool>(
     octets: &[u8],
     policy: &mut Policy<F>,
 ) -> Result<Reply, Memory>
-    requires standard { engine.old.keyring.limits ≡ standard_limits }
-    requires countable { engine.old.keyring.changes < 2 ^ 64 - 1 }
+    requires ready { CanChange engine.old }
     requires small { length octets.now < 2 ^ 29 }
-    requires judged { IsJudgedBy (rows_of policy.old) engine.old.keyring }
-    requires faithful { IsFaithful F.Fn policy.old }
+    requires judging { IsJudging F.Fn policy.old engine.old.keyring }
     ensures gives { IfOk result (λ reply.
         ComesTo (import_ (rows_of policy.old) (state_of engine.old) octets.now) reply (state_of engine.new)) }
     ensures short { IfOk result (λ reply. is_short reply ≡ true) }
     ensures kept { OnErr result (engine.new ≡ engine.old) }
-    ensures marks { engine.new.marks ≡ engine.old.marks }
-    ensures turns { engine.new.turns ≡ engine.old.turns }
-    ensures counted { IsOneChange engine.old.keyring engine.new.keyring }
-    ensures standard { engine.new.keyring.limits ≡ standard_limits }
+    ensures held { ChangesHeld engine.old engine.new }
     ensures asked { AsksForNew result (state_of engine.old) (state_of engine.new) policy.old policy.new }
-    ensures judged { IsJudgedBy (rows_of policy.old) engine.new.keyring }
-    ensures faithful { IsFaithful F.Fn policy.new }
-    ensures rows { rows_of policy.new ≡ rows_of policy.old }
+    ensures judging { StaysJudging F.Fn policy.old policy.new engine.new.keyring }
 {
     match engine.import(octets, policy) {
         Ok(

@@ -1,13 +1,11 @@
 //! The reply to `load NAME`: an entry of the certificate directory is read and merged with what is held. It stands on
 //! wot_certd for the entry and on `Keyring::load` for the rest.
-ghost use Rattle.std.specs.Prelude.{◌≡◌, ◌≤◌, ◌<◌, ◌-◌, ◌^◌, length, true, IfOk, OnErr};
-ghost use Rattle.wot_types.specs.Limits.{standard_limits};
-ghost use Rattle.wot_policy.specs.Kept.{IsFaithful, rows_of};
-ghost use Rattle.wot_held.specs.Kept.{IsJudgedBy};
-ghost use Rattle.wot_held.specs.Import.{IsOneChange};
+ghost use Rattle.std.specs.Prelude.{◌≡◌, ◌≤◌, ◌<◌, ◌^◌, length, true, IfOk, OnErr};
+ghost use Rattle.wot_policy.specs.Kept.{rows_of};
 ghost use Rattle.wot_script.specs.Replies.{is_short};
 ghost use Rattle.wot_cache.specs.State.{state_of};
 ghost use Rattle.wot_command.specs.Asked.{AsksForNew};
+ghost use Rattle.wot_command.specs.Lasting.{CanChange, ChangesHeld, IsJudging, StaysJudging};
 ghost use Rattle.wot_step.specs.Both.{ends};
 ghost use Rattle.wot_step.specs.Entry.{MayPutTo, loads};
 ghost use Rattle.wot_step.specs.LineStep.{Loads};
@@ -31,24 +29,17 @@ pub fn load<D: Shelf, F: Fn(Ask) -> bool>(
     shelf: &mut D,
     policy: &mut Policy<F>,
 ) -> Result<Reply, Memory>
-    requires standard { engine.old.keyring.limits ≡ standard_limits }
-    requires countable { engine.old.keyring.changes < 2 ^ 64 - 1 }
-    requires judged { IsJudgedBy (rows_of policy.old) engine.old.keyring }
-    requires faithful { IsFaithful F.Fn policy.old }
+    requires ready { CanChange engine.old }
+    requires judging { IsJudging F.Fn policy.old engine.old.keyring }
     ensures did { IfOk result (LoadsBy (rows_of policy.old) name.now
         (ends state_of engine) (ends (seen D.world D.faults) shelf)) }
     ensures entries { OnErr result (MayPutTo (state_of engine.old) (loads name.now) (ends D.world shelf)) }
     ensures later { D.faults shelf.old ≤ D.faults shelf.new }
     ensures short { IfOk result (λ reply. is_short reply ≡ true) }
     ensures kept { OnErr result (engine.new ≡ engine.old) }
-    ensures marks { engine.new.marks ≡ engine.old.marks }
-    ensures turns { engine.new.turns ≡ engine.old.turns }
-    ensures counted { IsOneChange engine.old.keyring engine.new.keyring }
-    ensures standard { engine.new.keyring.limits ≡ standard_limits }
+    ensures held { ChangesHeld engine.old engine.new }
     ensures asked { AsksForNew result (state_of engine.old) (state_of engine.new) policy.old policy.new }
-    ensures judged { IsJudgedBy (rows_of policy.old) engine.new.keyring }
-    ensures faithful { IsFaithful F.Fn policy.new }
-    ensures rows { rows_of policy.new ≡ rows_of policy.old }
+    ensures judging { StaysJudging F.Fn policy.old policy.new engine.new.keyring }
 {
     match shelf.read(name) {
         Ok(Given::Bytes(octets)) => enter(engine, name, &octets, policy),
@@ -65,22 +56,15 @@ fn enter<F: Fn(Ask) -> bool>(
     octets: &[u8],
     policy: &mut Policy<F>,
 ) -> Result<Reply, Memory>
-    requires standard { engine.old.keyring.limits ≡ standard_limits }
-    requires countable { engine.old.keyring.changes < 2 ^ 64 - 1 }
+    requires ready { CanChange engine.old }
     requires small { length octets.now < 2 ^ 29 }
-    requires judged { IsJudgedBy (rows_of policy.old) engine.old.keyring }
-    requires faithful { IsFaithful F.Fn policy.old }
+    requires judging { IsJudging F.Fn policy.old engine.old.keyring }
     ensures gives { IfOk result (Loads (rows_of policy.old) (ends state_of engine) name.now octets.now) }
     ensures short { IfOk result (λ reply. is_short reply ≡ true) }
     ensures kept { OnErr result (engine.new ≡ engine.old) }
-    ensures marks { engine.new.marks ≡ engine.old.marks }
-    ensures turns { engine.new.turns ≡ engine.old.turns }
-    ensures counted { IsOneChange engine.old.keyring engine.new.keyring }
-    ensures standard { engine.new.keyring.limits ≡ standard_limits }
+    ensures held { ChangesHeld engine.old engine.new }
     ensures asked { AsksForNew result (state_of engine.old) (state_of engine.new) policy.old policy.new }
-    ensures judged { IsJudgedBy (rows_of policy.old) engine.new.keyring }
-    ensures faithful { IsFaithful F.Fn policy.new }
-    ensures rows { rows_of policy.new ≡ rows_of policy.old }
+    ensures judging { StaysJudging F.Fn policy.old policy.new engine.new.keyring }
 {
     match engine.load(name, octets, policy) {
         Ok(

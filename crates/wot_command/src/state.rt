@@ -3,9 +3,7 @@
 ghost use Rattle.std.specs.Prelude.{◌≡◌, ◌≤◌, ◌<◌, ◌-◌, ◌^◌, ℕ, None, false, true, IfOk, OnOk, OnErr};
 ghost use Rattle.wot_types.specs.Limits.{standard_limits};
 ghost use Rattle.wot_policy.specs.declared.rows.PolicyRows.{PolicyRows};
-ghost use Rattle.wot_policy.specs.Kept.{IsFaithful, rows_of};
-ghost use Rattle.wot_held.specs.Kept.{IsJudgedBy};
-ghost use Rattle.wot_held.specs.Import.{IsOneChange};
+ghost use Rattle.wot_policy.specs.Kept.{rows_of};
 ghost use Rattle.wot_script.specs.Replies.{is_short};
 ghost use Rattle.wot_cache.specs.Marks.{IsRefreshed};
 ghost use Rattle.wot_cache.specs.State.{StaysButMarks, state_of};
@@ -17,6 +15,8 @@ ghost use Rattle.wot_step.specs.Both.{ends};
 ghost use Rattle.wot_step.specs.Classes.{AnswersQuestion, IsFit, IsSmall, IsWanted};
 ghost use Rattle.wot_step.specs.Classes.{change_of, reading, view_change_of};
 ghost use Rattle.wot_command.specs.EdgeLines.{CommandMarks, QuestionMarks};
+ghost use Rattle.wot_command.specs.Lasting.{CanChange, CanRun, ChangesHeld, ChangesOnce};
+ghost use Rattle.wot_command.specs.Lasting.{IsJudging, StaysJudging, Touches};
 ghost use Rattle.wot_step.specs.Entry.{MayPutTo, entry_for, use_by, use_in};
 ghost use Rattle.wot_step.specs.Fresh.{IsMadeAnew, OnDump};
 ghost use Rattle.wot_step.specs.LineStep.{ComesTo};
@@ -54,32 +54,24 @@ pub fn obey<D: Shelf, F: Fn(Ask) -> bool>(
 ) -> Result<Reply, Memory>
     requires fit { IsFit (OfState command.now) }
     requires small { IsSmall (OfState command.now) }
-    requires standard { engine.old.keyring.limits ≡ standard_limits }
-    requires countable { engine.old.keyring.changes < 2 ^ 64 - 1 }
-    requires turnable { engine.old.turns.count < 2 ^ 64 - 1 }
-    requires judged { IsJudgedBy (rows_of policy.old) engine.old.keyring }
-    requires faithful { IsFaithful F.Fn policy.old }
+    requires ready { CanRun engine.old }
+    requires judging { IsJudging F.Fn policy.old engine.old.keyring }
     ensures did { IfOk result (StateRunOver (rows_of policy.old) command.now
         (ends state_of engine) (over D.world D.faults shelf)) }
-    ensures untouched { entry_for (state_of engine.old) (use_by (OfState command.now)) ≡ None → shelf.new ≡ shelf.old }
-    ensures entries { OnErr result (MayPutTo (state_of engine.old) (use_by (OfState command.now))
-        (ends D.world shelf)) }
-    ensures later { D.faults shelf.old ≤ D.faults shelf.new }
+    ensures directory { Touches result (state_of engine.old) (use_by (OfState command.now)) D.world D.faults
+        shelf.old shelf.new }
     ensures anew { OnOk result (OnDump (OfState command.now)
         ((rows : PolicyRows) → IsMadeAnew rows (state_of engine.old))) }
     ensures edges { OnOk result (CommandMarks engine.old (OfState command.now)) }
     ensures quiet { IfOk result (λ reply. is_short reply ≡ false → StaysButMarks engine.old engine.new) }
     ensures kept { OnErr result (StaysButMarks engine.old engine.new) }
     ensures makes { MakesFor result command.now engine.old engine.new steps.old.made steps.new.made }
-    ensures standard { engine.new.keyring.limits ≡ standard_limits }
-    ensures counted { IsOneChange engine.old.keyring engine.new.keyring }
+    ensures changes { ChangesOnce engine.old engine.new }
     ensures turned { OnOk result (IsTurnedBy (OfState command.now)
         engine.old.views engine.old.turns engine.new.views engine.new.turns) }
     ensures asked { AsksBy result (OfState command.now) (state_of engine.old) (state_of engine.new)
         policy.old policy.new }
-    ensures judged { IsJudgedBy (rows_of policy.old) engine.new.keyring }
-    ensures faithful { IsFaithful F.Fn policy.new }
-    ensures rows { rows_of policy.new ≡ rows_of policy.old }
+    ensures judging { StaysJudging F.Fn policy.old policy.new engine.new.keyring }
 {
     match command {
         StateCommand::Change(what) => change(engine, what, policy),
@@ -97,22 +89,15 @@ fn change<F: Fn(Ask) -> bool>(
     policy: &mut Policy<F>,
 ) -> Result<Reply, Memory>
     requires small { IsSmall (OfState (kinds.Change what.now)) }
-    requires standard { engine.old.keyring.limits ≡ standard_limits }
-    requires countable { engine.old.keyring.changes < 2 ^ 64 - 1 }
-    requires judged { IsJudgedBy (rows_of policy.old) engine.old.keyring }
-    requires faithful { IsFaithful F.Fn policy.old }
+    requires ready { CanChange engine.old }
+    requires judging { IsJudging F.Fn policy.old engine.old.keyring }
     ensures gives { IfOk result (λ reply.
         ComesTo (change_of (rows_of policy.old) (state_of engine.old) what.now) reply (state_of engine.new)) }
     ensures short { IfOk result (λ reply. is_short reply ≡ true) }
     ensures kept { OnErr result (engine.new ≡ engine.old) }
-    ensures marks { engine.new.marks ≡ engine.old.marks }
-    ensures turns { engine.new.turns ≡ engine.old.turns }
-    ensures counted { IsOneChange engine.old.keyring engine.new.keyring }
-    ensures standard { engine.new.keyring.limits ≡ standard_limits }
+    ensures held { ChangesHeld engine.old engine.new }
     ensures asked { ChangeAsks result what.now (state_of engine.old) (state_of engine.new) policy.old policy.new }
-    ensures judged { IsJudgedBy (rows_of policy.old) engine.new.keyring }
-    ensures faithful { IsFaithful F.Fn policy.new }
-    ensures rows { rows_of policy.new ≡ rows_of policy.old }
+    ensures judging { StaysJudging F.Fn policy.old policy.new engine.new.keyring }
 {
     match what {
         Change::Import(octets) => import(engine, octets.items(), policy),
@@ -217,10 +202,8 @@ fn call<D: Shelf, F: Fn(Ask) -> bool>(
     shelf: &mut D,
     policy: &mut Policy<F>,
 ) -> Result<Reply, Memory>
-    requires standard { engine.old.keyring.limits ≡ standard_limits }
-    requires countable { engine.old.keyring.changes < 2 ^ 64 - 1 }
-    requires judged { IsJudgedBy (rows_of policy.old) engine.old.keyring }
-    requires faithful { IsFaithful F.Fn policy.old }
+    requires ready { CanChange engine.old }
+    requires judging { IsJudging F.Fn policy.old engine.old.keyring }
     ensures did { IfOk result (StateRunOver (rows_of policy.old) (kinds.Shelf what.now)
         (ends state_of engine) (over D.world D.faults shelf)) }
     ensures untouched { entry_for (state_of engine.old) (use_in what.now) ≡ None → shelf.new ≡ shelf.old }
@@ -228,14 +211,9 @@ fn call<D: Shelf, F: Fn(Ask) -> bool>(
     ensures later { D.faults shelf.old ≤ D.faults shelf.new }
     ensures short { IfOk result (λ reply. is_short reply ≡ true) }
     ensures kept { OnErr result (engine.new ≡ engine.old) }
-    ensures marks { engine.new.marks ≡ engine.old.marks }
-    ensures turns { engine.new.turns ≡ engine.old.turns }
-    ensures counted { IsOneChange engine.old.keyring engine.new.keyring }
-    ensures standard { engine.new.keyring.limits ≡ standard_limits }
+    ensures held { ChangesHeld engine.old engine.new }
     ensures asked { CallAsks result what.now (state_of engine.old) (state_of engine.new) policy.old policy.new }
-    ensures judged { IsJudgedBy (rows_of policy.old) engine.new.keyring }
-    ensures faithful { IsFaithful F.Fn policy.new }
-    ensures rows { rows_of policy.new ≡ rows_of policy.old }
+    ensures judging { StaysJudging F.Fn policy.old policy.new engine.new.keyring }
 {
     match what {
         ShelfCall::Load(name) => load(engine, name, shelf, policy),

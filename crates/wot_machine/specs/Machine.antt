@@ -1,11 +1,11 @@
 -- What contracts see of a machine.
-use Rattle.std.specs.Prelude.{◌≡◌, ℕ}
-use denote.MutBor.{MutBor}
-use denote.Triple.Both.{Both}
-use Rattle.wot_cache.specs.State.{Engine, StaysButMarks}
+use Rattle.std.specs.Prelude.{◌≡◌, ◌≤◌, ◌+◌, ℕ}
+use Rattle.wot_types.specs.Limits.{standard_limits}
+use Rattle.wot_held.specs.Import.{IsOneChange}
+use Rattle.wot_cache.specs.State.{Engine, StaysButMarks, state_of}
 use Rattle.wot_cursor.specs.Cursors.{Cursors}
 use Rattle.wot_watch.specs.Watches.{Watches}
-use Rattle.wot_step.specs.Both.{Ends}
+use Rattle.wot_machine.specs.declared.dispatch.Parts.{Parts}
 use Rattle.wot_step.specs.Session.{Session, watched, session_of}
 
 -- its engine, cursors and watches, and the number of edges made for all its questions
@@ -24,23 +24,14 @@ abbrev pub StaysKept : Machine → Machine → Type 0
 StaysKept old new =
     StaysButMarks old.engine new.engine × (new.cursors ≡ old.cursors) × (new.watches ≡ old.watches)
 
--- ---- its parts, as arguments of a call
+-- what contracts see of its parts
+abbrev pub machine_of : Parts → Machine
+machine_of p = record { engine = p.engine; cursors = p.cursors; watches = p.watches; made = p.steps.made }
 
-pub record Parts : Type 0 where
-  pub engine : Engine
-  pub cursors : Cursors
-  pub watches : Watches
-
--- the parts before and after a call
-abbrev pub parts :
-    Both (MutBor Engine) (MutBor Engine) → Both (MutBor Cursors) (MutBor Cursors)
-    → Both (MutBor Watches) (MutBor Watches) → Ends Parts
-parts engine cursors watches = record {
-  old = record { engine = engine.entry.now; cursors = cursors.entry.now; watches = watches.entry.now };
-  new = record { engine = engine.exit.now; cursors = cursors.exit.now; watches = watches.exit.now };
-}
-
--- only the engine's marks may change
-abbrev pub PartsStay : Ends Parts → Type 0
-PartsStay p =
-    StaysButMarks p.old.engine p.new.engine × (p.new.cursors ≡ p.old.cursors) × (p.new.watches ≡ p.old.watches)
+-- What a line did to the engine's limits and counts: what is held, and the views, changed at most once. If the state is
+-- unchanged, so are the turns of the views.
+pub record RunsOnce (old new : Engine) : Type 0 where
+  pub standard : new.keyring.limits ≡ standard_limits
+  pub counted : IsOneChange old.keyring new.keyring
+  pub turned : new.turns.count ≤ old.turns.count + 1
+  pub still : state_of new ≡ state_of old → new.turns ≡ old.turns

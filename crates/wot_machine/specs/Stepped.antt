@@ -1,5 +1,5 @@
 -- What one call of the machine does for a line.
-use Rattle.std.specs.Prelude.{◌≡◌, ℕ, true, List, ◌++◌, Option}
+use Rattle.std.specs.Prelude.{◌≡◌, ℕ, true, List, ◌++◌, Option, Result}
 use Rattle.wot_io.specs.Counts.{Rose}
 use Rattle.wot_policy.specs.declared.rows.PolicyRows.{PolicyRows}
 use Rattle.wot_script.specs.declared.command.Command.{Command}
@@ -10,7 +10,8 @@ use Rattle.wot_step.specs.Both.{Ends}
 use Rattle.wot_step.specs.Entry.{IsServed, has_failed, put_for, use_of}
 use Rattle.wot_step.specs.Lines.{heard}
 use Rattle.wot_step.specs.LineStep.{LineStep}
-use Rattle.wot_machine.specs.Machine.{Machine, Parts, kept}
+use Rattle.wot_step.specs.Made.{LineMakes}
+use Rattle.wot_machine.specs.Machine.{Machine, kept}
 use Rattle.wot_step.specs.Pacing.{left_by, reply_in, settled}
 use Rattle.wot_step.specs.Session.{Session, watched, session_of}
 use Rattle.wot_command.specs.CommandRun.{CommandRun, ClassRun, Seen}
@@ -35,17 +36,21 @@ Replies rows line machine shelf told =
     (watched (session_of machine.new.engine (left_by told machine.new.cursors)) machine.new.watches) shelf.new
 
 -- what a machine's parts do with a command, or with a line that isn't one
-abbrev pub RunsIn : PolicyRows → Option Command → Ends Parts → Ends Seen → DraftReply → Type 0
-RunsIn rows command parts shelf told =
-    CommandRun rows command (watched (session_of parts.old.engine parts.old.cursors) parts.old.watches) shelf.old
-    told.reply
-    (watched (session_of parts.new.engine (settled told.moved parts.new.cursors)) parts.new.watches) shelf.new
+abbrev pub RunsIn : PolicyRows → Option Command → Ends Machine → Ends Seen → DraftReply → Type 0
+RunsIn rows command machine shelf told =
+    CommandRun rows command (kept machine.old) shelf.old told.reply
+    (watched (session_of machine.new.engine (settled told.moved machine.new.cursors)) machine.new.watches) shelf.new
 
 -- what a command does, by its class, in terms of a machine's parts
-abbrev pub ClassRunsIn : PolicyRows → Class → Ends Parts → Ends Seen → DraftReply → Type 0
-ClassRunsIn rows class parts shelf told =
-    ClassRun rows class (watched (session_of parts.old.engine parts.old.cursors) parts.old.watches) shelf.old told.reply
-    (watched (session_of parts.new.engine (settled told.moved parts.new.cursors)) parts.new.watches) shelf.new
+abbrev pub ClassRunsIn : PolicyRows → Class → Ends Machine → Ends Seen → DraftReply → Type 0
+ClassRunsIn rows class machine shelf told =
+    ClassRun rows class (kept machine.old) shelf.old told.reply
+    (watched (session_of machine.new.engine (settled told.moved machine.new.cursors)) machine.new.watches) shelf.new
+
+-- how many edges a machine's parts make for a command, or for a line that isn't one
+abbrev pub PartsMake : {T E : Type 0} → Result T E → Option Command → Ends Machine → Type 0
+PartsMake result command machine =
+    LineMakes result command machine.old.cursors machine.old.engine machine.new.engine machine.old.made machine.new.made
 
 -- The line had its step by what the directory returned, and the octets of its reply are appended. A call failed only if
 -- the count of faults rose.

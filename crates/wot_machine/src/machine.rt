@@ -3,21 +3,21 @@
 //! `specs/Outcome.antt` and `specs/LineStep.antt` of wot_step define the outcome of each command. A further command of
 //! a class gets its arm where the class is run, in wot_command, wot_pacing or wot_watching. A further class needs an
 //! arm of `act` in `dispatch`, and `goes_on` in `counts` says whether watches are still up to date after it.
-ghost use Rattle.std.specs.Prelude.{◌≡◌, ◌≤◌, ◌<◌, ◌+◌, ◌-◌, ◌^◌, [], ◌++◌};
+ghost use Rattle.std.specs.Prelude.{◌≡◌, ◌≤◌, ◌+◌, [], ◌++◌};
 ghost use Rattle.std.specs.Prelude.{vec_items, vec_len, vec_capacity};
 ghost use Rattle.std.specs.Prelude.{Some, None, false, true, IfOk, IfSome, IsOk, OnOk, OnErr};
 ghost use Rattle.std.specs.List.{AllByRecursion};
 ghost use Rattle.wot_types.specs.Limits.{standard_limits};
 ghost use Rattle.wot_policy.specs.declared.rows.PolicyRows.{PolicyRows};
-ghost use Rattle.wot_policy.specs.Kept.{IsFaithful, rows_of};
-ghost use Rattle.wot_held.specs.Kept.{IsJudgedBy};
+ghost use Rattle.wot_policy.specs.Kept.{rows_of};
 ghost use Rattle.wot_held.specs.Import.{IsOneChange};
 ghost use Rattle.wot_script.specs.Replies.{HasWords, is_short, reply_text};
 ghost use Rattle.wot_cache.specs.State.{empty, state_of, StaysButMarks};
 ghost use Rattle.wot_command.specs.Asked.{LineAsks};
 ghost use Rattle.wot_command.specs.EdgeLines.{LineMarks};
+ghost use Rattle.wot_command.specs.Lasting.{CanCount, IsJudging, StaysJudging, Touches};
 ghost use Rattle.wot_step.specs.Lines.{heard, is_silent};
-ghost use Rattle.wot_step.specs.Entry.{MayPut, entry_for, use_of};
+ghost use Rattle.wot_step.specs.Entry.{use_of};
 ghost use Rattle.wot_step.specs.Both.{ends, itself};
 ghost use Rattle.wot_command.specs.CommandRun.{over};
 ghost use Rattle.wot_machine.specs.Stepped.{Replies, LineRun, TellsBehind};
@@ -29,7 +29,7 @@ ghost use Rattle.wot_step.specs.Made.{LineMakes, TellingMakes, WatchesMake};
 ghost use Rattle.wot_step.specs.Watching.{AreLines, IsWatchLine, told_all};
 
 use crate::counts::{Counts, kept_on};
-use crate::dispatch::answer;
+use crate::dispatch::Parts;
 use std::alloc::Global;
 use std::marker::Model;
 use wot_cache::laws::{change_goes_on, rests_on, views_go_on};
@@ -53,11 +53,7 @@ const ROOM: usize = 128;
 /// watches.
 #[derive(Drop)]
 pub struct Machine {
-    alloc: Global,
-    engine: Engine,
-    cursors: Cursors,
-    watches: Watches,
-    steps: Steps,
+    parts: Parts,
     // What the last reported amounts depend on, if that is known.
     basis: Option<Basis>,
 }
@@ -65,14 +61,15 @@ pub struct Machine {
 impl Model for Machine {
     ghost use Rattle.std.specs.Prelude.{◌≡◌};
     ghost use Rattle.wot_types.specs.Limits.{standard_limits};
-    ghost use Rattle.wot_machine.specs.Machine.{Machine as TheMachine};
+    ghost use Rattle.wot_machine.specs.Machine.{Machine as TheMachine, machine_of};
     ghost use Rattle.wot_watching.specs.Settled.{AreSettled};
 
     ghost Value = { TheMachine };
 
-    ghost view = { λ a. record { engine = a.engine; cursors = a.cursors; watches = a.watches; made = a.steps.made } };
+    ghost view = { λ a. machine_of a.parts };
 
-    ghost invariant = { λ a. (a.engine.keyring.limits ≡ standard_limits) × AreSettled a.engine a.watches a.basis };
+    ghost invariant = { λ a.
+        (a.parts.engine.keyring.limits ≡ standard_limits) × AreSettled a.parts.engine a.parts.watches a.basis };
 }
 
 impl Machine {
@@ -83,21 +80,21 @@ impl Machine {
         ensures watches { result.watches ≡ [] }
         ensures made { result.made ≡ 0 }
     {
-        Machine {
+        let parts = Parts {
             alloc,
             engine: Engine::new(alloc, Limits::standard()),
             cursors: Cursors::new(alloc),
             watches: Watches::new(alloc),
             steps: Steps::new(),
-            basis: None,
-        }
+        };
+        Machine { parts, basis: None }
     }
 
     /// The number of edges made for all questions so far. The count stays at `u64::MAX` when it gets there.
     pub fn made(&self) -> u64
         ensures made { result ≡ self.now.made }
     {
-        self.steps.made
+        self.parts.steps.made
     }
 
     /// Runs one line, without its line feed, and appends its reply. After `Memory`, `out` is unchanged, and so is the
@@ -112,17 +109,12 @@ impl Machine {
         policy: &mut Policy<F>,
         out: &mut Vec<u8>,
     ) -> Result<(), Memory>
-        requires countable { self.old.engine.keyring.changes < 2 ^ 64 - 1 }
-        requires turnable { self.old.engine.turns.count < 2 ^ 64 - 1 }
-        requires judged { IsJudgedBy (rows_of policy.old) self.old.engine.keyring }
-        requires faithful { IsFaithful F.Fn policy.old }
+        requires countable { CanCount self.old.engine }
+        requires judging { IsJudging F.Fn policy.old self.old.engine.keyring }
         ensures step { OnOk result (LineRun (rows_of policy.old) line.now
             (ends kept self) (over D.world D.faults shelf) (ends vec_items out)) }
-        ensures untouched { entry_for (state_of self.old.engine) (use_of (heard line.now)) ≡ None →
-            shelf.new ≡ shelf.old }
-        ensures entries { OnErr result (MayPut (state_of self.old.engine) (use_of (heard line.now))
-            (D.world shelf.old) (D.world shelf.new)) }
-        ensures later { D.faults shelf.old ≤ D.faults shelf.new }
+        ensures directory { Touches result (state_of self.old.engine) (use_of (heard line.now))
+            D.world D.faults shelf.old shelf.new }
         // The lines of a reply to `dump` restore the state in a fresh machine, whatever its policy rows are.
         ensures anew { OnOk result
             (IsDump line.now → (rows : PolicyRows) → IsMadeAnew rows (state_of self.old.engine)) }
@@ -142,9 +134,7 @@ impl Machine {
         // The policy is asked once for each well-formed signature that an import or a load adds, and in no other line.
         ensures asked { LineAsks result (heard line.now) (state_of self.old.engine) (state_of self.new.engine)
             policy.old policy.new }
-        ensures judged { IsJudgedBy (rows_of policy.old) self.new.engine.keyring }
-        ensures faithful { IsFaithful F.Fn policy.new }
-        ensures rows { rows_of policy.new ≡ rows_of policy.old }
+        ensures judging { StaysJudging F.Fn policy.old policy.new self.new.engine.keyring }
     {
         out.reserve(ROOM)?;
         match self.reply(line, shelf, policy)? {
@@ -163,17 +153,12 @@ impl Machine {
         shelf: &mut D,
         policy: &mut Policy<F>,
     ) -> Result<Option<DraftReply>, Memory>
-        requires countable { self.old.engine.keyring.changes < 2 ^ 64 - 1 }
-        requires turnable { self.old.engine.turns.count < 2 ^ 64 - 1 }
-        requires judged { IsJudgedBy (rows_of policy.old) self.old.engine.keyring }
-        requires faithful { IsFaithful F.Fn policy.old }
+        requires countable { CanCount self.old.engine }
+        requires judging { IsJudging F.Fn policy.old self.old.engine.keyring }
         ensures replied { IfOk result (Replies (rows_of policy.old) line.now
             (ends itself self) (over D.world D.faults shelf)) }
-        ensures untouched { entry_for (state_of self.old.engine) (use_of (heard line.now)) ≡ None →
-            shelf.new ≡ shelf.old }
-        ensures entries { OnErr result (MayPut (state_of self.old.engine) (use_of (heard line.now))
-            (D.world shelf.old) (D.world shelf.new)) }
-        ensures later { D.faults shelf.old ≤ D.faults shelf.new }
+        ensures directory { Touches result (state_of self.old.engine) (use_of (heard line.now))
+            D.world D.faults shelf.old shelf.new }
         ensures words { IfOk result (λ told. IfSome told (λ told. HasWords told.reply)) }
         ensures anew { OnOk result
             (IsDump line.now → (rows : PolicyRows) → IsMadeAnew rows (state_of self.old.engine)) }
@@ -189,9 +174,7 @@ impl Machine {
         ensures turned { self.new.engine.turns.count ≤ self.old.engine.turns.count + 1 }
         ensures asked { LineAsks result (heard line.now) (state_of self.old.engine) (state_of self.new.engine)
             policy.old policy.new }
-        ensures judged { IsJudgedBy (rows_of policy.old) self.new.engine.keyring }
-        ensures faithful { IsFaithful F.Fn policy.new }
-        ensures rows { rows_of policy.new ≡ rows_of policy.old }
+        ensures judging { StaysJudging F.Fn policy.old policy.new self.new.engine.keyring }
     {
         if line.len() > LONGEST {
             return Ok(Some(alone(Reply::Long)));
@@ -203,18 +186,9 @@ impl Machine {
         views_go_on();
         rests_on();
         let basis = self.basis.take();
-        let before = Counts::of(&self.engine);
-        let told = answer(
-            self.alloc,
-            &mut self.engine,
-            &mut self.cursors,
-            &mut self.watches,
-            &mut self.steps,
-            line,
-            shelf,
-            policy,
-        )?;
-        self.basis = kept_on(basis, &self.engine, before, &told.reply);
+        let before = Counts::of(&self.parts.engine);
+        let told = self.parts.answer(line, shelf, policy)?;
+        self.basis = kept_on(basis, &self.parts.engine, before, &told.reply);
         Ok(Some(told))
     }
 
@@ -243,7 +217,7 @@ impl Machine {
         ensures watches { self.new.watches ≡ self.old.watches }
         ensures made { self.new.made ≡ self.old.made }
     {
-        settle(moved, &mut self.cursors);
+        settle(moved, &mut self.parts.cursors);
     }
 
     /// Appends the watch lines, by name of watch: one for each watch whose amount isn't the last one reported, and one
@@ -262,7 +236,7 @@ impl Machine {
             return Ok(());
         }
         let lines = self.watch_lines()?;
-        let text = text_of(self.alloc, &lines)?;
+        let text = text_of(self.parts.alloc, &lines)?;
         out.extend_from_slice(&text)?;
         self.told(&lines);
         Ok(())
@@ -273,7 +247,7 @@ impl Machine {
         ensures settled { result ≡ true → AreLines (state_of self.old.engine) self.old.watches [] }
         ensures same { self.new ≡ self.old }
     {
-        are_settled(&self.engine, &self.watches, &mut self.basis)
+        are_settled(&self.parts.engine, &self.parts.watches, &mut self.basis)
     }
 
     /// The watch lines. None of them counts as reported yet.
@@ -288,13 +262,13 @@ impl Machine {
         ensures never_less { self.old.made ≤ self.new.made }
     {
         self.basis = None;
-        let mut basis = Basis::new(self.alloc, &self.engine);
-        let steps = &mut self.steps;
+        let mut basis = Basis::new(self.parts.alloc, &self.parts.engine);
+        let steps = &mut self.parts.steps;
         let lines = watch_lines(
-            self.alloc,
-            &mut self.engine,
+            self.parts.alloc,
+            &mut self.parts.engine,
             steps,
-            &self.watches,
+            &self.parts.watches,
             &mut basis,
         )?;
         if lines.is_empty() {
@@ -314,7 +288,7 @@ impl Machine {
             return;
         }
         self.basis = None;
-        tell_all(&mut self.watches, lines);
+        tell_all(&mut self.parts.watches, lines);
     }
 }
 

@@ -1,5 +1,6 @@
 use Rattle.wot_policy.specs.Kept.{rows_of}
-use Rattle.wot_command.proofs.PolicyAskedByLine.{asked_new, asked_refused}
+use Rattle.wot_command.proofs.Lasting.{changes_held}
+use Rattle.wot_command.proofs.PolicyAskedByLine.{asked_new, asked_refused, rows_stay}
 use Rattle.wot_step.proofs.Results.{if_ok}
 use Rattle.wot_command.proofs.RefusedReplies.{import_gives}
 use Rattle.wot_command.proofs.commands.import.Goals as goal
@@ -9,7 +10,7 @@ returns-in-Err-clause-gives g c =
     if_ok c.reply_to.result _ _ (λ reply is.
     import_gives (rows_of c.args.policy.now) c.args.engine.now c.import.new.self c.args.octets.now c.in-Err.refusal
     reply
-    c.requires.standard c.in-Err.ensures.answer c.in-Err.ensures.kept is) c.reply_to.ensures.reply
+    c.requires.ready.standard c.in-Err.ensures.answer c.in-Err.ensures.kept is) c.reply_to.ensures.reply
 
 pub returns-in-Ok-clause-asked : goal.returns-in-Ok-clause-asked
 returns-in-Ok-clause-asked g c =
@@ -22,3 +23,37 @@ returns-in-Err-clause-asked g c =
     asked_refused c.reply_to.result (rows_of c.args.policy.now) c.args.engine.now c.import.new.self c.args.octets.now
     c.in-Err.refusal c.args.policy.now c.import.new.policy
     c.in-Err.ensures.asked c.in-Err.ensures.kept c.reply_to.ensures.reply
+
+pub import-requires : goal.import-requires
+import-requires g c = record {
+  countable = c.requires.ready.countable;
+  short = c.requires.small;
+  judged = c.requires.judging.judged;
+  faithful = c.requires.judging.faithful;
+}
+
+pub returns-in-Ok-clause-held : goal.returns-in-Ok-clause-held
+returns-in-Ok-clause-held g c =
+    changes_held c.args.engine.now c.import.new.self c.requires.ready c.import.ensures.counted
+    c.import.ensures.limits c.import.ensures.marks c.import.ensures.turns
+
+pub returns-in-Ok-clause-judging : goal.returns-in-Ok-clause-judging
+returns-in-Ok-clause-judging g c = record {
+  judged = c.import.ensures.judged;
+  faithful = c.import.ensures.faithful;
+  rows = rows_stay c.import.result (rows_of c.args.policy.now) c.args.engine.now.keyring c.args.octets.now
+      c.args.policy.now c.import.new.policy c.import.ensures.asked;
+}
+
+pub returns-in-Err-clause-held : goal.returns-in-Err-clause-held
+returns-in-Err-clause-held g c =
+    changes_held c.args.engine.now c.import.new.self c.requires.ready c.import.ensures.counted
+    c.import.ensures.limits c.import.ensures.marks c.import.ensures.turns
+
+pub returns-in-Err-clause-judging : goal.returns-in-Err-clause-judging
+returns-in-Err-clause-judging g c = record {
+  judged = c.import.ensures.judged;
+  faithful = c.import.ensures.faithful;
+  rows = rows_stay c.import.result (rows_of c.args.policy.now) c.args.engine.now.keyring c.args.octets.now
+      c.args.policy.now c.import.new.policy c.import.ensures.asked;
+}

@@ -5,6 +5,7 @@ use Rattle.wot_cache.specs.State.{state_of}
 use Rattle.wot_script.specs.declared.reply.Reply.TheVariants as replies
 use Rattle.wot_step.specs.Entry.{loads}
 use Rattle.wot_step.proofs.Faults.{failed}
+use Rattle.wot_command.proofs.Lasting.{held_still, judging_still}
 use Rattle.wot_command.proofs.PolicyAskedByLine.{asked_still}
 use Rattle.wot_step.proofs.Results.{any_err}
 use Rattle.wot_command.proofs.DirectoryAfterFailure.{puts_none}
@@ -81,3 +82,43 @@ returns-in-Ok-Long-clause-asked g c = asked_still _ (state_of c.args.engine.now)
 
 pub returns-in-Err-clause-asked : goal.returns-in-Err-clause-asked
 returns-in-Err-clause-asked g c = asked_still _ (state_of c.args.engine.now) c.args.policy.now
+
+-- ---- an entry that is read
+
+pub enter-requires-clause-ready : goal.enter-requires-clause-ready
+enter-requires-clause-ready g c = c.requires.ready
+
+pub enter-requires-clause-judging : goal.enter-requires-clause-judging
+enter-requires-clause-judging g c = c.requires.judging
+
+pub returns-in-Ok-Bytes-clause-held : goal.returns-in-Ok-Bytes-clause-held
+returns-in-Ok-Bytes-clause-held g c = c.enter.ensures.held
+
+pub returns-in-Ok-Bytes-clause-judging : goal.returns-in-Ok-Bytes-clause-judging
+returns-in-Ok-Bytes-clause-judging g c = c.enter.ensures.judging
+
+-- ---- an entry that isn't read
+
+pub returns-in-Ok-Absent-clause-held : goal.returns-in-Ok-Absent-clause-held
+returns-in-Ok-Absent-clause-held g c = held_still c.args.engine.now c.requires.ready
+
+pub returns-in-Ok-Absent-clause-judging : goal.returns-in-Ok-Absent-clause-judging
+returns-in-Ok-Absent-clause-judging g c =
+    judging_still g.F.Fn c.args.policy.now c.args.engine.now.keyring c.args.engine.now.keyring refl
+    c.requires.judging
+
+pub returns-in-Ok-Long-clause-held : goal.returns-in-Ok-Long-clause-held
+returns-in-Ok-Long-clause-held g c = held_still c.args.engine.now c.requires.ready
+
+pub returns-in-Ok-Long-clause-judging : goal.returns-in-Ok-Long-clause-judging
+returns-in-Ok-Long-clause-judging g c =
+    judging_still g.F.Fn c.args.policy.now c.args.engine.now.keyring c.args.engine.now.keyring refl
+    c.requires.judging
+
+pub returns-in-Err-clause-held : goal.returns-in-Err-clause-held
+returns-in-Err-clause-held g c = held_still c.args.engine.now c.requires.ready
+
+pub returns-in-Err-clause-judging : goal.returns-in-Err-clause-judging
+returns-in-Err-clause-judging g c =
+    judging_still g.F.Fn c.args.policy.now c.args.engine.now.keyring c.args.engine.now.keyring refl
+    c.requires.judging

@@ -1,14 +1,69 @@
+use Rattle.std.proofs.Common.{refl}
 use Rattle.wot_policy.specs.Kept.{rows_of}
 use Rattle.wot_command.proofs.state.change.Goals as goal
+
+pub import-requires-clause-ready : goal.import-requires-clause-ready
+import-requires-clause-ready g c = c.requires.ready
+
+pub import-requires-clause-judging : goal.import-requires-clause-judging
+import-requires-clause-judging g c = c.requires.judging
 
 pub returns-in-Import-clause-gives : goal.returns-in-Import-clause-gives
 returns-in-Import-clause-gives g c = rw c.in-Import.is (rw c.items.ensures.whole at c.import.ensures.gives)
 
-pub returns-in-Remove-clause-judged : goal.returns-in-Remove-clause-judged
-returns-in-Remove-clause-judged g c = c.remove.ensures.judged (rows_of c.args.policy.now) c.requires.judged
+pub returns-in-Import-clause-held : goal.returns-in-Import-clause-held
+returns-in-Import-clause-held g c = c.import.ensures.held
 
-pub returns-in-Judge-clause-judged : goal.returns-in-Judge-clause-judged
-returns-in-Judge-clause-judged g c = c.set_verdict.ensures.judged (rows_of c.args.policy.now) c.requires.judged
+pub returns-in-Import-clause-judging : goal.returns-in-Import-clause-judging
+returns-in-Import-clause-judging g c = c.import.ensures.judging
 
-pub returns-in-Unjudge-clause-judged : goal.returns-in-Unjudge-clause-judged
-returns-in-Unjudge-clause-judged g c = c.clear_verdict.ensures.judged (rows_of c.args.policy.now) c.requires.judged
+pub remove-requires : goal.remove-requires
+remove-requires g c = record { standard = c.requires.ready.standard; countable = c.requires.ready.countable }
+
+pub returns-in-Remove-clause-held : goal.returns-in-Remove-clause-held
+returns-in-Remove-clause-held g c = record {
+  once = record { counted = c.remove.ensures.counted; standard = c.remove.ensures.standard };
+  marks = c.remove.ensures.marks;
+  turns = c.remove.ensures.turns;
+}
+
+pub returns-in-Remove-clause-judging : goal.returns-in-Remove-clause-judging
+returns-in-Remove-clause-judging g c = record {
+  judged = c.remove.ensures.judged (rows_of c.args.policy.now) c.requires.judging.judged;
+  faithful = c.requires.judging.faithful;
+  rows = refl;
+}
+
+pub set_verdict-requires : goal.set_verdict-requires
+set_verdict-requires g c = record { standard = c.requires.ready.standard; countable = c.requires.ready.countable }
+
+pub returns-in-Judge-clause-held : goal.returns-in-Judge-clause-held
+returns-in-Judge-clause-held g c = record {
+  once = record { counted = c.set_verdict.ensures.counted; standard = c.set_verdict.ensures.standard };
+  marks = c.set_verdict.ensures.marks;
+  turns = c.set_verdict.ensures.turns;
+}
+
+pub returns-in-Judge-clause-judging : goal.returns-in-Judge-clause-judging
+returns-in-Judge-clause-judging g c = record {
+  judged = c.set_verdict.ensures.judged (rows_of c.args.policy.now) c.requires.judging.judged;
+  faithful = c.requires.judging.faithful;
+  rows = refl;
+}
+
+pub clear_verdict-requires : goal.clear_verdict-requires
+clear_verdict-requires g c = record { standard = c.requires.ready.standard; countable = c.requires.ready.countable }
+
+pub returns-in-Unjudge-clause-held : goal.returns-in-Unjudge-clause-held
+returns-in-Unjudge-clause-held g c = record {
+  once = record { counted = c.clear_verdict.ensures.counted; standard = c.clear_verdict.ensures.standard };
+  marks = c.clear_verdict.ensures.marks;
+  turns = c.clear_verdict.ensures.turns;
+}
+
+pub returns-in-Unjudge-clause-judging : goal.returns-in-Unjudge-clause-judging
+returns-in-Unjudge-clause-judging g c = record {
+  judged = c.clear_verdict.ensures.judged (rows_of c.args.policy.now) c.requires.judging.judged;
+  faithful = c.requires.judging.faithful;
+  rows = refl;
+}

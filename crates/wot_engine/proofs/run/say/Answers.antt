@@ -45,6 +45,12 @@ answered (Ok a) rows line text old new before after had has is s =
     (record { given = s.given; reply = s.reply; does = s.step; served = s.served; behind = s.octets })
 answered (Err x) rows line text old new before after had has is s = tt
 
+pub line-requires : goal.line-requires
+line-requires g c = record {
+  countable = record { changes = c.requires.countable; turns = c.requires.turnable };
+  judging = record { judged = c.requires.judged; faithful = c.requires.faithful };
+}
+
 pub returns-in-Text-clause-said : goal.returns-in-Text-clause-said
 returns-in-Text-clause-said g c =
     answered c.line.result (rows_of c.args.policy.now) c.args.line c.args.text.now (kept c.args.machine.now)
@@ -60,7 +66,7 @@ returns-in-Long-clause-said g c =
     c.in-Long.is c.print_reply.ensures.appended
 
 pub returns-in-Text-clause-entries : goal.returns-in-Text-clause-entries
-returns-in-Text-clause-entries g c = rw c.in-Text.is c.line.ensures.entries
+returns-in-Text-clause-entries g c = rw c.in-Text.is c.line.ensures.directory.entries
 
 pub returns-in-Long-clause-entries : goal.returns-in-Long-clause-entries
 returns-in-Long-clause-entries g c =
@@ -79,3 +85,12 @@ pub returns-in-Long-clause-asked : goal.returns-in-Long-clause-asked
 returns-in-Long-clause-asked g c =
     passed_over c.print_reply.result c.args.line c.args.text.now (state_of c.args.machine.now.engine) c.args.policy.now
     c.in-Long.is
+
+pub returns-in-Text-clause-judged : goal.returns-in-Text-clause-judged
+returns-in-Text-clause-judged g c = c.line.ensures.judging.judged
+
+pub returns-in-Text-clause-faithful : goal.returns-in-Text-clause-faithful
+returns-in-Text-clause-faithful g c = c.line.ensures.judging.faithful
+
+pub returns-in-Text-clause-rows : goal.returns-in-Text-clause-rows
+returns-in-Text-clause-rows g c = c.line.ensures.judging.rows

@@ -12,9 +12,14 @@ use Rattle.wot_command.specs.Asked.{LineAsks}
 use Rattle.wot_command.proofs.PolicyAskedByLine.{asks_as, asks_not}
 use Rattle.wot_step.proofs.EdgesMadeByLine.{line_makes_as}
 use Rattle.wot_step.proofs.Results.{any_err}
-use Rattle.wot_command.proofs.DirectoryAfterFailure.{puts_still, served_puts}
+use Rattle.wot_command.proofs.DirectoryAfterFailure.{served_puts}
+use Rattle.wot_command.proofs.Lasting.{judging_still, touches_none}
+use Rattle.wot_command.specs.Lasting.{StaysJudging}
 use Rattle.wot_machine.proofs.CommandsInLines.{passed, told_step}
 use Rattle.wot_machine.proofs.machine.Machine.line.Goals as goal
+
+pub reply-requires : goal.reply-requires
+reply-requires g c = record { countable = c.requires.countable; judging = c.requires.judging }
 
 pub returns-in-Some-clause-step : goal.returns-in-Some-clause-step
 returns-in-Some-clause-step g c =
@@ -64,19 +69,36 @@ returns-in-Some-clause-makes g c =
     line_makes_as done c.put.result (λ ok. refl) line c.args.self.now.cursors c.args.self.now.engine
     c.put.new.self.engine c.args.self.now.made c.put.new.self.made made
 
--- ---- out of memory
+-- ---- the certificate directory
 
-pub returns-in_err-reserve-clause-entries : goal.returns-in_err-reserve-clause-entries
-returns-in_err-reserve-clause-entries g c =
-    any_err c.from_residual.result _ (puts_still (state_of c.args.self.now.engine) (use_of (heard c.args.line.now))
-    (g.D.Shelf.world c.args.shelf.now))
+pub returns-in_err-reserve-clause-directory : goal.returns-in_err-reserve-clause-directory
+returns-in_err-reserve-clause-directory g c =
+    touches_none c.from_residual.result (state_of c.args.self.now.engine) (use_of (heard c.args.line.now))
+    g.D.Shelf.world g.D.Shelf.faults c.args.shelf.now
 
-pub returns-in-Some-clause-entries : goal.returns-in-Some-clause-entries
-returns-in-Some-clause-entries g c =
+pub returns-in_err-told-clause-directory : goal.returns-in_err-told-clause-directory
+returns-in_err-told-clause-directory g c = record {
+  untouched = c.reply.ensures.directory.untouched;
+  entries = any_err c.from_residual-in_err-told.result _ c.in_err-told.ensures.directory.entries;
+  later = c.reply.ensures.directory.later;
+}
+
+pub returns-in-Some-clause-directory : goal.returns-in-Some-clause-directory
+returns-in-Some-clause-directory g c =
     let replied = rw c.in-Some.is at c.in_ok-told.ensures.replied in
-    any_err c.put.result _ (served_puts (state_of c.args.self.now.engine) (use_of (heard c.args.line.now))
-    (g.D.Shelf.world c.args.shelf.now) replied.given
-    (g.D.Shelf.world c.reply.new.shelf) replied.served)
+    record {
+      untouched = c.reply.ensures.directory.untouched;
+      entries = any_err c.put.result _ (served_puts (state_of c.args.self.now.engine) (use_of (heard c.args.line.now))
+          (g.D.Shelf.world c.args.shelf.now) replied.given (g.D.Shelf.world c.reply.new.shelf) replied.served);
+      later = c.reply.ensures.directory.later;
+    }
+
+pub returns-in-None-clause-directory : goal.returns-in-None-clause-directory
+returns-in-None-clause-directory g c = record {
+  untouched = c.reply.ensures.directory.untouched;
+  entries = tt;
+  later = c.reply.ensures.directory.later;
+}
 
 -- ---- the policy
 
@@ -102,3 +124,19 @@ returns-in-None-clause-asked g c =
 pub returns-in_err-reserve-clause-asked : goal.returns-in_err-reserve-clause-asked
 returns-in_err-reserve-clause-asked g c = asks_not c.from_residual.result (heard c.args.line.now)
     (state_of c.args.self.now.engine) c.args.policy.now
+
+pub returns-in_err-reserve-clause-judging : goal.returns-in_err-reserve-clause-judging
+returns-in_err-reserve-clause-judging g c =
+    judging_still g.F.Fn c.args.policy.now c.args.self.now.engine.keyring c.args.self.now.engine.keyring refl
+    c.requires.judging
+
+pub returns-in-Some-clause-judging : goal.returns-in-Some-clause-judging
+returns-in-Some-clause-judging g c =
+    subst (λ (e : Engine). StaysJudging g.F.Fn c.args.policy.now c.reply.new.policy e.keyring)
+    (sym c.put.ensures.engine) c.reply.ensures.judging
+
+pub returns-in-None-clause-judging : goal.returns-in-None-clause-judging
+returns-in-None-clause-judging g c = c.reply.ensures.judging
+
+pub returns-in_err-told-clause-judging : goal.returns-in_err-told-clause-judging
+returns-in_err-told-clause-judging g c = c.reply.ensures.judging

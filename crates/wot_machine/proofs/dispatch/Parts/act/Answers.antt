@@ -1,0 +1,152 @@
+use Rattle.std.proofs.Common.{◌≡◌, false, refl, sym, ◌∙◌}
+use Rattle.wot_policy.specs.Kept.{rows_of}
+use Rattle.wot_script.specs.declared.reply.Reply.{Reply}
+use Rattle.wot_script.specs.Replies.{is_short}
+use Rattle.wot_cache.specs.State.{StaysButMarks, state_of}
+use Rattle.wot_step.specs.declared.class.Class.TheVariants.{State as OfState, Cursor as OfCursor, Watch as OfWatch}
+use Rattle.wot_step.specs.Entry.{use_by}
+use Rattle.wot_command.proofs.PolicyAskedByLine.{asks_by_as}
+use Rattle.wot_step.proofs.EdgesMadeByLine.{makes_for_as, watch_makes_as}
+use Rattle.wot_command.proofs.Lasting.{judging_still, touches_none}
+use Rattle.wot_step.proofs.Results.{if_ok}
+use Rattle.wot_machine.proofs.Unchanged.{runs_none}
+use Rattle.wot_machine.proofs.CommandsInLines.{few_turns, kept_told, on_err_told, on_ok_told, paced_ran, ran_told}
+use Rattle.wot_machine.proofs.CommandsInLines.{still_turns, told_as, watched_told}
+use Rattle.wot_machine.proofs.dispatch.Parts.act.Goals as goal
+
+-- ---- a command that leaves cursors and watches
+
+pub obey-requires-clause-ready : goal.obey-requires-clause-ready
+obey-requires-clause-ready g c = c.requires.ready
+
+pub obey-requires-clause-judging : goal.obey-requires-clause-judging
+obey-requires-clause-judging g c = c.requires.judging
+
+pub returns-in-State-clause-ran : goal.returns-in-State-clause-ran
+returns-in-State-clause-ran g c =
+    rw c.in-State.is
+    (ran_told c.obey.result c.plain.result (rows_of c.args.policy.now) c.in-State.command c.args.self.now.engine
+    c.obey.new.engine
+    (record { world = g.D.Shelf.world c.args.shelf.now; faults = g.D.Shelf.faults c.args.shelf.now })
+    (record { world = g.D.Shelf.world c.obey.new.shelf; faults = g.D.Shelf.faults c.obey.new.shelf })
+    c.args.self.now.cursors c.args.self.now.watches c.plain.ensures.told c.plain.ensures.same
+    c.obey.ensures.changes.counted c.obey.ensures.turned c.obey.ensures.did)
+
+pub returns-in-State-clause-directory : goal.returns-in-State-clause-directory
+returns-in-State-clause-directory g c = record {
+  untouched = rw c.in-State.is c.obey.ensures.directory.untouched;
+  entries = rw c.in-State.is
+      (on_err_told c.obey.result c.plain.result _ c.plain.ensures.same c.obey.ensures.directory.entries);
+  later = c.obey.ensures.directory.later;
+}
+
+pub returns-in-State-clause-once : goal.returns-in-State-clause-once
+returns-in-State-clause-once g c = record {
+  standard = c.obey.ensures.changes.standard;
+  counted = c.obey.ensures.changes.counted;
+  turned = few_turns c.obey.result (OfState c.in-State.command) c.args.self.now.engine c.obey.new.engine
+      c.obey.ensures.turned c.obey.ensures.kept;
+  still = still_turns c.obey.result (OfState c.in-State.command) c.args.self.now.engine c.obey.new.engine
+      c.obey.ensures.turned c.obey.ensures.kept;
+}
+
+pub returns-in-State-clause-anew : goal.returns-in-State-clause-anew
+returns-in-State-clause-anew g c =
+    rw c.in-State.is (on_ok_told c.obey.result c.plain.result _ c.plain.ensures.same c.obey.ensures.anew)
+
+pub returns-in-State-clause-edges : goal.returns-in-State-clause-edges
+returns-in-State-clause-edges g c =
+    rw c.in-State.is (on_ok_told c.obey.result c.plain.result _ c.plain.ensures.same c.obey.ensures.edges)
+
+pub returns-in-State-clause-quiet : goal.returns-in-State-clause-quiet
+returns-in-State-clause-quiet g c =
+    told_as c.obey.result c.plain.result
+    (λ (reply : Reply). is_short reply ≡ false → StaysButMarks c.args.self.now.engine c.obey.new.engine
+    × (c.args.self.now.cursors ≡ c.args.self.now.cursors) × (c.args.self.now.watches ≡ c.args.self.now.watches))
+    c.plain.ensures.told c.plain.ensures.same
+    (if_ok c.obey.result _ _ (λ reply quiet long. (quiet long, refl, refl)) c.obey.ensures.quiet)
+
+pub returns-in-State-clause-kept : goal.returns-in-State-clause-kept
+returns-in-State-clause-kept g c =
+    kept_told c.obey.result c.plain.result c.args.self.now.engine c.obey.new.engine c.args.self.now.cursors
+    c.args.self.now.watches c.plain.ensures.same c.obey.ensures.kept
+
+pub returns-in-State-clause-makes : goal.returns-in-State-clause-makes
+returns-in-State-clause-makes g c =
+    rw c.in-State.is
+    (makes_for_as c.obey.result c.plain.result (λ done. sym c.plain.ensures.same ∙ done) c.in-State.command
+    c.args.self.now.engine c.obey.new.engine c.args.self.now.steps.made c.obey.new.steps.made c.obey.ensures.makes)
+
+pub returns-in-State-clause-asked : goal.returns-in-State-clause-asked
+returns-in-State-clause-asked g c =
+    rw c.in-State.is
+    (asks_by_as c.obey.result c.plain.result (λ done. sym c.plain.ensures.same ∙ done) (OfState c.in-State.command)
+    (state_of c.args.self.now.engine) (state_of c.obey.new.engine) c.args.policy.now c.obey.new.policy
+    c.obey.ensures.asked)
+
+pub returns-in-State-clause-judging : goal.returns-in-State-clause-judging
+returns-in-State-clause-judging g c = c.obey.ensures.judging
+
+-- ---- a command of a cursor
+
+pub returns-in-Cursor-clause-ran : goal.returns-in-Cursor-clause-ran
+returns-in-Cursor-clause-ran g c =
+    rw c.in-Cursor.is
+    (paced_ran c.pace.result (rows_of c.args.policy.now) (OfCursor c.in-Cursor.name c.in-Cursor.command)
+    c.args.self.now.engine c.pace.new.engine c.args.self.now.cursors c.pace.new.cursors c.args.self.now.watches
+    (record { world = g.D.Shelf.world c.args.shelf.now; faults = g.D.Shelf.faults c.args.shelf.now })
+    refl c.pace.ensures.stays c.pace.ensures.paces)
+
+pub returns-in-Cursor-clause-directory : goal.returns-in-Cursor-clause-directory
+returns-in-Cursor-clause-directory g c =
+    touches_none c.pace.result (state_of c.args.self.now.engine) (use_by c.args.class) g.D.Shelf.world g.D.Shelf.faults
+    c.args.shelf.now
+
+pub returns-in-Cursor-clause-once : goal.returns-in-Cursor-clause-once
+returns-in-Cursor-clause-once g c =
+    runs_none c.args.self.now.engine c.pace.new.engine c.requires.ready c.pace.ensures.stays
+
+pub returns-in-Cursor-clause-judging : goal.returns-in-Cursor-clause-judging
+returns-in-Cursor-clause-judging g c =
+    judging_still g.F.Fn c.args.policy.now c.args.self.now.engine.keyring c.pace.new.engine.keyring
+    c.pace.ensures.stays.keyring c.requires.judging
+
+pub returns-in-Cursor-clause-makes : goal.returns-in-Cursor-clause-makes
+returns-in-Cursor-clause-makes g c = rw c.in-Cursor.is c.pace.ensures.makes
+
+pub returns-in-Cursor-clause-quiet : goal.returns-in-Cursor-clause-quiet
+returns-in-Cursor-clause-quiet g c =
+    if_ok c.pace.result _ _ (λ told quiet long. (c.pace.ensures.stays, quiet long, refl)) c.pace.ensures.quiet
+
+-- ---- a command of a watch
+
+pub returns-in-Watch-clause-ran : goal.returns-in-Watch-clause-ran
+returns-in-Watch-clause-ran g c =
+    rw c.in-Watch.is
+    (watched_told c.watch.result c.plain-in-Watch.result (rows_of c.args.policy.now)
+    (OfWatch c.in-Watch.name c.in-Watch.command) c.args.self.now.engine c.watch.new.engine c.args.self.now.cursors
+    c.args.self.now.watches c.watch.new.watches
+    (record { world = g.D.Shelf.world c.args.shelf.now; faults = g.D.Shelf.faults c.args.shelf.now })
+    c.plain-in-Watch.ensures.told c.plain-in-Watch.ensures.same refl c.watch.ensures.stays
+    (if_ok c.watch.result _ _ (λ reply sets. sets c.args.self.now.cursors) c.watch.ensures.sets))
+
+pub returns-in-Watch-clause-directory : goal.returns-in-Watch-clause-directory
+returns-in-Watch-clause-directory g c =
+    touches_none c.plain-in-Watch.result (state_of c.args.self.now.engine) (use_by c.args.class) g.D.Shelf.world
+    g.D.Shelf.faults c.args.shelf.now
+
+pub returns-in-Watch-clause-once : goal.returns-in-Watch-clause-once
+returns-in-Watch-clause-once g c =
+    runs_none c.args.self.now.engine c.watch.new.engine c.requires.ready c.watch.ensures.stays
+
+pub returns-in-Watch-clause-judging : goal.returns-in-Watch-clause-judging
+returns-in-Watch-clause-judging g c =
+    judging_still g.F.Fn c.args.policy.now c.args.self.now.engine.keyring c.watch.new.engine.keyring
+    c.watch.ensures.stays.keyring c.requires.judging
+
+pub returns-in-Watch-clause-makes : goal.returns-in-Watch-clause-makes
+returns-in-Watch-clause-makes g c =
+    rw c.in-Watch.is
+    (watch_makes_as c.watch.result c.plain-in-Watch.result (λ done. sym c.plain-in-Watch.ensures.same ∙ done)
+    c.in-Watch.command c.args.self.now.engine c.watch.new.engine c.args.self.now.steps.made c.watch.new.steps.made
+    c.watch.ensures.makes)
