@@ -14,7 +14,7 @@ use std::alloc::Global;
 use std::cmp::Ordering;
 use wot_cert::{Cert, Part};
 use wot_edge::{Roads, Roots};
-use wot_keyring::{CertsFrom, Keyring};
+use wot_keyring::{CertsIter, Keyring};
 use wot_search::Reach;
 use wot_types::{Fpr, Memory, Place, compare_fprs};
 
@@ -102,7 +102,7 @@ fn piece_certs<R: Roads>(
     alloc: Global,
     roads: &R,
     page: &Page<'_>,
-    certs: CertsFrom<'_>,
+    certs: CertsIter<'_>,
     out: &mut Vec<Bind>,
 ) -> Result<(), Memory>
     requires sought { IsSought (R.told roads.now) page.now.sought }

@@ -1,14 +1,16 @@
-//! The iterator of `Keyring::certs`: all certificates, in the order of their fingerprints. It wraps the map's own
-//! iterator. The dump walks over it here; wot_network and the replies to `list` and `keys` do above.
+//! The iterator of `Keyring::certs` and `Keyring::certs_from`: certificates in the order of their fingerprints. It
+//! wraps a range of the map, so that a listing in pieces costs its piece and not the keyring. The dump walks over it
+//! here; wot_network and the replies to `list` and `keys` do above.
 ghost use Rattle.std.specs.Prelude.{◌≡◌, map};
 ghost use Rattle.std.specs.Iterator.{YieldsFirstRef, item_count};
 ghost use Rattle.wot_types.specs.declared.fpr.Fpr.{Fpr as TheFpr};
+ghost use Rattle.wot_held.specs.From.{entries_from};
 ghost use Rattle.wot_held.specs.declared.kept.Kept.{Kept as TheKept};
 
 use crate::kept::Kept;
 use std::alloc::Global;
 use std::collections::BTreeMap;
-use std::collections::btree_map::Iter;
+use std::collections::btree_map::Range;
 use std::marker::Model;
 use wot_cert::Cert;
 use wot_types::Fpr;
@@ -16,7 +18,7 @@ use wot_types::Fpr;
 /// The certificates that are still to come, in the order of their fingerprints.
 #[derive(Drop)]
 pub struct CertsIter<'a> {
-    entries: Iter<'a, Fpr, Kept>,
+    entries: Range<'a, Fpr, Kept>,
 }
 
 impl<'a> Model for CertsIter<'a> {
@@ -49,7 +51,16 @@ impl<'a> Iterator for CertsIter<'a> {
 pub fn certs_of(certs: &BTreeMap<Fpr, Kept, Global>) -> CertsIter<'_>
     ensures certs { result ≡ map (λ (e : TheFpr × TheKept). e.1.cert) certs.now.entries }
 {
-    CertsIter {
-        entries: certs.iter(),
-    }
+    listed_from(certs, None)
+}
+
+/// The certificates of a map from a fingerprint on. Doesn't walk over those before it.
+pub fn listed_from(certs: &BTreeMap<Fpr, Kept, Global>, from: Option<Fpr>) -> CertsIter<'_>
+    ensures certs { result ≡ map (λ (e : TheFpr × TheKept). e.1.cert) (entries_from from certs.now.entries) }
+{
+    let entries = match from {
+        Some(fpr) => certs.range(fpr..),
+        None => certs.range(..),
+    };
+    CertsIter { entries }
 }

@@ -4,15 +4,13 @@
 #![tactic(auto)]
 
 mod certs;
-mod certs_from;
 mod imported;
 mod kept;
 mod pending;
 mod reading;
 mod refusal;
 
-pub use certs::{CertsIter, certs_of};
-pub use certs_from::{CertsFrom, listed_from};
+pub use certs::{CertsIter, certs_of, listed_from};
 pub use imported::Imported;
 pub use kept::{Kept, find, take_out};
 pub use pending::{Pending, waiting};

@@ -32,8 +32,8 @@ use std::collections::BTreeMap;
 use std::marker::Model;
 use wot_cert::Cert;
 use wot_held::{
-    Absent, CertsFrom, CertsIter, ExportFault, Kept, Pending, Refusal, certs_of, find, listed_from,
-    take_out, waiting,
+    Absent, CertsIter, ExportFault, Kept, Pending, Refusal, certs_of, find, listed_from, take_out,
+    waiting,
 };
 use wot_index::log::{self, Log};
 use wot_index::{Index, forget_cert, restamp_noted};
@@ -129,7 +129,7 @@ impl Keyring {
     }
 
     /// The certificates from a fingerprint on, in the order of their fingerprints. All of them if none is given.
-    pub fn certs_from(&self, from: Option<Fpr>) -> CertsFrom<'_>
+    pub fn certs_from(&self, from: Option<Fpr>) -> CertsIter<'_>
         ensures certs { result ≡ map (λ (e : TheFpr × TheKept). e.1.cert) (entries_from from self.now.certs) }
         ensures named { AreNamed self.now.certs }
     {

@@ -11,6 +11,4 @@ mod uniting;
 
 pub use dump::put_line;
 pub use keyring::Keyring;
-pub use wot_held::{
-    Absent, CertsFrom, CertsIter, ExportFault, Imported, Pending, Refusal, read_entry,
-};
+pub use wot_held::{Absent, CertsIter, ExportFault, Imported, Pending, Refusal, read_entry};
