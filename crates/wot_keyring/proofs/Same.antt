@@ -90,6 +90,22 @@ full_counted : (o : Option Limit) (taken others skipped fresh : ℕ) →
 full_counted None taken others skipped fresh = refl
 full_counted (Some limit) taken others skipped fresh = refl
 
+-- the refusal of a clash, and else the counts, unless a limit is exceeded
+abbrev answer_by : Bool → Option Limit → Imported → Result Imported Refusal
+answer_by clashes full counts = refuse_if clashes Clash >> unless_full full counts
+
+-- what is held alike is answered alike, except how many were read
+answered_alike : (a b : Bool) (full : Certificates → Option Limit) (fresh : Certificates → ℕ) (x y : Certificates)
+    (taken others skipped : ℕ) → a ≡ b → (b ≡ false → x ≡ y) →
+    answer_by a (full x) (record { taken = taken; skipped = skipped; fresh = fresh x }) ≡ counted_as taken
+    (answer_by b (full y) (record { taken = others; skipped = skipped; fresh = fresh y }))
+answered_alike true true full fresh x y taken others skipped e held = refl
+answered_alike true false full fresh x y taken others skipped e held = absurd cc
+answered_alike false true full fresh x y taken others skipped e held = absurd cc
+answered_alike false false full fresh x y taken others skipped e held =
+    ap (λ (z : Certificates). unless_full (full z) (record { taken = taken; skipped = skipped; fresh = fresh z }))
+    (held refl) ∙ full_counted (full y) taken others skipped (fresh y)
+
 module _ (rows : PolicyRows) (k : Keyring) (h : IsKeyring k) where
   taken_so : (cs : List Certificate) → taken_all rows (Some (certificates_in k)) cs ≡ cond
       (any_clash (alone (certificates_in k)) cs) None (Some (with_certs rows (certificates_in k) cs))
@@ -125,33 +141,12 @@ module _ (rows : PolicyRows) (k : Keyring) (h : IsKeyring k) where
         with_certs rows (certificates_in k) list ≡ with_certs rows (certificates_in k) other
     same_held none = held_of _ _ _ _ (same_clash ∙ none) none both
 
-    abbrev answer_on : ℕ → Certificates → Result Imported Refusal
-    answer_on n certs = unless_full (first_full k.limits certs) (record {
-      taken = length list;
-      skipped = n;
-      fresh =
-          fresh_in (certificates_in k) certs;
-    })
-
     same_answer : (skipped : ℕ) → answer_united rows k.limits (certificates_in k) list skipped ≡ counted_as
         (length list) (answer_united rows k.limits (certificates_in k) other skipped)
     same_answer skipped =
-        ap (λ b. refuse_if b Clash >> answer_on skipped (with_certs rows (certificates_in k) list)) same_clash
-        ∙ (elim (any_clash (alone (certificates_in k)) other) as (λ b. any_clash (alone (certificates_in k)) other ≡ b →
-        (refuse_if b Clash >> answer_on skipped (with_certs rows (certificates_in k) list)) ≡ counted_as
-        (length list) (refuse_if b Clash >> unless_full
-        (first_full k.limits (with_certs rows (certificates_in k) other)) (record {
-          taken = length other;
-          skipped =
-              skipped;
-          fresh = fresh_in (certificates_in k) (with_certs rows (certificates_in k) other);
-        }))) [
-          | true ↦ λ t. refl
-          | false ↦ λ f.
-              ap (answer_on skipped) (same_held f)
-              ∙ full_counted (first_full k.limits (with_certs rows (certificates_in k) other)) (length list)
-              (length other) skipped (fresh_in (certificates_in k) (with_certs rows (certificates_in k) other))
-        ]) refl
+        answered_alike (any_clash (alone (certificates_in k)) list) (any_clash (alone (certificates_in k)) other)
+        (first_full k.limits) (fresh_in (certificates_in k)) (with_certs rows (certificates_in k) list)
+        (with_certs rows (certificates_in k) other) (length list) (length other) skipped same_clash same_held
 
     refused : (skipped : ℕ) (r : Refusal) → answer_united rows k.limits (certificates_in k) other skipped ≡ Err r →
         Err r ≡ answer_united rows k.limits (certificates_in k) list skipped
