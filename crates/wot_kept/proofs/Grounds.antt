@@ -24,7 +24,11 @@ use Rattle.wot_network.specs.Told.{record_of}
 use Rattle.wot_kept.specs.declared.answers.KeptAnswer.{KeptAnswer}
 use Rattle.wot_kept.specs.declared.reach.KeptReach.{KeptReach}
 use Rattle.wot_looked.specs.declared.looked.Looked.{Looked}
-use Rattle.wot_kept.specs.Answers.{AllLead, AllLed, AllStill, IsTheAnswer, AreRight, Entries, IsFound}
+use Rattle.wot_auth.specs.declared.answer.Answer.{Answer}
+use Rattle.wot_kept.specs.declared.asked.Asked.{Asked}
+use Rattle.wot_kept.specs.declared.parts.Parts.{Parts}
+use Rattle.wot_kept.specs.Answers.{AllLead, AllLed, AllStill, Grounds, IsTheAnswer, AreRight, Entries, IsFound}
+use Rattle.wot_kept.specs.Asked.{IsAnswered, IsConsulted, IsKeptNow, kept_by}
 use Rattle.wot_looked.specs.Looked.{Amounts, AreStill}
 use Rattle.wot_kept.specs.Answers.{IsGood, IsReaching, IsRight, IsSameBut, question_at}
 use Rattle.wot_looked.specs.Looked.{IsStill, look}
@@ -119,7 +123,7 @@ led_here k roots t uid target set itself leads = record {
 abbrev pub RecordsAgree : Type 0
 RecordsAgree = (certs : Certificates) (said : verdicts.Entries) (t : ℕ) → IsLocal certs said t (record_of certs said t)
 
-pub right_made : RecordsAgree → (k : Keyring) (roots : List (Fpr × ℕ)) (a : KeptAnswer) (set : List Fpr)
+right_made : RecordsAgree → (k : Keyring) (roots : List (Fpr × ℕ)) (a : KeptAnswer) (set : List Fpr)
     → AreStamped k.changes k.certs
     → (kept : Vec Looked Global) → a.looked ≡ Some kept → kept.items ≡ map (look k roots) set
     → a.answer.sum ≡ amount_of a.answer.paths
@@ -141,7 +145,7 @@ right_made law k roots a set stamped kept there looked sum around itself leads =
 }
 
 -- an answer that depends on the whole keyring
-pub right_of_all : (k : Keyring) (a : KeptAnswer) → a.looked ≡ None → a.answer.sum ≡ amount_of a.answer.paths
+right_of_all : (k : Keyring) (a : KeptAnswer) → a.looked ≡ None → a.answer.sum ≡ amount_of a.answer.paths
     → IsRight k a
 right_of_all k a none sum = record {
   sum = sum;
@@ -150,16 +154,35 @@ right_of_all k a none sum = record {
       (λ (ls : Vec Looked Global). AllLed k a.time a.uid a.target ls.items)) (sym none) tt;
 }
 
+-- ---- an answer that is kept now
+
+pub found_now : (p : Parts) (asked : Asked) (a : Answer) (looked : Grounds) (kept : KeptAnswer)
+    → IsKeptNow p asked a looked kept → IsAnswered p asked a → IsFound p.keyring.now p.roots.now kept
+found_now p asked a looked kept is answered =
+    subst (IsFound p.keyring.now p.roots.now) (sym is) (record { counted = omega arith; now = answered.answer })
+
+-- with the fingerprints that its search consulted
+pub right_with : RecordsAgree → (p : Parts) (asked : Asked) (a : Answer) (looked : Vec Looked Global) (set : List Fpr)
+    (kept : KeptAnswer) → IsKeptNow p asked a (Some looked) kept → AreStamped p.keyring.now.changes p.keyring.now.certs
+    → looked.items ≡ map (look p.keyring.now p.roots.now) set → IsLater p.keyring.now p.keyring.now
+    → IsAnswered p asked a → IsConsulted p asked a set → IsRight p.keyring.now kept
+right_with law p asked a looked set kept is stamped items itself answered consulted =
+    subst (IsRight p.keyring.now) (sym is)
+    (right_made law p.keyring.now p.roots.now (kept_by p asked a (Some looked) kept) set stamped looked refl items
+    answered.sum consulted.local itself consulted.leads)
+
+-- with the whole keyring
+pub right_without : (p : Parts) (asked : Asked) (a : Answer) (kept : KeptAnswer) → IsKeptNow p asked a None kept
+    → IsAnswered p asked a → IsRight p.keyring.now kept
+right_without p asked a kept is answered =
+    subst (IsRight p.keyring.now) (sym is) (right_of_all p.keyring.now (kept_by p asked a None kept) refl answered.sum)
+
 -- a right answer is the current answer if everything that it depends on is unchanged
 pub right_now : ((k : Keyring) → IsLater k k) → (k : Keyring) (roots : Amounts) (a : KeptAnswer) → IsRight k a
     → AllStill k roots a.looked → IsTheAnswer k roots a
 right_now itself k roots a right still = right.answer k roots (itself k) still
 
 -- ---- when an answer was last found valid
-
-pub found_made : (k : Keyring) (roots : Amounts) (a : KeptAnswer) → a.count ≡ k.changes → IsTheAnswer k roots a
-    → IsFound k roots a
-found_made k roots a now here = record { counted = omega (arith, now); now = here }
 
 -- an answer that is revalidated now is valid
 pub good_now : (k : Keyring) (roots : Amounts) (turn : ℕ) (old new : KeptAnswer) → IsSameBut old new

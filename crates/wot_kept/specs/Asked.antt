@@ -9,7 +9,7 @@ use Rattle.wot_network.specs.Net.{told_of}
 use Rattle.wot_network.specs.Roads.{present_of}
 use Rattle.wot_kept.specs.declared.asked.Asked.{Asked}
 use Rattle.wot_kept.specs.declared.parts.Parts.{Parts}
-use Rattle.wot_kept.specs.Answers.{AllLead, AreRightIn, IsOf, OfView}
+use Rattle.wot_kept.specs.Answers.{AllLead, AreRightIn, Grounds, IsOf, OfView}
 use Rattle.wot_kept.specs.declared.answers.KeptAnswer.{KeptAnswer}
 use Rattle.wot_kept.specs.Question.{IsAnswerAround, asked_of, present_in}
 
@@ -45,3 +45,19 @@ pub record IsAnswered (p : Parts) (asked : Asked) (a : Answer) : Type 0 where
 pub record IsConsulted (p : Parts) (asked : Asked) (a : Answer) (set : List Fpr) : Type 0 where
   pub local : IsAnswerAround (question_of p asked) asked.wanted a.paths set
   pub leads : AllLead (network_of p asked) asked.target.now set
+
+-- a kept answer with this question, this answer and what it depends on, found valid at the current count of changes
+abbrev pub kept_by : Parts → Asked → Answer → Grounds → KeptAnswer → KeptAnswer
+kept_by p asked a looked kept = record kept {
+  target = asked.target.now;
+  wanted = asked.wanted;
+  uid = asked.uid.now;
+  time = p.t;
+  looked = looked;
+  answer = a;
+  count = p.keyring.now.changes;
+}
+
+-- it is that one; its key and its turn may be any
+abbrev pub IsKeptNow : Parts → Asked → Answer → Grounds → KeptAnswer → Type 0
+IsKeptNow p asked a looked kept = kept ≡ kept_by p asked a looked kept

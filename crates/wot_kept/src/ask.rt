@@ -1,6 +1,6 @@
 //! The answer to a question: a kept one, or by a new search. Searches first look only at what leads to the target; when
 //! that costs more than a table of reach, the table is made and used. `Engine::ask` is the caller: it calls `answer`,
-//! which calls `find`, which calls `search`. wot_search and wot_auth do the searching.
+//! which calls `find`, which calls `recalled` and `search_near`. wot_search and wot_auth do the searching.
 ghost use Rattle.std.specs.Prelude.{◌≡◌, ℕ, List, IfOk, IfSome, OnErr};
 ghost use Rattle.wot_edge.specs.Record.{IsRecord};
 ghost use Rattle.wot_network.specs.Net.{told_of};
@@ -78,19 +78,14 @@ fn search_far(
     of_view: &mut Answers,
     parts: &Parts<'_>,
     asked: &Asked<'_>,
-) -> Result<Answer, AskFault>
+) -> Result<Answer, Memory>
     requires askable { IsAskable parts.now asked.now }
     requires settled { AreSettled parts.now of_view.old }
     ensures answered { IfOk result (IsAnswered parts.now asked.now) }
-    ensures memory { OnErr result (result ≡ Err AskFault.Memory) }
     ensures right { AreRightIn parts.now.keyring.now of_view.new }
 {
-    let Ok(reach) = made_reach(alloc, parts) else {
-        return Err(AskFault::Memory);
-    };
-    let Ok(answer) = search_within(alloc, parts, &reach, asked) else {
-        return Err(AskFault::Memory);
-    };
+    let reach = made_reach(alloc, parts)?;
+    let answer = search_within(alloc, parts, &reach, asked)?;
     of_view.keep_making(parts, Making::Made(reach));
     remember_now(alloc, of_view, parts, asked, &answer);
     Ok(answer)
@@ -106,11 +101,10 @@ fn search_near(
     parts: &Parts<'_>,
     asked: &Asked<'_>,
     made: u64,
-) -> Result<Answer, AskFault>
+) -> Result<Answer, Memory>
     requires askable { IsAskable parts.now asked.now }
     requires settled { AreSettled parts.now of_view.old }
     ensures answered { IfOk result (IsAnswered parts.now asked.now) }
-    ensures memory { OnErr result (result ≡ Err AskFault.Memory) }
     ensures right { AreRightIn parts.now.keyring.now of_view.new }
 {
     let most = of_view.most_looks(parts);
@@ -134,35 +128,35 @@ fn search_near(
             spend(alloc, of_view, parts, looked);
             Ok(answer)
         }
-        Err(LookFault::Memory) => Err(AskFault::Memory),
+        Err(LookFault::Memory) => Err(Memory),
         Err(LookFault::Spent) => search_far(alloc, of_view, parts, asked),
     }
 }
 
-/// The answer, by a new search: within the view's table if it has a current one.
-fn search(
+/// The answer from what the view keeps: a kept one, or by a search within the kept table of reach if that is current.
+/// None if the view keeps neither, or when out of memory.
+fn recalled(
     alloc: Global,
     of_view: &mut Answers,
     parts: &Parts<'_>,
     asked: &Asked<'_>,
-    made: u64,
-) -> Result<Answer, AskFault>
+) -> Option<Answer>
     requires askable { IsAskable parts.now asked.now }
     requires settled { AreSettled parts.now of_view.old }
-    ensures answered { IfOk result (IsAnswered parts.now asked.now) }
-    ensures memory { OnErr result (result ≡ Err AskFault.Memory) }
-    ensures right { AreRightIn parts.now.keyring.now of_view.new }
+    ensures answered { IfSome result (IsAnswered parts.now asked.now) }
+    ensures settled { AreSettled parts.now of_view.new }
 {
-    match search_kept(alloc, of_view, parts, asked) {
-        Some(answer) => {
-            remember_now(alloc, of_view, parts, asked, &answer);
-            Ok(answer)
-        }
-        None => search_near(alloc, of_view, parts, asked, made),
+    if let Some(answer) = of_view.give(parts, asked) {
+        return Some(answer);
     }
+    let Some(answer) = search_kept(alloc, of_view, parts, asked) else {
+        return None;
+    };
+    remember_now(alloc, of_view, parts, asked, &answer);
+    Some(answer)
 }
 
-/// The answer: a kept one, or by a new search.
+/// The answer: from what the view keeps, or by a new search.
 fn find(
     alloc: Global,
     of_view: &mut Answers,
@@ -179,9 +173,12 @@ fn find(
     if !of_view.settle(alloc, parts.roots) {
         return Err(AskFault::Memory);
     }
-    match of_view.give(parts, asked) {
-        Some(answer) => Ok(answer),
-        None => search(alloc, of_view, parts, asked, made),
+    if let Some(answer) = recalled(alloc, of_view, parts, asked) {
+        return Ok(answer);
+    }
+    match search_near(alloc, of_view, parts, asked, made) {
+        Ok(answer) => Ok(answer),
+        Err(Memory) => Err(AskFault::Memory),
     }
 }
 

@@ -5,7 +5,7 @@ ghost use Rattle.std.specs.Map.{remove_entry};
 ghost use Rattle.wot_held.specs.Keyring.{Keyring as Held};
 ghost use Rattle.wot_kept.specs.Answers.{AreAllRight, AreRightIn, IsFound, IsRight, KeepsFor};
 ghost use Rattle.wot_kept.specs.Names.{IsForgotten, is_name};
-ghost use Rattle.wot_kept.specs.Asked.{AreSettled, IsAnswered, IsConsulted};
+ghost use Rattle.wot_kept.specs.Asked.{AreSettled, IsAnswered, IsConsulted, IsKeptNow};
 
 use crate::answers::{Answers, KeptAnswer};
 use crate::asked::Asked;
@@ -15,12 +15,39 @@ use std::alloc::Global;
 use std::collections::BTreeMap;
 use wot_auth::Answer;
 use wot_keyring::laws::later_is_order;
-use wot_looked::look_at;
+use wot_looked::{Looked, look_at};
 use wot_network::laws::records_agree;
 use wot_search::Consulted;
 use wot_types::{Memory, UserId, ViewName};
 
 pub type AllAnswers = BTreeMap<ViewName, Answers, Global>;
+
+/// An answer with its question, found valid now. It depends on the fingerprints of `looked`, or on the whole keyring if
+/// that is None.
+fn kept_now(
+    alloc: Global,
+    parts: &Parts<'_>,
+    asked: &Asked<'_>,
+    answer: &Answer,
+    looked: Option<Vec<Looked>>,
+) -> Result<KeptAnswer, Memory>
+    ensures kept { IfOk result (IsKeptNow parts.now asked.now answer.now looked) }
+{
+    let key = key_of(asked);
+    let uid = UserId::new(alloc, asked.uid)?;
+    let answer = answer.duplicate()?;
+    Ok(KeptAnswer {
+        key,
+        target: *asked.target,
+        wanted: asked.wanted,
+        uid,
+        time: parts.t,
+        looked,
+        answer,
+        count: parts.keyring.changes(),
+        turn: 0,
+    })
+}
 
 /// An answer with its question and the fingerprints that it depends on.
 fn with_grounds(
@@ -40,20 +67,7 @@ fn with_grounds(
     // Its contract says that stamps are at most the count of changes.
     let _count = parts.keyring.len();
     let looked = look_at(alloc, consulted, parts.keyring, parts.roots)?;
-    let key = key_of(asked);
-    let uid = UserId::new(alloc, asked.uid)?;
-    let answer = answer.duplicate()?;
-    Ok(KeptAnswer {
-        key,
-        target: *asked.target,
-        wanted: asked.wanted,
-        uid,
-        time: parts.t,
-        looked: Some(looked),
-        answer,
-        count: parts.keyring.changes(),
-        turn: 0,
-    })
+    kept_now(alloc, parts, asked, answer, Some(looked))
 }
 
 /// An answer with its question, which depends on the whole keyring.
@@ -67,20 +81,7 @@ fn without_grounds(
     ensures right { IfOk result (λ kept. IsRight parts.now.keyring.now kept) }
     ensures found { IfOk result (λ kept. IsFound parts.now.keyring.now parts.now.roots.now kept) }
 {
-    let key = key_of(asked);
-    let uid = UserId::new(alloc, asked.uid)?;
-    let answer = answer.duplicate()?;
-    Ok(KeptAnswer {
-        key,
-        target: *asked.target,
-        wanted: asked.wanted,
-        uid,
-        time: parts.t,
-        looked: None,
-        answer,
-        count: parts.keyring.changes(),
-        turn: 0,
-    })
+    kept_now(alloc, parts, asked, answer, None)
 }
 
 /// Keeps the answer to a question, unless memory runs out.
