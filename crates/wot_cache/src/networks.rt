@@ -1,6 +1,6 @@
 //! The networks that an engine keeps for its views, by name, so that nothing is made again when nothing changed.
 //! `present` refreshes them; closing a view forgets its network.
-ghost use Rattle.std.specs.Prelude.{◌≡◌, Some, None, OnOk, OnErr, IsSomeAnd};
+ghost use Rattle.std.specs.Prelude.{◌≡◌, Some, OnOk, OnErr, IsSomeAnd};
 ghost use Rattle.std.specs.Option.{option_copied};
 ghost use Rattle.std.specs.BTreeMap.{insert_entry};
 ghost use Rattle.std.specs.Map.{lookup, remove_entry};
@@ -63,30 +63,11 @@ pub fn refresh(
 {
     match networks.get_mut(view) {
         Some(network) => network.refresh(keyring, t, steps),
-        None => begin(alloc, networks, view, keyring, t, steps),
+        None => {
+            let mut network = Network::new(alloc, t);
+            network.refresh(keyring, t, steps)?;
+            let name = view.duplicate(alloc)?;
+            keep(networks, name, network)
+        }
     }
-}
-
-/// Makes the first network of a view.
-fn begin(
-    alloc: Global,
-    networks: &mut Networks,
-    view: &ViewName,
-    keyring: &Keyring,
-    t: u32,
-    steps: &mut Steps,
-) -> Result<(), Memory>
-    requires fit { AllFit networks.old.entries keyring.now }
-    requires none { lookup (is_name view.now) networks.old.entries ≡ None }
-    ensures fit { AllFit networks.new.entries keyring.now }
-    ensures right { OnOk result (IsSomeAnd (lookup (is_name view.now) networks.new.entries)
-        (λ network. IsRight network keyring.now t)) }
-    ensures made { AreRenewed result view.now keyring.now t (networks.old.entries, steps.old.made)
-        (networks.new.entries, steps.new.made) }
-    ensures others { OthersStay view.now networks.old.entries networks.new.entries }
-{
-    let mut network = Network::new(alloc, t);
-    network.refresh(keyring, t, steps)?;
-    let name = view.duplicate(alloc)?;
-    keep(networks, name, network)
 }
