@@ -1,5 +1,6 @@
 -- Copies that keep their marks are equal.
-use Rattle.std.proofs.Common.{◌≡◌, List, [], ◌∷◌, ◌++◌, map, refl, ap, ◌∙◌}
+use Rattle.std.proofs.Common.{◌≡◌, Bool, List, [], ◌∷◌, map, Result, Ok, Err, refl, ap, ◌∙◌}
+use Rattle.std.specs.Prelude.{IfOk}
 use Rattle.wot_part.specs.declared.sig.Marks.TheVariants.{Kept}
 use Rattle.wot_part.specs.Certificate.{Signature, Component, Certificate, part_with, with_each}
 use Rattle.wot_part.specs.Copied.{copied}
@@ -24,13 +25,14 @@ cert_kept c =
     { direct = c.direct; user_ids = c.user_ids; attributes = u }) (parts_kept c.attributes)
     ∙ ap (λ (u : List Component). record c { subkeys = u }) (parts_kept c.subkeys)
 
--- what was pushed, with its marks
-pub sigs_pushed : (out' out xs : List Signature) → out' ≡ out ++ map (copied Kept) xs → out' ≡ out ++ xs
-sigs_pushed out' out xs e = e ∙ ap (λ ys. out ++ ys) (sigs_kept xs)
+-- ---- what a call made that copies with the same marks
 
-pub part_pushed : (out' out : List Component) (x : Component) → out' ≡ out ++ part_with (copied Kept) x ∷ []
-    → out' ≡ out ++ x ∷ []
-part_pushed out' out x e = e ∙ ap (λ y. out ++ y ∷ []) (part_kept x)
+pub same_sig : {E : Type 0} (r : Result Signature E) (s : Signature) (mark : Bool) → mark ≡ s.admitted
+    → IfOk r (λ made. made ≡ record s { admitted = mark }) → IfOk r (λ made. made ≡ s)
+same_sig (Ok made) s mark m e = e ∙ ap (λ (b : Bool). record s { admitted = b }) m
+same_sig (Err fault) s mark m e = tt
 
-pub parts_pushed : (out' out xs : List Component) → out' ≡ out ++ map (part_with (copied Kept)) xs → out' ≡ out ++ xs
-parts_pushed out' out xs e = e ∙ ap (λ ys. out ++ ys) (parts_kept xs)
+pub same_part : {E : Type 0} (r : Result Component E) (p : Component)
+    → IfOk r (λ made. made ≡ part_with (copied Kept) p) → IfOk r (λ made. made ≡ p)
+same_part (Ok made) p e = e ∙ part_kept p
+same_part (Err fault) p e = tt

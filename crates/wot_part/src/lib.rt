@@ -9,6 +9,7 @@ pub mod growing;
 pub mod growth;
 pub mod judge;
 pub mod measure;
+mod merging;
 pub mod part;
 pub mod shrinking;
 pub mod sig;

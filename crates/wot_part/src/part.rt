@@ -15,6 +15,7 @@ ghost use Rattle.wot_policy.specs.Kept.{IsFaithful, rows_of};
 
 use crate::growing::put_sigs;
 use crate::judge::judge_new;
+use crate::merging::{Ranked, put_merged};
 use crate::shrinking::take_sigs_back;
 use crate::sig::{Marks, copy_sigs, put_union as put_union_of_sigs};
 use crate::{Adds, Sig};
@@ -158,12 +159,22 @@ pub(crate) fn push_copy(
     Ok(())
 }
 
-fn push_union(alloc: Global, out: &mut Vec<Part>, a: &Part, b: &Part) -> Result<(), Memory>
-    ensures { OnOk result (out.new.items ≡ out.old.items ++ unite_part a.now b.now ∷ []) }
-{
-    let union = a.union(alloc, b)?;
-    out.push(union)?;
-    Ok(())
+impl Ranked for Part {
+    ghost rank = { part_cmp };
+
+    ghost join = { unite_part };
+
+    fn against(&self, other: &Part) -> Ordering {
+        order(self, other)
+    }
+
+    fn again(&self, alloc: Global) -> Result<Part, Memory> {
+        self.copied(alloc, Marks::Kept)
+    }
+
+    fn joined(&self, alloc: Global, other: &Part) -> Result<Part, Memory> {
+        self.union(alloc, other)
+    }
 }
 
 pub fn push_copies(
@@ -189,29 +200,5 @@ pub fn put_union(alloc: Global, out: &mut Vec<Part>, a: &[Part], b: &[Part]) -> 
     requires b { IsRising part_cmp b.now }
     ensures union { OnOk result (out.new.items ≡ unite_parts a.now b.now) }
 {
-    let mut left = a;
-    let mut right = b;
-    'walk: while let Some((x, xs)) = left.split_first() {
-        let Some((y, ys)) = right.split_first() else {
-            push_copies(alloc, out, left, Marks::Kept)?;
-            return Ok(());
-        };
-        match order(x, y) {
-            Ordering::Less => {
-                push_copy(alloc, out, x, Marks::Kept)?;
-                left = xs;
-            }
-            Ordering::Equal => {
-                push_union(alloc, out, x, y)?;
-                left = xs;
-                right = ys;
-            }
-            Ordering::Greater => {
-                push_copy(alloc, out, y, Marks::Kept)?;
-                right = ys;
-            }
-        }
-    }
-    push_copies(alloc, out, right, Marks::Kept)?;
-    Ok(())
+    put_merged(alloc, out, a, b)
 }

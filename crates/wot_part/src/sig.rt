@@ -3,13 +3,14 @@
 //! It stands on `wot_signature`, `wot_verdict` and `wot_policy`, and on `specs/Certificate.antt` and
 //! `specs/Judged.antt`. Lists of signatures are sorted by body and merged here.
 ghost use Rattle.std.specs.Prelude.{◌≡◌, ◌<◌, ◌^◌, OnOk, IfOk, [], ◌∷◌, ◌++◌, length, map, if◌then◌else◌};
-ghost use Rattle.wot_part.specs.Certificate.{sig_cmp, unite_sigs, said_by, fresh};
+ghost use Rattle.wot_part.specs.Certificate.{kept, sig_cmp, unite_sigs, said_by, fresh};
 ghost use Rattle.wot_part.specs.Copied.{mark_under, copied};
 ghost use Rattle.wot_part.specs.Judged.{judged_sig, if_sound};
 ghost use Rattle.wot_part.specs.Marked.{mark_by, one_if_sound, is_admitted_as};
 ghost use Rattle.wot_part.specs.Ranked.{IsRising};
 ghost use Rattle.wot_policy.specs.Kept.{IsFaithful, rows_of, asked_more};
 
+use crate::merging::{Ranked, put_merged};
 use std::alloc::Global;
 use std::cmp::Ordering;
 use std::marker::Model;
@@ -168,6 +169,24 @@ fn judge_said<F: Fn(Ask) -> bool>(facts: SigFacts, policy: &mut Policy<F>) -> bo
     })
 }
 
+impl Ranked for Sig {
+    ghost rank = { sig_cmp };
+
+    ghost join = { kept };
+
+    fn against(&self, other: &Sig) -> Ordering {
+        order(self, other)
+    }
+
+    fn again(&self, alloc: Global) -> Result<Sig, Memory> {
+        self.marked(alloc, self.admitted())
+    }
+
+    fn joined(&self, alloc: Global, _other: &Sig) -> Result<Sig, Memory> {
+        self.marked(alloc, self.admitted())
+    }
+}
+
 fn mark_of(sig: &Sig, marks: Marks) -> bool
     ensures { result ≡ mark_under marks sig.now.admitted }
 {
@@ -229,29 +248,5 @@ pub fn put_union(alloc: Global, out: &mut Vec<Sig>, a: &[Sig], b: &[Sig]) -> Res
     ensures union { OnOk result (out.new.items ≡ unite_sigs a.now b.now) }
     ensures rises { OnOk result (IsRising sig_cmp out.new.items) }
 {
-    let mut left = a;
-    let mut right = b;
-    'walk: while let Some((x, xs)) = left.split_first() {
-        let Some((y, ys)) = right.split_first() else {
-            push_copies(alloc, out, left, Marks::Kept)?;
-            return Ok(());
-        };
-        match order(x, y) {
-            Ordering::Less => {
-                push_copy(alloc, out, x, Marks::Kept)?;
-                left = xs;
-            }
-            Ordering::Equal => {
-                push_copy(alloc, out, x, Marks::Kept)?;
-                left = xs;
-                right = ys;
-            }
-            Ordering::Greater => {
-                push_copy(alloc, out, y, Marks::Kept)?;
-                right = ys;
-            }
-        }
-    }
-    push_copies(alloc, out, right, Marks::Kept)?;
-    Ok(())
+    put_merged(alloc, out, a, b)
 }
