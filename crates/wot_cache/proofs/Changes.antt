@@ -1,14 +1,23 @@
 -- The state after a change of the keyring.
-use Rattle.std.proofs.Common.{◌≡◌, Result, Ok, Err, OnOk, sym, ap}
+use Rattle.std.proofs.Common.{◌≡◌, ℕ, Bool, List, Result, Ok, Err, OnOk, refl, sym, ap, subst}
+use Rattle.std.specs.Fn.{Shared}
 use Rattle.std.proofs.lemmas.Map.Made.{lookup-map_values}
 use Rattle.wot_types.specs.declared.fpr.Fpr.{Fpr}
+use Rattle.wot_policy.specs.declared.policy.Policy.{Policy}
+use Rattle.wot_policy.specs.declared.rows.Ask.{Ask}
+use Rattle.wot_policy.specs.declared.rows.PolicyRows.{PolicyRows}
 use Rattle.wot_held.specs.declared.kept.Kept.{Kept}
 use Rattle.wot_held.specs.Held.{Held, held_of, cert_in}
+use Rattle.wot_held.specs.Import.{IsOneChange, imported, importing}
+use Rattle.wot_held.specs.Judging.{IsJudging}
 use Rattle.wot_held.specs.Keyring.{Keyring, cert_at, is_fpr}
 use Rattle.wot_kept.specs.Answers.{AllAnswers}
+use Rattle.wot_cache.specs.Changes.{ChangesKeyring, IsImported}
+use Rattle.wot_cache.specs.Inside.{Networks}
+use Rattle.wot_cache.specs.Marks.{shown}
 use Rattle.wot_cache.specs.Views.{Views}
 use Rattle.wot_cache.specs.Dump.{engine_of}
-use Rattle.wot_cache.specs.State.{Engine, ViewMarks, state_of, with_held}
+use Rattle.wot_cache.specs.State.{Engine, State, ViewMarks, state_of, with_held}
 use Rattle.wot_cache.specs.Turns.{Turns}
 
 pub found : (k : Keyring) (fpr : Fpr) → cert_at k fpr ≡ cert_in (held_of k) fpr
@@ -23,3 +32,33 @@ pub held_state : {A E : Type 0} {marks : ViewMarks} {turns : Turns} {answers : A
 held_state (Ok done) old k new views change seen held =
     rw (← seen) (ap (λ (h : Held). record { held = h; views = views }) held)
 held_state (Err fault) old k new views change seen held = held
+
+-- a change of the keyring alone
+pub changes_keyring : {turns : Turns} {answers : AllAnswers} (old : Engine) (k new : Keyring) (views : Views)
+    (networks : Networks) → shown k views networks turns answers ≡ old → IsOneChange k new → new.limits ≡ k.limits
+    → ChangesKeyring old (shown new views networks turns answers)
+changes_keyring {turns = turns} {answers = answers} old k new views networks seen counted limits =
+    subst (λ (e : Engine). ChangesKeyring e (shown new views networks turns answers)) seen
+    (record { counted = counted; limits = limits; views = refl; marks = refl; turns = refl })
+
+-- the state with this held, and these views
+abbrev with_views : Views → Held → State
+with_views views held = record { held = held; views = views }
+
+-- an import into the keyring
+pub imported_into : {A E : Type 0} {turns : Turns} {answers : AllAnswers} (result : Result A E) (old : Engine)
+    (k new : Keyring) (views : Views) (networks : Networks) (rows : PolicyRows) (octets : List ℕ)
+    → shown k views networks turns answers ≡ old → OnOk result (new ≡ imported rows k octets)
+    → OnOk result (held_of new ≡ importing rows octets (held_of k))
+    → OnOk result (IsImported rows octets old (shown new views networks turns answers))
+imported_into {turns = turns} {answers = answers} (Ok done) old k new views networks rows octets seen put held =
+    subst (λ (e : Engine). IsImported rows octets e (shown new views networks turns answers)) seen
+    (record { keyring = put; state = ap (with_views views) held })
+imported_into {turns = turns} {answers = answers} (Err fault) old k new views networks rows octets seen put held = tt
+
+-- what the engine's keyring is judged by, its own keyring is
+pub judging_inside : {F : Type 0} {turns : Turns} {answers : AllAnswers} (calls : Shared F (Ask × Unit {0}) Bool)
+    (policy : Policy F) (old : Engine) (k : Keyring) (views : Views) (networks : Networks)
+    → shown k views networks turns answers ≡ old → IsJudging calls policy old.keyring → IsJudging calls policy k
+judging_inside calls policy old k views networks seen judging =
+    subst (λ (e : Engine). IsJudging calls policy e.keyring) (sym seen) judging

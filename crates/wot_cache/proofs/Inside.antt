@@ -20,7 +20,7 @@ use Rattle.wot_held.specs.Later.{IsLater}
 use Rattle.wot_network.specs.Net.{Net, Fits}
 use Rattle.wot_cache.specs.declared.view.View.{View}
 use Rattle.wot_kept.specs.Answers.{AllAnswers}
-use Rattle.wot_cache.specs.Inside.{IsEngine, AllFit, Networks}
+use Rattle.wot_cache.specs.Inside.{IsEngine, AllFit, FitLater, Networks}
 use Rattle.wot_cache.specs.Turns.{Turns}
 use Rattle.wot_cache.specs.Views.{Views, AreWithinLimits, is_name, view_at, with_amount, amount_fault, root_fault}
 use Rattle.wot_cache.specs.Views.{without_view}
@@ -76,10 +76,6 @@ pub few_there : (l : Limits) (views : Views) (name : List ℕ) (v : View) → Ar
 few_there l views name v w e = each_found (Few l.roots) (is_name name) views v w.few_roots e
 
 -- ---- networks
-
--- the law that a network fits each later keyring
-abbrev pub FitLater : Type 0
-FitLater = (n : Net) (old new : Keyring) → Fits n old → IsLater old new → Fits n new
 
 pub all_fit : FitLater → (networks : Networks) (old new : Keyring) → IsLater old new → AllFit networks old
     → AllFit networks new

@@ -4,6 +4,7 @@ use Rattle.std.specs.List.{AllByRecursion}
 use Rattle.std.specs.Map.{lookup}
 use Rattle.wot_held.specs.Keyring.{Keyring}
 use Rattle.wot_held.specs.Kept.{AreSmall}
+use Rattle.wot_held.specs.Later.{IsLater}
 use Rattle.wot_network.specs.Net.{Net, Fits, IsRight}
 use Rattle.wot_cache.specs.declared.view.View.{View}
 use Rattle.wot_kept.specs.Answers.{AllAnswers, AreAllRight}
@@ -16,6 +17,10 @@ Networks = List (List ℕ × Net)
 
 abbrev pub AllFit : Networks → Keyring → Type 0
 AllFit networks k = AllByRecursion (λ (e : List ℕ × Net). Fits e.1 k) networks
+
+-- the law that a network fits each later keyring
+abbrev pub FitLater : Type 0
+FitLater = (n : Net) (old new : Keyring) → Fits n old → IsLater old new → Fits n new
 
 -- the network of a view
 abbrev pub network_at : Networks → List ℕ → Option Net

@@ -4,6 +4,7 @@ pub mod Basis
 pub mod Inside
 pub mod Marks
 pub mod State
+pub mod Changes
 pub mod Lent
 pub mod Parts
 pub mod Question

@@ -3,11 +3,12 @@
 //! alone.
 ghost use Rattle.std.specs.Prelude.{◌≡◌, ◌<◌, ◌≤◌, ◌+◌, ◌-◌, ◌^◌, ◌++◌, ℕ, List, [], length};
 ghost use Rattle.std.specs.Prelude.{Some, is_ok, is_some, IfOk, IfSome, IsSomeAnd, OnOk, OnErr};
-ghost use Rattle.wot_policy.specs.Kept.{IsFaithful, rows_of, asked_more};
+ghost use Rattle.wot_policy.specs.Kept.{rows_of};
 ghost use Rattle.wot_held.specs.Keyring.{verdict_on};
 ghost use Rattle.wot_held.specs.Held.{held_of, cert_in, removing, verdict_set, verdict_cleared};
-ghost use Rattle.wot_held.specs.Kept.{AreSmall, IsJudgedBy, StaysJudged};
-ghost use Rattle.wot_held.specs.Import.{ImportReturns, AsksFor, IsOneChange, imported, importing};
+ghost use Rattle.wot_held.specs.Judging.{IsJudging, StaysJudging};
+ghost use Rattle.wot_held.specs.Kept.{AreSmall, StaysJudged};
+ghost use Rattle.wot_held.specs.Import.{ImportAsks, ImportReturns};
 ghost use Rattle.wot_held.specs.Removal.{without_cert};
 ghost use Rattle.wot_held.specs.Verdict.{without_verdict_on, SetsVerdict, TellsFull};
 ghost use Rattle.wot_edge.specs.Answer.{IsAnswer, amount_of};
@@ -18,6 +19,7 @@ ghost use Rattle.wot_network.specs.Net.{signatures_in, told_of};
 ghost use Rattle.wot_network.specs.Roads.{present_of};
 ghost use Rattle.wot_keyring.specs.Dump.{lines_of, AreLines};
 ghost use Rattle.wot_policy.specs.declared.rows.PolicyRows.{PolicyRows as Rows};
+ghost use Rattle.wot_cache.specs.Changes.{ChangesKeyring, IsImported};
 ghost use Rattle.wot_cache.specs.Consulted.{ConsultsLeads};
 ghost use Rattle.wot_cache.specs.Dump.{commands_of, IsRestored};
 ghost use Rattle.wot_cache.specs.Marks.{IsRefreshed};
@@ -32,6 +34,7 @@ mod resting;
 mod view;
 
 use crate::dump::put_engine;
+use crate::laws::kept_fits_later;
 use crate::present::Networked;
 use crate::turns::Turns;
 use std::alloc::Global;
@@ -39,10 +42,8 @@ use std::collections::BTreeMap;
 use std::marker::Model;
 use wot_auth::Answer;
 use wot_kept::{AllAnswers, AskFault, Asked, Parts, answer};
-use wot_keyring::laws::later_is_order;
 use wot_keyring::{Absent, Imported, Keyring, Refusal};
 use wot_network::NetRoads;
-use wot_network::laws::fits_later;
 use wot_policy::{Ask, Policy};
 use wot_types::{Fpr, Limits, Memory, SigNumber, Steps, ViewName};
 use wot_verdict::Verdict;
@@ -106,24 +107,15 @@ impl Engine {
     ) -> Result<Imported, Refusal>
         requires countable { self.old.keyring.changes < 2 ^ 64 - 1 }
         requires short { length bytes.now < 2 ^ 29 }
-        requires judged { IsJudgedBy (rows_of policy.old) self.old.keyring }
-        requires faithful { IsFaithful F.Fn policy.old }
+        requires judging { IsJudging F.Fn policy.old self.old.keyring }
         ensures answer { ImportReturns result (rows_of policy.old) self.old.keyring bytes.now }
-        ensures imported { OnOk result (self.new.keyring ≡ imported (rows_of policy.old) self.old.keyring bytes.now) }
-        ensures state { OnOk result (IsStateAfter (importing (rows_of policy.old) bytes.now) self.old self.new) }
+        ensures imported { OnOk result (IsImported (rows_of policy.old) bytes.now self.old self.new) }
         ensures kept { OnErr result (self.new ≡ self.old) }
-        ensures asked { AsksFor result (rows_of policy.old) self.old.keyring bytes.now
-            (λ k. policy.new ≡ asked_more k policy.old) }
-        ensures judged { IsJudgedBy (rows_of policy.old) self.new.keyring }
-        ensures faithful { IsFaithful F.Fn policy.new }
-        ensures counted { IsOneChange self.old.keyring self.new.keyring }
-        ensures limits { self.new.keyring.limits ≡ self.old.keyring.limits }
-        ensures views { self.new.views ≡ self.old.views }
-        ensures marks { self.new.marks ≡ self.old.marks }
-        ensures turns { self.new.turns ≡ self.old.turns }
+        ensures asked { ImportAsks result self.old.keyring bytes.now policy.old policy.new }
+        ensures judging { StaysJudging F.Fn policy.old policy.new self.new.keyring }
+        ensures changes { ChangesKeyring self.old self.new }
     {
-        fits_later();
-        later_is_order();
+        kept_fits_later();
         self.networked.keyring.import(self.alloc, bytes, policy)
     }
 
@@ -135,14 +127,9 @@ impl Engine {
         ensures absent { is_ok result ≡ is_some (cert_in (held_of self.old.keyring) fpr.now) }
         ensures kept { OnErr result (self.new ≡ self.old) }
         ensures judged { StaysJudged self.old.keyring self.new.keyring }
-        ensures counted { IsOneChange self.old.keyring self.new.keyring }
-        ensures limits { self.new.keyring.limits ≡ self.old.keyring.limits }
-        ensures views { self.new.views ≡ self.old.views }
-        ensures marks { self.new.marks ≡ self.old.marks }
-        ensures turns { self.new.turns ≡ self.old.turns }
+        ensures changes { ChangesKeyring self.old self.new }
     {
-        fits_later();
-        later_is_order();
+        kept_fits_later();
         self.networked.keyring.remove(fpr)
     }
 
@@ -155,14 +142,9 @@ impl Engine {
         ensures full { TellsFull result self.old.keyring number }
         ensures kept { OnErr result (self.new ≡ self.old) }
         ensures judged { StaysJudged self.old.keyring self.new.keyring }
-        ensures counted { IsOneChange self.old.keyring self.new.keyring }
-        ensures limits { self.new.keyring.limits ≡ self.old.keyring.limits }
-        ensures views { self.new.views ≡ self.old.views }
-        ensures marks { self.new.marks ≡ self.old.marks }
-        ensures turns { self.new.turns ≡ self.old.turns }
+        ensures changes { ChangesKeyring self.old self.new }
     {
-        fits_later();
-        later_is_order();
+        kept_fits_later();
         self.networked.keyring.set_verdict(number, verdict)
     }
 
@@ -174,14 +156,9 @@ impl Engine {
         ensures absent { is_ok result ≡ is_some (verdict_on self.old.keyring number.now) }
         ensures kept { OnErr result (self.new ≡ self.old) }
         ensures judged { StaysJudged self.old.keyring self.new.keyring }
-        ensures counted { IsOneChange self.old.keyring self.new.keyring }
-        ensures limits { self.new.keyring.limits ≡ self.old.keyring.limits }
-        ensures views { self.new.views ≡ self.old.views }
-        ensures marks { self.new.marks ≡ self.old.marks }
-        ensures turns { self.new.turns ≡ self.old.turns }
+        ensures changes { ChangesKeyring self.old self.new }
     {
-        fits_later();
-        later_is_order();
+        kept_fits_later();
         self.networked.keyring.clear_verdict(number)
     }
 

@@ -6,8 +6,13 @@ ghost use Rattle.wot_held.specs.Import.{IsOneChange};
 ghost use Rattle.wot_held.specs.Keyring.{Keyring};
 ghost use Rattle.wot_cache.specs.Basis.{ClosingGoesOn, IsKeptOn, IsKeyringOn, OtherViewsStay, TurnGoesOn};
 ghost use Rattle.wot_cache.specs.Basis.{RestsOnLater, RestsOnMore};
+ghost use Rattle.wot_cache.specs.Inside.{FitLater};
 ghost use Rattle.wot_cache.specs.State.{Engine, StaysButMarks};
 ghost use Rattle.wot_cache.specs.Views.{Views, with_root, with_time};
+ghost use Rattle.wot_kept.specs.RightLaws.{LaterStill};
+
+use wot_keyring::laws::later_is_order;
+use wot_network::laws::fits_later;
 
 /// If only marks change, the engine only develops; and developing is transitive.
 pub fn kept_on_is_order()
@@ -35,3 +40,13 @@ pub fn rests_on()
     ensures grown { RestsOnMore }
     ensures later { RestsOnLater }
 {}
+
+/// What is kept for a keyring fits every later one: each network does, and what is later than a later one is later.
+/// Every change of the engine's keyring calls it.
+pub(crate) fn kept_fits_later()
+    ensures fits { FitLater }
+    ensures further { LaterStill }
+{
+    fits_later();
+    later_is_order();
+}

@@ -5,10 +5,10 @@ use Rattle.std.specs.Fn.{Shared}
 use Rattle.wot_policy.specs.declared.rows.Ask.{Ask}
 use Rattle.wot_policy.specs.declared.policy.Policy.{Policy}
 use Rattle.wot_policy.specs.Kept.{rows_of}
-use Rattle.wot_held.specs.Import.{IsOneChange}
 use Rattle.wot_held.specs.Keyring.{Keyring}
 use Rattle.wot_held.specs.Kept.{IsJudgedBy}
 use Rattle.wot_certd.specs.World.{World}
+use Rattle.wot_cache.specs.Changes.{ChangesKeyring}
 use Rattle.wot_cache.specs.State.{Engine, State}
 use Rattle.wot_script.specs.declared.command.Command.{Command}
 use Rattle.wot_script.specs.Grammar.{command_of}
@@ -24,12 +24,11 @@ pub can_change : (engine : Engine) → CanRun engine → CanChange engine
 can_change engine ready = record { standard = ready.standard; countable = ready.counts.changes }
 
 -- a call of the engine that may change what is held
-pub changes_held : (old new : Engine) → CanChange old → IsOneChange old.keyring new.keyring
-    → new.keyring.limits ≡ old.keyring.limits → new.marks ≡ old.marks → new.turns ≡ old.turns → ChangesHeld old new
-changes_held old new ready counted limits marks turns = record {
-  once = record { counted = counted; standard = limits ∙ ready.standard };
-  marks = marks;
-  turns = turns;
+pub changes_held : (old new : Engine) → CanChange old → ChangesKeyring old new → ChangesHeld old new
+changes_held old new ready changes = record {
+  once = record { counted = changes.counted; standard = changes.limits ∙ ready.standard };
+  marks = changes.marks;
+  turns = changes.turns;
 }
 
 -- nothing happened

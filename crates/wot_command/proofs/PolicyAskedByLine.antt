@@ -5,7 +5,7 @@ use Rattle.std.specs.Prelude.{IfOk, is_ok, max, min}
 use Rattle.wot_types.specs.declared.memory.Memory.{Memory}
 use Rattle.wot_policy.specs.declared.policy.Policy.{Policy}
 use Rattle.wot_policy.specs.declared.rows.PolicyRows.{PolicyRows}
-use Rattle.wot_policy.specs.Kept.{asked_more, rows_of}
+use Rattle.wot_policy.specs.Kept.{asked_more}
 use Rattle.wot_held.specs.declared.imported.Imported.{Imported}
 use Rattle.wot_held.specs.declared.refusal.Refusal.{Refusal}
 use Rattle.wot_held.specs.declared.refusal.Refusal.TheVariants as refusals
@@ -59,12 +59,6 @@ module _ {F : Type 0} where
   -- nothing was asked
   pub not_asked : (p : Policy F) → p ≡ asked_more 0 p
   not_asked p = ap (λ (n : ℕ). record p { asked = n }) (none_more p.asked)
-
-  -- asking leaves the rows
-  pub rows_stay : (r : Result Imported Refusal) (rows : PolicyRows) (old : Keyring) (octets : List ℕ)
-      (before after : Policy F) → AsksFor r rows old octets (λ k. after ≡ asked_more k before)
-      → rows_of after ≡ rows_of before
-  rows_stay r rows old octets before after a = ap (λ (p : Policy F). rows_of p) a.1
 
   -- what was added was asked about
   pub asked_new : {T E : Type 0} (x : T) (rows : PolicyRows) (old new : Engine) (octets : List ℕ) (counts : Imported)

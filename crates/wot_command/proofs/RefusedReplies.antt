@@ -1,5 +1,5 @@
--- Refused commands and their replies.
-use Rattle.std.proofs.Common.{◌≡◌, ◌≢◌, inl, inr, ℕ, true, List, Option, Err, refl}
+-- The replies to commands that are refused, and to imports.
+use Rattle.std.proofs.Common.{◌≡◌, ◌≢◌, inl, inr, ℕ, true, List, Option, Ok, Err, refl}
 use Rattle.wot_types.specs.declared.limits.Limit.TheVariants as words
 use Rattle.wot_types.specs.declared.name.Name.{Name}
 use Rattle.wot_types.specs.declared.number.SigNumber.{SigNumber}
@@ -8,13 +8,15 @@ use Rattle.wot_policy.specs.declared.rows.PolicyRows.{PolicyRows}
 use Rattle.wot_verdict.specs.declared.verdict.Verdict.{Verdict}
 use Rattle.wot_held.specs.declared.refusal.Refusal.{Refusal}
 use Rattle.wot_held.specs.declared.refusal.Refusal.TheVariants as refusals
-use Rattle.wot_held.specs.Import.{ImportReturns, ReturnsUnder, Demand, answer_under, any, is_entry}
+use Rattle.wot_held.specs.declared.imported.Imported.{Imported}
+use Rattle.wot_held.specs.Import.{ImportReturns, ReturnsUnder, Demand, answer_under, any, importing, is_entry}
 use Rattle.wot_held.specs.Verdict.{TellsFull, is_over}
 use Rattle.wot_script.specs.declared.reply.Reply.{Reply}
+use Rattle.wot_script.specs.declared.reply.Reply.TheVariants as replies
 use Rattle.wot_certd.specs.World.{Answer}
 use Rattle.wot_cache.specs.declared.view.ViewFault.{ViewFault}
 use Rattle.wot_cache.specs.declared.view.ViewFault.TheVariants as faults
-use Rattle.wot_cache.specs.State.{State, Engine, state_of}
+use Rattle.wot_cache.specs.State.{State, Engine, IsStateAfter, state_of}
 use Rattle.wot_cache.specs.Views.{TellsFault}
 use Rattle.wot_step.specs.Outcome.{unless, view_refusal, refusal, import, imports, load, set_verdict}
 use Rattle.wot_step.specs.LineStep.{ComesTo}
@@ -54,6 +56,35 @@ pub load_gives : (name : Name) (rows : PolicyRows) (old new : Engine) (octets : 
     → ComesTo (load rows (state_of old) name (Answer.entry octets)) reply (state_of new)
 load_gives name rows old new octets told reply std answers same is =
     under_gives (is_entry name) rows old new octets told reply std answers same is
+
+-- ---- octets that are taken
+
+under_taken : (demand : Demand) (rows : PolicyRows) (old new : Engine) (octets : List ℕ) (counts : Imported)
+    → old.keyring.limits ≡ standard_limits → ReturnsUnder demand (Ok counts) rows old.keyring octets
+    → IsStateAfter (importing rows octets) old new
+    → ComesTo (imports rows (state_of old) octets (answer_under demand rows standard_limits (state_of old).held.certs
+    octets)) (replies.Taken counts.taken counts.skipped counts.fresh) (state_of new)
+under_taken demand rows old new octets counts std (inl e) is =
+    let e' : Ok counts ≡ answer_under demand rows standard_limits (state_of old).held.certs octets = rw std at e in
+    rw (← e') (refl, is)
+under_taken demand rows old new octets counts std (inr e) is = absurd cc
+
+pub import_taken : (rows : PolicyRows) (old new : Engine) (octets : List ℕ) (counts : Imported)
+    → old.keyring.limits ≡ standard_limits → ImportReturns (Ok counts) rows old.keyring octets
+    → IsStateAfter (importing rows octets) old new
+    → ComesTo (import rows (state_of old) octets) (replies.Taken counts.taken counts.skipped counts.fresh)
+    (state_of new)
+import_taken rows old new octets counts std answers is = under_taken any rows old new octets counts std answers is
+
+pub load_taken : (name : Name) (rows : PolicyRows) (old new : Engine) (octets : List ℕ) (counts : Imported)
+    → old.keyring.limits ≡ standard_limits → ReturnsUnder (is_entry name) (Ok counts) rows old.keyring octets
+    → IsStateAfter (importing rows octets) old new
+    → ComesTo (load rows (state_of old) name (Answer.entry octets))
+    (replies.Taken counts.taken counts.skipped counts.fresh) (state_of new)
+load_taken name rows old new octets counts std answers is =
+    under_taken (is_entry name) rows old new octets counts std answers is
+
+-- ---- verdicts
 
 pub judge_gives : (old new : Engine) (number : SigNumber) (v : Verdict) (told : Refusal) (reply : Reply) →
     old.keyring.limits ≡ standard_limits

@@ -1,16 +1,11 @@
 -- What a command may count on, and what it leaves for the next one.
-use Rattle.std.specs.Prelude.{◌≡◌, ◌≤◌, ◌<◌, ◌-◌, ◌^◌, ℕ, Bool, None, Option, OnErr, Result}
-use Rattle.std.specs.Fn.{Shared}
+use Rattle.std.specs.Prelude.{◌≡◌, ◌≤◌, ◌<◌, ◌-◌, ◌^◌, ℕ, None, Option, OnErr, Result}
 use Rattle.wot_types.specs.Limits.{standard_limits}
-use Rattle.wot_policy.specs.declared.rows.Ask.{Ask}
-use Rattle.wot_policy.specs.declared.policy.Policy.{Policy}
-use Rattle.wot_policy.specs.Kept.{IsFaithful, rows_of}
 use Rattle.wot_held.specs.Import.{IsOneChange}
-use Rattle.wot_held.specs.Keyring.{Keyring}
-use Rattle.wot_held.specs.Kept.{IsJudgedBy}
 use Rattle.wot_certd.specs.World.{World}
 use Rattle.wot_cache.specs.State.{Engine, State}
 use Rattle.wot_step.specs.Entry.{MayPut, Use, entry_for}
+pub use Rattle.wot_held.specs.Judging.{IsJudging, StaysJudging}
 
 -- The counts of changes and of turns can rise.
 pub record CanCount (engine : Engine) : Type 0 where
@@ -37,19 +32,6 @@ pub record ChangesHeld (old new : Engine) : Type 0 where
   pub once : ChangesOnce old new
   pub marks : new.marks ≡ old.marks
   pub turns : new.turns ≡ old.turns
-
--- The policy's rows judge what is held, and the policy answers by these rows.
-pub record IsJudging {F : Type 0} (calls : Shared F (Ask × Unit {0}) Bool) (policy : Policy F) (keyring : Keyring)
-    : Type 0 where
-  pub judged : IsJudgedBy (rows_of policy) keyring
-  pub faithful : IsFaithful calls policy
-
--- After a call, the rows that the policy had before it judge what is held, and the policy answers by these rows.
-pub record StaysJudging {F : Type 0} (calls : Shared F (Ask × Unit {0}) Bool) (old new : Policy F) (keyring : Keyring)
-    : Type 0 where
-  pub judged : IsJudgedBy (rows_of old) keyring
-  pub faithful : IsFaithful calls new
-  pub rows : rows_of new ≡ rows_of old
 
 -- What a call did to the certificate directory: nothing if it reads no entry. If memory ran out, the entries are as
 -- they were, or have what the call writes. The count of faults didn't fall.

@@ -4,7 +4,6 @@ ghost use Rattle.std.specs.Prelude.{◌≡◌, ◌<◌, ◌-◌, ◌^◌, [], le
 ghost use Rattle.wot_types.specs.Limits.{standard_limits};
 ghost use Rattle.wot_policy.specs.Kept.{rows_of};
 ghost use Rattle.wot_held.specs.Kept.{StaysJudged};
-ghost use Rattle.wot_held.specs.Import.{IsOneChange};
 ghost use Rattle.wot_script.specs.Replies.{is_short};
 ghost use Rattle.wot_cache.specs.State.{marks_at, state_of, OtherMarksStay};
 ghost use Rattle.wot_cache.specs.Turns.{IsOneClosing, IsOneTurn};
@@ -56,14 +55,10 @@ pub fn import<F: Fn(Ask) -> bool>(
 
 /// `drop FPR`: removes a certificate, or replies that it is absent. Takes no memory.
 pub fn remove(engine: &mut Engine, fpr: &Fpr) -> Reply
-    requires standard { engine.old.keyring.limits ≡ standard_limits }
-    requires countable { engine.old.keyring.changes < 2 ^ 64 - 1 }
+    requires ready { CanChange engine.old }
     ensures gives { ComesTo (remove_of (state_of engine.old) fpr.now) result (state_of engine.new) }
     ensures short { is_short result ≡ true }
-    ensures marks { engine.new.marks ≡ engine.old.marks }
-    ensures turns { engine.new.turns ≡ engine.old.turns }
-    ensures counted { IsOneChange engine.old.keyring engine.new.keyring }
-    ensures standard { engine.new.keyring.limits ≡ standard_limits }
+    ensures held { ChangesHeld engine.old engine.new }
     ensures judged { StaysJudged engine.old.keyring engine.new.keyring }
 {
     match engine.remove(fpr) {
@@ -79,16 +74,12 @@ pub fn set_verdict(
     number: SigNumber,
     verdict: Verdict,
 ) -> Result<Reply, Memory>
-    requires standard { engine.old.keyring.limits ≡ standard_limits }
-    requires countable { engine.old.keyring.changes < 2 ^ 64 - 1 }
+    requires ready { CanChange engine.old }
     ensures gives { IfOk result (λ reply.
         ComesTo (set_verdict_of (state_of engine.old) number verdict) reply (state_of engine.new)) }
     ensures short { IfOk result (λ reply. is_short reply ≡ true) }
     ensures kept { OnErr result (engine.new ≡ engine.old) }
-    ensures marks { engine.new.marks ≡ engine.old.marks }
-    ensures turns { engine.new.turns ≡ engine.old.turns }
-    ensures counted { IsOneChange engine.old.keyring engine.new.keyring }
-    ensures standard { engine.new.keyring.limits ≡ standard_limits }
+    ensures held { ChangesHeld engine.old engine.new }
     ensures judged { StaysJudged engine.old.keyring engine.new.keyring }
 {
     match engine.set_verdict(number, verdict) {
@@ -99,14 +90,10 @@ pub fn set_verdict(
 
 /// `verdict NUM none`: removes a verdict, or replies that it is absent. Takes no memory.
 pub fn clear_verdict(engine: &mut Engine, number: &SigNumber) -> Reply
-    requires standard { engine.old.keyring.limits ≡ standard_limits }
-    requires countable { engine.old.keyring.changes < 2 ^ 64 - 1 }
+    requires ready { CanChange engine.old }
     ensures gives { ComesTo (clear_verdict_of (state_of engine.old) number.now) result (state_of engine.new) }
     ensures short { is_short result ≡ true }
-    ensures marks { engine.new.marks ≡ engine.old.marks }
-    ensures turns { engine.new.turns ≡ engine.old.turns }
-    ensures counted { IsOneChange engine.old.keyring engine.new.keyring }
-    ensures standard { engine.new.keyring.limits ≡ standard_limits }
+    ensures held { ChangesHeld engine.old engine.new }
     ensures judged { StaysJudged engine.old.keyring engine.new.keyring }
 {
     match engine.clear_verdict(number) {

@@ -20,6 +20,7 @@ use Rattle.wot_packet.specs.Spelling.{Spelled}
 use Rattle.wot_packet.specs.Reading.{packets_of}
 use Rattle.wot_policy.specs.declared.policy.Policy.{Policy}
 use Rattle.wot_policy.specs.declared.rows.PolicyRows.{PolicyRows}
+use Rattle.wot_policy.specs.Kept.{asked_more, rows_of}
 use Rattle.wot_part.specs.Certificate.{Certificate, unite}
 use Rattle.wot_part.specs.Asking.{Asks}
 use Rattle.wot_cert.specs.Assembly.{certificates_of, skipped_in}
@@ -227,6 +228,11 @@ IsAsked result rows old octets k = IsAskedAbout result (asked_in rows (certifica
 abbrev pub AsksFor : Result Imported Refusal → PolicyRows → Keyring → List ℕ → (ℕ → Type 0) → Type 0
 AsksFor result rows old octets IsRisenBy = (k : ℕ) × IsRisenBy k × IsAsked result rows old octets k
 
+-- So often this policy was asked, and nothing else of it changed.
+abbrev pub ImportAsks : {F : Type 0} → Result Imported Refusal → Keyring → List ℕ → Policy F → Policy F → Type 0
+ImportAsks result old octets before after =
+    AsksFor result (rows_of before) old octets (λ k. after ≡ asked_more k before)
+
 -- Some certificate, mark or verdict that is held has changed.
 abbrev pub IsAltered : Keyring → Keyring → Type 0
 IsAltered old new = held_of new ≢ held_of old
@@ -245,3 +251,9 @@ pub record IsAlteration (old new : Keyring) : Type 0 where
 -- Either nothing was altered, not even a stamp or the count, or what is held was altered, which counts as one change.
 abbrev pub IsOneChange : Keyring → Keyring → Type 0
 IsOneChange old new = (new ≡ old) ⊎ IsAlteration old new
+
+-- The keyring after a call: at most one change was counted, what was altered has a new stamp, and the limits stay.
+pub record IsNext (old new : Keyring) : Type 0 where
+  pub counted : IsOneChange old new
+  pub later : IsLater old new
+  pub limits : new.limits ≡ old.limits

@@ -6,6 +6,7 @@ pub mod Import
 pub mod Importing
 pub mod Entry
 pub mod Kept
+pub mod Judging
 pub mod Later
 pub mod From
 pub mod Pending

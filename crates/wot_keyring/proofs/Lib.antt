@@ -15,3 +15,4 @@ pub mod ImportStamps
 pub mod SpareRoom
 pub mod DumpSize
 pub mod UnionNoted
+pub mod Imports

@@ -2,12 +2,11 @@
 //! wot_held, and merge all or nothing through `Keyring::take`. What an import accepts, replies and asks of the
 //! policy is on their contracts, so a change here reaches wot_cache and wot_machine.
 ghost use Rattle.std.specs.Prelude.{◌≡◌, ◌<◌, ◌^◌, ◌-◌, length, OnOk, OnErr};
-ghost use Rattle.wot_policy.specs.Kept.{IsFaithful, rows_of, asked_more};
+ghost use Rattle.wot_policy.specs.Kept.{rows_of};
 ghost use Rattle.wot_held.specs.Held.{held_of};
-ghost use Rattle.wot_held.specs.Import.{ImportReturns, ReturnsUnder, AsksFor, IsOneChange};
+ghost use Rattle.wot_held.specs.Import.{ImportAsks, ImportReturns, IsNext, ReturnsUnder};
 ghost use Rattle.wot_held.specs.Import.{imported, importing, is_entry};
-ghost use Rattle.wot_held.specs.Kept.{IsJudgedBy};
-ghost use Rattle.wot_held.specs.Later.{IsLater};
+ghost use Rattle.wot_held.specs.Judging.{IsJudging, StaysJudging};
 
 use crate::Keyring;
 use std::alloc::Global;
@@ -26,19 +25,14 @@ impl Keyring {
     ) -> Result<Imported, Refusal>
         requires countable { self.old.changes < 2 ^ 64 - 1 }
         requires short { length bytes.now < 2 ^ 29 }
-        requires judged { IsJudgedBy (rows_of policy.old) self.old }
-        requires faithful { IsFaithful F.Fn policy.old }
+        requires judging { IsJudging F.Fn policy.old self.old }
         ensures answer { ImportReturns result (rows_of policy.old) self.old bytes.now }
         ensures imported { OnOk result (self.new ≡ imported (rows_of policy.old) self.old bytes.now) }
         ensures held { OnOk result (held_of self.new ≡ importing (rows_of policy.old) bytes.now (held_of self.old)) }
-        ensures limits { self.new.limits ≡ self.old.limits }
         ensures kept { OnErr result (self.new ≡ self.old) }
-        ensures asked { AsksFor result (rows_of policy.old) self.old bytes.now
-            (λ k. policy.new ≡ asked_more k policy.old) }
-        ensures counted { IsOneChange self.old self.new }
-        ensures later { IsLater self.old self.new }
-        ensures judged { IsJudgedBy (rows_of policy.old) self.new }
-        ensures faithful { IsFaithful F.Fn policy.new }
+        ensures asked { ImportAsks result self.old bytes.now policy.old policy.new }
+        ensures next { IsNext self.old self.new }
+        ensures judging { StaysJudging F.Fn policy.old policy.new self.new }
     {
         let read = match read_certs(alloc, bytes) {
             Ok(read) => read,
@@ -59,19 +53,14 @@ impl Keyring {
     ) -> Result<Imported, Refusal>
         requires countable { self.old.changes < 2 ^ 64 - 1 }
         requires short { length bytes.now < 2 ^ 29 }
-        requires judged { IsJudgedBy (rows_of policy.old) self.old }
-        requires faithful { IsFaithful F.Fn policy.old }
+        requires judging { IsJudging F.Fn policy.old self.old }
         ensures answer { ReturnsUnder (is_entry name.now) result (rows_of policy.old) self.old bytes.now }
         ensures imported { OnOk result (self.new ≡ imported (rows_of policy.old) self.old bytes.now) }
         ensures held { OnOk result (held_of self.new ≡ importing (rows_of policy.old) bytes.now (held_of self.old)) }
-        ensures limits { self.new.limits ≡ self.old.limits }
         ensures kept { OnErr result (self.new ≡ self.old) }
-        ensures asked { AsksFor result (rows_of policy.old) self.old bytes.now
-            (λ k. policy.new ≡ asked_more k policy.old) }
-        ensures counted { IsOneChange self.old self.new }
-        ensures later { IsLater self.old self.new }
-        ensures judged { IsJudgedBy (rows_of policy.old) self.new }
-        ensures faithful { IsFaithful F.Fn policy.new }
+        ensures asked { ImportAsks result self.old bytes.now policy.old policy.new }
+        ensures next { IsNext self.old self.new }
+        ensures judging { StaysJudging F.Fn policy.old policy.new self.new }
     {
         let found = match read_certs(alloc, bytes) {
             Ok(found) => found,

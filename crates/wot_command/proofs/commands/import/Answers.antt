@@ -1,8 +1,8 @@
 use Rattle.wot_policy.specs.Kept.{rows_of}
 use Rattle.wot_command.proofs.Lasting.{changes_held}
-use Rattle.wot_command.proofs.PolicyAskedByLine.{asked_new, asked_refused, rows_stay}
+use Rattle.wot_command.proofs.PolicyAskedByLine.{asked_new, asked_refused}
 use Rattle.wot_step.proofs.Results.{if_ok}
-use Rattle.wot_command.proofs.RefusedReplies.{import_gives}
+use Rattle.wot_command.proofs.RefusedReplies.{import_gives, import_taken}
 use Rattle.wot_command.proofs.commands.import.Goals as goal
 
 pub returns-in-Err-clause-gives : goal.returns-in-Err-clause-gives
@@ -12,11 +12,16 @@ returns-in-Err-clause-gives g c =
     reply
     c.requires.ready.standard c.in-Err.ensures.answer c.in-Err.ensures.kept is) c.reply_to.ensures.reply
 
+pub returns-in-Ok-clause-gives : goal.returns-in-Ok-clause-gives
+returns-in-Ok-clause-gives g c =
+    import_taken (rows_of c.args.policy.now) c.args.engine.now c.import.new.self c.args.octets.now c.in-Ok.field-0
+    c.requires.ready.standard c.in-Ok.ensures.answer c.in-Ok.ensures.imported.state
+
 pub returns-in-Ok-clause-asked : goal.returns-in-Ok-clause-asked
 returns-in-Ok-clause-asked g c =
     asked_new _ (rows_of c.args.policy.now) c.args.engine.now c.import.new.self c.args.octets.now c.in-Ok.field-0
     c.args.policy.now c.import.new.policy
-    c.in-Ok.ensures.asked c.in-Ok.ensures.state
+    c.in-Ok.ensures.asked c.in-Ok.ensures.imported.state
 
 pub returns-in-Err-clause-asked : goal.returns-in-Err-clause-asked
 returns-in-Err-clause-asked g c =
@@ -28,32 +33,19 @@ pub import-requires : goal.import-requires
 import-requires g c = record {
   countable = c.requires.ready.countable;
   short = c.requires.small;
-  judged = c.requires.judging.judged;
-  faithful = c.requires.judging.faithful;
+  judging = c.requires.judging;
 }
 
 pub returns-in-Ok-clause-held : goal.returns-in-Ok-clause-held
 returns-in-Ok-clause-held g c =
-    changes_held c.args.engine.now c.import.new.self c.requires.ready c.import.ensures.counted
-    c.import.ensures.limits c.import.ensures.marks c.import.ensures.turns
+    changes_held c.args.engine.now c.import.new.self c.requires.ready c.import.ensures.changes
 
 pub returns-in-Ok-clause-judging : goal.returns-in-Ok-clause-judging
-returns-in-Ok-clause-judging g c = record {
-  judged = c.import.ensures.judged;
-  faithful = c.import.ensures.faithful;
-  rows = rows_stay c.import.result (rows_of c.args.policy.now) c.args.engine.now.keyring c.args.octets.now
-      c.args.policy.now c.import.new.policy c.import.ensures.asked;
-}
+returns-in-Ok-clause-judging g c = c.import.ensures.judging
 
 pub returns-in-Err-clause-held : goal.returns-in-Err-clause-held
 returns-in-Err-clause-held g c =
-    changes_held c.args.engine.now c.import.new.self c.requires.ready c.import.ensures.counted
-    c.import.ensures.limits c.import.ensures.marks c.import.ensures.turns
+    changes_held c.args.engine.now c.import.new.self c.requires.ready c.import.ensures.changes
 
 pub returns-in-Err-clause-judging : goal.returns-in-Err-clause-judging
-returns-in-Err-clause-judging g c = record {
-  judged = c.import.ensures.judged;
-  faithful = c.import.ensures.faithful;
-  rows = rows_stay c.import.result (rows_of c.args.policy.now) c.args.engine.now.keyring c.args.octets.now
-      c.args.policy.now c.import.new.policy c.import.ensures.asked;
-}
+returns-in-Err-clause-judging g c = c.import.ensures.judging

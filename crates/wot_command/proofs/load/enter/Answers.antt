@@ -1,8 +1,8 @@
 use Rattle.wot_policy.specs.Kept.{rows_of}
 use Rattle.wot_command.proofs.Lasting.{changes_held}
-use Rattle.wot_command.proofs.PolicyAskedByLine.{asked_new, asked_refused, rows_stay}
+use Rattle.wot_command.proofs.PolicyAskedByLine.{asked_new, asked_refused}
 use Rattle.wot_step.proofs.Results.{if_ok}
-use Rattle.wot_command.proofs.RefusedReplies.{load_gives}
+use Rattle.wot_command.proofs.RefusedReplies.{load_gives, load_taken}
 use Rattle.wot_command.proofs.load.enter.Goals as goal
 
 pub returns-in-Err-clause-gives : goal.returns-in-Err-clause-gives
@@ -12,11 +12,16 @@ returns-in-Err-clause-gives g c =
     c.in-Err.refusal reply
     c.requires.ready.standard c.in-Err.ensures.answer c.in-Err.ensures.kept is) c.reply_to.ensures.reply
 
+pub returns-in-Ok-clause-gives : goal.returns-in-Ok-clause-gives
+returns-in-Ok-clause-gives g c =
+    load_taken c.args.name.now (rows_of c.args.policy.now) c.args.engine.now c.load.new.self c.args.octets.now
+    c.in-Ok.field-0 c.requires.ready.standard c.in-Ok.ensures.answer c.in-Ok.ensures.imported.state
+
 pub returns-in-Ok-clause-asked : goal.returns-in-Ok-clause-asked
 returns-in-Ok-clause-asked g c =
     asked_new _ (rows_of c.args.policy.now) c.args.engine.now c.load.new.self c.args.octets.now c.in-Ok.field-0
     c.args.policy.now c.load.new.policy
-    c.in-Ok.ensures.asked c.in-Ok.ensures.state
+    c.in-Ok.ensures.asked c.in-Ok.ensures.imported.state
 
 pub returns-in-Err-clause-asked : goal.returns-in-Err-clause-asked
 returns-in-Err-clause-asked g c =
@@ -28,32 +33,19 @@ pub load-requires : goal.load-requires
 load-requires g c = record {
   countable = c.requires.ready.countable;
   short = c.requires.small;
-  judged = c.requires.judging.judged;
-  faithful = c.requires.judging.faithful;
+  judging = c.requires.judging;
 }
 
 pub returns-in-Ok-clause-held : goal.returns-in-Ok-clause-held
 returns-in-Ok-clause-held g c =
-    changes_held c.args.engine.now c.load.new.self c.requires.ready c.load.ensures.counted
-    c.load.ensures.limits c.load.ensures.marks c.load.ensures.turns
+    changes_held c.args.engine.now c.load.new.self c.requires.ready c.load.ensures.changes
 
 pub returns-in-Ok-clause-judging : goal.returns-in-Ok-clause-judging
-returns-in-Ok-clause-judging g c = record {
-  judged = c.load.ensures.judged;
-  faithful = c.load.ensures.faithful;
-  rows = rows_stay c.load.result (rows_of c.args.policy.now) c.args.engine.now.keyring c.args.octets.now
-      c.args.policy.now c.load.new.policy c.load.ensures.asked;
-}
+returns-in-Ok-clause-judging g c = c.load.ensures.judging
 
 pub returns-in-Err-clause-held : goal.returns-in-Err-clause-held
 returns-in-Err-clause-held g c =
-    changes_held c.args.engine.now c.load.new.self c.requires.ready c.load.ensures.counted
-    c.load.ensures.limits c.load.ensures.marks c.load.ensures.turns
+    changes_held c.args.engine.now c.load.new.self c.requires.ready c.load.ensures.changes
 
 pub returns-in-Err-clause-judging : goal.returns-in-Err-clause-judging
-returns-in-Err-clause-judging g c = record {
-  judged = c.load.ensures.judged;
-  faithful = c.load.ensures.faithful;
-  rows = rows_stay c.load.result (rows_of c.args.policy.now) c.args.engine.now.keyring c.args.octets.now
-      c.args.policy.now c.load.new.policy c.load.ensures.asked;
-}
+returns-in-Err-clause-judging g c = c.load.ensures.judging

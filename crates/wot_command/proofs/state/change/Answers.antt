@@ -18,14 +18,10 @@ pub returns-in-Import-clause-judging : goal.returns-in-Import-clause-judging
 returns-in-Import-clause-judging g c = c.import.ensures.judging
 
 pub remove-requires : goal.remove-requires
-remove-requires g c = record { standard = c.requires.ready.standard; countable = c.requires.ready.countable }
+remove-requires g c = record { ready = c.requires.ready }
 
 pub returns-in-Remove-clause-held : goal.returns-in-Remove-clause-held
-returns-in-Remove-clause-held g c = record {
-  once = record { counted = c.remove.ensures.counted; standard = c.remove.ensures.standard };
-  marks = c.remove.ensures.marks;
-  turns = c.remove.ensures.turns;
-}
+returns-in-Remove-clause-held g c = c.remove.ensures.held
 
 pub returns-in-Remove-clause-judging : goal.returns-in-Remove-clause-judging
 returns-in-Remove-clause-judging g c = record {
@@ -35,14 +31,10 @@ returns-in-Remove-clause-judging g c = record {
 }
 
 pub set_verdict-requires : goal.set_verdict-requires
-set_verdict-requires g c = record { standard = c.requires.ready.standard; countable = c.requires.ready.countable }
+set_verdict-requires g c = record { ready = c.requires.ready }
 
 pub returns-in-Judge-clause-held : goal.returns-in-Judge-clause-held
-returns-in-Judge-clause-held g c = record {
-  once = record { counted = c.set_verdict.ensures.counted; standard = c.set_verdict.ensures.standard };
-  marks = c.set_verdict.ensures.marks;
-  turns = c.set_verdict.ensures.turns;
-}
+returns-in-Judge-clause-held g c = c.set_verdict.ensures.held
 
 pub returns-in-Judge-clause-judging : goal.returns-in-Judge-clause-judging
 returns-in-Judge-clause-judging g c = record {
@@ -52,14 +44,10 @@ returns-in-Judge-clause-judging g c = record {
 }
 
 pub clear_verdict-requires : goal.clear_verdict-requires
-clear_verdict-requires g c = record { standard = c.requires.ready.standard; countable = c.requires.ready.countable }
+clear_verdict-requires g c = record { ready = c.requires.ready }
 
 pub returns-in-Unjudge-clause-held : goal.returns-in-Unjudge-clause-held
-returns-in-Unjudge-clause-held g c = record {
-  once = record { counted = c.clear_verdict.ensures.counted; standard = c.clear_verdict.ensures.standard };
-  marks = c.clear_verdict.ensures.marks;
-  turns = c.clear_verdict.ensures.turns;
-}
+returns-in-Unjudge-clause-held g c = c.clear_verdict.ensures.held
 
 pub returns-in-Unjudge-clause-judging : goal.returns-in-Unjudge-clause-judging
 returns-in-Unjudge-clause-judging g c = record {

@@ -1,18 +1,31 @@
 use Rattle.wot_policy.specs.Kept.{rows_of}
-use Rattle.wot_held.specs.Import.{importing}
-use Rattle.wot_cache.proofs.Changes.{held_state}
+use Rattle.wot_cache.proofs.Changes.{changes_keyring, imported_into, judging_inside}
 use Rattle.wot_cache.proofs.Inside.{engine_on}
 use Rattle.wot_cache.proofs.engine.Engine.import.Goals as goal
 
-pub returns-clause-state : goal.returns-clause-state
-returns-clause-state g c =
-    held_state c.import.result c.args.self.now c.self.inside.networked.keyring c.import.new.self
-    c.self.inside.networked.views.entries
-    (importing (rows_of c.args.policy.now) c.args.bytes.now) c.self.view_is c.import.ensures.held
+pub import-requires-clause-judging : goal.import-requires-clause-judging
+import-requires-clause-judging g c =
+    judging_inside _ c.args.policy.now c.args.self.now c.self.inside.networked.keyring
+    c.self.inside.networked.views.entries c.self.inside.networked.networks.entries c.self.view_is c.requires.judging
+
+pub returns-clause-imported : goal.returns-clause-imported
+returns-clause-imported g c =
+    imported_into c.import.result c.args.self.now c.self.inside.networked.keyring c.import.new.self
+    c.self.inside.networked.views.entries c.self.inside.networked.networks.entries (rows_of c.args.policy.now)
+    c.args.bytes.now c.self.view_is c.import.ensures.imported c.import.ensures.held
+
+pub returns-clause-judging : goal.returns-clause-judging
+returns-clause-judging g c = c.import.ensures.judging
+
+pub returns-clause-changes : goal.returns-clause-changes
+returns-clause-changes g c =
+    changes_keyring c.args.self.now c.self.inside.networked.keyring c.import.new.self
+    c.self.inside.networked.views.entries c.self.inside.networked.networks.entries c.self.view_is
+    c.import.ensures.next.counted c.import.ensures.next.limits
 
 pub invariant_of-self : goal.invariant_of-self
 invariant_of-self g c =
-    engine_on c.fits_later.ensures.later c.later_is_order.ensures.further c.self.inside.networked.keyring
+    engine_on c.kept_fits_later.ensures.fits c.kept_fits_later.ensures.further c.self.inside.networked.keyring
     c.import.new.self c.self.inside.networked.views.entries c.self.inside.networked.networks.entries
-    c.self.inside.answers.entries c.import.ensures.limits c.import.ensures.later c.import.ensures.counted
+    c.self.inside.answers.entries c.import.ensures.next.limits c.import.ensures.next.later c.import.ensures.next.counted
     c.self.invariant

@@ -2,7 +2,7 @@ use Rattle.std.proofs.Common.{rules, sym, subst}
 use Rattle.wot_held.specs.Held.{removing}
 use Rattle.wot_held.specs.Kept.{IsJudgedBy}
 use Rattle.wot_cache.specs.State.{Engine}
-use Rattle.wot_cache.proofs.Changes.{found, held_state}
+use Rattle.wot_cache.proofs.Changes.{changes_keyring, found, held_state}
 use Rattle.wot_cache.proofs.Inside.{engine_on}
 use Rattle.wot_cache.proofs.engine.Engine.remove.Goals as goal
 
@@ -19,9 +19,15 @@ returns-clause-state c =
 pub returns-clause-absent : goal.returns-clause-absent
 returns-clause-absent c = search (rules, found)
 
+pub returns-clause-changes : goal.returns-clause-changes
+returns-clause-changes c =
+    changes_keyring c.args.self.now c.self.inside.networked.keyring c.remove.new.self
+    c.self.inside.networked.views.entries c.self.inside.networked.networks.entries c.self.view_is
+    c.remove.ensures.counted c.remove.ensures.limits
+
 pub invariant_of-self : goal.invariant_of-self
 invariant_of-self c =
-    engine_on c.fits_later.ensures.later c.later_is_order.ensures.further c.self.inside.networked.keyring
+    engine_on c.kept_fits_later.ensures.fits c.kept_fits_later.ensures.further c.self.inside.networked.keyring
     c.remove.new.self c.self.inside.networked.views.entries c.self.inside.networked.networks.entries
     c.self.inside.answers.entries c.remove.ensures.limits c.remove.ensures.later c.remove.ensures.counted
     c.self.invariant

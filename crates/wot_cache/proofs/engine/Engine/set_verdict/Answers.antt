@@ -4,7 +4,7 @@ use Rattle.wot_held.specs.Keyring.{verdict_on}
 use Rattle.wot_held.specs.Kept.{IsJudgedBy}
 use Rattle.wot_held.specs.Verdict.{with_verdict_on}
 use Rattle.wot_cache.specs.State.{Engine}
-use Rattle.wot_cache.proofs.Changes.{held_state}
+use Rattle.wot_cache.proofs.Changes.{changes_keyring, held_state}
 use Rattle.wot_cache.proofs.Inside.{engine_on}
 use Rattle.wot_cache.proofs.engine.Engine.set_verdict.Goals as goal
 
@@ -24,9 +24,15 @@ returns-clause-state c =
     c.self.inside.networked.views.entries
     (verdict_set c.args.number c.args.verdict) c.self.view_is c.set_verdict.ensures.held
 
+pub returns-clause-changes : goal.returns-clause-changes
+returns-clause-changes c =
+    changes_keyring c.args.self.now c.self.inside.networked.keyring c.set_verdict.new.self
+    c.self.inside.networked.views.entries c.self.inside.networked.networks.entries c.self.view_is
+    c.set_verdict.ensures.counted c.set_verdict.ensures.limits
+
 pub invariant_of-self : goal.invariant_of-self
 invariant_of-self c =
-    engine_on c.fits_later.ensures.later c.later_is_order.ensures.further c.self.inside.networked.keyring
+    engine_on c.kept_fits_later.ensures.fits c.kept_fits_later.ensures.further c.self.inside.networked.keyring
     c.set_verdict.new.self c.self.inside.networked.views.entries c.self.inside.networked.networks.entries
     c.self.inside.answers.entries c.set_verdict.ensures.limits c.set_verdict.ensures.later
     c.set_verdict.ensures.counted c.self.invariant
