@@ -16,7 +16,7 @@ ghost use Rattle.wot_step.specs.Outcome.{close as close_of};
 ghost use Rattle.wot_step.specs.LineStep.{ComesTo};
 
 use wot_cache::{Engine, NoView};
-use wot_keyring::{Absent, Imported};
+use wot_keyring::Absent;
 use wot_policy::{Ask, Policy};
 use wot_script::Reply;
 use wot_step::{Refused, reply_to};
@@ -42,13 +42,7 @@ pub fn import<F: Fn(Ask) -> bool>(
     ensures judging { StaysJudging F.Fn policy.old policy.new engine.new.keyring }
 {
     match engine.import(octets, policy) {
-        Ok(
-            Imported {
-                taken,
-                skipped,
-                fresh,
-            },
-        ) => Ok(Reply::Taken(taken, skipped, fresh)),
+        Ok(counts) => Ok(Reply::Taken(counts.taken, counts.skipped, counts.fresh)),
         Err(refusal) => reply_to(Refused::Keyring(refusal)),
     }
 }

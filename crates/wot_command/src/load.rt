@@ -13,7 +13,6 @@ ghost use Rattle.wot_command.specs.CommandRun.{LoadsBy, seen};
 
 use wot_cache::Engine;
 use wot_certd::{Given, Shelf};
-use wot_keyring::Imported;
 use wot_policy::{Ask, Policy};
 use wot_script::Reply;
 use wot_step::{Refused, reply_to};
@@ -67,13 +66,7 @@ fn enter<F: Fn(Ask) -> bool>(
     ensures judging { StaysJudging F.Fn policy.old policy.new engine.new.keyring }
 {
     match engine.load(name, octets, policy) {
-        Ok(
-            Imported {
-                taken,
-                skipped,
-                fresh,
-            },
-        ) => Ok(Reply::Taken(taken, skipped, fresh)),
+        Ok(counts) => Ok(Reply::Taken(counts.taken, counts.skipped, counts.fresh)),
         Err(refusal) => reply_to(Refused::Keyring(refusal)),
     }
 }

@@ -14,12 +14,12 @@ returns-in-Err-clause-gives g c =
 
 pub returns-in-Ok-clause-gives : goal.returns-in-Ok-clause-gives
 returns-in-Ok-clause-gives g c =
-    import_taken (rows_of c.args.policy.now) c.args.engine.now c.import.new.self c.args.octets.now c.in-Ok.field-0
+    import_taken (rows_of c.args.policy.now) c.args.engine.now c.import.new.self c.args.octets.now c.in-Ok.counts
     c.requires.ready.standard c.in-Ok.ensures.answer c.in-Ok.ensures.imported.state
 
 pub returns-in-Ok-clause-asked : goal.returns-in-Ok-clause-asked
 returns-in-Ok-clause-asked g c =
-    asked_new _ (rows_of c.args.policy.now) c.args.engine.now c.import.new.self c.args.octets.now c.in-Ok.field-0
+    asked_new _ (rows_of c.args.policy.now) c.args.engine.now c.import.new.self c.args.octets.now c.in-Ok.counts
     c.args.policy.now c.import.new.policy
     c.in-Ok.ensures.asked c.in-Ok.ensures.imported.state
 

@@ -15,11 +15,11 @@ returns-in-Err-clause-gives g c =
 pub returns-in-Ok-clause-gives : goal.returns-in-Ok-clause-gives
 returns-in-Ok-clause-gives g c =
     load_taken c.args.name.now (rows_of c.args.policy.now) c.args.engine.now c.load.new.self c.args.octets.now
-    c.in-Ok.field-0 c.requires.ready.standard c.in-Ok.ensures.answer c.in-Ok.ensures.imported.state
+    c.in-Ok.counts c.requires.ready.standard c.in-Ok.ensures.answer c.in-Ok.ensures.imported.state
 
 pub returns-in-Ok-clause-asked : goal.returns-in-Ok-clause-asked
 returns-in-Ok-clause-asked g c =
-    asked_new _ (rows_of c.args.policy.now) c.args.engine.now c.load.new.self c.args.octets.now c.in-Ok.field-0
+    asked_new _ (rows_of c.args.policy.now) c.args.engine.now c.load.new.self c.args.octets.now c.in-Ok.counts
     c.args.policy.now c.load.new.policy
     c.in-Ok.ensures.asked c.in-Ok.ensures.imported.state
 
