@@ -15,10 +15,11 @@ use Rattle.wot_key.specs.Key.{fpr_of}
 use Rattle.wot_verdict.specs.Verdicts.{is_number}
 use Rattle.wot_part.specs.Certificate.{Signature, Component, Certificate}
 use Rattle.wot_part.specs.Counts.{sigs_on}
+use Rattle.wot_index.specs.declared.holders.Holders.{Holders}
 use Rattle.wot_index.specs.declared.index.Index.{Index}
 use Rattle.wot_held.specs.Keyring.{is_fpr}
-use Rattle.wot_index.specs.Index.{Holders, holder_of, is_holder, is_noted, unless, is_logged, holder_without, Notes}
-use Rattle.wot_index.specs.Index.{NotesOn, StillLogged}
+use Rattle.wot_index.specs.Index.{holder_of, is_holder, is_noted, unless, is_logged, holder_without, Notes}
+use Rattle.wot_index.specs.Index.{Forgets, NotesOn, StillLogged}
 use Rattle.wot_held.specs.Verdict.{is_among, has_number}
 use Rattle.wot_index.proofs.Choices.{or_false, or_itself, or_more, and_each, either_way}
 
@@ -33,7 +34,7 @@ exact a b e = let octets = exact_bytes a.0 b.0 e in λ i. record { 0 = octets i 
 pub same_number : (a b : SigNumber) → is_number a b ≡ true → a ≡ b
 same_number a b h = tells_apart exact a b h
 
-itself : (a : SigNumber) → is_number a a ≡ true
+pub itself : (a : SigNumber) → is_number a a ≡ true
 itself a = ap is_eq (tied_itself numbers_total a)
 
 pub turned : (a b : SigNumber) → is_number a b ≡ is_number b a
@@ -120,6 +121,15 @@ notes_on old mid new one rest rest' all before split step exact =
           ∙ ap (λ t. is_noted mid n q || t) (sym (split n q)) ∙ b.1 n q,
     )
 
+-- Nothing is left to note.
+pub notes_all : (old new : Index) (rest all : SigNumber → Fpr → Bool) → NotesOn old new rest all →
+    ((n : SigNumber) (q : Fpr) → rest n q ≡ false) → Notes old new all
+notes_all old new rest all before none exact =
+    let b = before exact in (
+      b.0,
+      λ n q. sym (ap (λ t. is_noted new n q || t) (none n q) ∙ or_false (is_noted new n q)) ∙ b.1 n q,
+    )
+
 pub notes_both : (old mid new : Index) (one other : SigNumber → Fpr → Bool) → Notes old mid one → Notes mid new other →
     Notes old new (λ n q. one n q || other n q)
 notes_both old mid new one other first second exact =
@@ -149,7 +159,7 @@ each_of d u a s f =
     ∙ sym (or_more (d && f) (u && f) ((a && f) || (s && f)))
     )
 
-on_ok : {T E : Type 0} (P Q : Type 0) (r : Result T E) → (P → Q) → OnOk r P → OnOk r Q
+pub on_ok : {T E : Type 0} (P Q : Type 0) (r : Result T E) → (P → Q) → OnOk r P → OnOk r Q
 on_ok P Q (Ok done) f h = f h
 on_ok P Q (Err fault) f h = tt
 
@@ -178,3 +188,28 @@ noted_cert i0 i1 i2 i3 i4 r c f d u a s ef ed eu ea es first second third last =
     last
 
 -- ---- numbers removed
+
+without_both : (a b : Bool) (o : Option Fpr) → unless a (unless b o) ≡ unless (a || b) o
+without_both true b o = refl
+without_both false b o = refl
+
+-- One of the logged numbers was removed.
+pub forgot_last : (old new : Holders) (log log' : List SigNumber) (number : SigNumber) → log ≡ log' ++ number ∷ [] →
+    Forgets old new (λ n. is_number n number) → (n : SigNumber) → holder_without log' new n ≡ holder_without log old n
+forgot_last old new log log' number popped forgotten n =
+    ap (unless (is_logged n log')) (forgotten n)
+    ∙ without_both (is_logged n log') (is_number n number) (holder_of old n)
+    ∙ ap (λ b. unless (is_logged n log' || b) (holder_of old n)) (sym (or_false (is_number n number)))
+    ∙ ap (λ b. unless b (holder_of old n)) (sym (list_any-append (is_number n) log' (number ∷ [])))
+    ∙ ap (λ (x : List SigNumber). unless (is_logged n x) (holder_of old n)) (sym popped)
+
+-- Some of these numbers were removed, and others are left.
+pub forgot_these : (old new : Holders) (gone left : SigNumber → Bool) → Forgets old new gone → (n : SigNumber) →
+    unless (left n) (holder_of new n) ≡ unless (gone n || left n) (holder_of old n)
+forgot_these old new gone left forgotten n =
+    ap (unless (left n)) (forgotten n) ∙ by (gone n) (left n) (holder_of old n)
+  where
+    by : (a b : Bool) (o : Option Fpr) → unless b (unless a o) ≡ unless (a || b) o
+    by true true o = refl
+    by true false o = refl
+    by false b o = refl

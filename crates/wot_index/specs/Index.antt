@@ -1,5 +1,5 @@
 -- On which certificate each signature is, by its number: how a change of a verdict finds the certificate.
-use Rattle.std.specs.Prelude.{◌≡◌, ℕ, Bool, true, false, ◌&&◌, ◌||◌, cond, List, Option, None}
+use Rattle.std.specs.Prelude.{◌≡◌, ℕ, Bool, true, false, ◌&&◌, ◌||◌, cond, List, Option, Some, None}
 use Rattle.std.specs.Option.{option_map_or, MatchOption}
 use Rattle.std.specs.List.{list_any}
 use Rattle.std.specs.Map.{lookup, set_value}
@@ -9,18 +9,25 @@ use Rattle.wot_key.specs.Key.{fpr_of}
 use Rattle.wot_verdict.specs.Verdicts.{is_number}
 use Rattle.wot_part.specs.Certificate.{Certificate}
 use Rattle.wot_held.specs.declared.kept.Kept.{Kept}
+use Rattle.wot_index.specs.declared.holders.Holders.{Holders}
 use Rattle.wot_index.specs.declared.index.Index.{Index}
 use Rattle.wot_held.specs.Keyring.{Entries, is_fpr}
 use Rattle.wot_held.specs.Verdict.{has_number}
+use Rattle.wot_index.specs.Near.{holder_in}
 
 -- ---- what is noted
 
-abbrev pub Holders : Type 0
-Holders = List (SigNumber × Fpr)
-
 -- the fingerprint noted for a number
 abbrev pub holder_of : Holders → SigNumber → Option Fpr
-holder_of holders n = lookup (is_number n) holders
+holder_of holders n = holder_in holders.near.items holders.rest.entries n
+
+-- The new ones have this fingerprint for the number too.
+abbrev pub Puts : SigNumber → Fpr → Holders → Holders → Type 0
+Puts number fpr old new = (n : SigNumber) → holder_of new n ≡ cond (is_number number n) (Some fpr) (holder_of old n)
+
+-- Both have the same fingerprint for each number.
+abbrev pub HoldsSame : Holders → Holders → Type 0
+HoldsSame old new = (n : SigNumber) → holder_of new n ≡ holder_of old n
 
 -- whether it is this fingerprint
 abbrev pub is_holder : Option Fpr → Fpr → Bool
@@ -28,7 +35,7 @@ is_holder holder fpr = option_map_or (λ (p : Fpr). is_fpr p fpr) holder false
 
 -- whether a number is noted at a fingerprint
 abbrev pub is_noted : Index → SigNumber → Fpr → Bool
-is_noted i n fpr = is_holder (holder_of i.holders.entries n) fpr
+is_noted i n fpr = is_holder (holder_of i.holders n) fpr
 
 -- whether the certificate kept under a fingerprint has a signature of this number
 abbrev pub stands_at : Entries → SigNumber → Fpr → Bool
@@ -61,11 +68,10 @@ NotesOn old new rest all =
     new.exact ≡ true → (old.exact ≡ true)
     × ((n : SigNumber) (fpr : Fpr) → (is_noted new n fpr || rest n fpr) ≡ (is_noted old n fpr || all n fpr))
 
--- Both have the same entries.
+-- Both have the same fingerprint for each number.
 abbrev pub NotesNothing : Index → Index → Type 0
 NotesNothing old new =
-    new.exact ≡ true → (old.exact ≡ true)
-    × ((n : SigNumber) → holder_of new.holders.entries n ≡ holder_of old.holders.entries n)
+    new.exact ≡ true → (old.exact ≡ true) × HoldsSame old.holders new.holders
 
 -- ---- removal
 
@@ -88,7 +94,7 @@ Forgets old new these = (n : SigNumber) → holder_of new n ≡ unless (these n)
 abbrev pub StillLogged : Index → List SigNumber → Index → List SigNumber → Type 0
 StillLogged old log new log' =
     new.exact ≡ true → (old.exact ≡ true)
-    × ((n : SigNumber) → holder_without log' new.holders.entries n ≡ holder_without log old.holders.entries n)
+    × ((n : SigNumber) → holder_without log' new.holders n ≡ holder_without log old.holders n)
 
 -- ---- restamping
 

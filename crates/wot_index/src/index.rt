@@ -2,33 +2,34 @@
 //! keyring. `noting` and `forgetting` keep it in step with the certificates, and `restamp` reads it. It is exact unless
 //! two certificates hold signatures of one number.
 ghost use Rattle.std.specs.Prelude.{◌≡◌, ◌≢◌, ◌<◌, ◌&&◌, ◌++◌, ◌∷◌, [], true, vec_len, vec_capacity, MatchBool, OnOk};
+ghost use Rattle.std.specs.Prelude.{None};
 ghost use Rattle.wot_types.specs.declared.fpr.Fpr.{Fpr as TheFpr};
 ghost use Rattle.wot_types.specs.declared.number.SigNumber.{SigNumber as TheNumber};
 ghost use Rattle.wot_verdict.specs.Verdicts.{is_number};
 ghost use Rattle.wot_held.specs.Keyring.{is_fpr};
-ghost use Rattle.wot_index.specs.Index.{is_logged, Forgets, Notes, StillLogged};
+ghost use Rattle.wot_index.specs.Index.{holder_of, is_logged, Forgets, Notes, StillLogged};
 
+use crate::holders::Holders;
 use std::alloc::Global;
-use std::collections::BTreeMap;
 use wot_types::{Fpr, Memory, SigNumber};
 
 /// On which certificate each signature is: fingerprints by signature number.
 #[derive(Drop)]
 pub struct Index {
-    pub holders: BTreeMap<SigNumber, Fpr, Global>,
-    /// False once a number was seen on two certificates, which takes a collision of SHA-256. The entries mean nothing
-    /// from then on.
+    pub holders: Holders,
+    /// False once a number was seen on two certificates, which takes a collision of SHA-256. What is noted means
+    /// nothing from then on.
     pub exact: bool,
 }
 
 impl Index {
     /// The index of no certificates. Doesn't allocate.
     pub fn new(alloc: Global) -> Index
-        ensures empty { result.holders.entries ≡ [] }
+        ensures empty { (n : TheNumber) → holder_of result.holders n ≡ None }
         ensures exact { result.exact ≡ true }
     {
         Index {
-            holders: BTreeMap::new(alloc),
+            holders: Holders::new(alloc),
             exact: true,
         }
     }
@@ -62,31 +63,36 @@ pub fn note(
     ensures log { StillLogged index.old log.old.items index.new log.new.items }
 {
     log.reserve(1)?;
-    match index.holders.insert(number, fpr) {
-        Ok(None) => {
-            put_in_log(log, number);
-            Ok(())
-        }
-        Ok(Some(before)) => {
-            index.exact = stays_exact(index.exact, before, fpr);
-            Ok(())
-        }
-        Err(_) => Err(Memory),
-    }
+    let Some(before) = index.holders.get(&number) else {
+        return note_new(index, log, number, fpr);
+    };
+    index.exact = stays_exact(index.exact, before, fpr);
+    Ok(())
 }
 
-/// Removes a number. Doesn't allocate.
-pub fn forget(holders: &mut BTreeMap<SigNumber, Fpr, Global>, number: &SigNumber)
-    ensures forgotten { Forgets holders.old.entries holders.new.entries (λ n. is_number n number.now) }
+/// Notes and logs a number that isn't noted. The log has room.
+fn note_new(
+    index: &mut Index,
+    log: &mut Vec<SigNumber>,
+    number: SigNumber,
+    fpr: Fpr,
+) -> Result<(), Memory>
+    requires room { vec_len log.old < vec_capacity log.old }
+    requires absent { holder_of index.old.holders number ≡ None }
+    ensures noted { OnOk result (Notes index.old index.new
+        (λ (n : TheNumber) (q : TheFpr). is_number n number && is_fpr fpr q)) }
+    ensures log { StillLogged index.old log.old.items index.new log.new.items }
 {
-    let _ = holders.remove(number);
+    index.holders.put(number, fpr)?;
+    put_in_log(log, number);
+    Ok(())
 }
 
 /// Removes all numbers of a log. Doesn't allocate.
-pub fn forget_logged(holders: &mut BTreeMap<SigNumber, Fpr, Global>, mut log: Vec<SigNumber>)
-    ensures forgotten { Forgets holders.old.entries holders.new.entries (λ n. is_logged n log.items) }
+pub fn forget_logged(holders: &mut Holders, mut log: Vec<SigNumber>)
+    ensures forgotten { Forgets holders.old holders.new (λ n. is_logged n log.items) }
 {
     'log: while let Some(number) = log.pop() {
-        forget(holders, &number);
+        holders.forget(&number);
     }
 }

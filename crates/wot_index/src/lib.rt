@@ -4,12 +4,16 @@
 #![tactic(auto)]
 
 mod forgetting;
+mod holders;
 mod index;
 pub mod log;
+mod moving;
+mod near;
 mod noting;
 mod restamp;
 
 pub use forgetting::forget_cert;
+pub use holders::Holders;
 pub use index::Index;
 pub use noting::note_all;
 pub use restamp::restamp_noted;

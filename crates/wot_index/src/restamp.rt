@@ -106,6 +106,6 @@ pub fn restamp_noted(
     let Some(fpr) = index.holders.get(number) else {
         return;
     };
-    log_at(log, stamp, *fpr);
-    restamp_at(certs, fpr, stamp);
+    log_at(log, stamp, fpr);
+    restamp_at(certs, &fpr, stamp);
 }

@@ -6,8 +6,8 @@ use Rattle.wot_held.specs.Verdict.{is_among}
 use Rattle.wot_index.proofs.forgetting.forget_parts.Given as goal
 
 abbrev pub invariant-parts : goal.invariant-parts
-invariant-parts l = (n : SigNumber) → unless (is_among n (sigs_on l.left)) (holder_of l.holders.entries n) ≡ unless
-    (is_among n (sigs_on l.parts)) (holder_of l.initial.holders.entries n)
+invariant-parts l = (n : SigNumber) → unless (is_among n (sigs_on l.left)) (holder_of l.holders n) ≡ unless
+    (is_among n (sigs_on l.parts)) (holder_of l.initial.holders n)
 
 abbrev pub decreases-parts : goal.decreases-parts
 decreases-parts l = length l.left

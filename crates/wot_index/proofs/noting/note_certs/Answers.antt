@@ -1,7 +1,8 @@
 use Rattle.std.proofs.Common.{List, ap}
+use Rattle.std.proofs.lemmas.List.{nil_from_length}
 use Rattle.wot_part.specs.Certificate.{Certificate}
 use Rattle.wot_index.specs.Index.{stands_among, stands_on}
-use Rattle.wot_index.proofs.Indexed.{notes_on, still_logged}
+use Rattle.wot_index.proofs.Indexed.{notes_all, notes_on, still_logged}
 use Rattle.wot_index.proofs.noting.note_certs.Goals as goal
 
 pub certs-preserved : goal.certs-preserved
@@ -15,3 +16,9 @@ certs-preserved c = record {
   log = still_logged c.args.index.now c.certs.index c.note_cert.new.index c.args.log.now.items c.certs.log.items
       c.note_cert.new.log.items c.certs.invariant.log c.note_cert.ensures.log;
 }
+
+pub returns-clause-noted : goal.returns-clause-noted
+returns-clause-noted c =
+    notes_all c.args.index.now c.certs.index (stands_among c.certs.left.now) (stands_among c.args.certs.now)
+    c.certs.invariant.noted
+    (λ n q. ap (λ (left : List Certificate). stands_among left n q) (nil_from_length _ c.in_default.ensures.cases))

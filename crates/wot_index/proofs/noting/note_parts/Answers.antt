@@ -1,4 +1,5 @@
 use Rattle.std.proofs.Common.{◌&&◌, ◌||◌, List, sym, ap, ◌∙◌}
+use Rattle.std.proofs.lemmas.List.{nil_from_length}
 use Rattle.std.proofs.lemmas.List.Folds.{list_any-append}
 use Rattle.wot_types.specs.declared.fpr.Fpr.{Fpr}
 use Rattle.wot_types.specs.declared.number.SigNumber.{SigNumber}
@@ -8,7 +9,7 @@ use Rattle.wot_part.specs.Counts.{sigs_on}
 use Rattle.wot_held.specs.Keyring.{is_fpr}
 use Rattle.wot_held.specs.Verdict.{is_among}
 use Rattle.wot_index.proofs.Choices.{and_each}
-use Rattle.wot_index.proofs.Indexed.{notes_on, still_logged}
+use Rattle.wot_index.proofs.Indexed.{notes_all, notes_on, still_logged}
 use Rattle.wot_index.proofs.noting.note_parts.Goals as goal
 
 pub parts-preserved : goal.parts-preserved
@@ -31,3 +32,12 @@ parts-preserved c = record {
   log = still_logged c.args.index.now c.parts.index c.note_sigs.new.index c.args.log.now.items c.parts.log.items
       c.note_sigs.new.log.items c.parts.invariant.log c.note_sigs.ensures.log;
 }
+
+pub returns-clause-noted : goal.returns-clause-noted
+returns-clause-noted c =
+    notes_all c.args.index.now c.parts.index
+    (λ (n : SigNumber) (q : Fpr). is_among n (sigs_on c.parts.left.now) && is_fpr c.args.fpr q)
+    (λ (n : SigNumber) (q : Fpr). is_among n (sigs_on c.args.parts.now) && is_fpr c.args.fpr q)
+    c.parts.invariant.noted
+    (λ n q. ap (λ (left : List Component). is_among n (sigs_on left) && is_fpr c.args.fpr q)
+    (nil_from_length _ c.in_default.ensures.cases))

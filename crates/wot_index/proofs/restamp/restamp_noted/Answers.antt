@@ -8,21 +8,21 @@ pub returns : goal.returns
 returns c = record {
   restamped =
       restamped_there c.args.number.now c.args.stamp c.args.index.now c.args.certs.now.entries
-      c.restamp_at.new.certs.entries c.in-Some.fpr.now c.requires.sorted c.requires.indexed c.if-not-index.false
-      (sym c.in-Some.ensures.value) c.restamp_at.ensures.restamped;
+      c.restamp_at.new.certs.entries c.in-Some.fpr c.requires.sorted c.requires.indexed c.if-not-index.false
+      (sym c.in-Some.ensures.held) c.restamp_at.ensures.restamped;
   logged =
       logs_these c.args.stamp _ (stands_at c.args.certs.now.entries c.args.number.now) c.args.log.now c.log_at.new.log
-      (noted_there c.args.number.now c.args.index.now c.args.certs.now.entries c.in-Some.fpr.now c.requires.indexed
-      c.if-not-index.false (sym c.in-Some.ensures.value)) c.log_at.ensures.logged;
+      (noted_there c.args.number.now c.args.index.now c.args.certs.now.entries c.in-Some.fpr c.requires.indexed
+      c.if-not-index.false (sym c.in-Some.ensures.held)) c.log_at.ensures.logged;
 }
 
 pub returns-in_default : goal.returns-in_default
 returns-in_default c = record {
   restamped = restamped_nowhere c.args.number.now c.args.stamp c.args.index.now c.args.certs.now.entries
-      c.requires.sorted c.requires.indexed c.if-not-index.false (sym c.in_default.ensures.value);
+      c.requires.sorted c.requires.indexed c.if-not-index.false (sym c.in_default.ensures.held);
   logged = logs_none c.args.stamp (stands_at c.args.certs.now.entries c.args.number.now) c.args.log.now c.requires.from
       (noted_nowhere c.args.number.now c.args.index.now c.args.certs.now.entries c.requires.indexed c.if-not-index.false
-      (sym c.in_default.ensures.value));
+      (sym c.in_default.ensures.held));
 }
 
 pub returns-then-not-index-clause-logged : goal.returns-then-not-index-clause-logged

@@ -1,0 +1,15 @@
+use Rattle.std.proofs.Common.{None, slice_index_or, List, sym, ap, ◌∙◌, arith}
+use Rattle.wot_index.specs.Near.{Slot}
+use Rattle.wot_index.proofs.Slots.{kept_near}
+use Rattle.wot_index.proofs.near.keep_near.Goals as goal
+
+pub returns : goal.returns
+returns c = record {
+  kept =
+      kept_near c.args.slots.now.items c.args.number c.args.short c.place_of-place.result c.in-Some.at
+      c.len-count.result (omega (arith, c.len-count.ensures)) c.place_of-place.ensures.place c.in-Some.ensures.from
+      (omega (arith, c.in-Some.ensures.end, c.end_of-end.ensures.near))
+      (omega (arith, c.in-Some.ensures.end, c.end_of-end.ensures.within, c.len-count.ensures))
+      (ap (λ (slots : List Slot). slice_index_or slots c.in-Some.at None) (sym c.deref.ensures.value)
+      ∙ c.in-Some.ensures.vacant) c.requires.absent;
+}
