@@ -5,10 +5,10 @@ use Rattle.std.specs.List.{flat_map}
 use Rattle.std.proofs.lemmas.Option.{slice_get_read}
 use Rattle.wot_script.specs.declared.command.Command.{Command}
 use Rattle.wot_script.specs.declared.command.Command.TheVariants.{Import, Good, Time, Root}
-use Rattle.wot_gen.specs.Identities.{AreIdentities, IsIdentity, direct_number_at, fpr_at, packets_at}
+use Rattle.wot_random.specs.Identities.{AreIdentities, IsIdentity, direct_number_at, fpr_at, packets_at}
 use Rattle.wot_gen.specs.Script.{below, certificate_commands, view_commands}
-use Rattle.wot_gen.specs.declared.certification.Certification.{Certification}
-use Rattle.wot_gen.specs.declared.identity.Identity.{Identity}
+use Rattle.wot_random.specs.declared.certification.Certification.{Certification}
+use Rattle.wot_random.specs.declared.identity.Identity.{Identity}
 use Rattle.wot_gen.proofs.Below.{below_more}
 
 -- the commands of one more step

@@ -1,9 +1,6 @@
 pub mod Below
-pub mod Shapes
-pub mod WordLaws
 pub mod Spelled
 pub mod SoFar
-pub mod ThreeCertifications
 pub mod CommandsAppended
 pub mod ScriptLines
 pub mod Sizes

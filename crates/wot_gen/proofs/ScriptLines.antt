@@ -4,12 +4,12 @@ use Rattle.std.proofs.Common.{subst, ◌∙◌, arith}
 use Rattle.std.proofs.lemmas.List.{length-map}
 use Rattle.wot_script.specs.declared.command.Command.{Command}
 use Rattle.wot_script.specs.declared.command.Command.TheVariants.{Good}
-use Rattle.wot_gen.specs.Certifications.{certifications_at}
+use Rattle.wot_random.specs.Certifications.{certifications_at}
 use Rattle.wot_gen.specs.Script.{below, certificate_commands, changes, commands_of, line_count, questions}
 use Rattle.wot_gen.specs.Script.{view_commands}
-use Rattle.wot_gen.specs.declared.certification.Certification.{Certification}
+use Rattle.wot_random.specs.declared.certification.Certification.{Certification}
 use Rattle.wot_gen.proofs.Below.{below_more}
-use Rattle.wot_gen.proofs.ThreeCertifications.{three_listed}
+use Rattle.wot_random.proofs.ThreeCertifications.{three_listed}
 
 -- one step more
 next_length : (f : ℕ → List Command) (n size : ℕ) → length (f n) ≡ size →

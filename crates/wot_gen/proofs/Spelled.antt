@@ -4,9 +4,9 @@ use Rattle.std.specs.List.{AllByRecursion, flat_map, range_with_len}
 use Rattle.wot_script.specs.declared.command.Command.{Command}
 use Rattle.wot_script.specs.declared.command.Command.TheVariants.{Good}
 use Rattle.wot_script.specs.Spelling.{HasSpelling}
-use Rattle.wot_gen.specs.Certifications.{certifications_at}
+use Rattle.wot_random.specs.Certifications.{certifications_at}
 use Rattle.wot_gen.specs.Script.{certificate_commands, changes, commands_of, questions, view_commands}
-use Rattle.wot_gen.specs.declared.certification.Certification.{Certification}
+use Rattle.wot_random.specs.declared.certification.Certification.{Certification}
 
 abbrev AreSpelled : List Command → Type 0
 AreSpelled commands = AllByRecursion HasSpelling commands

@@ -1,6 +1,2 @@
-pub mod Words
-pub mod Bodies
-pub mod Identities
-pub mod Certifications
 pub mod Script
 pub mod Summary

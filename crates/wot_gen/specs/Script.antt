@@ -8,12 +8,12 @@ use Rattle.wot_script.specs.declared.command.Command.{Command}
 use Rattle.wot_script.specs.declared.command.Command.TheVariants.{Import, Good, Bad, Time, Root, Ask}
 use Rattle.wot_script.specs.Grammar.{command_of}
 use Rattle.wot_script.specs.Spelling.{IsLineFor, spelling}
-use Rattle.wot_gen.specs.Words.{word}
-use Rattle.wot_gen.specs.Bodies.{user_id}
-use Rattle.wot_gen.specs.Identities.{AreIdentities, IsIdentity, direct_number_at, fpr_at, packets_at}
-use Rattle.wot_gen.specs.Certifications.{certifications_at, drawn_before}
-use Rattle.wot_gen.specs.declared.certification.Certification.{Certification}
-use Rattle.wot_gen.specs.declared.identity.Identity.{Identity}
+use Rattle.wot_random.specs.Words.{word}
+use Rattle.wot_random.specs.Bodies.{user_id}
+use Rattle.wot_random.specs.Identities.{AreIdentities, IsIdentity, direct_number_at, fpr_at, packets_at}
+use Rattle.wot_random.specs.Certifications.{certifications_at, drawn_before}
+use Rattle.wot_random.specs.declared.certification.Certification.{Certification}
+use Rattle.wot_random.specs.declared.identity.Identity.{Identity}
 use Rattle.wot_gen.specs.declared.commands.View.{View}
 use Rattle.wot_gen.specs.declared.commands.View.TheVariants.{A, B}
 

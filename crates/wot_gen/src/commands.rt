@@ -3,19 +3,16 @@
 ghost use Rattle.std.specs.Prelude.{◌≡◌, ◌+◌, ◌-◌, ◌*◌, ◌/◌, ◌<◌, ◌≤◌, ◌++◌, [], ◌∷◌, length, IfOk};
 ghost use Rattle.std.specs.Prelude.{OnOk};
 ghost use Rattle.std.specs.List.{flat_map};
-ghost use Rattle.wot_gen.specs.Certifications.{drawn_before};
-ghost use Rattle.wot_gen.specs.Identities.{AreIdentities};
 ghost use Rattle.wot_gen.specs.Script.{PutsFor, PutsForAll, PutsForTwo, all_certificates, all_changes, all_questions};
 ghost use Rattle.wot_gen.specs.Script.{certificate_with, change_commands, commands_of, drawn_before_changes};
 ghost use Rattle.wot_gen.specs.Script.{opening, questions, verdicts_on, view_commands, view_text};
-ghost use Rattle.wot_gen.specs.declared.certification.Certification.{Certification};
+ghost use Rattle.wot_random.specs.Certifications.{drawn_before};
+ghost use Rattle.wot_random.specs.Identities.{AreIdentities};
+ghost use Rattle.wot_random.specs.declared.certification.Certification.{Certification};
 ghost use Rattle.wot_script.specs.declared.command.Command.TheVariants.{Ask};
 
-use crate::certification::{Certification, certifications};
-use crate::identities::identities;
-use crate::identity::Identity;
-use crate::words::Words;
 use std::alloc::Global;
+use wot_random::{Certification, Identity, Words, certifications, identities};
 use wot_script::{Command, Octets};
 use wot_types::{Fpr, Memory, UserId, ViewName};
 

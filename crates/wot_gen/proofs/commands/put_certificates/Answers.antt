@@ -1,5 +1,5 @@
 use Rattle.std.proofs.Common.{◌≡◌, ◌++◌, length, ap, ◌∙◌, arith}
-use Rattle.wot_gen.specs.Certifications.{certifications_at}
+use Rattle.wot_random.specs.Certifications.{certifications_at}
 use Rattle.wot_gen.specs.Script.{certificate_commands}
 use Rattle.wot_gen.proofs.CommandsAppended.{identity_read, step_more}
 use Rattle.wot_gen.proofs.commands.put_certificates.Goals as goal

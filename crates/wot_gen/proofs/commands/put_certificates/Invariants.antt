@@ -1,5 +1,5 @@
 use Rattle.std.proofs.Common.{length}
-use Rattle.wot_gen.specs.Certifications.{certifications_at, drawn_before}
+use Rattle.wot_random.specs.Certifications.{certifications_at, drawn_before}
 use Rattle.wot_gen.specs.Script.{certificate_commands}
 use Rattle.wot_gen.proofs.SoFar.{DrawnSoFar}
 use Rattle.wot_gen.proofs.commands.put_certificates.Given as goal

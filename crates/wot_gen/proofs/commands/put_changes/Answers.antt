@@ -1,6 +1,6 @@
 use Rattle.std.proofs.Common.{◌≡◌, ◌%◌, ◌+◌, ◌*◌, length, ap, ◌∙◌, subst, arith}
-use Rattle.wot_gen.specs.Words.{word}
-use Rattle.wot_gen.specs.Identities.{IsIdentity}
+use Rattle.wot_random.specs.Words.{word}
+use Rattle.wot_random.specs.Identities.{IsIdentity}
 use Rattle.wot_gen.specs.Script.{changed_at, changes}
 use Rattle.wot_gen.proofs.CommandsAppended.{identity_read, step_more}
 use Rattle.wot_gen.proofs.commands.put_changes.Goals as goal

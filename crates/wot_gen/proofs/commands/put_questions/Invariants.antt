@@ -1,5 +1,5 @@
 use Rattle.std.proofs.Common.{◌≡◌, ◌++◌, ℕ, length}
-use Rattle.wot_gen.specs.Identities.{AreIdentities}
+use Rattle.wot_random.specs.Identities.{AreIdentities}
 use Rattle.wot_gen.specs.Script.{below, questions}
 use Rattle.wot_gen.proofs.commands.put_questions.Given as goal
 

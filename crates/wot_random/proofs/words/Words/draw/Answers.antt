@@ -1,8 +1,8 @@
 use Rattle.std.proofs.Common.{ℕ, sym, ap, ◌∙◌}
 use Rattle.rand_xoshiro.specs.SplitMix64.{mix_u64}
-use Rattle.wot_gen.specs.Words.{word}
-use Rattle.wot_gen.proofs.WordLaws.{state_after_more}
-use Rattle.wot_gen.proofs.words.Words.draw.Goals as goal
+use Rattle.wot_random.specs.Words.{word}
+use Rattle.wot_random.proofs.WordLaws.{state_after_more}
+use Rattle.wot_random.proofs.words.Words.draw.Goals as goal
 
 pub invariant_of-self : goal.invariant_of-self
 invariant_of-self c = record {

@@ -1,9 +1,9 @@
-//! The bodies of the script's packets: keys, user IDs and signatures, octet by octet as in specs/Bodies.antt.
-//! `identities` and `certification` put them into packets.
+//! The bodies of the packets: keys, user IDs and signatures, octet by octet as in specs/Bodies.antt. `keys` and
+//! `certification` put them into packets.
 ghost use Rattle.std.specs.Prelude.{◌≡◌, ◌+◌, ◌<◌, ◌≤◌, ◌^◌, true, [], ◌∷◌, length, vec_len, IfOk};
-ghost use Rattle.wot_gen.specs.Bodies.{hashed_area, key_body_with, signature_over};
-ghost use Rattle.wot_gen.specs.Bodies.{signature_body as signature_of, user_id as user_id_of};
 ghost use Rattle.wot_key.specs.Key.{is_readable};
+ghost use Rattle.wot_random.specs.Bodies.{hashed_area, key_body_with, signature_over};
+ghost use Rattle.wot_random.specs.Bodies.{signature_body as signature_of, user_id as user_id_of};
 ghost use Rattle.wot_types.specs.Fpr.{octets_in, version_of};
 
 use std::alloc::Global;

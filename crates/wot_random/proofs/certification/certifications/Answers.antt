@@ -1,7 +1,7 @@
 use Rattle.std.proofs.Common.{◌≡◌, ◌+◌, ◌∙◌, [], ◌∷◌, ◌++◌, ap, length, arith}
-use Rattle.wot_gen.specs.Certifications.{certification_by, drawn_before}
-use Rattle.wot_gen.proofs.ThreeCertifications.{three_made}
-use Rattle.wot_gen.proofs.certification.certifications.Goals as goal
+use Rattle.wot_random.specs.Certifications.{certification_by, drawn_before}
+use Rattle.wot_random.proofs.ThreeCertifications.{three_made}
+use Rattle.wot_random.proofs.certification.certifications.Goals as goal
 
 pub returns-clause-made : goal.returns-clause-made
 returns-clause-made c =

@@ -1,8 +1,8 @@
 -- The three certifications of an index.
 use Rattle.std.proofs.Common.{◌≡◌, ℕ, ◌+◌, ◌<◌, ◌==◌, false, [], ◌∷◌, ap, sym, ◌∙◌, arith, refl}
 use Rattle.std.proofs.lemmas.Bool.{ne_eqb}
-use Rattle.wot_gen.specs.Certifications.{certification_by, certifications_at, drawn_before}
-use Rattle.wot_gen.specs.declared.certification.Certification.{Certification}
+use Rattle.wot_random.specs.Certifications.{certification_by, certifications_at, drawn_before}
+use Rattle.wot_random.specs.declared.certification.Certification.{Certification}
 
 listed : (start drawn index : ℕ) (one two three : Certification)
     → one ≡ certification_by start drawn index 1

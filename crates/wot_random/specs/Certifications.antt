@@ -2,10 +2,10 @@
 use Rattle.std.specs.Prelude.{ℕ, ◌+◌, ◌-◌, ◌*◌, ◌/◌, ◌%◌, ◌==◌, if◌then◌else◌, List, [], ◌∷◌, map}
 use Rattle.wot_packet.specs.Writing.{written}
 use Rattle.wot_verdict.specs.Number.{number_of}
-use Rattle.wot_gen.specs.Words.{word}
-use Rattle.wot_gen.specs.Bodies.{user_id, signature_body, trust}
-use Rattle.wot_gen.specs.Identities.{body_at, fpr_at}
-use Rattle.wot_gen.specs.declared.certification.Certification.{Certification}
+use Rattle.wot_random.specs.Words.{word}
+use Rattle.wot_random.specs.Bodies.{user_id, signature_body, trust}
+use Rattle.wot_random.specs.Identities.{body_at, fpr_at}
+use Rattle.wot_random.specs.declared.certification.Certification.{Certification}
 
 -- how many words were drawn before the certifications of an index: four for each key, and two for each earlier
 -- certification

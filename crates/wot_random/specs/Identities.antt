@@ -5,9 +5,9 @@ use Rattle.wot_types.specs.declared.number.SigNumber.{SigNumber}
 use Rattle.wot_key.specs.Key.{fpr_of}
 use Rattle.wot_packet.specs.Writing.{written_all}
 use Rattle.wot_verdict.specs.Number.{number_of}
-use Rattle.wot_gen.specs.Words.{word}
-use Rattle.wot_gen.specs.Bodies.{created, key_body, user_id, signature_body}
-use Rattle.wot_gen.specs.declared.identity.Identity.{Identity}
+use Rattle.wot_random.specs.Words.{word}
+use Rattle.wot_random.specs.Bodies.{created, key_body, user_id, signature_body}
+use Rattle.wot_random.specs.declared.identity.Identity.{Identity}
 
 -- the body of the key of an index: each takes four words
 abbrev pub body_at : ℕ → ℕ → List ℕ

@@ -1,4 +1,4 @@
--- The words from which a script is made: those of SplitMix64 (Steele, Lea and Flood), by number from 0 on.
+-- The random words: those of SplitMix64 (Steele, Lea and Flood), by number from 0 on.
 use Rattle.std.specs.Prelude.{ℕ, zero, suc}
 use Rattle.rand_xoshiro.specs.SplitMix64.{mix_u64}
 

@@ -1,7 +1,7 @@
-//! The random words of the script: SplitMix64 of rand_xoshiro, with a count of the words drawn. The count lets
+//! The random words: SplitMix64 of rand_xoshiro, with a count of the words drawn. The count lets
 //! contracts name each word by its number.
 ghost use Rattle.std.specs.Prelude.{◌≡◌, ◌+◌, ◌<◌, ◌^◌};
-ghost use Rattle.wot_gen.specs.Words.{state_after, word};
+ghost use Rattle.wot_random.specs.Words.{state_after, word};
 
 use rand_core::SeedableRng;
 use rand_core::utils::NextWord;

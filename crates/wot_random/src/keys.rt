@@ -1,9 +1,9 @@
-//! The keys of the script, each with a user ID and a direct key signature. They are all made first, since
-//! certifications need the fingerprints of their issuers.
+//! The keys, each with a user ID and a direct key signature. They are all made first, since certifications need the
+//! fingerprints of their issuers.
 ghost use Rattle.std.specs.Prelude.{◌≡◌, ◌+◌, ◌*◌, ◌<◌, ◌≤◌, ◌^◌, true, [], ◌∷◌, length, IfOk, OnOk};
-ghost use Rattle.wot_gen.specs.Identities.{AreIdentities, IsIdentity};
 ghost use Rattle.wot_key.specs.Key.{fpr_of, is_readable};
 ghost use Rattle.wot_packet.specs.Writing.{written_all};
+ghost use Rattle.wot_random.specs.Identities.{AreIdentities, IsIdentity};
 
 use crate::bodies::{key_body, signature_body, user_id};
 use crate::identity::Identity;
@@ -11,9 +11,9 @@ use crate::words::Words;
 use std::alloc::Global;
 use wot_key::fingerprint;
 use wot_packet::write_packet;
-use wot_script::Octets;
 use wot_types::{Fpr, Memory};
 use wot_verdict::number_of;
+use wot_words::Octets;
 
 /// The packets of a key, of a signature on it and of a user ID.
 fn packets(alloc: Global, body: &[u8], direct: &[u8], uid: &[u8]) -> Result<Octets, Memory>

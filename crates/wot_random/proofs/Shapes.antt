@@ -4,7 +4,7 @@ use Rattle.std.proofs.Common.{codes}
 use Rattle.std.specs.Fmt.{decimal}
 use Rattle.std.proofs.lemmas.Fmt.{length-decimal-le}
 use Rattle.wot_key.specs.Key.{is_readable}
-use Rattle.wot_gen.specs.Bodies.{key_body, user_id}
+use Rattle.wot_random.specs.Bodies.{key_body, user_id}
 
 pub key_is_readable : (made a b c d : ℕ) → is_readable (key_body made a b c d) ≡ true
 unfolding key_body

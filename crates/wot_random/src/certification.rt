@@ -1,18 +1,18 @@
-//! The certifications of the script: three on each user ID but the first, each by a key with a lower index. Words of
-//! the generator choose issuer, depth and amount.
+//! The certifications: three on each user ID but the first, each by a key with a lower index. Random words choose
+//! issuer, depth and amount.
 ghost use Rattle.std.specs.Prelude.{◌≡◌, ◌+◌, ◌<◌, ◌≤◌, ◌^◌, ℕ, length, IfOk, OnOk};
-ghost use Rattle.wot_gen.specs.Certifications.{certification_by, certifications_at, drawn_before, issuer_by};
-ghost use Rattle.wot_gen.specs.Identities.{AreIdentities};
-ghost use Rattle.wot_gen.specs.Words.{word};
+ghost use Rattle.wot_random.specs.Certifications.{certification_by, certifications_at, drawn_before, issuer_by};
+ghost use Rattle.wot_random.specs.Identities.{AreIdentities};
+ghost use Rattle.wot_random.specs.Words.{word};
 
 use crate::bodies::signature_body;
 use crate::identity::Identity;
 use crate::words::Words;
 use std::alloc::Global;
 use wot_packet::write_packet;
-use wot_script::Octets;
 use wot_types::{Fpr, Memory, SigNumber};
 use wot_verdict::number_of;
+use wot_words::Octets;
 
 /// A certification of a user ID.
 #[derive(Drop)]

@@ -2,9 +2,9 @@ use Rattle.std.proofs.Common.{◌≡◌, ◌++◌, ◌∙◌, subst, length, ◌
 use Rattle.std.specs.Fmt.{decimal}
 use Rattle.std.specs.String.{string_bytes}
 use Rattle.std.proofs.lemmas.Result.{IfOk-weaker}
-use Rattle.wot_gen.specs.Bodies.{user_id}
-use Rattle.wot_gen.proofs.Shapes.{user_id_is_short, user_id_spelled}
-use Rattle.wot_gen.proofs.bodies.user_id.Goals as goal
+use Rattle.wot_random.specs.Bodies.{user_id}
+use Rattle.wot_random.proofs.Shapes.{user_id_is_short, user_id_spelled}
+use Rattle.wot_random.proofs.bodies.user_id.Goals as goal
 
 pub returns-clause-uid : goal.returns-clause-uid
 returns-clause-uid c =

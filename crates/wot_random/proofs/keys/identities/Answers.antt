@@ -1,7 +1,7 @@
 use Rattle.std.proofs.Common.{◌+◌, ◌∙◌, subst, sym, arith}
-use Rattle.wot_gen.specs.Identities.{AreIdentities, IsIdentity}
-use Rattle.wot_gen.proofs.SoFar.{more_identities}
-use Rattle.wot_gen.proofs.identities.identities.Goals as goal
+use Rattle.wot_random.specs.Identities.{AreIdentities, IsIdentity}
+use Rattle.wot_random.proofs.IdentitiesSoFar.{more_identities}
+use Rattle.wot_random.proofs.keys.identities.Goals as goal
 
 pub loop-index-preserved : goal.loop-index-preserved
 loop-index-preserved c =
