@@ -1,5 +1,5 @@
-//! The bodies of the packets: keys, user IDs and signatures, octet by octet as in specs/Bodies.antt.
-//! `keys` and `certification` put them into packets.
+//! The bodies of the packets: keys, user IDs and signatures, octet by octet as in specs/Bodies.antt. `keys` and
+//! `certification` put them into packets.
 ghost use Rattle.std.specs.Prelude.{◌≡◌, ◌+◌, ◌<◌, ◌≤◌, ◌^◌, true, [], ◌∷◌, length, vec_len, IfOk};
 ghost use Rattle.wot_key.specs.Key.{is_readable};
 ghost use Rattle.wot_random.specs.Bodies.{hashed_area, key_body_with, signature_over};

@@ -1,5 +1,5 @@
-//! The keys, each with a user ID and a direct key signature. They are all made first, since
-//! certifications need the fingerprints of their issuers.
+//! The keys, each with a user ID and a direct key signature. They are all made first, since certifications need the
+//! fingerprints of their issuers.
 ghost use Rattle.std.specs.Prelude.{◌≡◌, ◌+◌, ◌*◌, ◌<◌, ◌≤◌, ◌^◌, true, [], ◌∷◌, length, IfOk, OnOk};
 ghost use Rattle.wot_key.specs.Key.{fpr_of, is_readable};
 ghost use Rattle.wot_packet.specs.Writing.{written_all};
