@@ -5,7 +5,7 @@ use Rattle.std.specs.Prelude.{not}
 use Rattle.std.specs.Option.{option_or}
 use Rattle.std.specs.List.{slice_index_or, slice_set}
 use Rattle.std.proofs.lemmas.Bool.{cases_eq, cases_lt}
-use Rattle.std.proofs.lemmas.List.{length-set, get_or-set_same, get_or-set_other, get_or_past, get_or_read}
+use Rattle.std.proofs.lemmas.List.{length-set, get_or-set_same, get_or-set_other, get_or_past}
 use Rattle.wot_types.specs.declared.number.SigNumber.{SigNumber}
 use Rattle.wot_verdict.specs.Near.{place_in}
 use Rattle.wot_verdict.specs.Verdicts.{is_number}
@@ -42,11 +42,7 @@ none_of : (o : Option Short) → is_some o ≡ false → o ≡ None
 none_of None h = refl
 none_of (Some short) h = absurd cc
 
--- What was read at a place is what the slot there is.
-pub slot_read : (slots : List Slot) (at : ℕ) (slot : Slot) → at < length slots → slot ≡ slice_index_or slots at slot →
-    slice_index_or slots at None ≡ slot
-slot_read slots at slot within read = sym (get_or_read slots at slot within read None)
-
+-- The slot is empty if a test says so.
 pub empty_slot : (slot : Slot) (b : Bool) → is_some slot ≡ not b → b ≡ true → slot ≡ None
 empty_slot None b is empty = refl
 empty_slot (Some e) true is empty = absurd cc
