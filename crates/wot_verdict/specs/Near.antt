@@ -1,5 +1,6 @@
 -- Verdicts in a row of slots beside the map: what a slot has on a number, the map has too.
-use Rattle.std.specs.Prelude.{◌≡◌, ◌≤◌, ◌<◌, ◌+◌, ◌%◌, ℕ, cond, List, [], ◌∷◌, length, slice_index, Option, Some, None}
+use Rattle.std.specs.Prelude.{◌≡◌, ◌≤◌, ◌<◌, ◌+◌, ◌*◌, ◌/◌, ◌^◌, ℕ, cond, List, [], ◌∷◌, length, slice_index}
+use Rattle.std.specs.Prelude.{Option, Some, None}
 use Rattle.std.specs.Int.{w32, from_be_bytes}
 use Rattle.std.specs.List.{slice_index_or}
 use Rattle.wot_types.specs.declared.number.SigNumber.{SigNumber}
@@ -15,9 +16,9 @@ abbrev pub word_in : SigNumber → ℕ
 word_in n =
     from_be_bytes w32 (slice_index n.0 0 ∷ slice_index n.0 1 ∷ slice_index n.0 2 ∷ slice_index n.0 3 ∷ [])
 
--- the first slot of a number, if there are this many
+-- the first slot of a number, if there are this many: the slots rise with the numbers
 abbrev pub place_in : ℕ → SigNumber → ℕ
-place_in count n = word_in n % count
+place_in count n = (word_in n * count) / 2 ^ 32
 
 -- the verdict in a slot, if it is on this number
 abbrev pub held_for : SigNumber → Slot → Option Verdict

@@ -19,6 +19,9 @@ pub(crate) type Slot = Option<(SigNumber, Verdict)>;
 /// The least number of slots.
 const LEAST: usize = 64;
 
+/// How many first four octets there are.
+const WORDS: u128 = 4_294_967_296;
+
 /// In how many slots a verdict may be.
 const NEAR: usize = 8;
 
@@ -30,13 +33,14 @@ fn word_of(number: &SigNumber) -> u32
     u32::from_be_bytes([octets[0], octets[1], octets[2], octets[3]])
 }
 
-/// The first slot of a number, if there are this many slots.
+/// The first slot of a number, if there are this many slots. Slots rise with the numbers, so that the map's verdicts
+/// fill a new row from its beginning to its end.
 fn place_of(number: &SigNumber, count: usize) -> usize
     requires some { 0 < count }
     ensures place { result ≡ place_in count number.now }
     ensures within { result < count }
 {
-    word_of(number) as usize % count
+    (word_of(number) as u128 * count as u128 / WORDS) as usize
 }
 
 /// The verdict in a slot, if it is on this number.
