@@ -46,8 +46,10 @@ pub(crate) fn clear_both(
 ) -> bool
     requires kept { IsKept numbers.old.keys (held_of held.old) }
     ensures kept { IsKept numbers.new.keys (held_of held.new) }
-    ensures cleared { kept_in numbers.new.keys held.new ≡ without_verdict (kept_in numbers.old.keys held.old) number.now }
-    ensures at_each { ChangesAt number.now None (kept_in numbers.old.keys held.old) (kept_in numbers.new.keys held.new) }
+    ensures cleared { kept_in numbers.new.keys held.new
+        ≡ without_verdict (kept_in numbers.old.keys held.old) number.now }
+    ensures at_each { ChangesAt number.now None (kept_in numbers.old.keys held.old)
+        (kept_in numbers.new.keys held.new) }
     ensures was_there { result ≡ is_some (held_of held.old number.now) }
 {
     held.forget(number);
