@@ -1,5 +1,5 @@
 -- Equations for conditions of conditions.
-use Rattle.std.proofs.Common.{◌≡◌, Bool, true, false, ◌&&◌, ◌||◌, sym, refl}
+use Rattle.std.proofs.Common.{◌≡◌, Bool, true, false, ◌&&◌, ◌||◌, refl}
 
 pub or_false : (a : Bool) → a || false ≡ a
 or_false true = refl
@@ -38,8 +38,3 @@ and_each true b true = refl
 and_each true true false = refl
 and_each true false false = refl
 and_each false b c = refl
-
-pub either_way : (a b : Bool) → (a ≡ true → b ≡ true) → (b ≡ true → a ≡ true) → a ≡ b
-either_way true b f g = sym (f refl)
-either_way false true f g = g refl
-either_way false false f g = refl

@@ -1,16 +1,10 @@
 -- The index, number by number: what is noted, logged, and removed again.
 use Rattle.std.proofs.Common.{◌≡◌, Bool, true, false, ◌&&◌, ◌||◌, cond, List, [], ◌∷◌, ◌++◌, Option, Some, None, Result}
-use Rattle.std.proofs.Common.{Ok, Err, OnOk, sym, ap, ◌∙◌, subst, refl}
-use Rattle.std.specs.Cmp.{IsTotalOrder}
-use Rattle.std.specs.Ordering.{is_eq}
+use Rattle.std.proofs.Common.{Ok, Err, OnOk, sym, ap, ◌∙◌, refl}
 use Rattle.std.proofs.lemmas.Bool.{or_right}
-use Rattle.std.proofs.lemmas.Cmp.{nat_list_cmp_total, on_total, tied_itself}
 use Rattle.std.proofs.lemmas.List.Folds.{list_any-append}
-use Rattle.std.proofs.lemmas.Map.Lookups.{CmpEqualImpliesEq, exact_bytes}
-use Rattle.std.proofs.lemmas.Map.Views.{tells_apart}
 use Rattle.wot_types.specs.declared.fpr.Fpr.{Fpr}
 use Rattle.wot_types.specs.declared.number.SigNumber.{SigNumber}
-use Rattle.wot_types.specs.SigNumber.{number_cmp}
 use Rattle.wot_key.specs.Key.{fpr_of}
 use Rattle.wot_verdict.specs.Verdicts.{is_number}
 use Rattle.wot_part.specs.Certificate.{Signature, Component, Certificate}
@@ -21,26 +15,8 @@ use Rattle.wot_held.specs.Keyring.{is_fpr}
 use Rattle.wot_index.specs.Index.{holder_of, is_holder, is_noted, unless, is_logged, holder_without, Notes}
 use Rattle.wot_index.specs.Index.{Forgets, NotesOn, StillLogged}
 use Rattle.wot_held.specs.Verdict.{is_among, has_number}
-use Rattle.wot_index.proofs.Choices.{or_false, or_itself, or_more, and_each, either_way}
-
--- ---- numbers
-
-pub numbers_total : IsTotalOrder number_cmp
-numbers_total = on_total (λ (n : SigNumber). n.0) nat_list_cmp_total
-
-pub exact : CmpEqualImpliesEq number_cmp
-exact a b e = let octets = exact_bytes a.0 b.0 e in λ i. record { 0 = octets i }
-
-pub same_number : (a b : SigNumber) → is_number a b ≡ true → a ≡ b
-same_number a b h = tells_apart exact a b h
-
-pub itself : (a : SigNumber) → is_number a a ≡ true
-itself a = ap is_eq (tied_itself numbers_total a)
-
-pub turned : (a b : SigNumber) → is_number a b ≡ is_number b a
-turned a b = either_way (is_number a b) (is_number b a) (λ h. subst (λ (x : SigNumber). is_number x a ≡ true)
-    (same_number a b h) (itself a)) (λ h. subst (λ (x : SigNumber). is_number x b ≡ true) (same_number b a h)
-    (itself b))
+use Rattle.wot_slots.proofs.Numbers.{same_number, turned}
+use Rattle.wot_index.proofs.Choices.{or_false, or_itself, or_more, and_each}
 
 -- ---- one number noted
 

@@ -26,7 +26,7 @@ use Rattle.wot_held.specs.Removal.{without_cert}
 use Rattle.wot_held.specs.Verdict.{has_number, is_among, is_on, restamped, counted_at, with_verdict_on}
 use Rattle.wot_held.specs.Verdict.{without_verdict_on}
 use Rattle.wot_index.proofs.Choices.{or_more}
-use Rattle.wot_index.proofs.Indexed.{exact, turned, same_number}
+use Rattle.wot_slots.proofs.Numbers.{exact, turned, same_number}
 use Rattle.wot_index.proofs.Noted.{found_without}
 
 itself : (n : ℕ) → n ≤ n

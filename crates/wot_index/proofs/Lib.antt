@@ -1,7 +1,6 @@
 pub mod Choices
 pub mod Indexed
-pub mod Slots
-pub mod Moved
+pub mod Holding
 pub mod Noted
 pub mod Logged
 pub mod Later

@@ -1,25 +1,35 @@
 -- On which certificate each signature is, by its number: how a change of a verdict finds the certificate.
 use Rattle.std.specs.Prelude.{◌≡◌, ℕ, Bool, true, false, ◌&&◌, ◌||◌, cond, List, Option, Some, None}
-use Rattle.std.specs.Option.{option_map_or, MatchOption}
+use Rattle.std.specs.Option.{option_map, option_map_or, option_or, MatchOption}
 use Rattle.std.specs.List.{list_any}
 use Rattle.std.specs.Map.{lookup, set_value}
 use Rattle.wot_types.specs.declared.fpr.Fpr.{Fpr}
+use Rattle.wot_types.specs.declared.fpr.Fpr.TheVariants.{V4}
 use Rattle.wot_types.specs.declared.number.SigNumber.{SigNumber}
 use Rattle.wot_key.specs.Key.{fpr_of}
 use Rattle.wot_verdict.specs.Verdicts.{is_number}
 use Rattle.wot_part.specs.Certificate.{Certificate}
 use Rattle.wot_held.specs.declared.kept.Kept.{Kept}
+use Rattle.wot_slots.specs.Near.{held_of}
 use Rattle.wot_index.specs.declared.holders.Holders.{Holders}
+use Rattle.wot_index.specs.declared.holders.Short.{Short}
 use Rattle.wot_index.specs.declared.index.Index.{Index}
 use Rattle.wot_held.specs.Keyring.{Entries, is_fpr}
 use Rattle.wot_held.specs.Verdict.{has_number}
-use Rattle.wot_index.specs.Near.{holder_in}
 
 -- ---- what is noted
 
+-- the fingerprint of version 4 with these octets
+abbrev pub full : Short → Fpr
+full short = V4 short.0
+
+-- the fingerprint that slots and a tree have for a number
+abbrev pub holder_in : (SigNumber → Option Short) → List (SigNumber × Fpr) → SigNumber → Option Fpr
+holder_in short long n = option_or (option_map full (short n)) (lookup (is_number n) long)
+
 -- the fingerprint noted for a number
 abbrev pub holder_of : Holders → SigNumber → Option Fpr
-holder_of holders n = holder_in holders.near.items holders.rest.entries n
+holder_of holders n = holder_in (held_of holders.short) holders.long.entries n
 
 -- The new ones have this fingerprint for the number too.
 abbrev pub Puts : SigNumber → Fpr → Holders → Holders → Type 0

@@ -1,3 +1,2 @@
-pub mod Near
 pub mod Index
 pub mod Log

@@ -1,33 +1,28 @@
-//! A fingerprint for each signature number: those of version 4 in a row of slots, others in a tree.
+//! A fingerprint for each signature number: those of version 4 in slots, those of version 6 in a tree.
 //!
-//! It stands on `near`, on `moving` and on std's map. Whoever chooses numbers can't make a lookup slow: it reads eight
-//! slots, and if the number isn't there, the tree. `index` notes and removes fingerprints here.
+//! It stands on `wot_slots` and on std's map. `index` notes and removes fingerprints here.
 ghost use Rattle.std.specs.Prelude.{◌≡◌, None, OnOk, OnErr};
+ghost use Rattle.std.specs.Option.{IfSome};
 ghost use Rattle.wot_types.specs.declared.number.SigNumber.{SigNumber as TheNumber};
 ghost use Rattle.wot_verdict.specs.Verdicts.{is_number};
-ghost use Rattle.wot_index.specs.Index.{holder_of, Forgets, HoldsSame, Puts};
+ghost use Rattle.wot_index.specs.Index.{full, holder_of, Forgets, HoldsSame, Puts};
 
-use crate::moving::longer;
-use crate::near::{Slot, forget_near, full_of, keep_fpr, near_at};
 use std::alloc::Global;
 use std::collections::BTreeMap;
+use wot_slots::Slots;
 use wot_types::{Fpr, Memory, SigNumber};
 
-/// The least number of slots.
-const LEAST: usize = 64;
+/// A fingerprint of version 4.
+#[derive(Clone, Copy)]
+pub struct Short(pub [u8; 20]);
 
 /// A fingerprint for each number.
 #[derive(Drop)]
 pub struct Holders {
-    /// Most fingerprints of version 4.
-    pub near: Vec<Slot>,
-    /// The fingerprints that aren't in a slot.
-    pub rest: BTreeMap<SigNumber, Fpr, Global>,
-    /// How many numbers have a fingerprint of version 4.
-    pub count: usize,
-    /// When there are so many, the row gets longer.
-    pub until: usize,
-    pub alloc: Global,
+    /// The fingerprints of version 4.
+    pub short: Slots<Short>,
+    /// The fingerprints of version 6.
+    pub long: BTreeMap<SigNumber, Fpr, Global>,
 }
 
 impl Holders {
@@ -35,24 +30,18 @@ impl Holders {
     pub fn new(alloc: Global) -> Holders
         ensures empty { (n : TheNumber) → holder_of result n ≡ None }
     {
-        let near = Vec::new(alloc);
-        let rest = BTreeMap::new(alloc);
-        Holders {
-            near,
-            rest,
-            count: 0,
-            until: 0,
-            alloc,
-        }
+        let short = Slots::new(alloc);
+        let long = BTreeMap::new(alloc);
+        Holders { short, long }
     }
 
     /// The fingerprint for a number.
     pub fn get(&self, number: &SigNumber) -> Option<Fpr>
         ensures held { result ≡ holder_of self.now number.now }
     {
-        match near_at(&self.near, number) {
+        match self.short.get(number) {
             Some(short) => Some(full_of(short)),
-            None => self.rest.get(number).copied(),
+            None => self.long.get(number).copied(),
         }
     }
 
@@ -62,64 +51,46 @@ impl Holders {
         ensures put { OnOk result (Puts number fpr self.old self.new) }
         ensures kept { OnErr result (HoldsSame self.old self.new) }
     {
-        self.make_room();
-        self.hold(number, fpr)?;
-        self.count = self.count.saturating_add(weight_of(&fpr));
-        Ok(())
+        if let Some(short) = short_of(&fpr) {
+            return self.short.put(number, short);
+        }
+        match self.long.insert(number, fpr) {
+            Ok(_) => Ok(()),
+            Err(_) => Err(Memory),
+        }
     }
 
     /// Removes a number. Doesn't allocate.
     pub fn forget(&mut self, number: &SigNumber)
         ensures forgotten { Forgets self.old self.new (λ n. is_number n number.now) }
     {
-        let weight = self.weight_at(number);
-        forget_near(&mut self.near, number);
-        let _ = self.rest.remove(number);
-        self.count = self.count.saturating_sub(weight);
-    }
-
-    /// Keeps a fingerprint in a slot, or else in the tree.
-    fn hold(&mut self, number: SigNumber, fpr: Fpr) -> Result<(), Memory>
-        requires absent { holder_of self.old number ≡ None }
-        ensures put { OnOk result (Puts number fpr self.old self.new) }
-        ensures kept { OnErr result (HoldsSame self.old self.new) }
-    {
-        if keep_fpr(&mut self.near, number, &fpr) {
-            return Ok(());
-        }
-        match self.rest.insert(number, fpr) {
-            Ok(_) => Ok(()),
-            Err(_) => Err(Memory),
-        }
-    }
-
-    /// Makes the row twice as long once there are as many fingerprints as slots. Without memory it stays as it is.
-    fn make_room(&mut self)
-        ensures same { HoldsSame self.old self.new }
-    {
-        if self.count < self.until {
-            return;
-        }
-        let wanted = LEAST.max(self.count.saturating_add(self.count));
-        self.until = wanted;
-        if let Some(made) = longer(self.alloc, &self.near, &mut self.rest, wanted) {
-            self.near = made;
-        }
-    }
-
-    /// By how much the count falls when this number is removed.
-    fn weight_at(&self, number: &SigNumber) -> usize {
-        match self.get(number) {
-            Some(fpr) => weight_of(&fpr),
-            None => 0,
-        }
+        self.short.forget(number);
+        let _ = self.long.remove(number);
     }
 }
 
-/// 1 for a fingerprint that a slot can have, and 0 for others.
-fn weight_of(fpr: &Fpr) -> usize {
+/// The fingerprint of version 4 with these octets.
+fn shortened(octets: &[u8; 20]) -> Short
+    ensures { result.0 ≡ octets.now }
+{
+    let octets = *octets;
+    Short(octets)
+}
+
+/// The fingerprint, if it is of version 4.
+fn short_of(fpr: &Fpr) -> Option<Short>
+    ensures short { IfSome result (λ short. full short ≡ fpr.now) }
+{
     match fpr {
-        Fpr::V4(_) => 1,
-        Fpr::V6(_) => 0,
+        Fpr::V4(octets) => Some(shortened(octets)),
+        Fpr::V6(_) => None,
     }
+}
+
+/// The fingerprint as callers know it.
+fn full_of(short: Short) -> Fpr
+    ensures full { result ≡ full short }
+{
+    let octets = short.0;
+    Fpr::V4(octets)
 }

@@ -1,14 +1,12 @@
 //! On which certificate each signature is, and which certificates were altered since a count of changes: the index and
 //! the log of a keyring, so that neither a verdict nor a refresh walks over the certificates. It stands on wot_held
-//! alone, beside wot_merge. wot_keyring keeps both in step with its certificates.
+//! and wot_slots, beside wot_merge. wot_keyring keeps both in step with its certificates.
 #![tactic(auto)]
 
 mod forgetting;
 mod holders;
 mod index;
 pub mod log;
-mod moving;
-mod near;
 mod noting;
 mod restamp;
 

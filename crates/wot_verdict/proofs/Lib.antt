@@ -1,1 +1,1 @@
-mod Agreeing
+mod Listed

@@ -1,3 +1,3 @@
-pub mod Near
+pub mod Kept
 pub mod Number
 pub mod Verdicts

@@ -1,10 +1,10 @@
 //! Signature numbers, and the verdicts on them.
 //!
-//! It stands on `sha2` and `wot_types`. `wot_cert` numbers each signature that it holds; `wot_keyring` keeps the
-//! verdicts, and edges exist only for signatures with a verdict.
+//! It stands on `sha2`, `wot_slots` and `wot_types`. `wot_cert` numbers each signature that it holds; `wot_keyring`
+//! keeps the verdicts, and edges exist only for signatures with a verdict.
 #![tactic(auto)]
 
-mod near;
+mod keeping;
 mod number;
 mod verdict;
 mod verdicts;

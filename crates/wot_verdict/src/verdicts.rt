@@ -1,6 +1,6 @@
 //! Verdicts by signature number.
 //!
-//! It stands on std's map, on `near` and on `specs/Verdicts.antt`. `wot_keyring` keeps one such map for all
+//! It stands on std's set, on `keeping` and on `specs/{Kept,Verdicts}.antt`. `wot_keyring` keeps one such map for all
 //! certificates, within the limit on verdicts, and a dump prints it.
 ghost use Rattle.std.specs.Prelude.{◌≡◌, ◌≢◌, ◌<◌, ◌^◌, ◌↔◌, [], length, IsTrue, IfOk, OnOk, OnErr, Some, None};
 ghost use Rattle.std.specs.Prelude.{is_some, cond};
@@ -9,30 +9,33 @@ ghost use Rattle.wot_types.specs.declared.number.SigNumber.{SigNumber as Number}
 ghost use Rattle.wot_verdict.specs.Verdicts.{verdict_at, with_verdict, without_verdict, is_number, AreSortedByNumber};
 
 use crate::Verdict;
-use crate::near::{Slot, forget_near, keep_near, make_room, near_at};
+use crate::keeping::{clear_both, set_both};
 use std::alloc::Global;
-use std::collections::BTreeMap;
-use std::collections::btree_map::Iter;
+use std::collections::BTreeSet;
+use std::collections::btree_set::Iter;
 use std::marker::Model;
+use wot_slots::Slots;
 use wot_types::{Memory, SigNumber};
 
 /// Verdicts by signature number. Contracts see the list of the entries in the order of the numbers.
 #[derive(Drop)]
 pub struct Verdicts {
-    by_number: BTreeMap<SigNumber, Verdict>,
-    /// Most of the same verdicts, to find one without a walk over the tree.
-    near: Vec<Slot>,
+    /// The numbers that have a verdict, in order.
+    numbers: BTreeSet<SigNumber, Global>,
+    /// Their verdicts, the only place of each.
+    held: Slots<Verdict>,
 }
 
 impl Model for Verdicts {
-    ghost use Rattle.wot_verdict.specs.Near.{Agrees};
+    ghost use Rattle.wot_slots.specs.Near.{held_of};
+    ghost use Rattle.wot_verdict.specs.Kept.{entries_of, IsKept};
     ghost use Rattle.wot_verdict.specs.Verdicts.{Entries};
 
     ghost Value = { Entries };
 
-    ghost view = { λ v. v.by_number.entries };
+    ghost view = { λ v. entries_of v.numbers.keys (held_of v.held) };
 
-    ghost invariant = { λ v. Agrees v.near.items v.by_number.entries };
+    ghost invariant = { λ v. IsKept v.numbers.keys (held_of v.held) };
 }
 
 impl Verdicts {
@@ -41,8 +44,8 @@ impl Verdicts {
         ensures none { result ≡ [] }
     {
         Verdicts {
-            by_number: BTreeMap::new(alloc),
-            near: Vec::new(alloc),
+            numbers: BTreeSet::new(alloc),
+            held: Slots::new(alloc),
         }
     }
 
@@ -50,10 +53,7 @@ impl Verdicts {
     pub fn get(&self, number: &SigNumber) -> Option<Verdict>
         ensures found { result ≡ verdict_at self.now number.now }
     {
-        match near_at(&self.near, number) {
-            Some(verdict) => Some(verdict),
-            None => self.by_number.get(number).copied(),
-        }
+        self.held.get(number)
     }
 
     /// Sets the verdict on a number, in place of an earlier one. Returns whether something changed. After `Memory`
@@ -66,9 +66,8 @@ impl Verdicts {
         ensures kept { OnErr result (self.new ≡ self.old) }
         ensures was_absent { OnErr result (verdict_at self.old number ≡ None) }
     {
-        let old = self.by_number.insert(number, verdict)?;
-        keep_near(&mut self.near, number, verdict);
-        make_room(&mut self.near, &self.by_number);
+        let old = self.held.get(&number);
+        set_both(&mut self.numbers, &mut self.held, number, verdict)?;
         Ok(differs(old, verdict))
     }
 
@@ -79,8 +78,7 @@ impl Verdicts {
             → verdict_at self.new q ≡ cond (is_number number.now q) None (verdict_at self.old q) }
         ensures was_there { result ≡ is_some (verdict_at self.old number.now) }
     {
-        forget_near(&mut self.near, number);
-        self.by_number.remove(number).is_some()
+        clear_both(&mut self.numbers, &mut self.held, number)
     }
 
     /// How many numbers have a verdict.
@@ -89,7 +87,7 @@ impl Verdicts {
         ensures few { result < 2 ^ 63 }
         ensures sorted { AreSortedByNumber self.now }
     {
-        self.by_number.len()
+        self.numbers.len()
     }
 
     /// The numbers with their verdicts, in the order of the numbers.
@@ -98,7 +96,8 @@ impl Verdicts {
         ensures sorted { AreSortedByNumber self.now }
     {
         VerdictsIter {
-            entries: self.by_number.iter(),
+            numbers: self.numbers.iter(),
+            held: &self.held,
         }
     }
 }
@@ -112,15 +111,18 @@ fn differs(old: Option<Verdict>, new: Verdict) -> bool
 /// Iterates over the entries of [`Verdicts`].
 #[derive(Drop)]
 pub struct VerdictsIter<'a> {
-    entries: Iter<'a, SigNumber, Verdict>,
+    numbers: Iter<'a, SigNumber>,
+    held: &'a Slots<Verdict>,
 }
 
 impl<'a> Model for VerdictsIter<'a> {
+    ghost use Rattle.wot_slots.specs.Near.{held_of};
+    ghost use Rattle.wot_verdict.specs.Kept.{entries_of};
     ghost use Rattle.wot_verdict.specs.Verdicts.{Entries};
 
     ghost Value = { Entries };
 
-    ghost view = { λ i. i.entries };
+    ghost view = { λ i. entries_of i.numbers (held_of i.held.now) };
 }
 
 impl<'a> Iterator for VerdictsIter<'a> {
@@ -131,8 +133,11 @@ impl<'a> Iterator for VerdictsIter<'a> {
     ghost remaining = { item_count (λ i. i) };
 
     fn next(&mut self) -> Option<(SigNumber, Verdict)> {
-        match self.entries.next() {
-            Some((number, verdict)) => Some((*number, *verdict)),
+        match self.numbers.next() {
+            Some(number) => {
+                let verdict = self.held.get(number).unwrap_or(Verdict::Bad);
+                Some((*number, verdict))
+            }
             None => None,
         }
     }

@@ -2,9 +2,10 @@ use Rattle.std.proofs.Common.{◌≡◌, Bool, true, false, Some, List, sym, ap,
 use Rattle.std.specs.Bool.{MatchBool}
 use Rattle.wot_types.specs.declared.fpr.Fpr.{Fpr}
 use Rattle.wot_types.specs.declared.number.SigNumber.{SigNumber}
+use Rattle.wot_slots.specs.Near.{held_of}
 use Rattle.wot_index.specs.Index.{holder_without}
 use Rattle.wot_index.proofs.Indexed.{noted_again}
-use Rattle.wot_index.proofs.Moved.{put_again}
+use Rattle.wot_index.proofs.Holding.{put_again}
 use Rattle.wot_index.proofs.index.note.Goals as goal
 
 when_true : (b : Bool) (P P' Q : Type 0) → MatchBool b (P × P') Q → b ≡ true → P × P'
@@ -18,8 +19,8 @@ returns-clause-noted c = λ exact.
     let has = sym c.in-Some.ensures.held ∙ ap (λ (f : Fpr). Some f) s.1 in (
       s.0,
       noted_again c.args.index.now.holders c.args.index.now.holders c.args.number c.args.fpr
-          (put_again c.args.index.now.holders.near.items c.args.index.now.holders.rest.entries c.args.number c.args.fpr
-          has) has,
+          (put_again (held_of c.args.index.now.holders.short) c.args.index.now.holders.long.entries c.args.number
+          c.args.fpr has) has,
     )
 
 pub returns-clause-log : goal.returns-clause-log

@@ -1,9 +1,0 @@
-use Rattle.std.proofs.Common.{◌-◌, length}
-use Rattle.wot_index.specs.Near.{HasMoved}
-use Rattle.wot_index.proofs.moving.move_all.Given as goal
-
-abbrev pub invariant-slots : goal.invariant-slots
-invariant-slots l = HasMoved l.at l.near l.longer.items l.initial.rest.entries l.rest.entries
-
-abbrev pub decreases-slots : goal.decreases-slots
-decreases-slots l = length l.near - l.at

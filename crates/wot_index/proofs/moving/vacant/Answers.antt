@@ -1,9 +1,0 @@
-use Rattle.wot_index.proofs.Moved.{vacant_row}
-use Rattle.wot_index.proofs.moving.vacant.Goals as goal
-
-pub returns : goal.returns
-returns c = record {
-  vacant =
-      vacant_row c.resize.new.self.items c.new-made.result.items c.args.count _ c.new-made.ensures.items
-      c.in_ok-resize.ensures.items;
-}

@@ -1,0 +1,366 @@
+-- Rows of slots: what is found in one after a slot was set or emptied.
+use Rattle.std.proofs.Common.{◌≡◌, ◌<◌, ◌≤◌, ◌+◌, ◌-◌, ◌⊎◌, inl, inr, ℕ, suc, zero, Bool, true, false, cond, List}
+use Rattle.std.proofs.Common.{length, Option, Some, None, is_some, sym, ap, ◌∙◌, subst, refl, arith}
+use Rattle.std.specs.Prelude.{not}
+use Rattle.std.specs.Option.{option_or}
+use Rattle.std.specs.List.{slice_index_or, slice_set}
+use Rattle.std.proofs.lemmas.Bool.{cases_eq, cases_lt}
+use Rattle.std.proofs.lemmas.List.{length-set, get_or-set_same, get_or-set_other, get_or_past}
+use Rattle.wot_types.specs.declared.number.SigNumber.{SigNumber}
+use Rattle.wot_slots.specs.Near.{Slot, is_number, place_in, held_for, found_from, near_in, DiffersAt, HasLess}
+use Rattle.wot_slots.specs.Near.{HasNoneIn, IsFirstOf}
+use Rattle.wot_slots.proofs.Numbers.{same_number, itself, turned}
+
+module _ {T : Type 0} where
+  -- ---- one slot
+
+  -- what a slot that has something for a number is
+  pub held_is : (n : SigNumber) (slot : Slot T) (value : T) → held_for n slot ≡ Some value →
+      slot ≡ Some (n, value)
+  held_is n None value h = absurd cc
+  held_is n (Some e) value h = by (is_number n e.0) refl h
+    where
+      by : (b : Bool) → is_number n e.0 ≡ b → cond b (Some e.1) None ≡ Some value → Some e ≡ Some (n, value)
+      by true t k =
+          let number = sym (same_number n e.0 t) in
+          let same : e.1 ≡ value = cc in
+          ap Some (λ i. (number i, same i))
+      by false t k = absurd cc
+
+  held_own : (n : SigNumber) (value : T) → held_for n (Some (n, value)) ≡ Some value
+  held_own n value = ap (λ b. cond b (Some value) None) (itself n)
+
+  held_other : (n q : SigNumber) (value : T) → is_number n q ≡ false → held_for q (Some (n, value)) ≡ None
+  held_other n q value other = ap (λ b. cond b (Some value) None) (turned q n ∙ other)
+
+  pub past_end : (slots : List (Slot T)) (n : SigNumber) (i : ℕ) → length slots ≤ i →
+      held_for n (slice_index_or slots i None) ≡ None
+  past_end slots n i past = ap (held_for n) (get_or_past slots i None past)
+
+  none_of : (o : Option T) → is_some o ≡ false → o ≡ None
+  none_of None h = refl
+  none_of (Some value) h = absurd cc
+
+  -- The slot is empty if a test says so.
+  pub empty_slot : (slot : Slot T) (b : Bool) → is_some slot ≡ not b → b ≡ true → slot ≡ None
+  empty_slot None b is empty = refl
+  empty_slot (Some e) true is empty = absurd cc
+  empty_slot (Some e) false is empty = absurd cc
+
+  -- ---- several slots
+
+  -- Nothing is found in slots that have nothing for the number.
+  pub found_nothing : (slots : List (Slot T)) (n : SigNumber) (at count : ℕ) → HasNoneIn n at (at + count) slots →
+      found_from slots n at count ≡ None
+  found_nothing slots n at zero none = refl
+  found_nothing slots n at (suc count) none =
+      ap (λ o. option_or o (found_from slots n (at + 1) count)) (none at (omega arith) (omega arith))
+      ∙ found_nothing slots n (at + 1) count (λ i from to. none i (omega (arith, from)) (omega (arith, to)))
+
+  -- The same is found in slots that have the same for the number.
+  pub found_like : (old new : List (Slot T)) (n : SigNumber) →
+      ((i : ℕ) → held_for n (slice_index_or new i None) ≡ held_for n (slice_index_or old i None)) →
+      (at count : ℕ) → found_from new n at count ≡ found_from old n at count
+  found_like old new n like at zero = refl
+  found_like old new n like at (suc count) = λ i. option_or (like at i) (found_like old new n like (at + 1) count i)
+
+  pub near_like : (old new : List (Slot T)) (n : SigNumber) → length new ≡ length old →
+      ((i : ℕ) → held_for n (slice_index_or new i None) ≡ held_for n (slice_index_or old i None)) →
+      near_in new n ≡ near_in old n
+  near_like old new n as_many like =
+      ap (λ k. found_from new n (place_in k n) 8) as_many ∙ found_like old new n like (place_in (length old) n) 8
+
+  -- A slot that has what is found.
+  pub slot_found : (slots : List (Slot T)) (n : SigNumber) (value : T) (at count : ℕ) →
+      found_from slots n at count ≡ Some value → (i : ℕ) × (slice_index_or slots i None ≡ Some (n, value))
+  slot_found slots n value at zero h = absurd cc
+  slot_found slots n value at (suc count) h =
+      by (held_for n (slice_index_or slots at None)) refl h (slot_found slots n value (at + 1) count)
+    where
+      by : (o : Option T) → held_for n (slice_index_or slots at None) ≡ o →
+          option_or o (found_from slots n (at + 1) count) ≡ Some value →
+          (found_from slots n (at + 1) count ≡ Some value → (i : ℕ) × (slice_index_or slots i None ≡ Some (n, value)))
+          → (i : ℕ) × (slice_index_or slots i None ≡ Some (n, value))
+      by None e k more = more k
+      by (Some x) e k more = let is : Some x ≡ Some value = k in let same : x ≡ value = cc in (
+        at,
+        held_is n (slice_index_or slots at None) value (e ∙ ap Some same),
+      )
+
+  -- ---- a search, slot by slot
+
+  module _ (slots : List (Slot T)) (n : SigNumber) (place : ℕ) where
+    -- What is found from this place on is what is found from the first slot on.
+    abbrev pub FindsFrom : ℕ → Type 0
+    FindsFrom at = (count : ℕ) → at + count ≡ place + 8 → found_from slots n at count ≡ found_from slots n place 8
+
+    pub finds_first : FindsFrom place
+    finds_first count e = let same : count ≡ 8 = omega (arith, e) in ap (found_from slots n place) same
+
+    pub finds_on : (at : ℕ) → held_for n (slice_index_or slots at None) ≡ None → FindsFrom at → FindsFrom (at + 1)
+    finds_on at none finds count e =
+        sym (ap (λ o. option_or o (found_from slots n (at + 1) count)) none) ∙ finds (suc count) (omega (arith, e))
+
+    pub finds_here : (at : ℕ) (value : T) → at < place + 8 →
+        held_for n (slice_index_or slots at None) ≡ Some value → FindsFrom at → found_from slots n place 8 ≡ Some value
+    finds_here at value near held finds = by (left at place near)
+      where
+        left : (at place : ℕ) → at < place + 8 → (count : ℕ) × (at + suc count ≡ place + 8)
+        left at place near = (place + 8 - suc at, omega (arith, near))
+
+        by : (count : ℕ) × (at + suc count ≡ place + 8) → found_from slots n place 8 ≡ Some value
+        by count = sym (finds (suc count.0) count.1)
+            ∙ ap (λ o. option_or o (found_from slots n (at + 1) count.0)) held
+
+    -- There is no slot left.
+    pub finds_nothing : (at end total : ℕ) → total ≡ length slots → place ≤ at → at ≤ end → end ≤ at →
+        end ≤ place + 8 → ((i : ℕ) → i < place + 8 → i < total → i < end) → FindsFrom at →
+        found_from slots n place 8 ≡ None
+    finds_nothing at end total counted from to over near whole finds = by (left at end place to near)
+      where
+        left : (at end place : ℕ) → at ≤ end → end ≤ place + 8 → (count : ℕ) × (at + count ≡ place + 8)
+        left at end place to near = (place + 8 - at, omega (arith, to, near))
+
+        past : (i : ℕ) → at ≤ i → i < place + 8 → length slots ≤ i
+        past i lo hi = by (cases_lt i total)
+          where
+            by : (i < total) ⊎ (total ≤ i) → length slots ≤ i
+            by (inl within) = let before = whole i hi within in absurd (omega (arith, before, over, lo))
+            by (inr out) = subst (λ k. k ≤ i) counted out
+
+        by : (count : ℕ) × (at + count ≡ place + 8) → found_from slots n place 8 ≡ None
+        by count = sym (finds count.0 count.1)
+            ∙ found_nothing slots n at count.0 (λ i lo hi. past_end slots n i (past i lo (omega (arith, hi, count.1))))
+
+  -- ---- a slot that was set
+
+  option_parts : (a b : Option T) → option_or a b ≡ None → (a ≡ None) × (b ≡ None)
+  option_parts None b h = (refl, h)
+  option_parts (Some x) b h = absurd cc
+
+  module _ (slots : List (Slot T)) (j : ℕ) (slot : Slot T) (within : j < length slots) where
+    -- It has for a number what it had before, so the others have too.
+    like_before : (n : SigNumber) → held_for n slot ≡ held_for n (slice_index_or slots j None) → (i : ℕ) →
+        held_for n (slice_index_or (slice_set slots j slot) i None) ≡ held_for n (slice_index_or slots i None)
+    like_before n same i = by (cases_eq i j)
+      where
+        by : (i ≡ j) ⊎ (i ≡ j → ⊥) →
+            held_for n (slice_index_or (slice_set slots j slot) i None) ≡ held_for n (slice_index_or slots i None)
+        by (inl e) =
+            ap (λ k. held_for n (slice_index_or (slice_set slots j slot) k None)) e
+            ∙ ap (held_for n) (get_or-set_same slots j slot None within)
+            ∙ same
+            ∙ sym (ap (λ k. held_for n (slice_index_or slots k None)) e)
+        by (inr away) = ap (held_for n) (get_or-set_other slots j i slot None away)
+
+    -- It was set for a number of which nothing was found.
+    found_set : (n : SigNumber) (value : T) → slot ≡ Some (n, value) → (at count : ℕ) → at ≤ j →
+        j < at + count → found_from slots n at count ≡ None →
+        found_from (slice_set slots j slot) n at count ≡ Some value
+    found_set n value is at zero from to none = absurd (omega (arith, from, to))
+    found_set n value is at (suc count) from to none =
+        by (cases_lt at j) (option_parts (held_for n (slice_index_or slots at None)) (found_from slots n (at + 1) count)
+        none) (found_set n value is (at + 1) count)
+      where
+        by : (at < j) ⊎ (j ≤ at) →
+            (held_for n (slice_index_or slots at None) ≡ None) × (found_from slots n (at + 1) count ≡ None) →
+            (at + 1 ≤ j → j < at + 1 + count → found_from slots n (at + 1) count ≡ None →
+            found_from (slice_set slots j slot) n (at + 1) count ≡ Some value) →
+            option_or (held_for n (slice_index_or (slice_set slots j slot) at None))
+            (found_from (slice_set slots j slot) n (at + 1) count) ≡ Some value
+        by (inl before) parts more =
+            ap (λ o. option_or o (found_from (slice_set slots j slot) n (at + 1) count))
+            (ap (held_for n) (get_or-set_other slots j at slot None (λ e. omega (arith, before, e))) ∙ parts.0)
+            ∙ more (omega (arith, before)) (omega (arith, to)) parts.1
+        by (inr there) parts more =
+            let e : at ≡ j = omega (arith, from, there) in
+            ap (λ o. option_or o (found_from (slice_set slots j slot) n (at + 1) count))
+            (ap (λ k. held_for n (slice_index_or (slice_set slots j slot) k None)) e
+            ∙ ap (held_for n) (get_or-set_same slots j slot None within ∙ is) ∙ held_own n value)
+
+  -- An empty slot was set.
+  pub kept_near : (slots : List (Slot T)) (number : SigNumber) (value : T) (place at count : ℕ) →
+      count ≡ length slots → place ≡ place_in count number → place ≤ at → at < place + 8 → at < length slots →
+      slice_index_or slots at None ≡ None → near_in slots number ≡ None →
+      DiffersAt number (Some value) slots (slice_set slots at (Some (number, value)))
+  kept_near slots number value place at count counted there from near within vacant absent q =
+      by (is_number number q) refl
+    where
+      placed : place ≡ place_in (length slots) number
+      placed = there ∙ ap (λ k. place_in k number) counted
+
+      own : near_in (slice_set slots at (Some (number, value))) number ≡ Some value
+      own =
+          ap (λ k. found_from (slice_set slots at (Some (number, value))) number (place_in k number) 8)
+          (length-set slots at (Some (number, value)))
+          ∙ found_set slots at (Some (number, value)) within number value refl (place_in (length slots) number) 8
+          (subst (λ p. p ≤ at) placed from) (subst (λ p. at < p + 8) placed near) absent
+
+      by : (b : Bool) → is_number number q ≡ b →
+          near_in (slice_set slots at (Some (number, value))) q ≡ cond b (Some value) (near_in slots q)
+      by true t = ap (near_in (slice_set slots at (Some (number, value)))) (sym (same_number number q t)) ∙ own
+      by false t =
+          near_like slots (slice_set slots at (Some (number, value))) q (length-set slots at (Some (number, value)))
+          (like_before slots at (Some (number, value)) within q
+          (held_other number q value t ∙ sym (ap (held_for q) vacant)))
+
+  -- A slot was set again for the number that it has: it is the first one that has it.
+  found_over : (slots : List (Slot T)) (j : ℕ) (n : SigNumber) (value : T) → j < length slots → (at count : ℕ) →
+      at ≤ j → j < at + count → HasNoneIn n at j slots →
+      found_from (slice_set slots j (Some (n, value))) n at count ≡ Some value
+  found_over slots j n value within at zero from to none = absurd (omega (arith, from, to))
+  found_over slots j n value within at (suc count) from to none =
+      by (cases_lt at j) (found_over slots j n value within (at + 1) count)
+    where
+      new : List (Slot T)
+      new = slice_set slots j (Some (n, value))
+
+      by : (at < j) ⊎ (j ≤ at) →
+          (at + 1 ≤ j → j < at + 1 + count → HasNoneIn n (at + 1) j slots →
+          found_from new n (at + 1) count ≡ Some value) →
+          option_or (held_for n (slice_index_or new at None)) (found_from new n (at + 1) count) ≡ Some value
+      by (inl before) more =
+          ap (λ o. option_or o (found_from new n (at + 1) count))
+          (ap (held_for n) (get_or-set_other slots j at (Some (n, value)) None (λ e. omega (arith, before, e)))
+          ∙ none at (omega arith) before)
+          ∙ more (omega (arith, before)) (omega (arith, to)) (λ i lo hi. none i (omega (arith, lo)) hi)
+      by (inr there) more =
+          let e : at ≡ j = omega (arith, from, there) in
+          ap (λ o. option_or o (found_from new n (at + 1) count))
+          (ap (λ k. held_for n (slice_index_or new k None)) e
+          ∙ ap (held_for n) (get_or-set_same slots j (Some (n, value)) None within) ∙ held_own n value)
+
+  -- ---- slots that were emptied
+
+  pub as_it_was : (number : SigNumber) (slots : List (Slot T)) → HasLess number slots slots
+  as_it_was number slots = record { as_many = refl; others = λ q i other. refl; still = λ i none. none }
+
+  -- The slot of a number was emptied.
+  module _ (slots : List (Slot T)) (at : ℕ) (number : SigNumber) (within : at < length slots)
+      (found : is_some (held_for number (slice_index_or slots at None)) ≡ true) where
+    nothing_else : (q : SigNumber) → is_number number q ≡ false → held_for q (slice_index_or slots at None) ≡ None
+    nothing_else q other = by (held_for number (slice_index_or slots at None)) refl found
+      where
+        by : (o : Option T) → held_for number (slice_index_or slots at None) ≡ o → is_some o ≡ true →
+            held_for q (slice_index_or slots at None) ≡ None
+        by None e h = absurd cc
+        by (Some value) e h = ap (held_for q) (held_is number (slice_index_or slots at None) value e)
+            ∙ held_other number q value other
+
+    pub emptied : HasLess number slots (slice_set slots at None)
+    emptied = record {
+      as_many = length-set slots at None;
+      others = λ q i other. like_before slots at None within q (sym (nothing_else q other)) i;
+      still = λ i none. by i none (cases_eq i at);
+    }
+      where
+        by : (i : ℕ) → held_for number (slice_index_or slots i None) ≡ None → (i ≡ at) ⊎ (i ≡ at → ⊥) →
+            held_for number (slice_index_or (slice_set slots at None) i None) ≡ None
+        by i none (inl e) = ap (λ k. held_for number (slice_index_or (slice_set slots at None) k None)) e
+            ∙ ap (held_for number) (get_or-set_same slots at None None within)
+        by i none (inr away) = ap (held_for number) (get_or-set_other slots at i None None away) ∙ none
+
+    pub emptied_there : HasNoneIn number at (at + 1) (slice_set slots at None)
+    emptied_there i from to =
+        let e : i ≡ at = omega (arith, from, to) in
+        ap (λ k. held_for number (slice_index_or (slice_set slots at None) k None)) e
+        ∙ ap (held_for number) (get_or-set_same slots at None None within)
+
+  -- The value of a number was replaced in its first slot.
+  pub replaced_near : (slots : List (Slot T)) (number : SigNumber) (value : T) (at : ℕ) → IsFirstOf number at slots →
+      DiffersAt number (Some value) slots (slice_set slots at (Some (number, value)))
+  replaced_near slots number value at first q = by (is_number number q) refl
+    where
+      new : List (Slot T)
+      new = slice_set slots at (Some (number, value))
+
+      own : near_in new number ≡ Some value
+      own =
+          ap (λ k. found_from new number (place_in k number) 8) (length-set slots at (Some (number, value)))
+          ∙ found_over slots at number value first.within (place_in (length slots) number) 8 first.from first.near
+          first.none
+
+      by : (b : Bool) → is_number number q ≡ b → near_in new q ≡ cond b (Some value) (near_in slots q)
+      by true t = ap (near_in new) (sym (same_number number q t)) ∙ own
+      by false t =
+          near_like slots new q (length-set slots at (Some (number, value)))
+          (like_before slots at (Some (number, value)) first.within q
+          (held_other number q value t ∙ sym (nothing_else slots at number first.within first.held q t)))
+
+  -- The slot had nothing for the number.
+  pub not_there : (slots : List (Slot T)) (at : ℕ) (number : SigNumber) →
+      is_some (held_for number (slice_index_or slots at None)) ≡ false → HasNoneIn number at (at + 1) slots
+  not_there slots at number none i from to =
+      let e : i ≡ at = omega (arith, from, to) in
+      ap (λ k. held_for number (slice_index_or slots k None)) e
+      ∙ none_of (held_for number (slice_index_or slots at None)) none
+
+  pub less_still : (number : SigNumber) (old mid new : List (Slot T)) → HasLess number old mid →
+      HasLess number mid new →
+      HasLess number old new
+  less_still number old mid new a b = record {
+    as_many = b.as_many ∙ a.as_many;
+    others = λ q i other. b.others q i other ∙ a.others q i other;
+    still = λ i none. b.still i (a.still i none);
+  }
+
+  pub none_more : (number : SigNumber) (from at : ℕ) (mid new : List (Slot T)) → HasLess number mid new →
+      HasNoneIn number from at mid → HasNoneIn number at (at + 1) new → HasNoneIn number from (at + 1) new
+  none_more number from at mid new less before here i lo hi = by (cases_lt i at)
+    where
+      by : (i < at) ⊎ (at ≤ i) → held_for number (slice_index_or new i None) ≡ None
+      by (inl lt) = less.still i (before i lo lt)
+      by (inr past) = here i past hi
+
+  pub none_yet : (number : SigNumber) (from : ℕ) (slots : List (Slot T)) → HasNoneIn number from from slots
+  none_yet number from slots i lo hi = absurd (omega (arith, lo, hi))
+
+  -- None of the slots of a number has it.
+  pub none_near : (slots : List (Slot T)) (n : SigNumber) (place end count : ℕ) → count ≡ length slots →
+      place ≡ place_in count n → ((i : ℕ) → i < place + 8 → i < count → i < end) → HasNoneIn n place end slots →
+      near_in slots n ≡ None
+  none_near slots n place end count counted there whole none =
+      subst (λ p. found_from slots n p 8 ≡ None) (there ∙ ap (λ k. place_in k n) counted)
+      (found_nothing slots n place 8 gone)
+    where
+      gone : (i : ℕ) → place ≤ i → i < place + 8 → held_for n (slice_index_or slots i None) ≡ None
+      gone i lo hi = by (cases_lt i count)
+        where
+          by : (i < count) ⊎ (count ≤ i) → held_for n (slice_index_or slots i None) ≡ None
+          by (inl lt) = none i lo (whole i hi lt)
+          by (inr past) = past_end slots n i (subst (λ k. k ≤ i) counted past)
+
+  -- All slots of a number were emptied.
+  pub forgot_near : (old new : List (Slot T)) (number : SigNumber) (place end count : ℕ) →
+      count ≡ length old → place ≡ place_in count number → ((i : ℕ) → i < place + 8 → i < count → i < end) →
+      HasLess number old new → HasNoneIn number place end new → DiffersAt number None old new
+  forgot_near old new number place end count counted there whole less none q = by (is_number number q) refl
+    where
+      own : near_in new number ≡ None
+      own = none_near new number place end count (counted ∙ sym less.as_many) there whole none
+
+      by : (b : Bool) → is_number number q ≡ b → near_in new q ≡ cond b None (near_in old q)
+      by true t = ap (near_in new) (sym (same_number number q t)) ∙ own
+      by false t = near_like old new q less.as_many (λ i. less.others q i t)
+
+  -- There are no slots.
+  pub forgot_empty : (slots : List (Slot T)) (number : SigNumber) → length slots ≡ 0 → DiffersAt number None slots slots
+  forgot_empty slots number none q = nothing ∙ by (is_number number q)
+    where
+      nothing : near_in slots q ≡ None
+      nothing = found_nothing slots q (place_in (length slots) q) 8 (λ i lo hi. past_end slots q i
+          (subst (λ k. k ≤ i) (sym none) (omega arith)))
+
+      by : (b : Bool) → None ≡ cond b None (near_in slots q)
+      by true = refl
+      by false = sym nothing
+
+  pub near_nothing : (slots : List (Slot T)) (n : SigNumber) → length slots ≡ 0 → near_in slots n ≡ None
+  near_nothing slots n none = found_nothing slots n (place_in (length slots) n) 8 (λ i lo hi. past_end slots n i
+      (subst (λ k. k ≤ i) (sym none) (omega arith)))
+
+  pub near_by : (slots : List (Slot T)) (n : SigNumber) (place count : ℕ) → count ≡ length slots →
+      place ≡ place_in count n →
+      found_from slots n place 8 ≡ near_in slots n
+  near_by slots n place count counted there =
+      ap (λ p. found_from slots n p 8) (there ∙ ap (λ k. place_in k n) counted)

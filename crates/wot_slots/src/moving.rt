@@ -1,0 +1,165 @@
+//! Moves what a row of slots has into a longer row, or into the tree if there is no empty slot, and what is in the tree
+//! into empty slots. `slots` calls it when its row is full. The old row stays whole until the caller replaces it.
+ghost use Rattle.std.specs.Prelude.{◌≡◌, ◌<◌, length, None, IfOk, OnOk, OnErr};
+ghost use Rattle.std.specs.Option.{IfNone, IfSome};
+ghost use Rattle.wot_types.specs.declared.number.SigNumber.{SigNumber as TheNumber};
+ghost use Rattle.wot_slots.specs.Near.{near_in, Moves, MovesOn, SaysSame};
+
+use crate::near::{Slot, keep_near, near_at};
+use std::alloc::Global;
+use std::collections::BTreeMap;
+use wot_types::{Memory, SigNumber};
+
+/// Moves what the row has for a number.
+fn move_number<T: Copy>(
+    near: &[Slot<T>],
+    number: &SigNumber,
+    longer: &mut Vec<Slot<T>>,
+    rest: &mut BTreeMap<SigNumber, T, Global>,
+) -> Result<(), Memory>
+    ensures moved { OnOk result
+        (Moves number.now near.now longer.old.items rest.old.entries longer.new.items rest.new.entries) }
+    ensures kept { OnErr result (rest.new.entries ≡ rest.old.entries) }
+{
+    let Some(value) = near_at(near, number) else {
+        return Ok(());
+    };
+    if near_at(longer, number).is_some() {
+        return Ok(());
+    }
+    if keep_near(longer, *number, value) {
+        return Ok(());
+    }
+    match rest.insert(*number, value) {
+        Ok(_) => Ok(()),
+        Err(_) => Err(Memory),
+    }
+}
+
+/// Moves what the slot at this place has.
+fn move_slot<T: Copy>(
+    near: &[Slot<T>],
+    at: usize,
+    longer: &mut Vec<Slot<T>>,
+    rest: &mut BTreeMap<SigNumber, T, Global>,
+) -> Result<(), Memory>
+    requires within { at < length near.now }
+    ensures moved { OnOk result
+        (MovesOn at near.now longer.old.items rest.old.entries longer.new.items rest.new.entries) }
+    ensures kept { OnErr result (rest.new.entries ≡ rest.old.entries) }
+{
+    let Some((number, _)) = &near[at] else {
+        return Ok(());
+    };
+    move_number(near, number, longer, rest)
+}
+
+/// Moves what all slots have.
+fn move_all<T: Copy>(
+    near: &[Slot<T>],
+    longer: &mut Vec<Slot<T>>,
+    rest: &mut BTreeMap<SigNumber, T, Global>,
+) -> Result<(), Memory>
+    requires vacant { (n : TheNumber) → near_in longer.old.items n ≡ None }
+    ensures moved { OnOk result (SaysSame near.now rest.old.entries longer.new.items rest.new.entries) }
+    ensures kept { OnErr result (SaysSame near.now rest.old.entries near.now rest.new.entries) }
+{
+    let mut at = 0;
+    'slots: while at < near.len() {
+        move_slot(near, at, longer, rest)?;
+        at += 1;
+    }
+    Ok(())
+}
+
+/// Moves a number from the tree to an empty slot, if there is one.
+fn bring<T: Copy>(
+    longer: &mut Vec<Slot<T>>,
+    rest: &mut BTreeMap<SigNumber, T, Global>,
+    number: &SigNumber,
+)
+    ensures same { SaysSame longer.old.items rest.old.entries longer.new.items rest.new.entries }
+{
+    if near_at(longer, number).is_some() {
+        return;
+    }
+    let Some(value) = rest.get(number).copied() else {
+        return;
+    };
+    if keep_near(longer, *number, value) {
+        let _ = rest.remove(number);
+    }
+}
+
+/// Moves these numbers from the tree to empty slots.
+fn bring_all<T: Copy>(
+    longer: &mut Vec<Slot<T>>,
+    rest: &mut BTreeMap<SigNumber, T, Global>,
+    numbers: &[SigNumber],
+)
+    ensures same { SaysSame longer.old.items rest.old.entries longer.new.items rest.new.entries }
+{
+    let mut left = numbers;
+    'numbers: while let Some((number, others)) = left.split_first() {
+        bring(longer, rest, number);
+        left = others;
+    }
+}
+
+/// The numbers in the tree.
+fn numbers_in<T: Copy>(
+    alloc: Global,
+    rest: &BTreeMap<SigNumber, T, Global>,
+) -> Result<Vec<SigNumber>, Memory> {
+    let mut numbers = Vec::new(alloc);
+    'rest: for (number, _) in rest.iter() {
+        numbers.push(*number)?;
+    }
+    Ok(numbers)
+}
+
+/// Moves from the tree what finds an empty slot now. Without memory it stays in the tree.
+fn bring_back<T: Copy>(
+    alloc: Global,
+    longer: &mut Vec<Slot<T>>,
+    rest: &mut BTreeMap<SigNumber, T, Global>,
+)
+    ensures same { SaysSame longer.old.items rest.old.entries longer.new.items rest.new.entries }
+{
+    let Ok(numbers) = numbers_in(alloc, rest) else {
+        return;
+    };
+    bring_all(longer, rest, numbers.as_slice());
+}
+
+/// This many empty slots.
+fn vacant<T: Copy>(alloc: Global, count: usize) -> Result<Vec<Slot<T>>, Memory>
+    ensures vacant { IfOk result (λ made. (n : TheNumber) → near_in made.items n ≡ None) }
+{
+    let mut made: Vec<Slot<T>> = Vec::new(alloc);
+    made.resize(count, None)?;
+    Ok(made)
+}
+
+/// A row of this many slots that has what the row and the tree have, but for what stays in the tree. Without memory
+/// there is none, and the row is still whole.
+pub(crate) fn longer<T: Copy>(
+    alloc: Global,
+    near: &[Slot<T>],
+    rest: &mut BTreeMap<SigNumber, T, Global>,
+    count: usize,
+) -> Option<Vec<Slot<T>>>
+    ensures longer { IfSome result (λ made. SaysSame near.now rest.old.entries made.items rest.new.entries) }
+    ensures whole { IfNone result (SaysSame near.now rest.old.entries near.now rest.new.entries) }
+{
+    let Ok(mut made) = vacant(alloc, count) else {
+        return None;
+    };
+    match move_all(near, &mut made, rest) {
+        Ok(()) => {
+            bring_back(alloc, &mut made, rest);
+            Some(made)
+        }
+        Err(Memory) => None,
+    }
+}

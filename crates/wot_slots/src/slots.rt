@@ -1,0 +1,136 @@
+//! A value for each signature number: most in a row of slots, others in a tree.
+//!
+//! It stands on `near`, on `moving` and on std's map. Whoever chooses numbers can't make a lookup slow: it reads eight
+//! slots, and if the number isn't there, the tree.
+ghost use Rattle.std.specs.Prelude.{◌≡◌, true, None, Some, is_some, OnOk, OnErr};
+ghost use Rattle.wot_types.specs.declared.number.SigNumber.{SigNumber as TheNumber};
+ghost use Rattle.wot_slots.specs.Near.{held_of, HoldsSame, Puts};
+
+use crate::moving::longer;
+use crate::near::{Slot, forget_near, keep_near, near_at, replace_near};
+use std::alloc::Global;
+use std::collections::BTreeMap;
+use wot_types::{Memory, SigNumber};
+
+/// The least number of slots.
+const LEAST: usize = 64;
+
+/// A value for each number.
+#[derive(Drop)]
+pub struct Slots<T> {
+    /// Most values.
+    pub near: Vec<Slot<T>>,
+    /// The values that aren't in a slot.
+    pub rest: BTreeMap<SigNumber, T, Global>,
+    /// How many numbers have a value.
+    pub count: usize,
+    /// When there are so many, the row gets longer.
+    pub until: usize,
+    pub alloc: Global,
+}
+
+impl<T: Copy> Slots<T> {
+    /// No values. Doesn't allocate.
+    pub fn new(alloc: Global) -> Slots<T>
+        ensures empty { (n : TheNumber) → held_of result n ≡ None }
+    {
+        let near = Vec::new(alloc);
+        let rest = BTreeMap::new(alloc);
+        Slots {
+            near,
+            rest,
+            count: 0,
+            until: 0,
+            alloc,
+        }
+    }
+
+    /// The value of a number.
+    pub fn get(&self, number: &SigNumber) -> Option<T>
+        ensures held { result ≡ held_of self.now number.now }
+    {
+        match near_at(&self.near, number) {
+            Some(value) => Some(value),
+            None => self.rest.get(number).copied(),
+        }
+    }
+
+    /// Keeps a value for a number that has none. On `Memory` each number has what it had.
+    pub fn put(&mut self, number: SigNumber, value: T) -> Result<(), Memory>
+        requires absent { held_of self.old number ≡ None }
+        ensures put { OnOk result (Puts number (Some value) self.old self.new) }
+        ensures kept { OnErr result (HoldsSame self.old self.new) }
+    {
+        self.make_room();
+        self.hold(number, value)?;
+        self.count = self.count.saturating_add(1);
+        Ok(())
+    }
+
+    /// Keeps a value for a number, in place of an earlier one. Replacing one doesn't allocate. On `Memory` each number
+    /// has what it had.
+    pub fn set(&mut self, number: SigNumber, value: T) -> Result<(), Memory>
+        ensures put { OnOk result (Puts number (Some value) self.old self.new) }
+        ensures kept { OnErr result (HoldsSame self.old self.new) }
+        ensures was_absent { OnErr result (held_of self.old number ≡ None) }
+    {
+        let Some(_) = self.get(&number) else {
+            return self.put(number, value);
+        };
+        self.replace(number, value);
+        Ok(())
+    }
+
+    /// Replaces the value of a number.
+    fn replace(&mut self, number: SigNumber, value: T)
+        requires there { is_some (held_of self.old number) ≡ true }
+        ensures put { Puts number (Some value) self.old self.new }
+    {
+        if replace_near(&mut self.near, number, value) {
+            return;
+        }
+        match self.rest.insert(number, value) {
+            Ok(_) => (),
+            Err(_) => (),
+        }
+    }
+
+    /// Removes a number. Doesn't allocate.
+    pub fn forget(&mut self, number: &SigNumber)
+        ensures forgotten { Puts number.now None self.old self.new }
+    {
+        let weight = usize::from(self.get(number).is_some());
+        forget_near(&mut self.near, number);
+        let _ = self.rest.remove(number);
+        self.count = self.count.saturating_sub(weight);
+    }
+
+    /// Keeps a value in a slot, or else in the tree.
+    fn hold(&mut self, number: SigNumber, value: T) -> Result<(), Memory>
+        requires absent { held_of self.old number ≡ None }
+        ensures put { OnOk result (Puts number (Some value) self.old self.new) }
+        ensures kept { OnErr result (HoldsSame self.old self.new) }
+    {
+        if keep_near(&mut self.near, number, value) {
+            return Ok(());
+        }
+        match self.rest.insert(number, value) {
+            Ok(_) => Ok(()),
+            Err(_) => Err(Memory),
+        }
+    }
+
+    /// Makes the row twice as long once there are as many values as slots. Without memory it stays as it is.
+    fn make_room(&mut self)
+        ensures same { HoldsSame self.old self.new }
+    {
+        if self.count < self.until {
+            return;
+        }
+        let wanted = LEAST.max(self.count.saturating_add(self.count));
+        self.until = wanted;
+        if let Some(made) = longer(self.alloc, &self.near, &mut self.rest, wanted) {
+            self.near = made;
+        }
+    }
+}

@@ -1,8 +1,0 @@
-use Rattle.std.proofs.Common.{◌≤◌, ◌-◌}
-use Rattle.wot_verdict.proofs.near.vacant_from.Given as goal
-
-abbrev pub invariant-near : goal.invariant-near
-invariant-near l = l.from ≤ l.at
-
-abbrev pub decreases-near : goal.decreases-near
-decreases-near l = l.end - l.at
