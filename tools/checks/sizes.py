@@ -1,8 +1,8 @@
 """How large crates, files of code, lists of parameters and contracts may be.
 
 A crate has at most 6,000 lines of code, definitions and proofs, or `docs/DECISIONS.md` says why it is one; a file of
-code has at most 400. A function has at most six parameters, and a contract at most fifteen clauses: a record with a
-name says what belongs together. Tests are left out.
+code has at most 400. A function has at most six parameters besides an allocator (its type is `Global`), and a contract
+at most fifteen clauses: a record with a name says what belongs together. Tests are left out.
 """
 
 import re
@@ -16,22 +16,23 @@ from .widths import CLAUSES, Tokens, brace_after, end_of, is_test, tokens_of
 CRATE, FILE, PARAMETERS, CONTRACT = 6000, 400, 6, 15
 PARTS = ("src", "specs", "proofs")
 OPENING, CLOSING = "([{<", ")]}>"
+ALLOCATOR = re.compile(r"\w+:(\w+::)*Global")
 
 
 def parameters_of(tokens: Tokens, at: int) -> int:
-    """How many parameters stand in the parentheses that open at this index."""
-    depth, count, is_begun = 0, 0, False
-    for index in range(at, len(tokens)):
+    """How many parameters besides an allocator stand in the parentheses that open at this index."""
+    depth, count, parameter = 1, 0, ""
+    for index in range(at + 1, len(tokens)):
         word, before = tokens[index][0], tokens[index - 1][0]
-        if word in CLOSING and not (word == ">" and before.endswith(("-", "="))):
-            depth -= 1
-            if depth == 0:
-                return count + is_begun
-        elif word == "," and depth == 1:
-            count, is_begun = count + is_begun, False
-        else:
-            is_begun = True
-        depth += word in OPENING
+        is_arrow = word == ">" and before.endswith(("-", "="))
+        depth += (word in OPENING) - (word in CLOSING and not is_arrow)
+        if depth and (depth, word) != (1, ","):
+            parameter += word
+            continue
+        count += parameter != "" and not ALLOCATOR.fullmatch(parameter)
+        parameter = ""
+        if depth == 0:
+            break
     return count
 
 
@@ -65,7 +66,8 @@ def functions(path: str, text: str) -> Iterator[Finding]:
         opened = parentheses_after(tokens, index + 1)
         if (count := parameters_of(tokens, opened)) > PARAMETERS:
             what = f"{name} has {count} parameters"
-            yield Finding(path, line, what, f"make a record of what belongs together ({PARAMETERS} at most)")
+            remedy = f"make a record of what belongs together ({PARAMETERS} at most besides an allocator)"
+            yield Finding(path, line, what, remedy)
         if (count := contract_of(tokens, opened)) > CONTRACT:
             what = f"the contract of {name} has {count} clauses"
             yield Finding(path, line, what, f"let a record say what repeats ({CONTRACT} at most)")
