@@ -1,6 +1,6 @@
 -- What a result says about the lines that are left, and about the limit on octets.
 use Rattle.std.proofs.Common.{◌≡◌, inl, inr, ℕ, ◌^◌, ◌<◌, ◌≤◌, Bool, true, false, cond, ltb, List, [], ◌∷◌, ◌++◌}
-use Rattle.std.proofs.Common.{length, Option, Some, None, refl, sym, ap, ◌∙◌, append_assoc, arith, length-append}
+use Rattle.std.proofs.Common.{length, Option, Some, None, Ok, refl, sym, ap, ◌∙◌, append_assoc, arith, length-append}
 use Rattle.std.specs.Prelude.{IfSome}
 use Rattle.std.proofs.lemmas.Bool.{le-ltb, lt-ltb}
 use Rattle.std.proofs.lemmas.List.{append_cancel_right}
@@ -9,7 +9,7 @@ use Rattle.wot_io.specs.ReaderState.{ReaderState, Holding, Taking, reader_state}
 use Rattle.wot_io.specs.declared.fault.LinesFault.{LinesFault}
 use Rattle.wot_io.specs.declared.lines.Line.{Line}
 use Rattle.wot_io.specs.declared.lines.Line.TheVariants.{Text, Long, End}
-use Rattle.wot_io.specs.Given.{ReturnsNext, answer_of, AnswersLines}
+use Rattle.wot_io.specs.Given.{ReturnsNext, answer_of, AnswersLines, FirstFault, HasNotTooMuch}
 use Rattle.wot_io.specs.Fill.{Took, Cuts, TakesLineOf, Stops, IsTooMuch}
 use Rattle.wot_io.proofs.Cut.{lines_of-feed, lines_of-last}
 
@@ -108,6 +108,18 @@ IsTooMuch-given Long old (Some octets) new after le a =
     gives_before old.held octets old.taken new.held after new.taken a.0 le a.2
 IsTooMuch-given End old (Some octets) new after le a =
     λ m. omega (arith, m.most, a.1, a.2, ap length m.parts, ap length a.0.1, length-append m.prefix m.rest)
+
+-- a call that returns a line says no more of faults than that there isn't too much
+pub none_first : (line : Line) (old : ReaderState) (before : Option (List ℕ)) (new : ReaderState)
+    (after : Option (List ℕ)) → HasNotTooMuch old before → old.fault ≡ None → FirstFault (Ok line) old before new after
+none_first line old before new after few none = record {
+  stops = tt;
+  no_feed = tt;
+  too_much = λ e. absurd (cc e);
+  too_much_only = λ e. absurd (cc e);
+  too_much_where = few;
+  low = λ e. absurd (cc e);
+}
 
 some-is : (x y : List ℕ) → Some x ≡ Some y → x ≡ y
 some-is x y e = cc

@@ -20,7 +20,7 @@ ghost use Rattle.wot_step.specs.Lines.{heard, is_silent};
 ghost use Rattle.wot_step.specs.Entry.{use_of};
 ghost use Rattle.wot_step.specs.Both.{ends, itself};
 ghost use Rattle.wot_command.specs.CommandRun.{over};
-ghost use Rattle.wot_machine.specs.Stepped.{Replies, LineRun, TellsBehind};
+ghost use Rattle.wot_machine.specs.Stepped.{LineRun, PartsMake, Replies, TellsBehind};
 ghost use Rattle.wot_step.specs.Transcript.{octets_of};
 ghost use Rattle.wot_machine.specs.Machine.{kept, StaysKept};
 ghost use Rattle.wot_step.specs.Pacing.{settled};
@@ -168,8 +168,7 @@ impl Machine {
         ensures kept { OnErr result (StaysKept self.old self.new) }
         ensures unchanged { state_of self.new.engine ≡ state_of self.old.engine →
             StaysButMarks self.old.engine self.new.engine }
-        ensures makes { LineMakes result (heard line.now) self.old.cursors self.old.engine self.new.engine
-            self.old.made self.new.made }
+        ensures makes { PartsMake result (heard line.now) (ends itself self) }
         ensures counted { IsOneChange self.old.engine.keyring self.new.engine.keyring }
         ensures turned { self.new.engine.turns.count ≤ self.old.engine.turns.count + 1 }
         ensures asked { LineAsks result (heard line.now) (state_of self.old.engine) (state_of self.new.engine)

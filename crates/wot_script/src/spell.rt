@@ -37,17 +37,9 @@ fn put_question<'a>(
     let fpr = Key(fpr);
     let wanted = Decimal(u64::from(wanted));
     let uid = Uid(uid.octets());
+    let space = Text(b" ");
     put_pieces(
-        &[
-            Text(word),
-            view,
-            Text(b" "),
-            fpr,
-            Text(b" "),
-            wanted,
-            Text(b" "),
-            uid,
-        ],
+        &[Text(word), view, space, fpr, space, wanted, space, uid],
         out,
     )
 }
