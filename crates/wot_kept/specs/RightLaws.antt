@@ -21,7 +21,6 @@ use Rattle.wot_looked.specs.Looked.{Amounts}
 use Rattle.wot_kept.specs.Answers.{IsReaching, IsRight, OfView}
 use Rattle.wot_kept.specs.Names.{is_name}
 use Rattle.std.specs.Option.{option_map_or}
-use Rattle.wot_verdict.specs.Verdicts as verdicts
 use Rattle.wot_edge.specs.Answer.{IsAnswer}
 use Rattle.wot_edge.specs.Path.{asks}
 use Rattle.wot_held.specs.declared.kept.Kept.{Kept}
