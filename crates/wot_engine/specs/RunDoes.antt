@@ -1,15 +1,20 @@
 -- The words of the clauses of a run: what it does to its source, its sink and its certificate directory. Each of these
 -- is given as it was before and after the run. `Ended` says what is written, `Contents` what it starts from.
-use Rattle.std.specs.Prelude.{◌≡◌, ℕ, List, map, OnOk, Result, IsErrOf, String, string_bytes}
+use Rattle.std.specs.Prelude.{◌≡◌, ℕ, Bool, List, map, OnOk, Result, IsErrOf, String, string_bytes}
+use Rattle.std.specs.Fn.{Shared}
 use Rattle.wot_io.specs.Counts.{Rose}
 use Rattle.wot_io.specs.Filled.{IsAtEnd}
+use Rattle.wot_policy.specs.declared.policy.Policy.{Policy}
+use Rattle.wot_policy.specs.declared.rows.Ask.{Ask}
 use Rattle.wot_policy.specs.declared.rows.PolicyRows.{PolicyRows}
+use Rattle.wot_policy.specs.Kept.{IsFaithful, rows_of}
 use Rattle.wot_step.specs.Both.{Ends}
 use Rattle.wot_engine.specs.Contents.{Octets, OnContents, Worlds}
 use Rattle.wot_engine.specs.Ended.{AnsweredMost, FinishedMost, FinishedTaken, IsBegun, IsLeft, IsTranscribed, Reached}
 use Rattle.wot_engine.specs.Ended.{ReachedWhole}
-use Rattle.wot_engine.specs.Ends.{IsMuchOrMemory}
+use Rattle.wot_engine.specs.Ends.{IsMuchOrMemory, status_at}
 use Rattle.wot_engine.specs.Forms.{IsForm, IsRun, OnGenerated}
+use Rattle.wot_engine.specs.RunAsks.{RunAsks}
 use Rattle.wot_engine.specs.Source.{HasMost, TakesAtMost, TakesMost}
 use Rattle.wot_engine.specs.declared.run.Stop.{Stop}
 use Rattle.wot_engine.specs.declared.run.Stop.TheVariants.{Memory, Read, TooMuch}
@@ -77,6 +82,15 @@ pub record Takes {T : Type 0} (result : Result T Stop) (input : Octets) : Type 0
   pub much : IsErrOf result TooMuch → HasMost input.old
   pub took : IsErrOf result TooMuch → TakesMost input.old input.new
   pub at_most : TakesAtMost input.old input.new
+
+-- What a run does and takes that ended so, and what it asks the policy, which answers by its rows and keeps them.
+pub record Runs {T F : Type 0} (calls : Shared F (Ask × Unit {0}) Bool) (result : Result T Stop)
+    (input output : Octets) (shelf : Worlds) (policy : Ends (Policy F)) : Type 0 where
+  pub does : Does (rows_of policy.old) result input output shelf
+  pub takes : Takes result input
+  pub asked : RunAsks (status_at result) input output shelf policy
+  pub faithful : IsFaithful calls policy.new
+  pub rows : rows_of policy.new ≡ rows_of policy.old
 
 -- ---- the words and the exit status
 

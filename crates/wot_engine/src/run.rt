@@ -2,7 +2,7 @@
 //!
 //! It stands on the reader of lines of `wot_io` and on `Machine::line` and `Machine::tell`. Replies are buffered until
 //! more input would be read. `run_words` hands its clauses on (`specs/RunDoes.antt`, `specs/Ended.antt`).
-ghost use Rattle.std.specs.Prelude.{◌≡◌, ◌≢◌, ◌<◌, ◌≤◌, ◌+◌, ◌-◌, ◌^◌, [], length};
+ghost use Rattle.std.specs.Prelude.{◌≡◌, ◌≢◌, ◌<◌, ◌≤◌, ◌+◌, [], length};
 ghost use Rattle.std.specs.Prelude.{IfSome, OnErr, OnOk, IsErrOf, None, vec_items};
 ghost use Rattle.wot_types.specs.Limits.{standard_limits};
 ghost use Rattle.wot_policy.specs.Kept.{IsFaithful, rows_of};
@@ -11,12 +11,13 @@ ghost use Rattle.wot_io.specs.Counts.{Rose};
 ghost use Rattle.wot_io.specs.Input.{HasNoFeed};
 ghost use Rattle.wot_io.specs.Sink.{GainsPrefix};
 ghost use Rattle.wot_cache.specs.State.{empty, state_of};
+ghost use Rattle.wot_command.specs.Lasting.{CanCount, IsJudging};
 ghost use Rattle.wot_machine.specs.Machine.{kept};
 ghost use Rattle.wot_step.specs.Both.{ends, itself};
 ghost use Rattle.wot_step.specs.Entry.{MayPutTo};
 ghost use Rattle.wot_engine.specs.RunAsks.{MayAsk, ReadAsks, RunAsks, command_by, done};
 ghost use Rattle.wot_engine.specs.Ends.{status_at};
-ghost use Rattle.wot_engine.specs.RunDoes.{Does, Takes};
+ghost use Rattle.wot_engine.specs.RunDoes.{Does, Runs, Takes};
 ghost use Rattle.wot_engine.specs.Held.{Moves};
 ghost use Rattle.wot_engine.specs.Turn.{Says, SaysAll, use_by};
 ghost use Rattle.wot_engine.specs.declared.run.Stop.TheVariants as stops;
@@ -68,15 +69,13 @@ fn say<D: Shelf, F: Fn(Ask) -> bool>(
     machine: &mut Machine,
     line: Line,
     text: &[u8],
+    out: &mut Vec<u8>,
     shelf: &mut D,
     policy: &mut Policy<F>,
-    out: &mut Vec<u8>,
 ) -> Result<(), Memory>
     requires some { line ≢ Line.End }
-    requires countable { machine.old.engine.keyring.changes < 2 ^ 64 - 1 }
-    requires turnable { machine.old.engine.turns.count < 2 ^ 64 - 1 }
-    requires judged { IsJudgedBy (rows_of policy.old) machine.old.engine.keyring }
-    requires faithful { IsFaithful F.Fn policy.old }
+    requires countable { CanCount machine.old.engine }
+    requires judging { IsJudging F.Fn policy.old machine.old.engine.keyring }
     ensures said { OnOk result (Says (rows_of policy.old) line text.now
         (ends kept machine) (ends D.world shelf) (ends vec_items out)) }
     ensures entries { OnErr result (MayPutTo (state_of machine.old.engine) (use_by line text.now)
@@ -106,10 +105,8 @@ fn reply_to<D: Shelf, F: Fn(Ask) -> bool>(
     out: &mut Vec<u8>,
 ) -> Result<(), Memory>
     requires some { line ≢ Line.End }
-    requires countable { machine.old.engine.keyring.changes < 2 ^ 64 - 1 }
-    requires turnable { machine.old.engine.turns.count < 2 ^ 64 - 1 }
-    requires judged { IsJudgedBy (rows_of policy.old) machine.old.engine.keyring }
-    requires faithful { IsFaithful F.Fn policy.old }
+    requires countable { CanCount machine.old.engine }
+    requires judging { IsJudging F.Fn policy.old machine.old.engine.keyring }
     ensures replies { OnOk result (SaysAll (rows_of policy.old) line text.now
         (ends kept machine) (ends D.world shelf) (ends vec_items out)) }
     ensures entries { OnErr result (MayPutTo (state_of machine.old.engine) (use_by line text.now)
@@ -124,7 +121,7 @@ fn reply_to<D: Shelf, F: Fn(Ask) -> bool>(
     ensures rows { rows_of policy.new ≡ rows_of policy.old }
 {
     let start = out.len();
-    say(machine, line, text, shelf, policy, out)?;
+    say(machine, line, text, out, shelf, policy)?;
     if let Err(Memory) = machine.tell(out) {
         out.truncate(start);
         return Err(Memory);
@@ -173,11 +170,10 @@ pub fn run<S: Source, K: Sink, D: Shelf, F: Fn(Ask) -> bool>(
     each_line_has_one_outcome();
     let mut lines = Lines::new(alloc)?;
     let mut machine = Machine::new(alloc);
-    let mut out = Vec::new(alloc);
     answer_lines(
+        alloc,
         &mut lines,
         &mut machine,
-        &mut out,
         input,
         output,
         shelf,
@@ -185,11 +181,11 @@ pub fn run<S: Source, K: Sink, D: Shelf, F: Fn(Ask) -> bool>(
     )
 }
 
-/// Answers the lines of an input, starting with a fresh reader, a fresh machine and an empty buffer.
+/// Answers the lines of an input, starting with a fresh reader and a fresh machine.
 fn answer_lines<S: Source, K: Sink, D: Shelf, F: Fn(Ask) -> bool>(
+    alloc: Global,
     lines: &mut Lines,
     machine: &mut Machine,
-    out: &mut Vec<u8>,
     input: &mut S,
     output: &mut K,
     shelf: &mut D,
@@ -199,29 +195,24 @@ fn answer_lines<S: Source, K: Sink, D: Shelf, F: Fn(Ask) -> bool>(
     requires engine { machine.old.engine ≡ empty standard_limits }
     requires cursors { machine.old.cursors ≡ [] }
     requires watches { machine.old.watches ≡ [] }
-    requires nothing { out.old.items ≡ [] }
     requires faithful { IsFaithful F.Fn policy.old }
-    ensures does { Does (rows_of policy.old) result
-        (ends S.left input) (ends K.written output) (ends D.world shelf) }
-    ensures takes { Takes result (ends S.left input) }
+    ensures runs { Runs F.Fn result
+        (ends S.left input) (ends K.written output) (ends D.world shelf) (ends itself policy) }
     ensures source { IsErrOf result Read → Rose (S.faults input.old) (S.faults input.new) }
     ensures sink { IsErrOf result Write → Rose (K.faults output.old) (K.faults output.new) }
-    ensures asked { RunAsks (status_at result)
-        (ends S.left input) (ends K.written output) (ends D.world shelf) (ends itself policy) }
-    ensures faithful { IsFaithful F.Fn policy.new }
-    ensures rows { rows_of policy.new ≡ rows_of policy.old }
 {
     each_line_has_one_outcome();
+    let mut out = Vec::new(alloc);
     'lines: loop {
-        flush(lines, output, out)?;
+        flush(lines, output, &mut out)?;
         let line = match lines.next(input) {
             Ok(Line::End) => return Ok(()),
             Ok(line) => line,
             Err(LinesFault::ReadFault) => return Err(Stop::Read),
             Err(LinesFault::TooMuch) => return Err(Stop::TooMuch),
         };
-        let Ok(()) = reply_to(machine, line, lines.text(), shelf, policy, out) else {
-            write_all(output, out)?;
+        let Ok(()) = reply_to(machine, line, lines.text(), shelf, policy, &mut out) else {
+            write_all(output, &out)?;
             return Err(Stop::Memory);
         };
     }

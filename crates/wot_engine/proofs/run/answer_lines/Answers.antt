@@ -1,4 +1,4 @@
-use Rattle.std.proofs.Common.{rules, ◌≡◌, ◌≢◌, ◌^◌, ◌<◌, inl, inr, ℕ, ◌++◌, List, Ok, refl, sym, ap, arith}
+use Rattle.std.proofs.Common.{rules, ◌≡◌, ◌≢◌, ◌^◌, ◌<◌, inl, inr, ℕ, ◌++◌, List, Ok, Err, refl, sym, ap, arith}
 use Rattle.std.proofs.Common.{subst, ◌∙◌}
 use Rattle.std.specs.Prelude.{IfSome}
 use Rattle.wot_io.specs.Counts.{Rose}
@@ -84,32 +84,43 @@ reached g c =
 
 -- ---- a write failed
 
-pub returns-in_err-flush-clause-does : goal.returns-in_err-flush-clause-does
-returns-in_err-flush-clause-does g c =
-    does_write (rows_of c.args.policy.now) _ _ _ c.from_residual.result (stopped
-    c.from_residual.result
-    Write c.from_residual.ensures.1)
-    (Held-cut (rows_of c.args.policy.now) c.lines.invariant.law (g.S.Source.left c.args.input.now)
-    (g.K.Sink.written c.args.output.now) (g.D.Shelf.world c.args.shelf.now) c.lines.lines.held c.lines.lines.taken
-    (g.S.Source.left c.lines.input) (g.K.Sink.written c.lines.output) c.lines.out.items (g.D.Shelf.world c.lines.shelf)
-    (kept c.lines.machine) (g.K.Sink.written c.flush.new.output) c.lines.invariant.held c.in_err-flush.ensures.cut)
-    (Held-reached_cut (rows_of c.args.policy.now) (g.S.Source.left c.args.input.now) (g.K.Sink.written
-    c.args.output.now)
-    (g.D.Shelf.world c.args.shelf.now) c.lines.lines.held c.lines.lines.taken (g.S.Source.left c.lines.input)
-    (g.K.Sink.written c.lines.output) c.lines.out.items (g.D.Shelf.world c.lines.shelf) (kept c.lines.machine)
-    (g.K.Sink.written c.flush.new.output) c.lines.invariant.held c.in_err-flush.ensures.cut)
-    ((Held-most (rows_of c.args.policy.now) c.lines.invariant.law (g.S.Source.left c.args.input.now)
-    (g.K.Sink.written c.args.output.now) (g.D.Shelf.world c.args.shelf.now) c.lines.lines.held c.lines.lines.taken
-    (g.S.Source.left c.lines.input) (g.K.Sink.written c.lines.output) c.lines.out.items (g.D.Shelf.world c.lines.shelf)
-    (kept c.lines.machine) (g.K.Sink.written c.flush.new.output) (g.S.Source.left c.lines.input) c.lines.lines.taken
-    c.lines.invariant.held c.in_err-flush.ensures.cut (took_none (g.S.Source.left c.lines.input) c.lines.lines.taken)))
-
-pub returns-in_err-flush-clause-takes : goal.returns-in_err-flush-clause-takes
-returns-in_err-flush-clause-takes g c =
-    takes_some _ c.from_residual.result Write (stopped c.from_residual.result Write
-    c.from_residual.ensures.1) tt
-    (takes_at_most (g.S.Source.left c.args.input.now)
-    (g.S.Source.left c.lines.input) c.lines.lines.taken c.lines.invariant.took c.lines.invariant.within)
+pub returns-in_err-flush-clause-runs : goal.returns-in_err-flush-clause-runs
+returns-in_err-flush-clause-runs g c =
+    record {
+      does =
+          does_write (rows_of c.args.policy.now) _ _ _ c.from_residual.result (stopped
+          c.from_residual.result
+          Write c.from_residual.ensures.1)
+          (Held-cut (rows_of c.args.policy.now) c.lines.invariant.law (g.S.Source.left c.args.input.now)
+          (g.K.Sink.written c.args.output.now) (g.D.Shelf.world c.args.shelf.now) c.lines.lines.held c.lines.lines.taken
+          (g.S.Source.left c.lines.input) (g.K.Sink.written c.lines.output) c.lines.out.items (g.D.Shelf.world c.lines.shelf)
+          (kept c.lines.machine) (g.K.Sink.written c.flush.new.output) c.lines.invariant.held c.in_err-flush.ensures.cut)
+          (Held-reached_cut (rows_of c.args.policy.now) (g.S.Source.left c.args.input.now) (g.K.Sink.written
+          c.args.output.now)
+          (g.D.Shelf.world c.args.shelf.now) c.lines.lines.held c.lines.lines.taken (g.S.Source.left c.lines.input)
+          (g.K.Sink.written c.lines.output) c.lines.out.items (g.D.Shelf.world c.lines.shelf) (kept c.lines.machine)
+          (g.K.Sink.written c.flush.new.output) c.lines.invariant.held c.in_err-flush.ensures.cut)
+          ((Held-most (rows_of c.args.policy.now) c.lines.invariant.law (g.S.Source.left c.args.input.now)
+          (g.K.Sink.written c.args.output.now) (g.D.Shelf.world c.args.shelf.now) c.lines.lines.held c.lines.lines.taken
+          (g.S.Source.left c.lines.input) (g.K.Sink.written c.lines.output) c.lines.out.items (g.D.Shelf.world c.lines.shelf)
+          (kept c.lines.machine) (g.K.Sink.written c.flush.new.output) (g.S.Source.left c.lines.input) c.lines.lines.taken
+          c.lines.invariant.held c.in_err-flush.ensures.cut (took_none (g.S.Source.left c.lines.input) c.lines.lines.taken)));
+      takes =
+          takes_some _ c.from_residual.result Write (stopped c.from_residual.result Write
+          c.from_residual.ensures.1) tt
+          (takes_at_most (g.S.Source.left c.args.input.now)
+          (g.S.Source.left c.lines.input) c.lines.lines.taken c.lines.invariant.took c.lines.invariant.within);
+      asked =
+          asks_between (rows_of c.args.policy.now) c.args.policy.now (g.D.Shelf.world c.args.shelf.now)
+          (status_at c.from_residual.result) (g.S.Source.left c.args.input.now) (g.K.Sink.written
+          c.args.output.now)
+          c.lines.lines.held c.lines.lines.taken (g.S.Source.left c.lines.input) (g.D.Shelf.world c.lines.shelf)
+          (kept c.lines.machine) c.lines.policy (g.S.Source.left c.lines.input)
+          (inl (ap status_at (stopped c.from_residual.result Write c.from_residual.ensures.1)))
+          c.lines.invariant.asked;
+      faithful = c.lines.invariant.faithful;
+      rows = c.lines.invariant.rows;
+    }
 
 pub returns-in_err-flush-clause-source : goal.returns-in_err-flush-clause-source
 returns-in_err-flush-clause-source g c e =
@@ -122,60 +133,51 @@ returns-in_err-flush-clause-sink g c e =
     rose_on (g.K.Sink.faults c.args.output.now) (g.K.Sink.faults c.lines.output) (g.K.Sink.faults c.flush.new.output)
     c.lines.invariant.sink c.flush.ensures.later c.in_err-flush.ensures.cause
 
-pub returns-in_err-flush-clause-faithful : goal.returns-in_err-flush-clause-faithful
-returns-in_err-flush-clause-faithful g c =
-    c.lines.invariant.faithful
-
-pub returns-in_err-flush-clause-rows : goal.returns-in_err-flush-clause-rows
-returns-in_err-flush-clause-rows g c =
-    c.lines.invariant.rows
-
-pub returns-in_err-flush-clause-asked : goal.returns-in_err-flush-clause-asked
-returns-in_err-flush-clause-asked g c =
-    asks_between (rows_of c.args.policy.now) c.args.policy.now (g.D.Shelf.world c.args.shelf.now)
-    (status_at c.from_residual.result) (g.S.Source.left c.args.input.now) (g.K.Sink.written
-    c.args.output.now)
-    c.lines.lines.held c.lines.lines.taken (g.S.Source.left c.lines.input) (g.D.Shelf.world c.lines.shelf)
-    (kept c.lines.machine) c.lines.policy (g.S.Source.left c.lines.input)
-    (inl (ap status_at (stopped c.from_residual.result Write c.from_residual.ensures.1)))
-    c.lines.invariant.asked
-
 -- ---- no line is left
 
-pub returns-in-Ok-End-clause-does : goal.returns-in-Ok-End-clause-does
-returns-in-Ok-End-clause-does g c =
-    let after = (goal.at.returns-in-Ok-End-clause-does g c).After-next in
-    let stands = stood g after (λ e. absurd (cc (e, c.in-Ok-End.is, c.in-Ok-End.field-0-is)))
-    (λ e. absurd (cc (e, c.in-Ok-End.is, c.in-Ok-End.field-0-is))) in
-    does_all (rows_of c.args.policy.now) _ _ _ _ tt refl
-    (Answered-end (rows_of c.args.policy.now) (g.S.Source.left c.args.input.now) (g.K.Sink.written c.args.output.now)
-    (g.D.Shelf.world c.args.shelf.now) c.lines.lines (g.S.Source.left c.lines.input)
-    (g.K.Sink.written c.flush.new.output) (g.D.Shelf.world c.lines.shelf) (kept c.lines.machine) c.next.new.self
-    (g.S.Source.left c.next.new.from)
-    stands
-    (rw c.in-Ok-End.field-0-is at c.in-Ok-End.ensures.ok))
-    (Left-end (rows_of c.args.policy.now) (g.S.Source.left c.args.input.now) (g.K.Sink.written c.args.output.now)
-    (g.D.Shelf.world c.args.shelf.now) c.lines.lines (g.S.Source.left c.lines.input)
-    (g.K.Sink.written c.flush.new.output) (g.D.Shelf.world c.lines.shelf) (kept c.lines.machine) c.next.new.self
-    (g.S.Source.left c.next.new.from)
-    stands
-    (rw c.in-Ok-End.field-0-is at c.in-Ok-End.ensures.ok))
-    (begun g after) (reached g after)
-    ((Most-end (rows_of c.args.policy.now) (g.S.Source.left c.args.input.now) (g.K.Sink.written c.args.output.now)
-    (g.D.Shelf.world c.args.shelf.now) c.lines.lines (g.S.Source.left c.lines.input)
-    (g.K.Sink.written c.flush.new.output) (g.D.Shelf.world c.lines.shelf) (kept c.lines.machine) c.next.new.self
-    (g.S.Source.left c.next.new.from)
-    stands
-    (rw c.in-Ok-End.field-0-is at c.in-Ok-End.ensures.ok)))
-
-pub returns-in-Ok-End-clause-takes : goal.returns-in-Ok-End-clause-takes
-returns-in-Ok-End-clause-takes g c =
-    takes_all _ _ tt refl
-    (ends_at (g.S.Source.left c.args.input.now) (g.S.Source.left c.lines.input) (g.S.Source.left c.next.new.from)
-    c.lines.lines.taken c.lines.lines c.next.new.self
-    c.lines.invariant.took (rw c.in-Ok-End.field-0-is at c.in-Ok-End.ensures.ok))
-    (takes_more (g.S.Source.left c.args.input.now) (g.S.Source.left c.lines.input) (g.S.Source.left c.next.new.from)
-    c.lines.lines.taken c.next.new.self.taken c.lines.invariant.took c.next.ensures.took c.next.ensures.within)
+pub returns-in-Ok-End-clause-runs : goal.returns-in-Ok-End-clause-runs
+returns-in-Ok-End-clause-runs g c =
+    record {
+      does =
+          let after = (goal.at.returns-in-Ok-End-clause-runs g c).After-next in
+          let stands = stood g after (λ e. absurd (cc (e, c.in-Ok-End.is, c.in-Ok-End.field-0-is)))
+          (λ e. absurd (cc (e, c.in-Ok-End.is, c.in-Ok-End.field-0-is))) in
+          does_all (rows_of c.args.policy.now) _ _ _ _ tt refl
+          (Answered-end (rows_of c.args.policy.now) (g.S.Source.left c.args.input.now) (g.K.Sink.written c.args.output.now)
+          (g.D.Shelf.world c.args.shelf.now) c.lines.lines (g.S.Source.left c.lines.input)
+          (g.K.Sink.written c.flush.new.output) (g.D.Shelf.world c.lines.shelf) (kept c.lines.machine) c.next.new.self
+          (g.S.Source.left c.next.new.from)
+          stands
+          (rw c.in-Ok-End.field-0-is at c.in-Ok-End.ensures.ok))
+          (Left-end (rows_of c.args.policy.now) (g.S.Source.left c.args.input.now) (g.K.Sink.written c.args.output.now)
+          (g.D.Shelf.world c.args.shelf.now) c.lines.lines (g.S.Source.left c.lines.input)
+          (g.K.Sink.written c.flush.new.output) (g.D.Shelf.world c.lines.shelf) (kept c.lines.machine) c.next.new.self
+          (g.S.Source.left c.next.new.from)
+          stands
+          (rw c.in-Ok-End.field-0-is at c.in-Ok-End.ensures.ok))
+          (begun g after) (reached g after)
+          ((Most-end (rows_of c.args.policy.now) (g.S.Source.left c.args.input.now) (g.K.Sink.written c.args.output.now)
+          (g.D.Shelf.world c.args.shelf.now) c.lines.lines (g.S.Source.left c.lines.input)
+          (g.K.Sink.written c.flush.new.output) (g.D.Shelf.world c.lines.shelf) (kept c.lines.machine) c.next.new.self
+          (g.S.Source.left c.next.new.from)
+          stands
+          (rw c.in-Ok-End.field-0-is at c.in-Ok-End.ensures.ok)));
+      takes =
+          takes_all _ _ tt refl
+          (ends_at (g.S.Source.left c.args.input.now) (g.S.Source.left c.lines.input) (g.S.Source.left c.next.new.from)
+          c.lines.lines.taken c.lines.lines c.next.new.self
+          c.lines.invariant.took (rw c.in-Ok-End.field-0-is at c.in-Ok-End.ensures.ok))
+          (takes_more (g.S.Source.left c.args.input.now) (g.S.Source.left c.lines.input) (g.S.Source.left c.next.new.from)
+          c.lines.lines.taken c.next.new.self.taken c.lines.invariant.took c.next.ensures.took c.next.ensures.within);
+      asked =
+          asks_end (rows_of c.args.policy.now) c.args.policy.now (g.D.Shelf.world c.args.shelf.now)
+          (g.S.Source.left c.args.input.now) (g.K.Sink.written c.args.output.now) c.lines.lines
+          (g.S.Source.left c.lines.input) (g.D.Shelf.world c.lines.shelf) (kept c.lines.machine) c.lines.policy
+          c.next.new.self (g.S.Source.left c.next.new.from)
+          c.lines.invariant.asked (rw c.in-Ok-End.field-0-is at c.in-Ok-End.ensures.ok);
+      faithful = c.lines.invariant.faithful;
+      rows = c.lines.invariant.rows;
+    }
 
 pub returns-in-Ok-End-clause-source : goal.returns-in-Ok-End-clause-source
 returns-in-Ok-End-clause-source g c e =
@@ -185,54 +187,47 @@ pub returns-in-Ok-End-clause-sink : goal.returns-in-Ok-End-clause-sink
 returns-in-Ok-End-clause-sink g c e =
     absurd (never_ok _ tt Write refl e)
 
-pub returns-in-Ok-End-clause-faithful : goal.returns-in-Ok-End-clause-faithful
-returns-in-Ok-End-clause-faithful g c =
-    c.lines.invariant.faithful
-
-pub returns-in-Ok-End-clause-rows : goal.returns-in-Ok-End-clause-rows
-returns-in-Ok-End-clause-rows g c =
-    c.lines.invariant.rows
-
-pub returns-in-Ok-End-clause-asked : goal.returns-in-Ok-End-clause-asked
-returns-in-Ok-End-clause-asked g c =
-    asks_end (rows_of c.args.policy.now) c.args.policy.now (g.D.Shelf.world c.args.shelf.now)
-    (g.S.Source.left c.args.input.now) (g.K.Sink.written c.args.output.now) c.lines.lines
-    (g.S.Source.left c.lines.input) (g.D.Shelf.world c.lines.shelf) (kept c.lines.machine) c.lines.policy
-    c.next.new.self (g.S.Source.left c.next.new.from)
-    c.lines.invariant.asked (rw c.in-Ok-End.field-0-is at c.in-Ok-End.ensures.ok)
-
 -- ---- a read failed
 
-pub returns-in-Err-ReadFault-clause-does : goal.returns-in-Err-ReadFault-clause-does
-returns-in-Err-ReadFault-clause-does g c =
-    let after = (goal.at.returns-in-Err-ReadFault-clause-does g c).After-next in
-    let lt : c.next.new.self.taken < 2 ^ 30 = (rw c.in-Err-ReadFault.field-0-is at c.in-Err-ReadFault.ensures.open)
-    c.lines.invariant.no_fault refl in
-    let stands = stood g after (λ e. absurd (cc (e, c.in-Err-ReadFault.is))) (λ e. absurd (cc (
-      e,
-      c.in-Err-ReadFault.is,
-    ))) in
-    does_read (rows_of c.args.policy.now) _ _ _ _ refl (begun g after) (reached g after)
-    (weaker (g.S.Source.left c.args.input.now) (g.K.Sink.written c.args.output.now) (g.D.Shelf.world c.args.shelf.now)
-    _ _ (λ contents both. both.0)
-    (Answered-stop (rows_of c.args.policy.now) (g.S.Source.left c.args.input.now) (g.K.Sink.written c.args.output.now)
-    (g.D.Shelf.world c.args.shelf.now) c.lines.lines.held c.lines.lines.taken (g.S.Source.left c.lines.input)
-    (g.K.Sink.written c.flush.new.output) (g.D.Shelf.world c.lines.shelf) (kept c.lines.machine)
-    (g.S.Source.left c.next.new.from) c.next.new.self.taken
-    stands
-    (c.in-Err-ReadFault.ensures.stops c.lines.invariant.no_fault)))
-    ((Most-stop (rows_of c.args.policy.now) (g.S.Source.left c.args.input.now) (g.K.Sink.written c.args.output.now)
-    (g.D.Shelf.world c.args.shelf.now) c.lines.lines.held c.lines.lines.taken (g.S.Source.left c.lines.input)
-    (g.K.Sink.written c.flush.new.output) (g.D.Shelf.world c.lines.shelf) (kept c.lines.machine)
-    (g.S.Source.left c.next.new.from) c.next.new.self.taken
-    stands
-    (c.in-Err-ReadFault.ensures.stops c.lines.invariant.no_fault) lt))
-
-pub returns-in-Err-ReadFault-clause-takes : goal.returns-in-Err-ReadFault-clause-takes
-returns-in-Err-ReadFault-clause-takes g c =
-    takes_some _ _ Read refl tt
-    (takes_more (g.S.Source.left c.args.input.now) (g.S.Source.left c.lines.input) (g.S.Source.left c.next.new.from)
-    c.lines.lines.taken c.next.new.self.taken c.lines.invariant.took c.next.ensures.took c.next.ensures.within)
+pub returns-in-Err-ReadFault-clause-runs : goal.returns-in-Err-ReadFault-clause-runs
+returns-in-Err-ReadFault-clause-runs g c =
+    record {
+      does =
+          let after = (goal.at.returns-in-Err-ReadFault-clause-runs g c).After-next in
+          let lt : c.next.new.self.taken < 2 ^ 30 = (c.in-Err-ReadFault.ensures.first c.lines.invariant.no_fault).low
+          (ap Err c.in-Err-ReadFault.field-0-is) in
+          let stands = stood g after (λ e. absurd (cc (e, c.in-Err-ReadFault.is))) (λ e. absurd (cc (
+            e,
+            c.in-Err-ReadFault.is,
+          ))) in
+          does_read (rows_of c.args.policy.now) _ _ _ _ refl (begun g after) (reached g after)
+          (weaker (g.S.Source.left c.args.input.now) (g.K.Sink.written c.args.output.now) (g.D.Shelf.world c.args.shelf.now)
+          _ _ (λ contents both. both.0)
+          (Answered-stop (rows_of c.args.policy.now) (g.S.Source.left c.args.input.now) (g.K.Sink.written c.args.output.now)
+          (g.D.Shelf.world c.args.shelf.now) c.lines.lines.held c.lines.lines.taken (g.S.Source.left c.lines.input)
+          (g.K.Sink.written c.flush.new.output) (g.D.Shelf.world c.lines.shelf) (kept c.lines.machine)
+          (g.S.Source.left c.next.new.from) c.next.new.self.taken
+          stands
+          (c.in-Err-ReadFault.ensures.first c.lines.invariant.no_fault).stops))
+          ((Most-stop (rows_of c.args.policy.now) (g.S.Source.left c.args.input.now) (g.K.Sink.written c.args.output.now)
+          (g.D.Shelf.world c.args.shelf.now) c.lines.lines.held c.lines.lines.taken (g.S.Source.left c.lines.input)
+          (g.K.Sink.written c.flush.new.output) (g.D.Shelf.world c.lines.shelf) (kept c.lines.machine)
+          (g.S.Source.left c.next.new.from) c.next.new.self.taken
+          stands
+          (c.in-Err-ReadFault.ensures.first c.lines.invariant.no_fault).stops lt));
+      takes =
+          takes_some _ _ Read refl tt
+          (takes_more (g.S.Source.left c.args.input.now) (g.S.Source.left c.lines.input) (g.S.Source.left c.next.new.from)
+          c.lines.lines.taken c.next.new.self.taken c.lines.invariant.took c.next.ensures.took c.next.ensures.within);
+      asked =
+          asks_stop (rows_of c.args.policy.now) c.args.policy.now (g.D.Shelf.world c.args.shelf.now) 3
+          (g.S.Source.left c.args.input.now) (g.K.Sink.written c.args.output.now) c.lines.lines.held c.lines.lines.taken
+          (g.S.Source.left c.lines.input) (g.D.Shelf.world c.lines.shelf) (kept c.lines.machine) c.lines.policy
+          (g.S.Source.left c.next.new.from) c.next.new.self.taken
+          (inl refl) c.lines.invariant.asked (c.in-Err-ReadFault.ensures.first c.lines.invariant.no_fault).stops;
+      faithful = c.lines.invariant.faithful;
+      rows = c.lines.invariant.rows;
+    }
 
 pub returns-in-Err-ReadFault-clause-source : goal.returns-in-Err-ReadFault-clause-source
 returns-in-Err-ReadFault-clause-source g c e =
@@ -245,53 +240,46 @@ pub returns-in-Err-ReadFault-clause-sink : goal.returns-in-Err-ReadFault-clause-
 returns-in-Err-ReadFault-clause-sink g c e =
     absurd (never _ Read Write refl tt e)
 
-pub returns-in-Err-ReadFault-clause-faithful : goal.returns-in-Err-ReadFault-clause-faithful
-returns-in-Err-ReadFault-clause-faithful g c =
-    c.lines.invariant.faithful
-
-pub returns-in-Err-ReadFault-clause-rows : goal.returns-in-Err-ReadFault-clause-rows
-returns-in-Err-ReadFault-clause-rows g c =
-    c.lines.invariant.rows
-
-pub returns-in-Err-ReadFault-clause-asked : goal.returns-in-Err-ReadFault-clause-asked
-returns-in-Err-ReadFault-clause-asked g c =
-    asks_stop (rows_of c.args.policy.now) c.args.policy.now (g.D.Shelf.world c.args.shelf.now) 3
-    (g.S.Source.left c.args.input.now) (g.K.Sink.written c.args.output.now) c.lines.lines.held c.lines.lines.taken
-    (g.S.Source.left c.lines.input) (g.D.Shelf.world c.lines.shelf) (kept c.lines.machine) c.lines.policy
-    (g.S.Source.left c.next.new.from) c.next.new.self.taken
-    (inl refl) c.lines.invariant.asked (c.in-Err-ReadFault.ensures.stops c.lines.invariant.no_fault)
-
 -- ---- 2 ^ 30 octets were taken
 
-pub returns-in-Err-TooMuch-clause-does : goal.returns-in-Err-TooMuch-clause-does
-returns-in-Err-TooMuch-clause-does g c =
-    let after = (goal.at.returns-in-Err-TooMuch-clause-does g c).After-next in
-    let n : c.next.new.self.taken ≡ 2 ^ 30 = (rw c.in-Err-TooMuch.field-0-is at c.in-Err-TooMuch.ensures.too_much)
-    c.lines.invariant.no_fault refl in
-    let stands = stood g after (λ e. absurd (cc (e, c.in-Err-TooMuch.is))) (λ e. absurd (cc (e, c.in-Err-TooMuch.is)))
-    in
-    does_much (rows_of c.args.policy.now) _ _ _ _ refl (begun g after) (reached g after)
-    (weaker (g.S.Source.left c.args.input.now) (g.K.Sink.written c.args.output.now) (g.D.Shelf.world c.args.shelf.now)
-    _ _ (λ contents both. both.1 n)
-    (Answered-stop (rows_of c.args.policy.now) (g.S.Source.left c.args.input.now) (g.K.Sink.written c.args.output.now)
-    (g.D.Shelf.world c.args.shelf.now) c.lines.lines.held c.lines.lines.taken (g.S.Source.left c.lines.input)
-    (g.K.Sink.written c.flush.new.output) (g.D.Shelf.world c.lines.shelf) (kept c.lines.machine)
-    (g.S.Source.left c.next.new.from) c.next.new.self.taken
-    stands
-    (c.in-Err-TooMuch.ensures.stops c.lines.invariant.no_fault)))
-
-pub returns-in-Err-TooMuch-clause-takes : goal.returns-in-Err-TooMuch-clause-takes
-returns-in-Err-TooMuch-clause-takes g c =
-    let n : c.next.new.self.taken ≡ 2 ^ 30 = (rw c.in-Err-TooMuch.field-0-is at c.in-Err-TooMuch.ensures.too_much)
-    c.lines.invariant.no_fault refl in
-    let took = took_both (g.S.Source.left c.args.input.now) (g.S.Source.left c.lines.input)
-    (g.S.Source.left c.next.new.from) 0 c.lines.lines.taken c.next.new.self.taken c.lines.invariant.took
-    c.next.ensures.took in
-    takes_much _ _ refl
-    (has_most (g.S.Source.left c.args.input.now) (g.S.Source.left c.next.new.from) c.next.new.self.taken took n)
-    (takes_most (g.S.Source.left c.args.input.now) (g.S.Source.left c.next.new.from) c.next.new.self.taken took n)
-    (takes_more (g.S.Source.left c.args.input.now) (g.S.Source.left c.lines.input) (g.S.Source.left c.next.new.from)
-    c.lines.lines.taken c.next.new.self.taken c.lines.invariant.took c.next.ensures.took c.next.ensures.within)
+pub returns-in-Err-TooMuch-clause-runs : goal.returns-in-Err-TooMuch-clause-runs
+returns-in-Err-TooMuch-clause-runs g c =
+    record {
+      does =
+          let after = (goal.at.returns-in-Err-TooMuch-clause-runs g c).After-next in
+          let n : c.next.new.self.taken ≡ 2 ^ 30 = (c.in-Err-TooMuch.ensures.first c.lines.invariant.no_fault).too_much
+          (ap Err c.in-Err-TooMuch.field-0-is) in
+          let stands = stood g after (λ e. absurd (cc (e, c.in-Err-TooMuch.is))) (λ e. absurd (cc (e, c.in-Err-TooMuch.is)))
+          in
+          does_much (rows_of c.args.policy.now) _ _ _ _ refl (begun g after) (reached g after)
+          (weaker (g.S.Source.left c.args.input.now) (g.K.Sink.written c.args.output.now) (g.D.Shelf.world c.args.shelf.now)
+          _ _ (λ contents both. both.1 n)
+          (Answered-stop (rows_of c.args.policy.now) (g.S.Source.left c.args.input.now) (g.K.Sink.written c.args.output.now)
+          (g.D.Shelf.world c.args.shelf.now) c.lines.lines.held c.lines.lines.taken (g.S.Source.left c.lines.input)
+          (g.K.Sink.written c.flush.new.output) (g.D.Shelf.world c.lines.shelf) (kept c.lines.machine)
+          (g.S.Source.left c.next.new.from) c.next.new.self.taken
+          stands
+          (c.in-Err-TooMuch.ensures.first c.lines.invariant.no_fault).stops));
+      takes =
+          let n : c.next.new.self.taken ≡ 2 ^ 30 = (c.in-Err-TooMuch.ensures.first c.lines.invariant.no_fault).too_much
+          (ap Err c.in-Err-TooMuch.field-0-is) in
+          let took = took_both (g.S.Source.left c.args.input.now) (g.S.Source.left c.lines.input)
+          (g.S.Source.left c.next.new.from) 0 c.lines.lines.taken c.next.new.self.taken c.lines.invariant.took
+          c.next.ensures.took in
+          takes_much _ _ refl
+          (has_most (g.S.Source.left c.args.input.now) (g.S.Source.left c.next.new.from) c.next.new.self.taken took n)
+          (takes_most (g.S.Source.left c.args.input.now) (g.S.Source.left c.next.new.from) c.next.new.self.taken took n)
+          (takes_more (g.S.Source.left c.args.input.now) (g.S.Source.left c.lines.input) (g.S.Source.left c.next.new.from)
+          c.lines.lines.taken c.next.new.self.taken c.lines.invariant.took c.next.ensures.took c.next.ensures.within);
+      asked =
+          asks_stop (rows_of c.args.policy.now) c.args.policy.now (g.D.Shelf.world c.args.shelf.now) 6
+          (g.S.Source.left c.args.input.now) (g.K.Sink.written c.args.output.now) c.lines.lines.held c.lines.lines.taken
+          (g.S.Source.left c.lines.input) (g.D.Shelf.world c.lines.shelf) (kept c.lines.machine) c.lines.policy
+          (g.S.Source.left c.next.new.from) c.next.new.self.taken
+          (inr refl) c.lines.invariant.asked (c.in-Err-TooMuch.ensures.first c.lines.invariant.no_fault).stops;
+      faithful = c.lines.invariant.faithful;
+      rows = c.lines.invariant.rows;
+    }
 
 pub returns-in-Err-TooMuch-clause-source : goal.returns-in-Err-TooMuch-clause-source
 returns-in-Err-TooMuch-clause-source g c e =
@@ -300,22 +288,6 @@ returns-in-Err-TooMuch-clause-source g c e =
 pub returns-in-Err-TooMuch-clause-sink : goal.returns-in-Err-TooMuch-clause-sink
 returns-in-Err-TooMuch-clause-sink g c e =
     absurd (never _ TooMuch Write refl tt e)
-
-pub returns-in-Err-TooMuch-clause-faithful : goal.returns-in-Err-TooMuch-clause-faithful
-returns-in-Err-TooMuch-clause-faithful g c =
-    c.lines.invariant.faithful
-
-pub returns-in-Err-TooMuch-clause-rows : goal.returns-in-Err-TooMuch-clause-rows
-returns-in-Err-TooMuch-clause-rows g c =
-    c.lines.invariant.rows
-
-pub returns-in-Err-TooMuch-clause-asked : goal.returns-in-Err-TooMuch-clause-asked
-returns-in-Err-TooMuch-clause-asked g c =
-    asks_stop (rows_of c.args.policy.now) c.args.policy.now (g.D.Shelf.world c.args.shelf.now) 6
-    (g.S.Source.left c.args.input.now) (g.K.Sink.written c.args.output.now) c.lines.lines.held c.lines.lines.taken
-    (g.S.Source.left c.lines.input) (g.D.Shelf.world c.lines.shelf) (kept c.lines.machine) c.lines.policy
-    (g.S.Source.left c.next.new.from) c.next.new.self.taken
-    (inr refl) c.lines.invariant.asked (c.in-Err-TooMuch.ensures.stops c.lines.invariant.no_fault)
 
 -- ---- a line is read
 
@@ -392,64 +364,78 @@ lines-smaller g c =
     )
 
 pub reply_to-requires-clause-countable : goal.reply_to-requires-clause-countable
-reply_to-requires-clause-countable g c = omega (arith, c.lines.invariant.changes)
+reply_to-requires-clause-countable g c = record {
+  changes = omega (arith, c.lines.invariant.changes);
+  turns = omega (arith, c.lines.invariant.turns);
+}
 
-pub reply_to-requires-clause-turnable : goal.reply_to-requires-clause-turnable
-reply_to-requires-clause-turnable g c = omega (arith, c.lines.invariant.turns)
-
-pub reply_to-requires-clause-judged : goal.reply_to-requires-clause-judged
-reply_to-requires-clause-judged g c =
-    subst (λ (r : PolicyRows). IsJudgedBy r c.lines.machine.engine.keyring) (sym c.lines.invariant.rows)
-    c.lines.invariant.judged
-
-pub reply_to-requires-clause-faithful : goal.reply_to-requires-clause-faithful
-reply_to-requires-clause-faithful g c = c.lines.invariant.faithful
+pub reply_to-requires-clause-judging : goal.reply_to-requires-clause-judging
+reply_to-requires-clause-judging g c = record {
+  judged = subst (λ (r : PolicyRows). IsJudgedBy r c.lines.machine.engine.keyring) (sym c.lines.invariant.rows)
+      c.lines.invariant.judged;
+  faithful = c.lines.invariant.faithful;
+}
 
 -- ---- out of memory at a line, and the write that follows failed
 
-pub returns-in_err-write_all-clause-does : goal.returns-in_err-write_all-clause-does
-returns-in_err-write_all-clause-does g c =
-    does_write (rows_of c.args.policy.now) _ _ _ c.from_residual-in_err-write_all.result (stopped
-    c.from_residual-in_err-write_all.result Write c.from_residual-in_err-write_all.ensures.1)
-    (Held-cut (rows_of c.args.policy.now) c.lines.invariant.law (g.S.Source.left c.args.input.now)
-    (g.K.Sink.written c.args.output.now) (g.D.Shelf.world c.args.shelf.now) c.lines.lines.held c.lines.lines.taken
-    (g.S.Source.left c.lines.input) (g.K.Sink.written c.flush.new.output) c.flush.new.out.items
-    (g.D.Shelf.world c.lines.shelf) (kept c.lines.machine) (g.K.Sink.written c.write_all.new.to)
-    (flushed g (goal.at.returns-in_err-write_all-clause-does g c).After-next)
-    (subst (λ (x : List ℕ). IfSome (g.K.Sink.written c.flush.new.output)
-    (λ old. GainsPrefix old (g.K.Sink.written c.write_all.new.to) x))
-    (c.deref.ensures.value ∙ c.in_default.ensures.kept) c.in_err-write_all.ensures.err))
-    (let some : c.in-Ok.line ≢ End = search rules in
-    let m : MayPut (kept c.lines.machine).state (use_by c.in-Ok.line c.next.new.self.text)
-    (g.D.Shelf.world c.lines.shelf) (g.D.Shelf.world c.reply_to.new.shelf) =
-    subst (λ (x : List ℕ). MayPut (kept c.lines.machine).state (use_by c.in-Ok.line x) (g.D.Shelf.world c.lines.shelf)
-    (g.D.Shelf.world c.reply_to.new.shelf)) c.text.ensures c.in_default.ensures.entries in
-    Held-reached_next (rows_of c.args.policy.now) (g.S.Source.left c.args.input.now)
-    (g.K.Sink.written c.args.output.now) (g.D.Shelf.world c.args.shelf.now) c.lines.lines
-    (g.S.Source.left c.lines.input) (g.K.Sink.written c.flush.new.output) c.flush.new.out.items
-    (g.D.Shelf.world c.lines.shelf) (kept c.lines.machine) (g.K.Sink.written c.write_all.new.to) c.next.new.self
-    (g.S.Source.left c.next.new.from) (g.D.Shelf.world c.reply_to.new.shelf) c.in-Ok.line
-    (flushed g (goal.at.returns-in_err-write_all-clause-does g c).After-next)
-    (subst (λ (x : List ℕ). IfSome (g.K.Sink.written c.flush.new.output)
-    (λ old. GainsPrefix old (g.K.Sink.written c.write_all.new.to) x))
-    (c.deref.ensures.value ∙ c.in_default.ensures.kept) c.in_err-write_all.ensures.err)
-    c.in-Ok.ensures.ok some m)
-    ((Held-most (rows_of c.args.policy.now) c.lines.invariant.law (g.S.Source.left c.args.input.now)
-    (g.K.Sink.written c.args.output.now) (g.D.Shelf.world c.args.shelf.now) c.lines.lines.held c.lines.lines.taken
-    (g.S.Source.left c.lines.input) (g.K.Sink.written c.flush.new.output) c.flush.new.out.items
-    (g.D.Shelf.world c.lines.shelf) (kept c.lines.machine) (g.K.Sink.written c.write_all.new.to)
-    (g.S.Source.left c.next.new.from) c.next.new.self.taken
-    (flushed g (goal.at.returns-in_err-write_all-clause-does g c).After-next)
-    (subst (λ (x : List ℕ). IfSome (g.K.Sink.written c.flush.new.output)
-    (λ old. GainsPrefix old (g.K.Sink.written c.write_all.new.to) x))
-    (c.deref.ensures.value ∙ c.in_default.ensures.kept) c.in_err-write_all.ensures.err) c.next.ensures.took))
-
-pub returns-in_err-write_all-clause-takes : goal.returns-in_err-write_all-clause-takes
-returns-in_err-write_all-clause-takes g c =
-    takes_some _ c.from_residual-in_err-write_all.result Write
-    (stopped c.from_residual-in_err-write_all.result Write c.from_residual-in_err-write_all.ensures.1) tt
-    (takes_more (g.S.Source.left c.args.input.now) (g.S.Source.left c.lines.input) (g.S.Source.left c.next.new.from)
-    c.lines.lines.taken c.next.new.self.taken c.lines.invariant.took c.next.ensures.took c.next.ensures.within)
+pub returns-in_err-write_all-clause-runs : goal.returns-in_err-write_all-clause-runs
+returns-in_err-write_all-clause-runs g c =
+    record {
+      does =
+          does_write (rows_of c.args.policy.now) _ _ _ c.from_residual-in_err-write_all.result (stopped
+          c.from_residual-in_err-write_all.result Write c.from_residual-in_err-write_all.ensures.1)
+          (Held-cut (rows_of c.args.policy.now) c.lines.invariant.law (g.S.Source.left c.args.input.now)
+          (g.K.Sink.written c.args.output.now) (g.D.Shelf.world c.args.shelf.now) c.lines.lines.held c.lines.lines.taken
+          (g.S.Source.left c.lines.input) (g.K.Sink.written c.flush.new.output) c.flush.new.out.items
+          (g.D.Shelf.world c.lines.shelf) (kept c.lines.machine) (g.K.Sink.written c.write_all.new.to)
+          (flushed g (goal.at.returns-in_err-write_all-clause-runs g c).After-next)
+          (subst (λ (x : List ℕ). IfSome (g.K.Sink.written c.flush.new.output)
+          (λ old. GainsPrefix old (g.K.Sink.written c.write_all.new.to) x))
+          (c.deref.ensures.value ∙ c.in_default.ensures.kept) c.in_err-write_all.ensures.err))
+          (let some : c.in-Ok.line ≢ End = search rules in
+          let m : MayPut (kept c.lines.machine).state (use_by c.in-Ok.line c.next.new.self.text)
+          (g.D.Shelf.world c.lines.shelf) (g.D.Shelf.world c.reply_to.new.shelf) =
+          subst (λ (x : List ℕ). MayPut (kept c.lines.machine).state (use_by c.in-Ok.line x) (g.D.Shelf.world c.lines.shelf)
+          (g.D.Shelf.world c.reply_to.new.shelf)) c.text.ensures c.in_default.ensures.entries in
+          Held-reached_next (rows_of c.args.policy.now) (g.S.Source.left c.args.input.now)
+          (g.K.Sink.written c.args.output.now) (g.D.Shelf.world c.args.shelf.now) c.lines.lines
+          (g.S.Source.left c.lines.input) (g.K.Sink.written c.flush.new.output) c.flush.new.out.items
+          (g.D.Shelf.world c.lines.shelf) (kept c.lines.machine) (g.K.Sink.written c.write_all.new.to) c.next.new.self
+          (g.S.Source.left c.next.new.from) (g.D.Shelf.world c.reply_to.new.shelf) c.in-Ok.line
+          (flushed g (goal.at.returns-in_err-write_all-clause-runs g c).After-next)
+          (subst (λ (x : List ℕ). IfSome (g.K.Sink.written c.flush.new.output)
+          (λ old. GainsPrefix old (g.K.Sink.written c.write_all.new.to) x))
+          (c.deref.ensures.value ∙ c.in_default.ensures.kept) c.in_err-write_all.ensures.err)
+          c.in-Ok.ensures.ok some m)
+          ((Held-most (rows_of c.args.policy.now) c.lines.invariant.law (g.S.Source.left c.args.input.now)
+          (g.K.Sink.written c.args.output.now) (g.D.Shelf.world c.args.shelf.now) c.lines.lines.held c.lines.lines.taken
+          (g.S.Source.left c.lines.input) (g.K.Sink.written c.flush.new.output) c.flush.new.out.items
+          (g.D.Shelf.world c.lines.shelf) (kept c.lines.machine) (g.K.Sink.written c.write_all.new.to)
+          (g.S.Source.left c.next.new.from) c.next.new.self.taken
+          (flushed g (goal.at.returns-in_err-write_all-clause-runs g c).After-next)
+          (subst (λ (x : List ℕ). IfSome (g.K.Sink.written c.flush.new.output)
+          (λ old. GainsPrefix old (g.K.Sink.written c.write_all.new.to) x))
+          (c.deref.ensures.value ∙ c.in_default.ensures.kept) c.in_err-write_all.ensures.err) c.next.ensures.took));
+      takes =
+          takes_some _ c.from_residual-in_err-write_all.result Write
+          (stopped c.from_residual-in_err-write_all.result Write c.from_residual-in_err-write_all.ensures.1) tt
+          (takes_more (g.S.Source.left c.args.input.now) (g.S.Source.left c.lines.input) (g.S.Source.left c.next.new.from)
+          c.lines.lines.taken c.next.new.self.taken c.lines.invariant.took c.next.ensures.took c.next.ensures.within);
+      asked =
+          let some : c.in-Ok.line ≢ End = search rules in
+          asks_cut (rows_of c.args.policy.now) c.args.policy.now (g.D.Shelf.world c.args.shelf.now)
+          (status_at c.from_residual-in_err-write_all.result) (g.S.Source.left c.args.input.now)
+          (g.K.Sink.written c.args.output.now) c.lines.lines (g.S.Source.left c.lines.input) (g.D.Shelf.world c.lines.shelf)
+          (kept c.lines.machine) c.lines.policy c.reply_to.new.policy c.next.new.self (g.S.Source.left c.next.new.from)
+          c.in-Ok.line
+          (inl (ap status_at (stopped c.from_residual-in_err-write_all.result Write
+          c.from_residual-in_err-write_all.ensures.1)))
+          c.lines.invariant.asked c.in-Ok.ensures.ok some
+          (subst (λ (x : List ℕ). MayAsk (command_by c.in-Ok.line x) c.lines.policy c.reply_to.new.policy) c.text.ensures
+          c.in_default.ensures.may_ask);
+      faithful = c.reply_to.ensures.faithful;
+      rows = c.reply_to.ensures.rows ∙ c.lines.invariant.rows;
+    }
 
 pub returns-in_err-write_all-clause-source : goal.returns-in_err-write_all-clause-source
 returns-in_err-write_all-clause-source g c e =
@@ -463,71 +449,61 @@ returns-in_err-write_all-clause-sink g c e =
     (omega (arith, c.lines.invariant.sink, c.flush.ensures.later)) c.write_all.ensures.later
     c.in_err-write_all.ensures.cause
 
-pub returns-in_err-write_all-clause-faithful : goal.returns-in_err-write_all-clause-faithful
-returns-in_err-write_all-clause-faithful g c =
-    c.reply_to.ensures.faithful
-
-pub returns-in_err-write_all-clause-rows : goal.returns-in_err-write_all-clause-rows
-returns-in_err-write_all-clause-rows g c =
-    c.reply_to.ensures.rows ∙ c.lines.invariant.rows
-
-pub returns-in_err-write_all-clause-asked : goal.returns-in_err-write_all-clause-asked
-returns-in_err-write_all-clause-asked g c =
-    let some : c.in-Ok.line ≢ End = search rules in
-    asks_cut (rows_of c.args.policy.now) c.args.policy.now (g.D.Shelf.world c.args.shelf.now)
-    (status_at c.from_residual-in_err-write_all.result) (g.S.Source.left c.args.input.now)
-    (g.K.Sink.written c.args.output.now) c.lines.lines (g.S.Source.left c.lines.input) (g.D.Shelf.world c.lines.shelf)
-    (kept c.lines.machine) c.lines.policy c.reply_to.new.policy c.next.new.self (g.S.Source.left c.next.new.from)
-    c.in-Ok.line
-    (inl (ap status_at (stopped c.from_residual-in_err-write_all.result Write
-    c.from_residual-in_err-write_all.ensures.1)))
-    c.lines.invariant.asked c.in-Ok.ensures.ok some
-    (subst (λ (x : List ℕ). MayAsk (command_by c.in-Ok.line x) c.lines.policy c.reply_to.new.policy) c.text.ensures
-    c.in_default.ensures.may_ask)
-
 -- ---- out of memory at a line
 
-pub returns-in_default-clause-does : goal.returns-in_default-clause-does
-returns-in_default-clause-does g c =
-    let some : c.in-Ok.line ≢ End = search rules in
-    let m : MayPut (kept c.lines.machine).state (use_by c.in-Ok.line c.next.new.self.text)
-    (g.D.Shelf.world c.lines.shelf) (g.D.Shelf.world c.reply_to.new.shelf) =
-    subst (λ (x : List ℕ). MayPut (kept c.lines.machine).state (use_by c.in-Ok.line x) (g.D.Shelf.world c.lines.shelf)
-    (g.D.Shelf.world c.reply_to.new.shelf)) c.text.ensures c.in_default.ensures.entries in
-    let first = Held-first (rows_of c.args.policy.now) (g.S.Source.left c.args.input.now) (g.K.Sink.written
-    c.args.output.now)
-    (g.D.Shelf.world c.args.shelf.now) c.lines.lines (g.S.Source.left c.lines.input)
-    (g.K.Sink.written c.flush.new.output) c.flush.new.out.items (g.D.Shelf.world c.lines.shelf) (kept c.lines.machine)
-    (g.K.Sink.written c.write_all.new.to) c.next.new.self (g.S.Source.left c.next.new.from)
-    (g.D.Shelf.world c.reply_to.new.shelf) c.in-Ok.line
-    (flushed g (goal.at.returns-in_default-clause-does g c).After-next)
-    (subst (λ (x : List ℕ). Becomes (g.K.Sink.written c.flush.new.output)
-    (λ old. old ++ x) (g.K.Sink.written c.write_all.new.to)) (c.deref.ensures.value ∙ c.in_default.ensures.kept)
-    c.in_ok-write_all.ensures.ok)
-    c.in-Ok.ensures.ok some m c.in-Ok.ensures.near in
-    does_memory (rows_of c.args.policy.now) _ _ _ _ refl
-    (Begun-here (rows_of c.args.policy.now) c.lines.invariant.law (g.S.Source.left c.args.input.now)
-    (g.K.Sink.written c.args.output.now) (g.D.Shelf.world c.args.shelf.now) c.lines.lines.held c.lines.lines.taken
-    (g.S.Source.left c.lines.input) (g.K.Sink.written c.write_all.new.to) (g.D.Shelf.world c.lines.shelf)
-    (kept c.lines.machine)
-    (Held-written (rows_of c.args.policy.now) (g.S.Source.left c.args.input.now) (g.K.Sink.written c.args.output.now)
-    (g.D.Shelf.world c.args.shelf.now) c.lines.lines.held c.lines.lines.taken (g.S.Source.left c.lines.input)
-    (g.K.Sink.written c.flush.new.output) c.flush.new.out.items (g.D.Shelf.world c.lines.shelf) (kept c.lines.machine)
-    (g.K.Sink.written c.write_all.new.to)
-    (flushed g (goal.at.returns-in_default-clause-does g c).After-next)
-    (subst (λ (x : List ℕ). Becomes (g.K.Sink.written c.flush.new.output)
-    (λ old. old ++ x) (g.K.Sink.written c.write_all.new.to)) (c.deref.ensures.value ∙ c.in_default.ensures.kept)
-    c.in_ok-write_all.ensures.ok)))
-    (First-reached (rows_of c.args.policy.now) (g.S.Source.left c.args.input.now) (g.K.Sink.written c.args.output.now)
-    (g.D.Shelf.world c.args.shelf.now) (g.S.Source.left c.next.new.from) (g.K.Sink.written c.write_all.new.to)
-    (g.D.Shelf.world c.reply_to.new.shelf) first)
-    first
-
-pub returns-in_default-clause-takes : goal.returns-in_default-clause-takes
-returns-in_default-clause-takes g c =
-    takes_some _ _ Memory refl tt
-    (takes_more (g.S.Source.left c.args.input.now) (g.S.Source.left c.lines.input) (g.S.Source.left c.next.new.from)
-    c.lines.lines.taken c.next.new.self.taken c.lines.invariant.took c.next.ensures.took c.next.ensures.within)
+pub returns-in_default-clause-runs : goal.returns-in_default-clause-runs
+returns-in_default-clause-runs g c =
+    record {
+      does =
+          let some : c.in-Ok.line ≢ End = search rules in
+          let m : MayPut (kept c.lines.machine).state (use_by c.in-Ok.line c.next.new.self.text)
+          (g.D.Shelf.world c.lines.shelf) (g.D.Shelf.world c.reply_to.new.shelf) =
+          subst (λ (x : List ℕ). MayPut (kept c.lines.machine).state (use_by c.in-Ok.line x) (g.D.Shelf.world c.lines.shelf)
+          (g.D.Shelf.world c.reply_to.new.shelf)) c.text.ensures c.in_default.ensures.entries in
+          let first = Held-first (rows_of c.args.policy.now) (g.S.Source.left c.args.input.now) (g.K.Sink.written
+          c.args.output.now)
+          (g.D.Shelf.world c.args.shelf.now) c.lines.lines (g.S.Source.left c.lines.input)
+          (g.K.Sink.written c.flush.new.output) c.flush.new.out.items (g.D.Shelf.world c.lines.shelf) (kept c.lines.machine)
+          (g.K.Sink.written c.write_all.new.to) c.next.new.self (g.S.Source.left c.next.new.from)
+          (g.D.Shelf.world c.reply_to.new.shelf) c.in-Ok.line
+          (flushed g (goal.at.returns-in_default-clause-runs g c).After-next)
+          (subst (λ (x : List ℕ). Becomes (g.K.Sink.written c.flush.new.output)
+          (λ old. old ++ x) (g.K.Sink.written c.write_all.new.to)) (c.deref.ensures.value ∙ c.in_default.ensures.kept)
+          c.in_ok-write_all.ensures.ok)
+          c.in-Ok.ensures.ok some m c.in-Ok.ensures.near in
+          does_memory (rows_of c.args.policy.now) _ _ _ _ refl
+          (Begun-here (rows_of c.args.policy.now) c.lines.invariant.law (g.S.Source.left c.args.input.now)
+          (g.K.Sink.written c.args.output.now) (g.D.Shelf.world c.args.shelf.now) c.lines.lines.held c.lines.lines.taken
+          (g.S.Source.left c.lines.input) (g.K.Sink.written c.write_all.new.to) (g.D.Shelf.world c.lines.shelf)
+          (kept c.lines.machine)
+          (Held-written (rows_of c.args.policy.now) (g.S.Source.left c.args.input.now) (g.K.Sink.written c.args.output.now)
+          (g.D.Shelf.world c.args.shelf.now) c.lines.lines.held c.lines.lines.taken (g.S.Source.left c.lines.input)
+          (g.K.Sink.written c.flush.new.output) c.flush.new.out.items (g.D.Shelf.world c.lines.shelf) (kept c.lines.machine)
+          (g.K.Sink.written c.write_all.new.to)
+          (flushed g (goal.at.returns-in_default-clause-runs g c).After-next)
+          (subst (λ (x : List ℕ). Becomes (g.K.Sink.written c.flush.new.output)
+          (λ old. old ++ x) (g.K.Sink.written c.write_all.new.to)) (c.deref.ensures.value ∙ c.in_default.ensures.kept)
+          c.in_ok-write_all.ensures.ok)))
+          (First-reached (rows_of c.args.policy.now) (g.S.Source.left c.args.input.now) (g.K.Sink.written c.args.output.now)
+          (g.D.Shelf.world c.args.shelf.now) (g.S.Source.left c.next.new.from) (g.K.Sink.written c.write_all.new.to)
+          (g.D.Shelf.world c.reply_to.new.shelf) first)
+          first;
+      takes =
+          takes_some _ _ Memory refl tt
+          (takes_more (g.S.Source.left c.args.input.now) (g.S.Source.left c.lines.input) (g.S.Source.left c.next.new.from)
+          c.lines.lines.taken c.next.new.self.taken c.lines.invariant.took c.next.ensures.took c.next.ensures.within);
+      asked =
+          let some : c.in-Ok.line ≢ End = search rules in
+          asks_cut (rows_of c.args.policy.now) c.args.policy.now (g.D.Shelf.world c.args.shelf.now) 5
+          (g.S.Source.left c.args.input.now) (g.K.Sink.written c.args.output.now) c.lines.lines
+          (g.S.Source.left c.lines.input) (g.D.Shelf.world c.lines.shelf) (kept c.lines.machine) c.lines.policy
+          c.reply_to.new.policy c.next.new.self (g.S.Source.left c.next.new.from) c.in-Ok.line
+          (inr refl) c.lines.invariant.asked c.in-Ok.ensures.ok some
+          (subst (λ (x : List ℕ). MayAsk (command_by c.in-Ok.line x) c.lines.policy c.reply_to.new.policy) c.text.ensures
+          c.in_default.ensures.may_ask);
+      faithful = c.reply_to.ensures.faithful;
+      rows = c.reply_to.ensures.rows ∙ c.lines.invariant.rows;
+    }
 
 pub returns-in_default-clause-source : goal.returns-in_default-clause-source
 returns-in_default-clause-source g c e =
@@ -536,25 +512,6 @@ returns-in_default-clause-source g c e =
 pub returns-in_default-clause-sink : goal.returns-in_default-clause-sink
 returns-in_default-clause-sink g c e =
     absurd (never _ Memory Write refl tt e)
-
-pub returns-in_default-clause-faithful : goal.returns-in_default-clause-faithful
-returns-in_default-clause-faithful g c =
-    c.reply_to.ensures.faithful
-
-pub returns-in_default-clause-rows : goal.returns-in_default-clause-rows
-returns-in_default-clause-rows g c =
-    c.reply_to.ensures.rows ∙ c.lines.invariant.rows
-
-pub returns-in_default-clause-asked : goal.returns-in_default-clause-asked
-returns-in_default-clause-asked g c =
-    let some : c.in-Ok.line ≢ End = search rules in
-    asks_cut (rows_of c.args.policy.now) c.args.policy.now (g.D.Shelf.world c.args.shelf.now) 5
-    (g.S.Source.left c.args.input.now) (g.K.Sink.written c.args.output.now) c.lines.lines
-    (g.S.Source.left c.lines.input) (g.D.Shelf.world c.lines.shelf) (kept c.lines.machine) c.lines.policy
-    c.reply_to.new.policy c.next.new.self (g.S.Source.left c.next.new.from) c.in-Ok.line
-    (inr refl) c.lines.invariant.asked c.in-Ok.ensures.ok some
-    (subst (λ (x : List ℕ). MayAsk (command_by c.in-Ok.line x) c.lines.policy c.reply_to.new.policy) c.text.ensures
-    c.in_default.ensures.may_ask)
 
 -- ---- the first line
 
@@ -568,9 +525,9 @@ lines-init g c = record {
     tells_one = c.each_line_has_one_outcome.ensures.tells_one;
   });
   held = holds (rows_of c.args.policy.now) (g.S.Source.left c.args.input.now) (g.K.Sink.written c.args.output.now)
-      (g.D.Shelf.world c.args.shelf.now) c.args.lines.now c.args.machine.now c.args.out.now.items
+      (g.D.Shelf.world c.args.shelf.now) c.args.lines.now c.args.machine.now c.new-out.result.items
       c.requires.unread
-      c.requires.engine c.requires.cursors c.requires.watches c.requires.nothing;
+      c.requires.engine c.requires.cursors c.requires.watches c.new-out.ensures.items;
   no_fault = no_fault c.args.lines.now c.requires.unread;
   took = took_nothing (g.S.Source.left c.args.input.now) c.args.lines.now c.requires.unread;
   within = within c.args.lines.now c.requires.unread;

@@ -68,10 +68,10 @@ returns-in_err-lines-clause-asked g c =
 -- ---- everything else follows from the contract of `answer_lines`
 
 pub returns-clause-does : goal.returns-clause-does
-returns-clause-does g c = c.answer_lines.ensures.does
+returns-clause-does g c = c.answer_lines.ensures.runs.does
 
 pub returns-clause-takes : goal.returns-clause-takes
-returns-clause-takes g c = c.answer_lines.ensures.takes
+returns-clause-takes g c = c.answer_lines.ensures.runs.takes
 
 pub returns-clause-source : goal.returns-clause-source
 returns-clause-source g c = c.answer_lines.ensures.source
@@ -80,13 +80,13 @@ pub returns-clause-sink : goal.returns-clause-sink
 returns-clause-sink g c = c.answer_lines.ensures.sink
 
 pub returns-clause-asked : goal.returns-clause-asked
-returns-clause-asked g c = c.answer_lines.ensures.asked
+returns-clause-asked g c = c.answer_lines.ensures.runs.asked
 
 pub returns-clause-faithful : goal.returns-clause-faithful
-returns-clause-faithful g c = c.answer_lines.ensures.faithful
+returns-clause-faithful g c = c.answer_lines.ensures.runs.faithful
 
 pub returns-clause-rows : goal.returns-clause-rows
-returns-clause-rows g c = c.answer_lines.ensures.rows
+returns-clause-rows g c = c.answer_lines.ensures.runs.rows
 
 pub answer_lines-requires-clause-unread : goal.answer_lines-requires-clause-unread
 answer_lines-requires-clause-unread g c = c.in_ok-lines.ensures
@@ -99,9 +99,6 @@ answer_lines-requires-clause-cursors g c = c.new-machine.ensures.cursors
 
 pub answer_lines-requires-clause-watches : goal.answer_lines-requires-clause-watches
 answer_lines-requires-clause-watches g c = c.new-machine.ensures.watches
-
-pub answer_lines-requires-clause-nothing : goal.answer_lines-requires-clause-nothing
-answer_lines-requires-clause-nothing g c = c.new-out.ensures.items
 
 pub answer_lines-requires-clause-faithful : goal.answer_lines-requires-clause-faithful
 answer_lines-requires-clause-faithful g c = c.requires.faithful

@@ -46,10 +46,7 @@ answered (Ok a) rows line text old new before after had has is s =
 answered (Err x) rows line text old new before after had has is s = tt
 
 pub line-requires : goal.line-requires
-line-requires g c = record {
-  countable = record { changes = c.requires.countable; turns = c.requires.turnable };
-  judging = record { judged = c.requires.judged; faithful = c.requires.faithful };
-}
+line-requires g c = record { countable = c.requires.countable; judging = c.requires.judging }
 
 pub returns-in-Text-clause-said : goal.returns-in-Text-clause-said
 returns-in-Text-clause-said g c =
@@ -94,3 +91,9 @@ returns-in-Text-clause-faithful g c = c.line.ensures.judging.faithful
 
 pub returns-in-Text-clause-rows : goal.returns-in-Text-clause-rows
 returns-in-Text-clause-rows g c = c.line.ensures.judging.rows
+
+pub returns-in-Long-clause-judged : goal.returns-in-Long-clause-judged
+returns-in-Long-clause-judged g c = c.requires.judging.judged
+
+pub returns-in-Long-clause-faithful : goal.returns-in-Long-clause-faithful
+returns-in-Long-clause-faithful g c = c.requires.judging.faithful
