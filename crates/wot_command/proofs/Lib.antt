@@ -8,3 +8,4 @@ pub mod DirectoryAfterFailure
 pub mod RefusedReplies
 mod Short
 mod FailedPut
+mod ReachedOrMissed
