@@ -20,7 +20,7 @@ use Rattle.wot_machine.specs.Stepped.{Replied}
 use Rattle.wot_step.specs.Transcript.{Run, listed}
 use Rattle.wot_step.specs.Watching as watching
 use Rattle.wot_step.proofs.DirectoryGives.{Goes, goes, over}
-use Rattle.wot_run_law.proofs.Runs.{Run-append}
+use Rattle.wot_laws.proofs.Runs.{Run-append}
 use Rattle.wot_engine.specs.Generated.{no_entries}
 use Rattle.wot_engine.specs.Played.{Adds, AddsReply, AddsTold, IsPlayed}
 

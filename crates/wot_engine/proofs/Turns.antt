@@ -16,7 +16,7 @@ use Rattle.wot_script.specs.Replies.{reply_text}
 use Rattle.wot_certd.specs.World.{World}
 use Rattle.wot_step.specs.Session.{Session, beginning}
 use Rattle.wot_step.specs.Entry.{IsServed, MayPut, Use, unused, use_of}
-use Rattle.wot_run_law.specs.Law.{OneOutcome}
+use Rattle.wot_laws.specs.OneLine.{OneOutcome}
 use Rattle.wot_step.specs.Lines.{heard}
 use Rattle.wot_step.specs.LineStep.{LineStep}
 use Rattle.wot_step.specs.Scene.{Step, opening}
@@ -26,7 +26,7 @@ use Rattle.wot_step.specs.Transcript.{Run, IsNow, listed, octets_of}
 use Rattle.wot_engine.specs.Ended.{AnsweredMost, FinishedMost, FinishedTaken, Reached, ReachedWhole, IsBegun, IsLeft}
 use Rattle.wot_engine.specs.Ended.{IsTranscribed}
 use Rattle.wot_step.proofs.DirectoryGives.{IsUncalled, goes, may_call, over}
-use Rattle.wot_run_law.proofs.Runs.{Run-one, Run-prefix}
+use Rattle.wot_laws.proofs.Runs.{Run-one, Run-prefix}
 use Rattle.wot_step.proofs.StepsByKind.{heard_long}
 use Rattle.wot_engine.specs.RunAsks.{command_by}
 use Rattle.wot_engine.specs.Contents.{Contents, OnContents}

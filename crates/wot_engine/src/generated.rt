@@ -22,9 +22,9 @@ use std::alloc::Global;
 use wot_certd::MemoryShelf;
 use wot_gen::{Summary, Tally, put_summary, script};
 use wot_io::{Sink, first_line, write_all};
+use wot_laws::each_line_has_one_outcome;
 use wot_machine::{DraftReply, Machine};
 use wot_policy::{Ask, Policy};
-use wot_run_law::each_line_has_one_outcome;
 use wot_script::Reply;
 use wot_types::Memory;
 

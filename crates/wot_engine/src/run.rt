@@ -26,9 +26,9 @@ ghost use Rattle.wot_engine.specs.declared.run.Stop.TheVariants.{Read, Write};
 use std::alloc::Global;
 use wot_certd::Shelf;
 use wot_io::{Failed, Line, Lines, LinesFault, Sink, Source, write_all};
+use wot_laws::each_line_has_one_outcome;
 use wot_machine::Machine;
 use wot_policy::{Ask, Policy};
-use wot_run_law::each_line_has_one_outcome;
 use wot_script::{Reply, print_reply};
 use wot_types::Memory;
 

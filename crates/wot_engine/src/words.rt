@@ -16,8 +16,8 @@ use crate::run::{Stop, run};
 use std::alloc::Global;
 use wot_certd::Shelf;
 use wot_io::{Sink, Source};
+use wot_laws::each_line_has_one_outcome;
 use wot_policy::{Ask, Policy};
-use wot_run_law::each_line_has_one_outcome;
 
 /// Runs the program with the words after its name, and returns its exit status: 0 if the input was read to its end and
 /// every reply was written, 2 if the arguments are wrong, 3 after a failed read, 4 after a failed write, 5 if memory

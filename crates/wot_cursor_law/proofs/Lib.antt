@@ -1,5 +1,0 @@
-mod Begun
-mod Behind
-mod Exchanges
-mod CursorSoFar
-mod SortedStates

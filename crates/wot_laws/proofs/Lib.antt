@@ -1,0 +1,24 @@
+mod Alike
+mod Begun
+mod Behind
+mod ClaimsAccepted
+mod CursorSoFar
+mod Exchanges
+mod Explained
+mod Fit
+mod GoingOn
+mod LineByCommand
+mod Marked
+mod Named
+mod Outcomes
+mod ProofsRestOnLeads
+mod Reached
+mod Refusals
+mod RefusedWatches
+pub mod Runs
+mod Slices
+mod SortedStates
+mod StaleTold
+mod Stays
+mod TrueWatches
+mod WatchLines

@@ -1,0 +1,10 @@
+pub mod Depends
+pub mod Exchanges
+pub mod GoesOn
+pub mod Joined
+pub mod Judged
+pub mod Leading
+pub mod Numbers
+pub mod OneLine
+pub mod Slices
+pub mod TrueWatches

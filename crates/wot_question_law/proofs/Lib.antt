@@ -1,5 +1,0 @@
-mod Alike
-mod ClaimsAccepted
-mod Explained
-mod ProofsRestOnLeads
-mod Slices

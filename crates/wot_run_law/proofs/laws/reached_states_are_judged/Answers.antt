@@ -1,7 +1,0 @@
-use Rattle.wot_run_law.proofs.Marked.{reached_marked}
-use Rattle.wot_run_law.proofs.laws.reached_states_are_judged.Goals as goal
-
-pub returns : goal.returns
-returns c rows world lines replies last run =
-    reached_marked rows (c.judging.ensures.unmarked rows) (c.judging.ensures.forgotten rows)
-    (c.judging.ensures.united rows) world lines replies last run

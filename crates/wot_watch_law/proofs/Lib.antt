@@ -1,2 +1,0 @@
-mod WatchLines
-mod Worth
