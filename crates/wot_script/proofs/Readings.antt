@@ -6,9 +6,9 @@ use Rattle.wot_types.specs.Fpr.{fpr_of_digits}
 use Rattle.wot_types.specs.ViewName.{is_view_name, view_name_of}
 use Rattle.wot_types.specs.declared.fpr.Fpr.{Fpr}
 use Rattle.wot_types.specs.declared.name.Name.{Name}
-use Rattle.wot_script.specs.Claims.{claims_of, labels_of}
-use Rattle.wot_script.specs.declared.reply.ClaimLine.{ClaimLine}
-use Rattle.wot_script.specs.declared.reply.LabelLine.{LabelLine}
+use Rattle.wot_lines.specs.Claims.{claims_of, labels_of}
+use Rattle.wot_lines.specs.declared.claims.ClaimLine.{ClaimLine}
+use Rattle.wot_lines.specs.declared.claims.LabelLine.{LabelLine}
 use Rattle.wot_words.specs.Decimal.{positive_up_to}
 use Rattle.wot_words.specs.Fields.{◌>>=◌, cut}
 use Rattle.wot_script.specs.Grammar.{about_of, checked_of, command_for, command_of, drop_of, entry_of, explained_of}

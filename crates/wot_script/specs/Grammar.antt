@@ -7,7 +7,7 @@ use Rattle.wot_types.specs.ViewName.{view_name_of}
 use Rattle.wot_types.specs.declared.fpr.Fpr.{Fpr}
 use Rattle.wot_types.specs.declared.name.Name.{Name}
 use Rattle.wot_types.specs.declared.name.Name.TheVariants.{Cert, TrustRoot}
-use Rattle.wot_script.specs.Claims.{claims_of, labels_of}
+use Rattle.wot_lines.specs.Claims.{claims_of, labels_of}
 use Rattle.wot_words.specs.Decimal.{positive_up_to}
 use Rattle.wot_words.specs.Fields.{◌>>=◌, behind, cut, read_behind}
 use Rattle.wot_words.specs.StateLine.{state_line_of}

@@ -5,7 +5,7 @@ use Rattle.wot_types.specs.Fpr.{digits_of}
 use Rattle.wot_types.specs.declared.fpr.Fpr.{Fpr}
 use Rattle.wot_types.specs.declared.name.Name.{Name}
 use Rattle.wot_types.specs.declared.name.Name.TheVariants.{Cert, TrustRoot}
-use Rattle.wot_script.specs.Claims.{IsClaimSpelled, claim_text, field_text, label_text, most_paths}
+use Rattle.wot_lines.specs.Claims.{IsClaimSpelled, claim_text, field_text, label_text, most_paths}
 use Rattle.wot_script.specs.Grammar.{question_of}
 use Rattle.wot_script.specs.OneWord.{word_of}
 use Rattle.wot_words.specs.StateLine.{IsOneLine, spelling as line_text, most_octets as most_of_line}

@@ -1,8 +1,8 @@
 //! `read_line`: a line to its command.
 //!
-//! It stands on `wot_words`, which reads the lines that set a part of the state, on `claims` and `one_word`, and on
-//! `specs/Grammar.antt`, which it follows function by function. A new command with fields is a function here and a
-//! clause there.
+//! It stands on `wot_words`, which reads the lines that set a part of the state, on `wot_lines`, which reads claims, on
+//! `one_word`, and on `specs/Grammar.antt`, which it follows function by function. A new command with fields is a
+//! function here and a clause there.
 ghost use Rattle.std.specs.Prelude.{◌≡◌, length, Some, None, IfOk, IsErrOf};
 ghost use Rattle.std.specs.Option.{option_map};
 ghost use Rattle.wot_script.specs.Grammar.{about_of, asked_of, checked_of, command_for, command_of, drop_of, entry_of};
@@ -12,9 +12,9 @@ ghost use Rattle.wot_script.specs.Spelling.{HasSpelling, FitsLine};
 ghost use Rattle.wot_words.specs.Decimal.{positive_up_to};
 
 use crate::Command;
-use crate::claims::{read_claims, read_labels};
 use crate::one_word::read_single;
 use std::alloc::Global;
+use wot_lines::{read_claims, read_labels};
 use wot_types::{Fpr, Memory, Name, UserId, ViewName};
 use wot_words::laws::state_lines_fit;
 use wot_words::{StateLine, after_prefix, cut_field, read_positive, read_state_line, read_uid};

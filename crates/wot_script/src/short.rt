@@ -3,11 +3,11 @@
 ghost use Rattle.std.specs.Prelude.{◌≡◌, ◌≤◌, length, true};
 ghost use Rattle.std.specs.Fmt.{decimal};
 ghost use Rattle.wot_script.specs.Replies.{is_short, reply_text};
-ghost use Rattle.wot_script.specs.Words.{target_words, word_at};
+ghost use Rattle.wot_lines.specs.Words.{target_words, word_at};
 
 use crate::Reply;
 use crate::numbered::reply_number;
-use crate::words::target_word;
+use wot_lines::target_word;
 use wot_types::ViewName;
 
 /// A law: a number has at most 20 digits.

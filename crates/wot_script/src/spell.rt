@@ -1,7 +1,7 @@
 //! `print_command`: a command to its line.
 //!
-//! It stands on `wot_words` and `one_word`, and on `specs/Spelling.antt`. Generated scripts are printed through it, and
-//! its contract says that `read_line` reads each line back.
+//! It stands on `wot_words`, `wot_lines` and `one_word`, and on `specs/Spelling.antt`. Generated scripts are printed
+//! through it, and its contract says that `read_line` reads each line back.
 ghost use Rattle.std.specs.Prelude.{◌≡◌, ◌++◌, ◌∷◌, [], true, OnOk, OnErr};
 ghost use Rattle.std.specs.Fmt.{decimal};
 ghost use Rattle.wot_words.specs.Appends.{Appends};
@@ -11,10 +11,10 @@ ghost use Rattle.wot_words.specs.Pieces.{piece_text};
 ghost use Rattle.wot_words.specs.Texts.{joined};
 ghost use Rattle.wot_script.specs.Spelling.{HasSpelling, IsLineFor, asking, entry_text, spelling};
 
-use crate::claims::put_claimed;
 use crate::one_word::command_word;
 use crate::spelled::spelling_is_read;
 use crate::{ClaimLines, Command, LabelLines};
+use wot_lines::put_claimed;
 use wot_types::{Fpr, Memory, Name, UserId, ViewName};
 use wot_words::Piece::{Decimal, Key, Text, Uid};
 use wot_words::{

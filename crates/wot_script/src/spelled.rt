@@ -11,7 +11,7 @@ ghost use Rattle.wot_script.specs.OneWord.{has_word};
 ghost use Rattle.wot_script.specs.Spelling.{HasSpelling, IsLineFor, IsQuestionRead, entry_text, spelling};
 
 use crate::Command;
-use crate::claimed::{claims_are_read, labels_are_read};
+use wot_lines::laws::{claims_are_read, labels_are_read};
 use wot_types::{Fpr, Name, UserId, ViewName};
 use wot_words::laws::{decimal_is_read, hex_is_read, name_is_valid, positive_is_read, uid_is_read};
 

@@ -1,7 +1,7 @@
 //! `print_reply`: a reply to its octets.
 //!
-//! It stands on `wot_words`, `lines`, `numbered`, `claims` and `words`, and on `specs/Replies.antt`. Whatever a client
-//! reads is printed here; `docs/PROTOCOL.md` specifies it.
+//! It stands on `wot_words`, `numbered` and `wot_lines`, which prints the lines after a first one, and on
+//! `specs/Replies.antt`. Whatever a client reads is printed here; `docs/PROTOCOL.md` specifies it.
 ghost use Rattle.std.specs.Prelude.{◌≡◌, ◌<◌, ◌≤◌, ◌+◌, ◌∷◌, [], ◌++◌, codes, length, vec_len, vec_capacity, true};
 ghost use Rattle.std.specs.Prelude.{OnOk, OnErr, IsOk};
 ghost use Rattle.std.specs.Fmt.{decimal};
@@ -10,12 +10,10 @@ ghost use Rattle.wot_words.specs.Appends.{Appends};
 ghost use Rattle.wot_script.specs.Replies.{HasWords, is_refusal, is_short, refused, reply_text, stale};
 ghost use Rattle.wot_words.specs.Texts.{joined_line};
 
-use crate::claims::put_claimed;
-use crate::lines::{Printed, put_headed};
 use crate::numbered::{reply_number, reply_words};
 use crate::short::short_replies_fit;
-use crate::words::target_word;
 use crate::{AnswerLines, ClaimLines, LabelLines, Lines, ReasonLines, Reply};
+use wot_lines::{Printed, put_claimed, put_headed, target_word};
 use wot_types::{Memory, ViewName};
 use wot_words::{Piece, put_pieces, put_text};
 

@@ -1,8 +1,8 @@
 use Rattle.std.proofs.Common.{arith}
 use Rattle.wot_types.specs.Fpr.{digits_of, octets_of}
 use Rattle.std.specs.Fmt.{decimal}
-use Rattle.wot_script.specs.Claims.{IsClaimSpelled, claim_text, field_text, label_text}
-use Rattle.wot_script.proofs.ClaimTexts.{claims_field, labels_field}
+use Rattle.wot_lines.specs.Claims.{IsClaimSpelled, claim_text, field_text, label_text}
+use Rattle.wot_lines.proofs.ClaimTexts.{claims_field, labels_field}
 use Rattle.wot_script.specs.Spelling.{entry_text, question_parts, spelling}
 use Rattle.wot_words.specs.Texts.{joined}
 use Rattle.wot_script.specs.declared.read.Question.{Question}

@@ -1,0 +1,3 @@
+pub mod Items
+pub mod ClaimTexts
+pub mod ClaimBounds

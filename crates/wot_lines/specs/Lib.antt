@@ -1,0 +1,4 @@
+pub mod ClaimLaws
+pub mod Claims
+pub mod Lines
+pub mod Words
