@@ -10,7 +10,7 @@ use Rattle.wot_part.specs.Text.{size_of}
 use Rattle.wot_held.specs.declared.kept.Kept.{Kept}
 use Rattle.wot_held.specs.Keyring.{Keyring, Entries, certificates_in, cert_at, is_fpr}
 use Rattle.wot_held.specs.Kept.{AreSized}
-use Rattle.wot_script.specs.declared.reply.KeyLine.{KeyLine}
+use Rattle.wot_lines.specs.declared.lines.KeyLine.{KeyLine}
 use Rattle.wot_script.specs.declared.reply.Reply.TheVariants as replies
 use Rattle.wot_step.specs.Outcome.{key_line_of}
 

@@ -2,7 +2,7 @@
 //! asks wot_check. Nothing is searched.
 ghost use Rattle.std.specs.Prelude.{◌≡◌, ◌<◌, ◌^◌, length, map, IfOk};
 ghost use Rattle.wot_check.specs.Table.{IsTable};
-ghost use Rattle.wot_script.specs.Claims.{IsClaimSpelled};
+ghost use Rattle.wot_lines.specs.Claims.{IsClaimSpelled};
 ghost use Rattle.wot_cache.specs.Marks.{IsRefreshed};
 ghost use Rattle.wot_command.specs.Claimed.{ChecksFor, ChecksOver};
 ghost use Rattle.wot_step.specs.Absent.{claim_in, sum_in, table_in, verdict_on};

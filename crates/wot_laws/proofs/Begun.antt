@@ -18,7 +18,7 @@ use Rattle.wot_script.specs.Grammar.{command_of}
 use Rattle.wot_script.specs.Spelling.{HasSpelling}
 use Rattle.wot_script.specs.declared.command.Command.{Command}
 use Rattle.wot_script.specs.declared.command.Command.TheVariants.{CursorNext, CursorOver}
-use Rattle.wot_script.specs.declared.reply.BindLine.{BindLine}
+use Rattle.wot_lines.specs.declared.lines.BindLine.{BindLine}
 use Rattle.wot_script.specs.declared.reply.Reply.{Reply}
 use Rattle.wot_script.specs.declared.reply.Reply.TheVariants as replies
 use Rattle.wot_cache.specs.declared.view.View.{View}

@@ -12,7 +12,7 @@ use Rattle.std.proofs.lemmas.List.{length-map, length-take, map-append}
 use Rattle.std.proofs.lemmas.List.Folds.{list_any-append}
 use Rattle.wot_types.specs.declared.place.Place.{Place}
 use Rattle.wot_part.specs.Ranked.{IsBelow, IsRising}
-use Rattle.wot_script.specs.declared.reply.BindLine.{BindLine}
+use Rattle.wot_lines.specs.declared.lines.BindLine.{BindLine}
 use Rattle.wot_explain.specs.declared.bind.Bind.{Bind}
 use Rattle.wot_explain.specs.Piece.{binds_after, piece_of}
 use Rattle.wot_laws.specs.Joined.{Given, has_end, joined}

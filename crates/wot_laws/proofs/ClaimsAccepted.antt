@@ -13,8 +13,8 @@ use Rattle.wot_check.specs.declared.checking.Checked.TheVariants as answers
 use Rattle.wot_check.specs.Absence.{Accepts, AreSpent, IsChecked, IsLeastTable}
 use Rattle.wot_check.specs.Claim.{Claim, claim_of}
 use Rattle.wot_check.specs.Table.{IsTable, Labels}
-use Rattle.wot_script.specs.declared.reply.ClaimLine.{ClaimLine}
-use Rattle.wot_script.specs.declared.reply.LabelLine.{LabelLine}
+use Rattle.wot_lines.specs.declared.claims.ClaimLine.{ClaimLine}
+use Rattle.wot_lines.specs.declared.claims.LabelLine.{LabelLine}
 use Rattle.wot_script.specs.declared.reply.Reply.{Reply}
 use Rattle.wot_script.specs.declared.reply.Reply.TheVariants as replies
 use Rattle.wot_step.specs.Absent.{TellsAbsence, claim_in, claim_line, claim_step, claimed_step, label_line, missed}

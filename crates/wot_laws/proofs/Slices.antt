@@ -8,8 +8,8 @@ use Rattle.wot_types.specs.declared.fpr.Fpr.{Fpr}
 use Rattle.wot_policy.specs.declared.rows.PolicyRows.{PolicyRows}
 use Rattle.wot_verdict.specs.Verdicts.{Entries}
 use Rattle.wot_script.specs.declared.command.Command.TheVariants.{Ask}
-use Rattle.wot_script.specs.declared.reply.AnswerLine.{AnswerLine}
-use Rattle.wot_script.specs.declared.reply.AnswerLine.TheVariants as lines
+use Rattle.wot_lines.specs.declared.lines.AnswerLine.{AnswerLine}
+use Rattle.wot_lines.specs.declared.lines.AnswerLine.TheVariants as lines
 use Rattle.wot_script.specs.declared.reply.Reply.{Reply}
 use Rattle.wot_script.specs.declared.reply.Reply.TheVariants as replies
 use Rattle.wot_part.specs.Certificate.{Certificate, unmarked}

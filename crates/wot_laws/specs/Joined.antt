@@ -5,7 +5,7 @@ use Rattle.std.specs.List.{list_any}
 use Rattle.wot_policy.specs.declared.rows.PolicyRows.{PolicyRows}
 use Rattle.wot_script.specs.declared.command.Command.{Command}
 use Rattle.wot_script.specs.declared.command.Command.TheVariants.{CursorOver, CursorNext}
-use Rattle.wot_script.specs.declared.reply.BindLine.{BindLine}
+use Rattle.wot_lines.specs.declared.lines.BindLine.{BindLine}
 use Rattle.wot_script.specs.declared.reply.Reply.{Reply}
 use Rattle.wot_script.specs.declared.reply.Reply.TheVariants as replies
 use Rattle.wot_certd.specs.World.{World}

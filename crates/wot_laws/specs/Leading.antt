@@ -5,9 +5,9 @@ use Rattle.std.specs.Prelude.{◌≡◌, ℕ, List, ◌∷◌, Some}
 use Rattle.wot_types.specs.declared.fpr.Fpr.{Fpr}
 use Rattle.wot_policy.specs.declared.rows.PolicyRows.{PolicyRows}
 use Rattle.wot_script.specs.declared.command.Command.TheVariants.{Absence, Check}
-use Rattle.wot_script.specs.declared.reply.ClaimLine.{ClaimLine}
-use Rattle.wot_script.specs.declared.reply.ClaimStepLine.{ClaimStepLine}
-use Rattle.wot_script.specs.declared.reply.LabelLine.{LabelLine}
+use Rattle.wot_lines.specs.declared.claims.ClaimLine.{ClaimLine}
+use Rattle.wot_lines.specs.declared.claims.ClaimStepLine.{ClaimStepLine}
+use Rattle.wot_lines.specs.declared.claims.LabelLine.{LabelLine}
 use Rattle.wot_script.specs.Grammar.{command_of}
 use Rattle.wot_edge.specs.Record.{Has}
 use Rattle.wot_held.specs.Held.{Held}

@@ -5,7 +5,7 @@ use Rattle.std.specs.Prelude.{IfOk, IfSome, IsSomeAnd, is_some}
 use Rattle.std.specs.Option.{unwrap_or}
 use Rattle.std.proofs.lemmas.Bool.{eqb-true}
 use Rattle.std.proofs.lemmas.List.{length-map}
-use Rattle.wot_script.specs.declared.reply.BindLine.{BindLine}
+use Rattle.wot_lines.specs.declared.lines.BindLine.{BindLine}
 use Rattle.wot_script.specs.declared.reply.Reply.{Reply}
 use Rattle.wot_script.specs.declared.reply.Reply.TheVariants as replies
 use Rattle.wot_edge.specs.Record.{Record}

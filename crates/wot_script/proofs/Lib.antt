@@ -1,6 +1,3 @@
-pub mod Items
-pub mod ClaimTexts
-pub mod ClaimBounds
 pub mod Readings
 pub mod Sizes
 pub mod ReadBounds

@@ -5,9 +5,9 @@ use Rattle.wot_types.specs.declared.fpr.Fpr.{Fpr}
 use Rattle.wot_types.specs.declared.name.Name.{Name}
 use Rattle.wot_words.specs.Texts.{joined}
 use Rattle.wot_words.specs.Uid.{escaped}
-use Rattle.wot_script.specs.Claims.{most_paths}
-use Rattle.wot_script.specs.declared.reply.ClaimLine.{ClaimLine}
-use Rattle.wot_script.specs.declared.reply.LabelLine.{LabelLine}
+use Rattle.wot_lines.specs.Claims.{most_paths}
+use Rattle.wot_lines.specs.declared.claims.ClaimLine.{ClaimLine}
+use Rattle.wot_lines.specs.declared.claims.LabelLine.{LabelLine}
 use Rattle.wot_script.specs.Spelling.{IsLineFor, most_octets}
 use Rattle.wot_script.specs.declared.command.Command.{Command}
 use Rattle.wot_script.specs.declared.command.Command.TheVariants.{Load, Store, Remove, Ask, Explain, Export, Absence}

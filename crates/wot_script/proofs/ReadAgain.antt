@@ -5,7 +5,7 @@ use Rattle.std.specs.Fmt.{decimal}
 use Rattle.std.proofs.lemmas.List.{append-nil}
 use Rattle.wot_types.specs.declared.fpr.Fpr.TheVariants.{V4}
 use Rattle.wot_types.specs.Fpr.{digits_of}
-use Rattle.wot_script.specs.Claims.{claim_text, field_text, label_text}
+use Rattle.wot_lines.specs.Claims.{claim_text, field_text, label_text}
 use Rattle.wot_script.specs.Grammar.{command_of}
 use Rattle.wot_script.specs.Laws.{IsOldLine, PrintsClaim}
 use Rattle.wot_script.specs.Replies.{reply_text}

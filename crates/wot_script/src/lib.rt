@@ -1,16 +1,13 @@
 //! The script: how lines are read as commands, and how commands and replies are printed.
 //!
-//! It stands on `wot_words`, which has the numbers, names and octets of a line, and the lines that set a part of the
-//! state. `docs/PROTOCOL.md` specifies the lines, and `specs/Grammar.antt`, `specs/Spelling.antt` and
-//! `specs/Replies.antt` define them. `wot_machine` answers the commands; generated scripts print them.
+//! It stands on `wot_words`, which has the words of a line and the lines that set a part of the state, and on
+//! `wot_lines`, which has claims and the lines of long replies. `docs/PROTOCOL.md` specifies the lines, and
+//! `specs/Grammar.antt`, `specs/Spelling.antt` and `specs/Replies.antt` define them. `wot_machine` answers the
+//! commands; generated scripts print them.
 #![tactic(auto)]
 
-mod claimed;
-mod claims;
 mod command;
 pub mod laws;
-mod lines;
-mod lists;
 mod numbered;
 mod one_word;
 mod read;
@@ -19,18 +16,15 @@ mod short;
 mod spell;
 mod spelled;
 mod tell;
-mod words;
 
 pub use command::Command;
-pub use lists::{
-    AnswerLines, BindLines, ClaimLines, ClaimStepLines, KeyLines, LabelLines, Lines, PendingLines,
-    ReasonLines,
-};
 pub use read::{LineFault, read_line};
-pub use reply::{
-    AnswerLine, BindLine, ClaimLine, ClaimStepLine, Hint, KeyLine, LabelLine, PendingLine,
-    ReasonLine, Reply,
-};
+pub use reply::Reply;
 pub use spell::print_command;
 pub use tell::print_reply;
+pub use wot_lines::{
+    AnswerLine, AnswerLines, BindLine, BindLines, ClaimLine, ClaimLines, ClaimStepLine,
+    ClaimStepLines, Hint, KeyLine, KeyLines, LabelLine, LabelLines, Lines, PendingLine,
+    PendingLines, ReasonLine, ReasonLines,
+};
 pub use wot_words::Octets;

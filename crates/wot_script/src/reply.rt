@@ -1,12 +1,11 @@
-//! The replies, and the lines in them.
+//! The replies. `wot_lines` has the types of the lines in them.
 //!
 //! `specs/Replies.antt` defines how each is printed. `wot_machine` makes them, and its definitions speak of replies as
 //! these values; clients parse what `print_reply` makes of them.
 use crate::{
-    AnswerLines, BindLines, ClaimLines, ClaimStepLines, KeyLines, LabelLines, Octets, PendingLines,
-    ReasonLines,
+    AnswerLines, BindLines, ClaimLines, KeyLines, LabelLines, Octets, PendingLines, ReasonLines,
 };
-use wot_types::{Fpr, Limit, SigNumber, UserId, ViewName};
+use wot_types::{Limit, ViewName};
 
 /// The reply to a line.
 #[derive(Drop)]
@@ -89,57 +88,3 @@ pub enum Reply {
     /// There are already as many watches as allowed.
     FullWatches,
 }
-
-/// A line of an answer.
-#[derive(Drop)]
-pub enum AnswerLine {
-    /// A path: its amount, the number of its steps, its root.
-    Path(u8, u8, Fpr),
-    /// An edge of the path: issuer, target, depth, amount, user ID.
-    Step(Fpr, Fpr, u8, u8, UserId),
-}
-
-/// A binding: the sum of its answer, its key, its user ID.
-#[derive(Drop)]
-pub struct BindLine(pub u32, pub Fpr, pub UserId);
-
-/// Why a certification counts, or doesn't.
-#[derive(Clone, Copy)]
-pub enum ReasonLine {
-    /// Its number, and the number of the first word that applies.
-    Word(SigNumber, u8),
-    /// Its number, and the usable edge that it is: issuer, depth, amount.
-    Edge(SigNumber, Fpr, u8, u8),
-}
-
-/// A signature without a verdict: its number, its certificate, and a hint at its issuer.
-#[derive(Clone, Copy)]
-pub struct PendingLine(pub SigNumber, pub Fpr, pub Hint);
-
-/// What a signature says about its issuer.
-#[derive(Clone, Copy)]
-pub enum Hint {
-    /// The fingerprint.
-    Full(Fpr),
-    /// The key ID.
-    Short([u8; 8]),
-    /// Neither.
-    Nothing,
-}
-
-/// A certificate: its fingerprint, the number of its user IDs, the number of its signatures.
-#[derive(Clone, Copy)]
-pub struct KeyLine(pub Fpr, pub u64, pub u64);
-
-/// A claimed path: its amount, 1 to 255, and its 1 to 255 steps from the root on.
-#[derive(Drop)]
-pub struct ClaimLine(pub u8, pub ClaimStepLines);
-
-/// A claimed step: its issuer, and the place of the certified user ID among the target's, ordered by octets. The target
-/// is the issuer of the next step, or of the last step the target of the claim.
-#[derive(Clone, Copy)]
-pub struct ClaimStepLine(pub Fpr, pub u32);
-
-/// A label in the table of a proof of absence: a fingerprint, and its number, 1 to 255.
-#[derive(Clone, Copy)]
-pub struct LabelLine(pub Fpr, pub u8);

@@ -19,9 +19,9 @@ use Rattle.wot_edge.specs.Path.{Question, Use, asks, use_of}
 use Rattle.wot_check.specs.declared.checking.Checked.{Checked}
 use Rattle.wot_check.specs.Absence.{IsChecked, IsLeastTable, IsMade}
 use Rattle.wot_check.specs.Table.{AreLabels, IsTable, Labels}
-use Rattle.wot_script.specs.Claims.{IsClaimSpelled, IsLabelSpelled, is_rising}
-use Rattle.wot_script.specs.declared.reply.ClaimLine.{ClaimLine}
-use Rattle.wot_script.specs.declared.reply.LabelLine.{LabelLine}
+use Rattle.wot_lines.specs.Claims.{IsClaimSpelled, IsLabelSpelled, is_rising}
+use Rattle.wot_lines.specs.declared.claims.ClaimLine.{ClaimLine}
+use Rattle.wot_lines.specs.declared.claims.LabelLine.{LabelLine}
 use Rattle.wot_script.specs.declared.reply.Reply.{Reply}
 use Rattle.wot_script.specs.declared.reply.Reply.TheVariants as replies
 use Rattle.wot_network.specs.Net.{told_of}

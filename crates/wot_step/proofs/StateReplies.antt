@@ -37,11 +37,12 @@ use Rattle.wot_standing.specs.declared.status.Standing.{Standing}
 use Rattle.wot_standing.specs.Kinds.{is_certification}
 use Rattle.wot_standing.specs.Own.{is_own_revoked}
 use Rattle.wot_standing.specs.Standing.{own, standing_of}
-use Rattle.wot_script.specs.declared.reply.ClaimLine.{ClaimLine}
-use Rattle.wot_script.specs.declared.reply.LabelLine.{LabelLine}
+use Rattle.wot_lines.specs.declared.claims.ClaimLine.{ClaimLine}
+use Rattle.wot_lines.specs.declared.claims.LabelLine.{LabelLine}
 use Rattle.wot_script.specs.declared.reply.Reply.{Reply}
 use Rattle.wot_script.specs.declared.reply.Reply.TheVariants as replies
-use Rattle.wot_script.specs.Replies.{HasReason, HasWords}
+use Rattle.wot_lines.specs.Lines.{HasReason}
+use Rattle.wot_script.specs.Replies.{HasWords}
 use Rattle.wot_certd.specs.World.{Answer}
 use Rattle.wot_cache.specs.declared.view.View.{View}
 use Rattle.wot_cache.specs.declared.view.ViewFault.{ViewFault}

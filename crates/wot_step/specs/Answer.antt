@@ -7,8 +7,8 @@ use Rattle.wot_part.specs.Certificate.{Component, Certificate}
 use Rattle.wot_edge.specs.declared.path.Path.{Path}
 use Rattle.wot_edge.specs.declared.path.Step.{Step}
 use Rattle.wot_edge.specs.Answer.{IsAnswer, amount_of}
-use Rattle.wot_script.specs.declared.reply.AnswerLine.{AnswerLine}
-use Rattle.wot_script.specs.declared.reply.AnswerLine.TheVariants as lines
+use Rattle.wot_lines.specs.declared.lines.AnswerLine.{AnswerLine}
+use Rattle.wot_lines.specs.declared.lines.AnswerLine.TheVariants as lines
 use Rattle.wot_script.specs.declared.reply.Reply.{Reply}
 use Rattle.wot_script.specs.declared.reply.Reply.TheVariants as replies
 use Rattle.wot_cache.specs.declared.view.View.{View}

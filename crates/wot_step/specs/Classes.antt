@@ -3,7 +3,7 @@
 use Rattle.std.specs.Prelude.{◌≡◌, ◌≤◌, ◌<◌, ◌*◌, ℕ, Bool, true, false, List, length, Option}
 use Rattle.wot_policy.specs.declared.rows.PolicyRows.{PolicyRows}
 use Rattle.wot_verdict.specs.declared.verdict.Verdict.TheVariants as verdicts
-use Rattle.wot_script.specs.Claims.{IsClaimSpelled}
+use Rattle.wot_lines.specs.Claims.{IsClaimSpelled}
 use Rattle.wot_script.specs.declared.command.Command.{Command}
 use Rattle.wot_script.specs.declared.command.Command.TheVariants as commands
 use Rattle.wot_script.specs.declared.reply.Reply.{Reply}

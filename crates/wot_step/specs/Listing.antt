@@ -8,12 +8,12 @@ use Rattle.wot_held.specs.Keyring.{Keyring, certificates_in}
 use Rattle.wot_held.specs.declared.pending.Pending.{Pending}
 use Rattle.wot_held.specs.Pending.{pending_in}
 use Rattle.wot_network.specs.Told.{record_of}
-use Rattle.wot_script.specs.declared.reply.BindLine.{BindLine}
-use Rattle.wot_script.specs.declared.reply.Hint.{Hint}
-use Rattle.wot_script.specs.declared.reply.Hint.TheVariants as hints
-use Rattle.wot_script.specs.declared.reply.PendingLine.{PendingLine}
-use Rattle.wot_script.specs.declared.reply.ReasonLine.{ReasonLine}
-use Rattle.wot_script.specs.declared.reply.ReasonLine.TheVariants as lines
+use Rattle.wot_lines.specs.declared.lines.BindLine.{BindLine}
+use Rattle.wot_lines.specs.declared.lines.Hint.{Hint}
+use Rattle.wot_lines.specs.declared.lines.Hint.TheVariants as hints
+use Rattle.wot_lines.specs.declared.lines.PendingLine.{PendingLine}
+use Rattle.wot_lines.specs.declared.lines.ReasonLine.{ReasonLine}
+use Rattle.wot_lines.specs.declared.lines.ReasonLine.TheVariants as lines
 use Rattle.wot_script.specs.declared.reply.Reply.{Reply}
 use Rattle.wot_script.specs.declared.reply.Reply.TheVariants as replies
 use Rattle.wot_cache.specs.declared.view.View.{View}

@@ -23,7 +23,7 @@ use Rattle.wot_held.specs.Held.{cert_in, removing, verdict_set, verdict_cleared}
 use Rattle.wot_held.specs.Import.{answer_to, answer_under, importing, is_entry}
 use Rattle.wot_held.specs.Verdict.{is_over}
 use Rattle.wot_certd.specs.World.{Answer}
-use Rattle.wot_script.specs.declared.reply.KeyLine.{KeyLine}
+use Rattle.wot_lines.specs.declared.lines.KeyLine.{KeyLine}
 use Rattle.wot_script.specs.declared.reply.Reply.{Reply}
 use Rattle.wot_script.specs.declared.reply.Reply.TheVariants as replies
 use Rattle.wot_cache.specs.declared.view.ViewFault.{ViewFault}
