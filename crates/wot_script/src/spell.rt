@@ -15,8 +15,7 @@ use wot_lines::{entry_piece, put_claimed, put_numbered, put_question};
 use wot_types::{Fpr, Memory, UserId, ViewName};
 use wot_words::Piece::{Decimal, Key, Text, Uid};
 use wot_words::{
-    put_bad, put_close, put_good, put_import, put_pieces, put_root, put_text, put_time,
-    put_unjudge,
+    put_bad, put_close, put_good, put_import, put_pieces, put_root, put_text, put_time, put_unjudge,
 };
 
 #[tactic(auto, unfolding(crate::specs::Spelling::spelling))]
