@@ -11,9 +11,9 @@ from developer import PROGRAM
 class Session:
     """One process of the program."""
 
-    def __init__(self, *scripts: Iterable[bytes]) -> None:
+    def __init__(self, *scripts: Iterable[bytes], program: str = PROGRAM) -> None:
         """Starts the program, and sends it the lines of these scripts."""
-        self.process = subprocess.Popen([PROGRAM, "run"], stdin=subprocess.PIPE, stdout=subprocess.PIPE)
+        self.process = subprocess.Popen([program, "run"], stdin=subprocess.PIPE, stdout=subprocess.PIPE)
         assert self.process.stdin and self.process.stdout
         self.lines: IO[bytes] = self.process.stdin
         self.replies: IO[bytes] = self.process.stdout
