@@ -9,13 +9,13 @@ from typing import Any
 from .night import FAILED, PASSED, Night, Part, last_line
 
 MEASURED = "bench/measured"
-# Programs of the folder that measure nothing.
-NO_BENCH = {"compare", "plot", "tables"}
+# Programs of the folder that measure nothing, or that need an earlier program.
+NO_BENCH = {"compare", "plot", "tables", "versions"}
 SHORT = {"cursors": ["300"], "floods": ["--small", "a chain"]}
 
 
 def benches_of(root: Path) -> list[Path]:
-    """The programs of bench/ that measure something."""
+    """The programs of bench/ that measure the present program."""
     found = sorted(path for path in (root / "bench").iterdir() if path.is_file() and os.access(path, os.X_OK))
     return [path for path in found if path.name not in NO_BENCH and not path.suffix]
 
