@@ -1,6 +1,6 @@
 //! Laws of proofs of absence. Each function does nothing: its contract is the law. They stand on `specs/Absence.antt`
-//! and `specs/Leading.antt`. The laws of `wot_run_law`, `wot_dump_law` and `wot_question_law` call them, and
-//! `wot_command` calls `answers_are_few` before it makes the reply to `absence`.
+//! and `specs/Leading.antt`. The laws of `wot_laws` call them, and `wot_command` calls `answers_are_few`
+//! before it makes the reply to `absence`.
 ghost use Rattle.std.specs.Prelude.{◌≡◌, ◌≤◌, ◌<◌, ◌^◌, ℕ, List, [], length};
 ghost use Rattle.wot_edge.specs.declared.path.Path.{Path};
 ghost use Rattle.wot_edge.specs.Answer.{EachNext};

@@ -1,5 +1,5 @@
 //! Laws of the definitions. Each function does nothing: its contract is the law. They link the words of reasons to
-//! usable edges, and say that a list of bindings is unique. The crates of laws above wot_step call them.
+//! usable edges, and say that a list of bindings is unique. wot_laws calls them.
 ghost use Rattle.std.specs.Prelude.{ℕ, Bool};
 ghost use Rattle.wot_explain.specs.Around.{AreExplainedAlike};
 ghost use Rattle.wot_explain.specs.Listing.{HasList, HasOneList, IsOfEachList};

@@ -1,5 +1,5 @@
 //! The `cursor` commands: `over`, `next` and `close`. A piece is listed from the cursor's place, and the cursor moves
-//! only once the piece was written. It stands on wot_cursor and wot_explain; wot_cursor_law says that pieces
+//! only once the piece was written. It stands on wot_cursor and wot_explain. wot_laws says that the pieces
 //! join to the list.
 ghost use Rattle.std.specs.Prelude.{◌≡◌, ◌≤◌, Some, false, true, length, IfOk, OnErr, is_some};
 ghost use Rattle.wot_script.specs.Replies.{is_short};

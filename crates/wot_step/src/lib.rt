@@ -1,7 +1,7 @@
 //! One line's step: what each command does, by its class, and what is kept between lines. The definitions are in
 //! `specs/`; the code here sorts commands into classes, replies to refusals, and holds a reply until it is written.
-//! wot_command, wot_pacing and wot_watching run commands by these definitions, and the crates of laws speak of them, so
-//! all of these stand on this crate and not on one another.
+//! wot_command, wot_pacing and wot_watching run commands by these definitions, and wot_laws speaks of them, so all of
+//! these stand on this crate and not on one another.
 #![tactic(auto)]
 
 mod asked;
