@@ -1,5 +1,6 @@
 //! Laws of the definitions. Each function does nothing: its contract is the law. They carry the facts about a whole
-//! record (sorted, local, resting on trust signatures) from the definitions to wot_kept, wot_cache and wot_laws.
+//! record (sorted, local, resting on trust signatures) from the definitions to the crates that use them: wot_kept,
+//! wot_cache and wot_laws.
 ghost use Rattle.std.specs.Prelude.{◌≤◌, ◌↔◌, ℕ, List, IsTrue};
 ghost use Rattle.wot_verdict.specs.Verdicts.{Entries};
 ghost use Rattle.wot_part.specs.Certificate.{Component};
