@@ -1,3 +1,4 @@
 pub mod Items
 pub mod ClaimTexts
 pub mod ClaimBounds
+pub mod Questions

@@ -1,4 +1,4 @@
--- The lines of replies that have several, and the words of explanations in them.
+-- Refusals and what is stale, and the lines of replies that have several.
 use Rattle.std.specs.Prelude.{ℕ, List, [], ◌∷◌, codes}
 use Rattle.std.specs.Fmt.{decimal}
 use Rattle.hex.specs.Hex.{encode_lower}
@@ -16,6 +16,16 @@ use Rattle.wot_lines.specs.declared.lines.PendingLine.{PendingLine}
 use Rattle.wot_lines.specs.declared.lines.Hint.{Hint}
 use Rattle.wot_lines.specs.declared.lines.Hint.TheVariants.{Full as Fingerprint, Short, Nothing}
 use Rattle.wot_lines.specs.declared.lines.KeyLine.{KeyLine}
+
+-- a refusal
+abbrev pub refused : List (List ℕ) → List ℕ
+refused words = joined_line (codes "refused " ∷ words)
+
+-- what changed, its number then and its number now
+abbrev pub stale : List ℕ → ℕ → ℕ → List ℕ
+stale word was now = joined_line (codes "stale " ∷ word ∷ decimal was ∷ codes " " ∷ decimal now ∷ [])
+
+-- ---- lines after the first
 
 -- `path AMOUNT steps L root FPR`, or `step ISSUER TARGET DEPTH AMOUNT UID`
 abbrev pub answer_line : AnswerLine → List ℕ

@@ -15,11 +15,15 @@ use Rattle.wot_words.specs.declared.state_line.StateLine.{StateLine}
 use Rattle.wot_words.specs.declared.state_line.StateLine.TheVariants as lines
 use Rattle.wot_words.proofs.FirstSeparator.{cut_short}
 use Rattle.wot_words.proofs.ImportFits.{behind_short, so}
+use Rattle.wot_lines.specs.Entry.{entry_of}
+use Rattle.wot_lines.specs.Question.{question_of}
+use Rattle.wot_lines.specs.declared.question.Question.{Question}
 use Rattle.wot_lines.proofs.ClaimBounds.{claim_spelled, field_keeps, labels_rise, positive_wanted}
+use Rattle.wot_lines.proofs.Questions.{question_wants}
 use Rattle.wot_script.proofs.WordLines.{When, when}
-use Rattle.wot_script.specs.Grammar.{about_of, asked_of, checked_of, command_for, command_of, drop_of, entry_of}
+use Rattle.wot_script.specs.Grammar.{about_of, asked_of, checked_of, command_for, command_of, drop_of}
 use Rattle.wot_script.specs.Grammar.{explained_of, export_of, listed_of, load_of, missed_of, other_of, over_of}
-use Rattle.wot_script.specs.Grammar.{paced_of, question_of, set_or, single_of, store_of, view_of, watch_of, watched_of}
+use Rattle.wot_script.specs.Grammar.{paced_of, set_or, single_of, store_of, view_of, watch_of, watched_of}
 use Rattle.wot_script.specs.OneWord.{has_word, named_among, one_words, word_of}
 use Rattle.wot_script.specs.Spelling.{HasSpelling, FitsLine}
 use Rattle.wot_words.specs.Uid.{unescaped}
@@ -27,7 +31,6 @@ use Rattle.wot_script.specs.declared.command.Command.{Command}
 use Rattle.wot_script.specs.declared.read.About.{About}
 use Rattle.wot_script.specs.declared.read.About.TheVariants.{Asked, Listed, Explained, Missed, Checked, Paced}
 use Rattle.wot_script.specs.declared.read.About.TheVariants.{Watched}
-use Rattle.wot_script.specs.declared.read.Question.{Question}
 use Rattle.wot_script.specs.declared.command.Command.TheVariants.{Import, Load, Store, Remove, Ask, Explain, Export}
 use Rattle.wot_script.specs.declared.command.Command.TheVariants.{Absence, CursorOver, CursorNext, CursorClose}
 use Rattle.wot_script.specs.declared.command.Command.TheVariants.{WatchOn, WatchOff}
@@ -57,27 +60,6 @@ module _ (size : ℕ) where
       → Spelled (if b then Some command else other)
   chosen true command other h k = h
   chosen false command other h k = k
-
-  -- a question wants at least 1
-  bound_wants : {A : Type 0} (o : Option A) (f : A → Option Question) → ((a : A) → IfSome (f a) (λ q. 1 ≤ q.wanted))
-      → IfSome (o >>= f) (λ q. 1 ≤ q.wanted)
-  bound_wants None f h = tt
-  bound_wants (Some a) f h = h a
-
-  numbered_wants : (digits : List ℕ) (f : ℕ → Option Question) → ((n : ℕ) → 1 ≤ n → IfSome (f n) (λ q. 1 ≤ q.wanted))
-      → (o : Option ℕ) → positive_up_to 4294967295 digits ≡ o → IfSome (o >>= f) (λ q. 1 ≤ q.wanted)
-  numbered_wants digits f h None e = tt
-  numbered_wants digits f h (Some n) e = h n (positive_wanted 4294967295 digits n e)
-
-  all_want : (text : List ℕ) → IfSome (question_of text) (λ q. 1 ≤ q.wanted)
-  unfolding question_of
-  all_want text =
-      bound_wants (cut text) _ (λ first. bound_wants (fpr_of_digits first.0) _ (λ fpr. bound_wants (cut first.1) _
-      (λ second. numbered_wants second.0 _ (λ n some. bound_wants (unescaped second.1) _ (λ uid. some))
-      (positive_up_to 4294967295 second.0) refl)))
-
-  question_wants : (text : List ℕ) (q : Question) → question_of text ≡ Some q → 1 ≤ q.wanted
-  question_wants text q e = so (λ (q : Question). 1 ≤ q.wanted) (question_of text) q e (all_want text)
 
   load_spelled : (text : List ℕ) → Spelled (load_of text)
   unfolding load_of

@@ -11,8 +11,11 @@ use Rattle.wot_lines.specs.declared.claims.ClaimLine.{ClaimLine}
 use Rattle.wot_lines.specs.declared.claims.LabelLine.{LabelLine}
 use Rattle.wot_words.specs.Decimal.{positive_up_to}
 use Rattle.wot_words.specs.Fields.{◌>>=◌, cut}
-use Rattle.wot_script.specs.Grammar.{about_of, checked_of, command_for, command_of, drop_of, entry_of, explained_of}
-use Rattle.wot_script.specs.Grammar.{export_of, listed_of, load_of, other_of, question_of, store_of, view_of, over_of}
+use Rattle.wot_lines.specs.Entry.{entry_of}
+use Rattle.wot_lines.specs.Question.{question_of}
+use Rattle.wot_lines.specs.declared.question.Question.{Question}
+use Rattle.wot_script.specs.Grammar.{about_of, checked_of, command_for, command_of, drop_of, explained_of}
+use Rattle.wot_script.specs.Grammar.{export_of, listed_of, load_of, other_of, store_of, view_of, over_of}
 use Rattle.wot_script.specs.Grammar.{paced_of, watch_of, watched_of}
 use Rattle.wot_words.specs.Texts.{joined}
 use Rattle.wot_words.specs.Uid.{unescaped}
@@ -23,7 +26,6 @@ use Rattle.wot_script.specs.declared.command.Command.TheVariants.{CursorClose, W
 use Rattle.wot_script.specs.declared.read.About.{About}
 use Rattle.wot_script.specs.declared.read.About.TheVariants.{Asked, Listed, Explained, Missed, Checked, Paced}
 use Rattle.wot_script.specs.declared.read.About.TheVariants.{Watched}
-use Rattle.wot_script.specs.declared.read.Question.{Question}
 use Rattle.wot_words.specs.StateLine.{state_line_of, spelling as line_text}
 use Rattle.wot_words.specs.declared.state_line.StateLine.{StateLine}
 use Rattle.wot_words.proofs.Spaceless.{Spaceless, cut_spaceless, spaceless_view_name}
@@ -66,38 +68,6 @@ view_reads about name text command h e =
     (cut_spaceless name text (spaceless_view_name name h))
     ∙ bound (view_name_of name) name (λ view. about_of about view text) (name_reads name h)
     ∙ e
-
-abbrev pub question : Fpr → ℕ → List ℕ → Question
-question fpr wanted uid = record { fpr = fpr; wanted = wanted; uid = uid }
-
--- FPR N UID, joined from its fields
-abbrev asking : List ℕ → List ℕ → List ℕ → List ℕ
-asking ds ws us = ds ++ 32 ∷ (ws ++ 32 ∷ us)
-
-question_reads_as : (ds ws us uid : List ℕ) (fpr : Fpr) (wanted : ℕ) → Spaceless ds → fpr_of_digits ds ≡ Some fpr
-    → Spaceless ws → positive_up_to 4294967295 ws ≡ Some wanted → unescaped us ≡ Some uid
-    → question_of (asking ds ws us) ≡ Some (question fpr wanted uid)
-unfolding question_of
-question_reads_as ds ws us uid fpr wanted free fpr_is free_too wanted_is uid_is =
-    bound (cut (asking ds ws us)) (ds, ws ++ 32 ∷ us)
-    (λ second. fpr_of_digits second.0 >>= (λ f. cut second.1 >>= (λ third. positive_up_to 4294967295 third.0
-    >>= (λ w. unescaped third.1 >>= (λ u. Some (question f w u))))))
-    (cut_spaceless ds (ws ++ 32 ∷ us) free)
-    ∙ bound (fpr_of_digits ds) fpr
-    (λ f. cut (ws ++ 32 ∷ us) >>= (λ third. positive_up_to 4294967295 third.0
-    >>= (λ w. unescaped third.1 >>= (λ u. Some (question f w u))))) fpr_is
-    ∙ bound (cut (ws ++ 32 ∷ us)) (ws, us)
-    (λ third. positive_up_to 4294967295 third.0 >>= (λ w. unescaped third.1 >>= (λ u. Some (question fpr w u))))
-    (cut_spaceless ws us free_too)
-    ∙ bound (positive_up_to 4294967295 ws) wanted (λ w. unescaped us >>= (λ u. Some (question fpr w u))) wanted_is
-    ∙ bound (unescaped us) uid (λ u. Some (question fpr wanted u)) uid_is
-
-pub question_reads : (ds ws us uid : List ℕ) (fpr : Fpr) (wanted : ℕ) → Spaceless ds → fpr_of_digits ds ≡ Some fpr
-    → Spaceless ws → positive_up_to 4294967295 ws ≡ Some wanted → unescaped us ≡ Some uid
-    → question_of (joined (ds ∷ codes " " ∷ ws ∷ codes " " ∷ us ∷ [])) ≡ Some (question fpr wanted uid)
-question_reads ds ws us uid fpr wanted free fpr_is free_too wanted_is uid_is =
-    question_reads_as ds ws (us ++ []) uid fpr wanted free fpr_is free_too wanted_is
-    (ap unescaped (append-nil us) ∙ uid_is)
 
 pub ask_reads : (name text : List ℕ) (q : Question) → is_view_name name ≡ true → question_of text ≡ Some q
     → command_of (codes "ask " ++ (name ++ 32 ∷ text)) ≡ Some (Ask name q.fpr q.wanted q.uid)

@@ -4,10 +4,9 @@ use Rattle.std.specs.Str.{bytes_eq}
 use Rattle.std.specs.Option.{option_map}
 use Rattle.wot_types.specs.Fpr.{fpr_of_digits}
 use Rattle.wot_types.specs.ViewName.{view_name_of}
-use Rattle.wot_types.specs.declared.fpr.Fpr.{Fpr}
-use Rattle.wot_types.specs.declared.name.Name.{Name}
-use Rattle.wot_types.specs.declared.name.Name.TheVariants.{Cert, TrustRoot}
 use Rattle.wot_lines.specs.Claims.{claims_of, labels_of}
+use Rattle.wot_lines.specs.Entry.{entry_of}
+use Rattle.wot_lines.specs.Question.{question_of}
 use Rattle.wot_words.specs.Decimal.{positive_up_to}
 use Rattle.wot_words.specs.Fields.{◌>>=◌, behind, cut, read_behind}
 use Rattle.wot_words.specs.StateLine.{state_line_of}
@@ -19,7 +18,6 @@ use Rattle.wot_script.specs.declared.command.Command.{Command}
 use Rattle.wot_script.specs.declared.read.About.{About}
 use Rattle.wot_script.specs.declared.read.About.TheVariants.{Asked, Listed, Explained, Missed, Checked}
 use Rattle.wot_script.specs.declared.read.About.TheVariants.{Paced, Watched}
-use Rattle.wot_script.specs.declared.read.Question.{Question}
 use Rattle.wot_script.specs.declared.command.Command.TheVariants.{Import, Load, Store, Remove, Good, Bad, Unjudge, Time}
 use Rattle.wot_script.specs.declared.command.Command.TheVariants.{Root, Close, Ask, Explain}
 use Rattle.wot_script.specs.declared.command.Command.TheVariants.{Export, Absence, Check}
@@ -41,15 +39,6 @@ abbrev pub set_or : Option StateLine → Option Command → Option Command
 set_or (Some line) other = Some (command_for line)
 set_or None other = other
 
--- the name, by the fingerprint that the text may spell
-abbrev pub entry_else : List ℕ → Option Fpr → Option Name
-entry_else text (Some fpr) = Some (Cert fpr)
-entry_else text None = if bytes_eq text (codes "trust-root") then Some TrustRoot else None
-
--- NAME: FPR or `trust-root`
-abbrev pub entry_of : List ℕ → Option Name
-entry_of text = entry_else text (fpr_of_digits text)
-
 -- after `load `: NAME
 unfoldable pub load_of : List ℕ → Option Command
 load_of text = option_map Load (entry_of text)
@@ -61,16 +50,6 @@ store_of digits = option_map Store (fpr_of_digits digits)
 -- after `drop `: FPR
 unfoldable pub drop_of : List ℕ → Option Command
 drop_of digits = option_map Remove (fpr_of_digits digits)
-
--- FPR N UID; UID is the rest of the line
-unfoldable pub question_of : List ℕ → Option Question
-question_of text = do
-  first ← cut text
-  fpr ← fpr_of_digits first.0
-  second ← cut first.1
-  wanted ← positive_up_to 4294967295 second.0
-  uid ← unescaped second.1
-  Some (record { fpr = fpr; wanted = wanted; uid = uid })
 
 -- after `ask V `: a question
 abbrev pub asked_of : List ℕ → List ℕ → Option Command

@@ -6,7 +6,8 @@ use Rattle.hex.specs.Hex.{encode_lower}
 use Rattle.wot_types.specs.Limits.{limit_word}
 use Rattle.wot_words.specs.Texts.{joined_line}
 use Rattle.wot_lines.specs.Claims.{claim_text, field_text, label_text}
-use Rattle.wot_lines.specs.Lines.{HasReason, answer_line, bind_line, key_line, pending_line, reason_line}
+use Rattle.wot_lines.specs.Lines.{HasReason, answer_line, bind_line, key_line, pending_line, reason_line, refused}
+use Rattle.wot_lines.specs.Lines.{stale}
 use Rattle.wot_lines.specs.Words.{IsWordOf, target_words, word_at}
 use Rattle.wot_script.specs.declared.reply.Reply.{Reply}
 use Rattle.wot_script.specs.declared.reply.Reply.TheVariants.{Taken, Stored, Done, Amount, Explained, Pending}
@@ -17,14 +18,6 @@ use Rattle.wot_script.specs.declared.reply.Reply.TheVariants.{Reached, Missed, C
 use Rattle.wot_script.specs.declared.reply.Reply.TheVariants.{CheckedNoTable, Piece, StaleKeyring, StaleView}
 use Rattle.wot_script.specs.declared.reply.Reply.TheVariants.{NoCursor, FullCursors, WatchAmount, WatchGone}
 use Rattle.wot_script.specs.declared.reply.Reply.TheVariants.{NoWatch, FullWatches}
-
--- a refusal
-abbrev pub refused : List (List ℕ) → List ℕ
-refused words = joined_line (codes "refused " ∷ words)
-
--- what changed, its number then and its number now
-abbrev pub stale : List ℕ → ℕ → ℕ → List ℕ
-stale word was now = joined_line (codes "stale " ∷ word ∷ decimal was ∷ codes " " ∷ decimal now ∷ [])
 
 -- ---- replies of one line that ends with a number: a row of two lines for each, here and in `src/numbered.rt`
 

@@ -1,19 +1,16 @@
 -- How a command is printed.
-use Rattle.std.specs.Prelude.{ℕ, ◌≡◌, ◌<◌, ◌≤◌, ◌+◌, ◌*◌, List, [], ◌∷◌, length, Some, codes}
+use Rattle.std.specs.Prelude.{ℕ, ◌<◌, ◌≤◌, ◌+◌, ◌*◌, List, [], ◌∷◌, length, codes}
 use Rattle.std.specs.Fmt.{decimal}
 use Rattle.wot_types.specs.Fpr.{digits_of}
-use Rattle.wot_types.specs.declared.fpr.Fpr.{Fpr}
-use Rattle.wot_types.specs.declared.name.Name.{Name}
-use Rattle.wot_types.specs.declared.name.Name.TheVariants.{Cert, TrustRoot}
 use Rattle.wot_lines.specs.Claims.{IsClaimSpelled, claim_text, field_text, label_text, most_paths}
-use Rattle.wot_script.specs.Grammar.{question_of}
+use Rattle.wot_lines.specs.Entry.{entry_text}
+use Rattle.wot_lines.specs.Question.{asking, question_parts}
 use Rattle.wot_script.specs.OneWord.{word_of}
 use Rattle.wot_words.specs.StateLine.{IsOneLine, spelling as line_text, most_octets as most_of_line}
 use Rattle.wot_words.specs.Texts.{joined}
 use Rattle.wot_words.specs.Uid.{escaped}
 use Rattle.wot_words.specs.declared.state_line.StateLine.TheVariants as lines
 use Rattle.wot_script.specs.declared.command.Command.{Command}
-use Rattle.wot_script.specs.declared.read.Question.{Question}
 use Rattle.wot_script.specs.declared.command.Command.TheVariants.{Import, Load, Store, Remove, Good, Bad, Unjudge, Time}
 use Rattle.wot_script.specs.declared.command.Command.TheVariants.{Root, Close, Ask, Explain}
 use Rattle.wot_script.specs.declared.command.Command.TheVariants.{Export, Absence, Check}
@@ -37,23 +34,6 @@ abbrev pub FitsLine : ℕ → Command → Type 0
 FitsLine size (Import octets) = 2 * length octets ≤ size
 FitsLine size (Check view fpr claims labels uid) = length claims < size
 FitsLine size _ = Unit {0}
-
--- the name of an entry of the certificate directory
-abbrev pub entry_text : Name → List ℕ
-entry_text (Cert fpr) = digits_of fpr
-entry_text TrustRoot = codes "trust-root"
-
--- FPR N UID
-abbrev pub question_parts : Fpr → ℕ → List ℕ → List (List ℕ)
-question_parts fpr wanted uid = digits_of fpr ∷ codes " " ∷ decimal wanted ∷ codes " " ∷ escaped uid ∷ []
-
--- the printed question is read back
-abbrev pub IsQuestionRead : Question → Type 0
-IsQuestionRead q = question_of (joined (question_parts q.fpr q.wanted q.uid)) ≡ Some q
-
--- a question from a view, after a word
-abbrev pub asking : List ℕ → List ℕ → Fpr → ℕ → List ℕ → List ℕ
-asking word view fpr wanted uid = joined (word ∷ view ∷ codes " " ∷ question_parts fpr wanted uid)
 
 -- the line of a command, without a line feed
 unfoldable pub spelling : Command → List ℕ

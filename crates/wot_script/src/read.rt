@@ -1,21 +1,21 @@
 //! `read_line`: a line to its command.
 //!
-//! It stands on `wot_words`, which reads the lines that set a part of the state, on `wot_lines`, which reads claims, on
-//! `one_word`, and on `specs/Grammar.antt`, which it follows function by function. A new command with fields is a
-//! function here and a clause there.
+//! It stands on `wot_words`, which reads the lines that set a part of the state, on `wot_lines`, which reads questions
+//! and claims, on `one_word`, and on `specs/Grammar.antt`, which it follows function by function. A new command with
+//! fields is a function here and a clause there.
 ghost use Rattle.std.specs.Prelude.{◌≡◌, length, Some, None, IfOk, IsErrOf};
 ghost use Rattle.std.specs.Option.{option_map};
-ghost use Rattle.wot_script.specs.Grammar.{about_of, asked_of, checked_of, command_for, command_of, drop_of, entry_of};
+ghost use Rattle.wot_script.specs.Grammar.{about_of, asked_of, checked_of, command_for, command_of, drop_of, view_of};
 ghost use Rattle.wot_script.specs.Grammar.{explained_of, export_of, listed_of, load_of, missed_of, other_of, over_of};
-ghost use Rattle.wot_script.specs.Grammar.{paced_of, question_of, store_of, view_of, watch_of, watched_of};
+ghost use Rattle.wot_script.specs.Grammar.{paced_of, store_of, watch_of, watched_of};
 ghost use Rattle.wot_script.specs.Spelling.{HasSpelling, FitsLine};
 ghost use Rattle.wot_words.specs.Decimal.{positive_up_to};
 
 use crate::Command;
 use crate::one_word::read_single;
 use std::alloc::Global;
-use wot_lines::{read_claims, read_labels};
-use wot_types::{Fpr, Memory, Name, UserId, ViewName};
+use wot_lines::{Question, read_claims, read_entry, read_labels, read_question};
+use wot_types::{Fpr, Memory, ViewName};
 use wot_words::laws::state_lines_fit;
 use wot_words::{StateLine, after_prefix, cut_field, read_positive, read_state_line, read_uid};
 
@@ -41,18 +41,6 @@ fn command_for(line: StateLine) -> Command
         StateLine::Root(view, fpr, amount) => Command::Root(view, fpr, amount),
         StateLine::Close(view) => Command::Close(view),
     }
-}
-
-fn read_entry(text: &[u8]) -> Option<Name>
-    ensures { result ≡ entry_of text.now }
-{
-    if let Some(fpr) = Fpr::read(text) {
-        return Some(Name::Cert(fpr));
-    }
-    if text == b"trust-root".as_slice() {
-        return Some(Name::TrustRoot);
-    }
-    None
 }
 
 #[tactic(auto, unfolding(crate::specs::Grammar::load_of))]
@@ -85,36 +73,6 @@ fn read_export(digits: &[u8]) -> Option<Command>
 {
     let fpr = Fpr::read(digits)?;
     Some(Command::Export(fpr))
-}
-
-/// A question to a view.
-#[derive(Drop)]
-pub struct Question {
-    pub fpr: Fpr,
-    pub wanted: u32,
-    pub uid: UserId,
-}
-
-#[tactic(auto, unfolding(crate::specs::Grammar::question_of))]
-fn read_question(alloc: Global, text: &[u8]) -> Result<Option<Question>, Memory>
-    ensures { IfOk result (λ question. question ≡ question_of text.now) }
-{
-    let Some(first) = cut_field(text) else {
-        return Ok(None);
-    };
-    let Some(fpr) = Fpr::read(first.field) else {
-        return Ok(None);
-    };
-    let Some(second) = cut_field(first.rest) else {
-        return Ok(None);
-    };
-    let Some(wanted) = read_positive(u32::MAX, second.field) else {
-        return Ok(None);
-    };
-    let Some(uid) = read_uid(alloc, second.rest)? else {
-        return Ok(None);
-    };
-    Ok(Some(Question { fpr, wanted, uid }))
 }
 
 fn read_asked(alloc: Global, view: ViewName, text: &[u8]) -> Result<Option<Command>, Memory>

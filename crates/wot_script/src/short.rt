@@ -1,33 +1,11 @@
-//! Laws: replies of one line are short, so that they can be printed into reserved room when memory runs out. They stand
-//! on `specs/Replies.antt`; `tell` uses them, and a longer word or reply breaks them.
+//! A law: replies of one line are short, so that they can be printed into reserved room when memory runs out. It stands
+//! on `specs/Replies.antt`; `tell` uses it, and a longer word or reply breaks it.
 ghost use Rattle.std.specs.Prelude.{◌≡◌, ◌≤◌, length, true};
-ghost use Rattle.std.specs.Fmt.{decimal};
 ghost use Rattle.wot_script.specs.Replies.{is_short, reply_text};
-ghost use Rattle.wot_lines.specs.Words.{target_words, word_at};
 
 use crate::Reply;
 use crate::numbered::reply_number;
-use wot_lines::target_word;
-use wot_types::ViewName;
-
-/// A law: a number has at most 20 digits.
-fn decimals_fit(number: u64)
-    ensures { length (decimal number) ≤ 20 }
-{}
-
-/// A law: a name has at most 32 octets.
-fn names_fit(name: &ViewName)
-    ensures { length name.now ≤ 32 }
-{
-    let _octets = name.octets();
-}
-
-/// A law: a word of a target has at most 8 octets.
-fn words_fit(word: u8)
-    ensures { length (word_at target_words word) ≤ 8 }
-{
-    let _text = target_word(word);
-}
+use wot_lines::laws::{decimals_fit, names_fit, words_fit};
 
 /// A law: a reply of one line, other than that of `export`, has at most 128 octets.
 #[tactic(auto, unfolding(crate::specs::Replies::reply_text))]

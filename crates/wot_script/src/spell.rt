@@ -2,62 +2,21 @@
 //!
 //! It stands on `wot_words`, `wot_lines` and `one_word`, and on `specs/Spelling.antt`. Generated scripts are printed
 //! through it, and its contract says that `read_line` reads each line back.
-ghost use Rattle.std.specs.Prelude.{◌≡◌, ◌++◌, ◌∷◌, [], true, OnOk, OnErr};
-ghost use Rattle.std.specs.Fmt.{decimal};
+ghost use Rattle.std.specs.Prelude.{◌≡◌, ◌++◌, true, OnOk, OnErr};
 ghost use Rattle.wot_words.specs.Appends.{Appends};
 ghost use Rattle.wot_script.specs.Grammar.{command_of};
 ghost use Rattle.wot_script.specs.OneWord.{has_word};
-ghost use Rattle.wot_words.specs.Pieces.{piece_text};
-ghost use Rattle.wot_words.specs.Texts.{joined};
-ghost use Rattle.wot_script.specs.Spelling.{HasSpelling, IsLineFor, asking, entry_text, spelling};
+ghost use Rattle.wot_script.specs.Spelling.{HasSpelling, IsLineFor, spelling};
 
 use crate::one_word::command_word;
 use crate::spelled::spelling_is_read;
 use crate::{ClaimLines, Command, LabelLines};
-use wot_lines::put_claimed;
-use wot_types::{Fpr, Memory, Name, UserId, ViewName};
+use wot_lines::{entry_piece, put_claimed, put_numbered, put_question};
+use wot_types::{Fpr, Memory, UserId, ViewName};
 use wot_words::Piece::{Decimal, Key, Text, Uid};
 use wot_words::{
-    Piece, put_bad, put_close, put_good, put_import, put_pieces, put_root, put_text, put_time,
-    put_unjudge,
+    put_bad, put_close, put_good, put_import, put_pieces, put_root, put_text, put_time, put_unjudge,
 };
-
-/// Appends a question to a view, after a word.
-fn put_question<'a>(
-    word: &'a [u8],
-    view: &'a ViewName,
-    fpr: &'a Fpr,
-    wanted: u32,
-    uid: &'a UserId,
-    out: &mut Vec<u8>,
-) -> Result<(), Memory>
-    ensures { Appends (asking word.now view.now fpr.now wanted uid.now) out.old out.new result }
-{
-    let view = Text(view.octets());
-    let fpr = Key(fpr);
-    let wanted = Decimal(u64::from(wanted));
-    let uid = Uid(uid.octets());
-    let space = Text(b" ");
-    put_pieces(
-        &[Text(word), view, space, fpr, space, wanted, space, uid],
-        out,
-    )
-}
-
-/// Appends a word, a name, what follows it, and a number.
-fn put_numbered<'a>(
-    word: &'a [u8],
-    name: &'a ViewName,
-    middle: &'a [u8],
-    number: u32,
-    out: &mut Vec<u8>,
-) -> Result<(), Memory>
-    ensures { Appends (joined (word.now ∷ name.now ∷ middle.now ∷ decimal number ∷ [])) out.old out.new result }
-{
-    let name = Text(name.octets());
-    let number = Decimal(u64::from(number));
-    put_pieces(&[Text(word), name, Text(middle), number], out)
-}
 
 #[tactic(auto, unfolding(crate::specs::Spelling::spelling))]
 fn put_explain<'a>(
@@ -151,16 +110,6 @@ fn put_watch_on<'a>(
         ],
         out,
     )
-}
-
-/// The piece that spells the name of an entry.
-fn entry_piece(name: &Name) -> Piece<'_>
-    ensures { piece_text result ≡ entry_text name.now }
-{
-    match name {
-        Name::Cert(fpr) => Key(fpr),
-        Name::TrustRoot => Text(b"trust-root"),
-    }
 }
 
 /// Appends the word of a command of one word.

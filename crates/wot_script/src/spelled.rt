@@ -1,55 +1,16 @@
-//! Laws: the line of a command is read back as that command, field by field. `spell` uses the last one. They stand on
-//! `specs/Spelling.antt` and `specs/Grammar.antt`, and a change of either shows here first.
-ghost use Rattle.std.specs.Prelude.{◌≡◌, ◌≢◌, ◌≤◌, ◌<◌, ◌^◌, true, length};
-ghost use Rattle.std.specs.Fmt.{decimal};
-ghost use Rattle.std.specs.List.{AllByRecursion};
-ghost use Rattle.wot_types.specs.Fpr.{digits_of, fpr_of_digits};
-ghost use Rattle.wot_types.specs.ViewName.{is_view_name};
-ghost use Rattle.wot_words.specs.Decimal.{positive_up_to};
-ghost use Rattle.wot_script.specs.Grammar.{command_of, entry_of};
+//! Laws: the line of a command is read back as that command. `spell` uses the last one. They stand on the laws of
+//! fields in `wot_words` and `wot_lines`, on `specs/Spelling.antt` and on `specs/Grammar.antt`, and a change of either
+//! shows here first.
+ghost use Rattle.std.specs.Prelude.{◌≡◌, true};
+ghost use Rattle.wot_script.specs.Grammar.{command_of};
 ghost use Rattle.wot_script.specs.OneWord.{has_word};
-ghost use Rattle.wot_script.specs.Spelling.{HasSpelling, IsLineFor, IsQuestionRead, entry_text, spelling};
+ghost use Rattle.wot_script.specs.Spelling.{HasSpelling, IsLineFor, spelling};
 
 use crate::Command;
-use wot_lines::laws::{claims_are_read, labels_are_read};
-use wot_types::{Fpr, Name, UserId, ViewName};
+use wot_lines::laws::{
+    claims_are_read, entry_is_read, labels_are_read, question_is_read, wanted_is_read,
+};
 use wot_words::laws::{decimal_is_read, hex_is_read, name_is_valid, positive_is_read, uid_is_read};
-
-/// A law: a printed name of an entry is read back, and is short.
-fn entry_is_read(name: &Name)
-    ensures read { entry_of (entry_text name.now) ≡ Some name.now }
-    ensures short { length (entry_text name.now) ≤ 64 }
-    ensures free { AllByRecursion (λ octet. octet ≢ 10) (entry_text name.now) }
-{
-    match name {
-        Name::Cert(fpr) => fpr.printed_is_read(),
-        Name::TrustRoot => {}
-    }
-}
-
-/// A law: a name and a number that isn't 0 are read back.
-fn wanted_is_read(name: &ViewName, wanted: u32)
-    requires { 1 ≤ wanted }
-    ensures name { is_view_name name.now ≡ true }
-    ensures read { positive_up_to 4294967295 (decimal wanted) ≡ Some wanted }
-    ensures small { wanted < 2 ^ 64 }
-{
-    name_is_valid(name);
-    positive_is_read(u32::MAX, wanted);
-}
-
-/// A law: a question that is printed after the name of a view is read back.
-fn question_is_read(view: &ViewName, fpr: &Fpr, wanted: u32, uid: &UserId)
-    requires { 1 ≤ wanted }
-    ensures name { is_view_name view.now ≡ true }
-    ensures read { IsQuestionRead (record { fpr = fpr.now; wanted = wanted; uid = uid.now }) }
-    ensures digits { fpr_of_digits (digits_of fpr.now) ≡ Some fpr.now }
-{
-    name_is_valid(view);
-    fpr.printed_is_read();
-    positive_is_read(u32::MAX, wanted);
-    uid_is_read(uid.octets());
-}
 
 /// A law: the word of a command of one word is read back as that command, and is one line.
 fn word_is_read(command: &Command)

@@ -1,19 +1,19 @@
 //! `print_reply`: a reply to its octets.
 //!
-//! It stands on `wot_words`, `numbered` and `wot_lines`, which prints the lines after a first one, and on
+//! It stands on `wot_words`, `numbered` and `wot_lines`, which prints refusals and the lines after a first one, and on
 //! `specs/Replies.antt`. Whatever a client reads is printed here; `docs/PROTOCOL.md` specifies it.
-ghost use Rattle.std.specs.Prelude.{◌≡◌, ◌<◌, ◌≤◌, ◌+◌, ◌∷◌, [], ◌++◌, codes, length, vec_len, vec_capacity, true};
+ghost use Rattle.std.specs.Prelude.{◌≡◌, ◌<◌, ◌≤◌, ◌+◌, ◌++◌, length, vec_len, vec_capacity, true};
 ghost use Rattle.std.specs.Prelude.{OnOk, OnErr, IsOk};
-ghost use Rattle.std.specs.Fmt.{decimal};
-ghost use Rattle.std.specs.List.{flat_map};
 ghost use Rattle.wot_words.specs.Appends.{Appends};
-ghost use Rattle.wot_script.specs.Replies.{HasWords, is_refusal, is_short, refused, reply_text, stale};
-ghost use Rattle.wot_words.specs.Texts.{joined_line};
+ghost use Rattle.wot_script.specs.Replies.{HasWords, is_refusal, is_short, reply_text};
 
 use crate::numbered::{reply_number, reply_words};
 use crate::short::short_replies_fit;
-use crate::{AnswerLines, ClaimLines, LabelLines, Lines, ReasonLines, Reply};
-use wot_lines::{Printed, put_claimed, put_headed, target_word};
+use crate::{AnswerLines, ClaimLines, LabelLines, ReasonLines, Reply};
+use wot_lines::{
+    put_claimed, put_counted, put_headed, put_number, put_refused, put_refused_at, put_stale,
+    target_word,
+};
 use wot_types::{Memory, ViewName};
 use wot_words::{Piece, put_pieces, put_text};
 
@@ -29,20 +29,6 @@ fn put_amount(sum: u32, paths: u64, lines: &AnswerLines, out: &mut Vec<u8>) -> R
         lines,
         out,
     )
-}
-
-/// Appends a line with a word and a count, and the lines after it.
-fn put_counted<T: Printed>(
-    word: &[u8],
-    count: u64,
-    lines: &Lines<T>,
-    out: &mut Vec<u8>,
-) -> Result<(), Memory>
-    ensures { Appends (joined_line (word.now ∷ decimal count ∷ []) ++ flat_map T.text lines.now)
-        out.old out.new result }
-{
-    use Piece::{Decimal, Text};
-    put_headed(&[Text(word), Decimal(count), Text(b"\n")], lines, out)
 }
 
 #[tactic(auto, unfolding(crate::specs::Replies::reply_text))]
@@ -74,31 +60,6 @@ fn put_missed(
     put_claimed(&head, claims, labels, &[Text(b"\n")], out)
 }
 
-/// Appends a line with words and a number.
-fn put_number(words: &[u8], number: u64, out: &mut Vec<u8>) -> Result<(), Memory>
-    ensures { Appends (joined_line (words.now ∷ decimal number ∷ [])) out.old out.new result }
-{
-    use Piece::{Decimal, Text};
-    put_pieces(&[Text(words), Decimal(number), Text(b"\n")], out)
-}
-
-fn put_stale(word: &[u8], was: u64, now: u64, out: &mut Vec<u8>) -> Result<(), Memory>
-    ensures { Appends (stale word.now was now) out.old out.new result }
-{
-    use Piece::{Decimal, Text};
-    put_pieces(
-        &[
-            Text(b"stale "),
-            Text(word),
-            Decimal(was),
-            Text(b" "),
-            Decimal(now),
-            Text(b"\n"),
-        ],
-        out,
-    )
-}
-
 #[tactic(auto, unfolding(crate::specs::Replies::reply_text))]
 fn put_watch_amount(watch: &ViewName, sum: u32, out: &mut Vec<u8>) -> Result<(), Memory>
     ensures { Appends (reply_text (Reply.WatchAmount watch.now sum)) out.old out.new result }
@@ -108,38 +69,6 @@ fn put_watch_amount(watch: &ViewName, sum: u32, out: &mut Vec<u8>) -> Result<(),
     let sum = Decimal(u64::from(sum));
     put_pieces(
         &[Text(b"watch "), watch, Text(b" amount "), sum, Text(b"\n")],
-        out,
-    )
-}
-
-fn put_refused(word: &[u8], out: &mut Vec<u8>) -> Result<(), Memory>
-    ensures { Appends (refused (word.now ∷ [])) out.old out.new result }
-{
-    put_pieces(
-        &[
-            Piece::Text(b"refused "),
-            Piece::Text(word),
-            Piece::Text(b"\n"),
-        ],
-        out,
-    )
-}
-
-fn put_refused_at(word: &[u8], number: u8, offset: usize, out: &mut Vec<u8>) -> Result<(), Memory>
-    ensures { Appends (refused (word.now ∷ decimal number ∷ codes " " ∷ decimal offset ∷ [])) out.old out.new result }
-{
-    use Piece::{Decimal, Text};
-    let number = Decimal(u64::from(number));
-    let offset = Decimal(offset as u64);
-    put_pieces(
-        &[
-            Text(b"refused "),
-            Text(word),
-            number,
-            Text(b" "),
-            offset,
-            Text(b"\n"),
-        ],
         out,
     )
 }

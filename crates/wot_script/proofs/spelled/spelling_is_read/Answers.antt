@@ -3,9 +3,12 @@ use Rattle.wot_types.specs.Fpr.{digits_of, octets_of}
 use Rattle.std.specs.Fmt.{decimal}
 use Rattle.wot_lines.specs.Claims.{IsClaimSpelled, claim_text, field_text, label_text}
 use Rattle.wot_lines.proofs.ClaimTexts.{claims_field, labels_field}
-use Rattle.wot_script.specs.Spelling.{entry_text, question_parts, spelling}
+use Rattle.wot_lines.specs.Entry.{entry_text}
+use Rattle.wot_lines.specs.Question.{question_parts}
+use Rattle.wot_lines.specs.declared.question.Question.{Question}
+use Rattle.wot_lines.proofs.Questions.{question}
+use Rattle.wot_script.specs.Spelling.{spelling}
 use Rattle.wot_words.specs.Texts.{joined}
-use Rattle.wot_script.specs.declared.read.Question.{Question}
 use Rattle.wot_words.specs.Uid.{escaped}
 use Rattle.wot_words.proofs.Spaceless.{spaceless_digits}
 use Rattle.wot_words.specs.StateLine.{IsPrinted}
@@ -14,7 +17,7 @@ use Rattle.wot_words.proofs.LineParts.{fpr_digits, name_is, numeral}
 use Rattle.wot_words.proofs.StateLines.{bad_printed, close_printed, good_printed, import_printed, root_printed}
 use Rattle.wot_words.proofs.StateLines.{time_printed, unjudge_printed}
 use Rattle.wot_script.proofs.Readings.{absence_reads, ask_reads, check_reads, drop_reads, explain_reads, export_reads}
-use Rattle.wot_script.proofs.Readings.{list_reads, load_reads, question, set_reads, store_reads, end_reads, next_reads}
+use Rattle.wot_script.proofs.Readings.{list_reads, load_reads, set_reads, store_reads, end_reads, next_reads}
 use Rattle.wot_script.proofs.Readings.{over_reads, off_reads, on_reads}
 use Rattle.wot_script.proofs.OneLine.{absence_line, ask_line, check_line, explain_line, export_line, list_line}
 use Rattle.wot_script.proofs.OneLine.{load_line, remove_line, store_line, end_line, next_line, over_line, off_line}

@@ -1,5 +1,5 @@
 use Rattle.wot_words.proofs.LineParts.{length-view_name}
-use Rattle.wot_script.proofs.short.names_fit.Goals as goal
+use Rattle.wot_lines.proofs.laws.names_fit.Goals as goal
 
 pub returns : goal.returns
 returns c = length-view_name c.args.name.now c.octets-octets.ensures.name

@@ -1,9 +1,9 @@
 use Rattle.wot_types.specs.Fpr.{digits_of, octets_of}
 use Rattle.std.specs.Fmt.{decimal}
 use Rattle.wot_words.specs.Uid.{escaped}
-use Rattle.wot_script.proofs.Readings.{question_reads}
+use Rattle.wot_lines.proofs.Questions.{question_reads}
 use Rattle.wot_words.proofs.Spaceless.{spaceless_decimal, spaceless_digits}
-use Rattle.wot_script.proofs.spelled.question_is_read.Goals as goal
+use Rattle.wot_lines.proofs.laws.question_is_read.Goals as goal
 
 pub returns-clause-read : goal.returns-clause-read
 returns-clause-read c =

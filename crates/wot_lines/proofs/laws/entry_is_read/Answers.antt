@@ -2,7 +2,7 @@ use Rattle.std.proofs.Common.{arith, refl}
 use Rattle.std.specs.Prelude.{codes}
 use Rattle.wot_words.proofs.LineParts.{fpr_digits}
 use Rattle.wot_words.proofs.Spaceless.{lacks_from_test, lacks_test}
-use Rattle.wot_script.proofs.spelled.entry_is_read.Goals as goal
+use Rattle.wot_lines.proofs.laws.entry_is_read.Goals as goal
 
 pub returns-in-Cert : goal.returns-in-Cert
 returns-in-Cert c =
