@@ -1,5 +1,5 @@
 //! Why a certification isn't a usable edge: the first of fifteen reasons, in the order of specs/Reasons.antt. A new
-//! reason is a row there, a test here, and a word in wot_script.
+//! reason is a row there, a test here, and a word in wot_lines.
 ghost use Rattle.std.specs.Prelude.{◌≡◌, not};
 ghost use Rattle.std.specs.Ordering.{is_eq};
 ghost use Rattle.wot_part.specs.Certificate.{sig_cmp};
