@@ -1,3 +1,7 @@
 pub mod Numbers
+pub mod Rises
 pub mod Rows
 pub mod Moved
+pub mod Nexts
+pub mod Listed
+pub mod Entries

@@ -1,11 +1,14 @@
-//! Values by signature number, most of them in a row of slots, so that a lookup needs no walk over a tree.
+//! Values by signature number, most of them in a row of slots, so that a lookup needs no walk over a tree. They can
+//! also be listed in the order of their numbers.
 //!
 //! It stands on `wot_types` alone. `wot_verdict` keeps verdicts here, and `wot_index` the fingerprints of certificates.
 #![tactic(auto)]
 
+mod above;
 mod moving;
 mod near;
 mod slots;
 
+pub use above::number_is_whole;
 pub use near::Slot;
 pub use slots::Slots;

@@ -27,7 +27,7 @@ fn word_of(number: &SigNumber) -> u32
 
 /// The first slot of a number, if there are this many slots. Slots rise with the numbers, so that what is moved in
 /// their order fills a new row from its beginning to its end.
-fn place_of(number: &SigNumber, count: usize) -> usize
+pub(crate) fn place_of(number: &SigNumber, count: usize) -> usize
     requires some { 0 < count }
     ensures place { result ≡ place_in count number.now }
     ensures within { result < count }
@@ -36,7 +36,7 @@ fn place_of(number: &SigNumber, count: usize) -> usize
 }
 
 /// The end of the eight slots from this one on.
-fn end_of(place: usize, count: usize) -> usize
+pub(crate) fn end_of(place: usize, count: usize) -> usize
     requires within { place < count }
     ensures some { place < result }
     ensures near { result ≤ place + 8 }

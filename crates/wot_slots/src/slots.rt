@@ -1,11 +1,13 @@
 //! A value for each signature number: most in a row of slots, others in a tree.
 //!
-//! It stands on `near`, on `moving` and on std's map. Whoever chooses numbers can't make a lookup slow: it reads eight
-//! slots, and if the number isn't there, the tree.
+//! It stands on `near`, on `above`, on `moving` and on std's map. Whoever chooses numbers can't make a lookup slow: it
+//! reads eight slots, and if the number isn't there, the tree.
 ghost use Rattle.std.specs.Prelude.{◌≡◌, true, None, Some, is_some, OnOk, OnErr};
 ghost use Rattle.wot_types.specs.declared.number.SigNumber.{SigNumber as TheNumber};
+ghost use Rattle.wot_slots.specs.Above.{IsNextEntry};
 ghost use Rattle.wot_slots.specs.Near.{held_of, HoldsSame, Puts};
 
+use crate::above::next_number;
 use crate::moving::longer;
 use crate::near::{Slot, forget_near, keep_near, near_at, replace_near};
 use std::alloc::Global;
@@ -52,6 +54,20 @@ impl<T: Copy> Slots<T> {
         match near_at(&self.near, number) {
             Some(value) => Some(value),
             None => self.rest.get(number).copied(),
+        }
+    }
+
+    /// The least number above the last one, with its value, or the least number of all if there is no last one. Doesn't
+    /// allocate.
+    pub fn next_above(&self, last: Option<SigNumber>) -> Option<(SigNumber, T)>
+        ensures next { IsNextEntry (held_of self.now) last result }
+    {
+        let Some(number) = next_number(&self.near, &self.rest, last) else {
+            return None;
+        };
+        match self.get(&number) {
+            Some(value) => Some((number, value)),
+            None => None,
         }
     }
 
