@@ -1,25 +1,20 @@
 """The client of a service, plain and asynchronous, and the engine's asynchronous client: the tests of `test_engine`
-over each, what their ends are, and what only the asynchronous one has."""
+over each, the calls that each has, and how their connections end."""
 
 import asyncio
 import inspect
-import os
 import signal
 import socket
-import subprocess
-import sys
 import tempfile
 import unittest
 from pathlib import Path
 
 import test_engine
-from outside import FAKE_ENGINE, HERE, needs_engine
+from outside import FAKE_ENGINE, HERE
 from stand_ins import FakeService, Waiting
-from tukyamid import (Engine, EngineEnded, EngineMissing, Gone, ProtocolError, ServiceEnded, ServiceMissing, Taken,
-                      Watched, connect, refusals)
+from tukyamid import (Engine, EngineMissing, Gone, ProtocolError, ServiceEnded, ServiceMissing, Watched, connect,
+                      refusals)
 from tukyamid.client import Client, aio
-from tukyamid.engine import find_program
-from tukyamid.refusals import RefusedClash, RefusedView
 from tukyamid.service_lines import Change, Found, Issued, KeyringAdded, KeyringLine
 
 A, B, N = "aa" * 20, "bb" * 20, "11" * 32
@@ -186,159 +181,3 @@ class Ends(unittest.TestCase):
         original, engine._receive_and_drop = engine._receive_and_drop, receive
         self.assertRaises(Interrupt, engine.feed, lines())
         self.assertEqual(engine.close(), -signal.SIGKILL)
-
-
-class Programs(unittest.TestCase):
-    """Where the engine is looked for. A copy of the package stands in for an installed one."""
-
-    def found(self, folder, **environment):
-        said = subprocess.run(
-            [sys.executable, "-c", "from tukyamid.engine import find_program; print(*find_program())"],
-            env={"PATH": "/usr/bin:/bin", "PYTHONPATH": str(folder), **environment},
-            capture_output=True, text=True, check=False)
-        return said.stdout.strip() or said.stderr.strip().splitlines()[-1]
-
-    def test_the_places_in_their_order(self):
-        with tempfile.TemporaryDirectory() as name:
-            folder = Path(name)
-            copy = folder / "copy" / "lib" / "python"
-            copy.mkdir(parents=True)
-            subprocess.run(["cp", "-r", Path(sys.modules["tukyamid"].__file__).parent, copy], check=True)
-            if not os.path.exists("/usr/libexec/tukyamid-engine") and not os.path.exists("/usr/bin/tukyamid-engine"):
-                self.assertIn("install the package tukyamid", self.found(copy))
-                (copy.parent / "wot").touch()
-                self.assertIn(f"{copy.parent}/wot run", self.found(copy))
-            program = folder / "tukyamid-engine"
-            program.write_text("#!/bin/sh\n")
-            program.chmod(0o755)
-            self.assertEqual(self.found(copy, PATH=f"{folder}:/usr/bin:/bin"), str(program))
-            built = copy.parent / "crates" / "wot_cli" / "out" / "wot_cli"
-            built.parent.mkdir(parents=True)
-            built.write_text("#!/bin/sh\n")
-            self.assertEqual(self.found(copy, PATH=f"{folder}:/usr/bin:/bin"), str(program))
-            built.chmod(0o755)
-            self.assertEqual(self.found(copy, PATH=f"{folder}:/usr/bin:/bin"), str(built))
-            self.assertEqual(self.found(copy, TUKYAMID_ENGINE="/named"), "/named")
-
-    @needs_engine
-    def test_the_words_start_it(self):
-        with Engine(find_program()) as engine:
-            self.assertEqual(list(engine.keys()), [])
-
-
-class Asynchronous(unittest.IsolatedAsyncioTestCase):
-    async def asyncSetUp(self):
-        asyncio.get_running_loop().set_debug(False)
-        self.service = FakeService()
-        self.client = await aio.connect(self.service.path)
-
-    async def asyncTearDown(self):
-        await self.client.close()
-        self.service.close()
-
-    async def test_calls_overlap_and_each_has_its_own_reply(self):
-        fprs = [f"{octet:02x}" * 20 for octet in range(256)]
-        octets = await asyncio.gather(*map(self.client.export, fprs))
-        self.assertEqual(octets, [bytes.fromhex(fpr) for fpr in fprs])
-
-    async def test_a_refusal_among_overlapping_calls_is_its_own(self):
-        outcomes = await asyncio.gather(self.client.export(A), self.client.close_view("v"),
-                                        self.client.import_certificates(b"\6"), self.client.export(A),
-                                        return_exceptions=True)
-        self.assertEqual([type(one) for one in outcomes], [bytes, RefusedView, RefusedClash, bytes])
-
-    async def test_a_cancelled_call_leaves_the_connection_usable(self):
-        for delay in [0, 0, 0.0001, 0.001, 0.01] * 20:
-            calls = [asyncio.create_task(call) for call in (
-                self.client.export(A), self.client.keys(), self.client.close_view("v"), self.client.dump())]
-            await asyncio.sleep(delay)
-            for call in calls:
-                call.cancel()
-            await asyncio.gather(*calls, return_exceptions=True)
-            self.assertEqual(await self.client.export("bb" * 20), b"\xbb" * 20)
-
-    async def test_a_call_that_times_out_while_nothing_is_read(self):
-        service = FakeService([sys.executable, "-c", SLOW])
-        self.addCleanup(service.close)
-        async with await aio.connect(service.path) as client:
-            with self.assertRaises(TimeoutError):
-                async with asyncio.timeout(0.2):
-                    await client.import_certificates(b"\0" * 4_000_000)  # Longer than the socket holds.
-            self.assertEqual(await client.import_certificates(b"\5"), Taken(2, 0, 0))
-
-    async def test_a_listing_is_not_read_far_ahead(self):
-        service = FakeService([sys.executable, "-c", LONG])
-        self.addCleanup(service.close)
-        async with await aio.connect(service.path) as client:
-            listing = await client.keys()
-            await asyncio.sleep(0.3)
-            self.assertLess(len(listing._kept), 2 * aio.listing.MOST_KEPT)
-            self.assertEqual(len({key.user_ids async for key in listing}), 20_000)
-            half = await client.keys()
-            first = [key.user_ids async for key in first_of(half, 10)]
-            again = await client.keys()  # What is left of the first is kept meanwhile.
-            self.assertEqual(first + [key.user_ids async for key in half], list(range(20_000)))
-            del again
-            dropped = await client.keys()
-            del dropped
-            self.assertEqual((await client.keys()).count, 20_000)
-
-    async def test_the_end_while_calls_wait(self):
-        waiting = [asyncio.create_task(call) for call in (self.client.close_view("end"), self.client.keys(),
-                                                          self.client.export(A))]
-        for call in waiting:
-            with self.assertRaises(ServiceEnded):
-                await call
-        with self.assertRaises(ServiceEnded):
-            await self.client.keys()
-
-    async def test_the_program_and_its_status(self):
-        engine = await aio.start(FAKE_ENGINE)
-        self.assertEqual(await engine.close(), 0)
-        with self.assertRaises(EngineEnded) as caught:
-            await engine.keys()
-        self.assertEqual(caught.exception.status, 0)
-        engine = await aio.start(FAKE_ENGINE)
-        engine._process.kill()
-        with self.assertRaises(EngineEnded) as caught:
-            await engine.feed([b"import 05"] * 100_000)
-        self.assertEqual(caught.exception.status, -signal.SIGKILL)
-        await engine.close()
-
-    async def test_what_watches_are_told_while_no_call_waits(self):
-        service = FakeService([sys.executable, "-c", PUSHING])
-        self.addCleanup(service.close)
-        async with await aio.connect(service.path) as client:
-            self.assertEqual(await client.watch("w", "v", A, 120, ""), 0)
-            await asyncio.sleep(0.2)
-            self.assertEqual(await client.told(), [Watched("w", 40), Gone("w")])
-
-
-async def first_of(items, count):
-    for _ in range(count):
-        yield await anext(items)
-
-
-# Reads nothing for a second, and answers then.
-SLOW = """
-import sys, time
-time.sleep(1)
-for line in sys.stdin:
-    print("ok taken", 2 if len(line) < 100 else 1, "skipped 0 new 0", flush=True)
-"""
-LONG = """
-import sys
-for line in sys.stdin:
-    print("keys 20000")
-    for number in range(20_000):
-        print("key", "aa" * 20, number, 0)
-    sys.stdout.flush()
-"""
-PUSHING = """
-import sys
-for line in sys.stdin:
-    if line == "?\\n":
-        print("refused line", flush=True)
-    else:
-        print("watch w amount 0\\nwatch w amount 40\\nwatch w gone", flush=True)
-"""
