@@ -1,6 +1,6 @@
 //! Verdicts by signature number.
 //!
-//! It stands on std's set, on `keeping` and on `specs/{Kept,Verdicts}.antt`. `wot_keyring` keeps one such map for all
+//! It stands on `wot_slots`, on `keeping` and on `specs/{Kept,Verdicts}.antt`. `wot_keyring` keeps one such map for all
 //! certificates, within the limit on verdicts, and a dump prints it.
 ghost use Rattle.std.specs.Prelude.{◌≡◌, ◌≢◌, ◌<◌, ◌^◌, ◌↔◌, [], length, IsTrue, IfOk, OnOk, OnErr, Some, None};
 ghost use Rattle.std.specs.Prelude.{is_some, cond};
@@ -9,10 +9,8 @@ ghost use Rattle.wot_types.specs.declared.number.SigNumber.{SigNumber as Number}
 ghost use Rattle.wot_verdict.specs.Verdicts.{verdict_at, with_verdict, without_verdict, is_number, AreSortedByNumber};
 
 use crate::Verdict;
-use crate::keeping::{clear_both, set_both};
+use crate::keeping::{clear_counted, set_counted};
 use std::alloc::Global;
-use std::collections::BTreeSet;
-use std::collections::btree_set::Iter;
 use std::marker::Model;
 use wot_slots::Slots;
 use wot_types::{Memory, SigNumber};
@@ -20,22 +18,21 @@ use wot_types::{Memory, SigNumber};
 /// Verdicts by signature number. Contracts see the list of the entries in the order of the numbers.
 #[derive(Drop)]
 pub struct Verdicts {
-    /// The numbers that have a verdict, in order.
-    numbers: BTreeSet<SigNumber, Global>,
-    /// Their verdicts, the only place of each.
     held: Slots<Verdict>,
+    /// How many numbers have a verdict.
+    count: usize,
 }
 
 impl Model for Verdicts {
-    ghost use Rattle.wot_slots.specs.Near.{held_of};
-    ghost use Rattle.wot_verdict.specs.Kept.{entries_of, IsKept};
+    ghost use Rattle.wot_slots.specs.Above.{entries_of};
+    ghost use Rattle.wot_verdict.specs.Kept.{IsKept};
     ghost use Rattle.wot_verdict.specs.Verdicts.{Entries};
 
     ghost Value = { Entries };
 
-    ghost view = { λ v. entries_of v.numbers.keys (held_of v.held) };
+    ghost view = { λ v. entries_of v.held };
 
-    ghost invariant = { λ v. IsKept v.numbers.keys (held_of v.held) };
+    ghost invariant = { λ v. IsKept v.held v.count };
 }
 
 impl Verdicts {
@@ -44,8 +41,8 @@ impl Verdicts {
         ensures none { result ≡ [] }
     {
         Verdicts {
-            numbers: BTreeSet::new(alloc),
             held: Slots::new(alloc),
+            count: 0,
         }
     }
 
@@ -67,7 +64,7 @@ impl Verdicts {
         ensures was_absent { OnErr result (verdict_at self.old number ≡ None) }
     {
         let old = self.held.get(&number);
-        set_both(&mut self.numbers, &mut self.held, number, verdict)?;
+        set_counted(&mut self.held, &mut self.count, number, old, verdict)?;
         Ok(differs(old, verdict))
     }
 
@@ -78,7 +75,7 @@ impl Verdicts {
             → verdict_at self.new q ≡ cond (is_number number.now q) None (verdict_at self.old q) }
         ensures was_there { result ≡ is_some (verdict_at self.old number.now) }
     {
-        clear_both(&mut self.numbers, &mut self.held, number)
+        clear_counted(&mut self.held, &mut self.count, number)
     }
 
     /// How many numbers have a verdict.
@@ -87,7 +84,7 @@ impl Verdicts {
         ensures few { result < 2 ^ 63 }
         ensures sorted { AreSortedByNumber self.now }
     {
-        self.numbers.len()
+        self.count
     }
 
     /// The numbers with their verdicts, in the order of the numbers.
@@ -96,8 +93,8 @@ impl Verdicts {
         ensures sorted { AreSortedByNumber self.now }
     {
         VerdictsIter {
-            numbers: self.numbers.iter(),
             held: &self.held,
+            last: None,
         }
     }
 }
@@ -111,18 +108,20 @@ fn differs(old: Option<Verdict>, new: Verdict) -> bool
 /// Iterates over the entries of [`Verdicts`].
 #[derive(Drop)]
 pub struct VerdictsIter<'a> {
-    numbers: Iter<'a, SigNumber>,
     held: &'a Slots<Verdict>,
+    /// The number of the last entry.
+    last: Option<SigNumber>,
 }
 
 impl<'a> Model for VerdictsIter<'a> {
-    ghost use Rattle.wot_slots.specs.Near.{held_of};
-    ghost use Rattle.wot_verdict.specs.Kept.{entries_of};
+    ghost use Rattle.wot_slots.specs.Above.{AreNumbers, entries_above};
     ghost use Rattle.wot_verdict.specs.Verdicts.{Entries};
 
     ghost Value = { Entries };
 
-    ghost view = { λ i. entries_of i.numbers (held_of i.held.now) };
+    ghost view = { λ i. entries_above i.last i.held.now };
+
+    ghost invariant = { λ i. AreNumbers i.held.now };
 }
 
 impl<'a> Iterator for VerdictsIter<'a> {
@@ -133,12 +132,10 @@ impl<'a> Iterator for VerdictsIter<'a> {
     ghost remaining = { item_count (λ i. i) };
 
     fn next(&mut self) -> Option<(SigNumber, Verdict)> {
-        match self.numbers.next() {
-            Some(number) => {
-                let verdict = self.held.get(number).unwrap_or(Verdict::Bad);
-                Some((*number, verdict))
-            }
-            None => None,
-        }
+        let Some((number, verdict)) = self.held.next_above(self.last) else {
+            return None;
+        };
+        self.last = Some(number);
+        Some((number, verdict))
     }
 }

@@ -1,15 +1,13 @@
 use Rattle.std.proofs.Common.{ap, sym, ◌∙◌, is_some}
-use Rattle.wot_slots.specs.Near.{held_of}
-use Rattle.wot_verdict.proofs.Listed.{found_in}
+use Rattle.wot_verdict.proofs.Changed.{found_in}
 use Rattle.wot_verdict.proofs.verdicts.Verdicts.clear.Goals as goal
 
 pub returns-clause-cleared : goal.returns-clause-cleared
-returns-clause-cleared c = rw (← c.self.view_is) c.clear_both.ensures.cleared
+returns-clause-cleared c = rw (← c.self.view_is) c.clear_counted.ensures.cleared
 
 pub returns-clause-at_each : goal.returns-clause-at_each
-returns-clause-at_each c = λ q. rw (← c.self.view_is) (c.clear_both.ensures.at_each q)
+returns-clause-at_each c = λ q. rw (← c.self.view_is) (c.clear_counted.ensures.at_each q)
 
 pub returns-clause-was_there : goal.returns-clause-was_there
-returns-clause-was_there c = rw (← c.self.view_is) (c.clear_both.ensures.was_there
-    ∙ ap is_some (sym (found_in c.self.inside.numbers.keys (held_of c.self.inside.held) c.self.invariant
-    c.args.number.now)))
+returns-clause-was_there c = rw (← c.self.view_is) (c.clear_counted.ensures.was_there
+    ∙ ap is_some (sym (found_in c.self.inside.held c.args.number.now)))

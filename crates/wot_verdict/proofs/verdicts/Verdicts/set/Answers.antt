@@ -1,21 +1,19 @@
 use Rattle.std.proofs.Common.{◌≡◌, ◌≢◌, ◌↔◌, Some, IsTrue, Option, subst, sym, ◌∙◌}
-use Rattle.wot_slots.specs.Near.{held_of}
 use Rattle.wot_verdict.specs.Verdicts.{verdict_at}
 use Rattle.wot_verdict.specs.declared.verdict.Verdict.{Verdict}
-use Rattle.wot_verdict.proofs.Listed.{found_in, on_err}
+use Rattle.wot_verdict.proofs.Changed.{found_in, on_err}
 use Rattle.wot_verdict.proofs.verdicts.Verdicts.set.Goals as goal
 
 pub returns-clause-at_each : goal.returns-clause-at_each
-returns-clause-at_each c = λ q. rw (← c.self.view_is) (c.in_ok-set_both.ensures.at_each q)
+returns-clause-at_each c = λ q. rw (← c.self.view_is) (c.in_ok-set_counted.ensures.at_each q)
 
-pub returns-in_err-set_both-clause-was_absent : goal.returns-in_err-set_both-clause-was_absent
-returns-in_err-set_both-clause-was_absent c =
-    on_err _ c.from_residual.result (rw (← c.self.view_is) (found_in c.self.inside.numbers.keys
-    (held_of c.self.inside.held) c.self.invariant c.args.number ∙ c.in_err-set_both.ensures.was_absent))
+pub returns-in_err-set_counted-clause-was_absent : goal.returns-in_err-set_counted-clause-was_absent
+returns-in_err-set_counted-clause-was_absent c =
+    on_err _ c.from_residual.result (rw (← c.self.view_is) (found_in c.self.inside.held c.args.number
+    ∙ c.in_err-set_counted.ensures.was_absent))
 
 pub returns-clause-changed : goal.returns-clause-changed
 returns-clause-changed c =
     let old : c.get-old.result ≡ verdict_at c.args.self.now c.args.number =
-    rw (← c.self.view_is) (c.get-old.ensures.held ∙ sym (found_in c.self.inside.numbers.keys
-    (held_of c.self.inside.held) c.self.invariant c.args.number)) in
+    rw (← c.self.view_is) (c.get-old.ensures.held ∙ sym (found_in c.self.inside.held c.args.number)) in
     subst (λ (o : Option Verdict). IsTrue c.differs.result ↔ (o ≢ Some c.args.verdict)) old c.differs.ensures
