@@ -37,13 +37,6 @@ abbrev pub KeepsNewest : Entries → ℕ → Component → List (Fpr × ℕ) →
 KeepsNewest verdicts t uid places =
     (issuer : Fpr) → kept_for places uid.sigs issuer ≡ newest_certification verdicts issuer t uid
 
--- It is at this place on a user ID whose newest certifications at some time are kept at these places.
-pub record StandsAt (verdicts : Entries) (places : List (Fpr × ℕ)) (at : ℕ) (s : Signature) : Type 0 where
-  pub uid : Component
-  pub t : ℕ
-  pub keeps : KeepsNewest verdicts t uid places
-  pub here : slice_get uid.sigs at ≡ Some s
-
 -- ---- whose a signature is
 
 -- by whom it is a live revocation of certifications

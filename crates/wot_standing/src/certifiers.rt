@@ -3,16 +3,17 @@
 //! It stands on `latest`, `newest` and `kinds`, and on `specs/Certifiers.antt`. `wot_live` makes one edge of each.
 ghost use Rattle.std.specs.Prelude.{◌≡◌, ◌<◌, ◌^◌, length, true, Some, OnOk, IfOk, if◌then◌else◌};
 ghost use Rattle.std.specs.List.{slice_get};
-ghost use Rattle.std.specs.Option.{option_and_then, option_copied};
+ghost use Rattle.std.specs.List.Sorted.{IsStrictlySortedBy};
+ghost use Rattle.std.specs.Map.{keys_of};
+ghost use Rattle.std.specs.Option.{option_copied};
+ghost use Rattle.wot_types.specs.Fpr.{fpr_cmp};
 ghost use Rattle.wot_types.specs.declared.fpr.Fpr.{Fpr as TheFpr};
-ghost use Rattle.wot_part.specs.Certificate.{said_by};
-ghost use Rattle.wot_cert.specs.Issuer.{issuer_of as issuer_in};
 ghost use Rattle.wot_part.specs.Ranked.{higher_of};
 ghost use Rattle.wot_cert.specs.Time.{newness};
 ghost use Rattle.wot_standing.specs.declared.kinds.Binding.TheVariants.{Certification};
 ghost use Rattle.wot_standing.specs.Certifiers.{certifier_of, kept_for, number_for, revoker_of};
 ghost use Rattle.wot_standing.specs.Valid.{newest_valid};
-ghost use Rattle.wot_standing.specs.Certifiers.{KeepsLatest, KeepsNewest, KeepsNumber, StandsAt};
+ghost use Rattle.wot_standing.specs.Certifiers.{KeepsLatest, KeepsNewest, KeepsNumber};
 ghost use Rattle.wot_standing.specs.Certifiers.{TakesLatest, TakesNewest};
 
 use crate::kinds::{CERTIFICATION_REVOCATION, has_kind, is_certification, is_live, made};
@@ -21,6 +22,7 @@ use crate::newest::{compare_newness, stays};
 use std::alloc::Global;
 use std::cmp::Ordering;
 use std::collections::BTreeMap;
+use std::collections::btree_map::Iter;
 use std::marker::Model;
 use wot_cert::{Part, Sig, issuer_of};
 use wot_types::{Fpr, Memory};
@@ -70,35 +72,12 @@ impl Certifiers {
         number(&self.places, issuer)
     }
 
-    /// By whom the signature at this place on the user ID counts. If it names an issuer and is kept for that one, it's
-    /// that one's, and no verdict has to be looked up.
-    pub fn issuer(&self, sig: &Sig, at: u32, verdicts: &Verdicts) -> Option<Fpr>
-        requires stands { StandsAt verdicts.now self.now at sig.now }
-        ensures issuer { result ≡ issuer_in verdicts.now sig.now }
+    /// The issuers in order, each with the place of its certification.
+    pub fn iter(&self) -> Iter<'_, Fpr, u32>
+        ensures places { result ≡ self.now }
+        ensures sorted { IsStrictlySortedBy fpr_cmp (keys_of self.now) }
     {
-        let Some(named) = named_issuer(sig) else {
-            return issuer_of(sig, verdicts);
-        };
-        if is_kept(&self.places, &named, at) {
-            return Some(named);
-        }
-        issuer_of(sig, verdicts)
-    }
-}
-
-fn named_issuer(sig: &Sig) -> Option<Fpr>
-    ensures { result ≡ option_and_then (λ f. f.issuer) (said_by sig.now) }
-{
-    sig.facts()?.issuer
-}
-
-/// Whether this place is kept for an issuer.
-fn is_kept(places: &Numbers, issuer: &Fpr, at: u32) -> bool
-    ensures { result ≡ true → number_for places.now.entries issuer.now ≡ Some at }
-{
-    match number(places, issuer) {
-        Some(place) => place == at,
-        None => false,
+        self.places.iter()
     }
 }
 
@@ -108,11 +87,13 @@ fn number(numbers: &Numbers, issuer: &Fpr) -> Option<u32>
     numbers.get(issuer).copied()
 }
 
-fn keep(numbers: &mut Numbers, issuer: Fpr, number: u32) -> Result<(), Memory>
-    ensures { OnOk result (KeepsNumber numbers.old.entries numbers.new.entries issuer number) }
+/// Keeps a number for an issuer, in place of the one that is returned.
+fn keep(numbers: &mut Numbers, issuer: Fpr, number: u32) -> Result<Option<u32>, Memory>
+    ensures old { IfOk result (λ old. old ≡ number_for numbers.old.entries issuer) }
+    ensures keeps { OnOk result (KeepsNumber numbers.old.entries numbers.new.entries issuer number) }
 {
-    numbers.insert(issuer, number)?;
-    Ok(())
+    let old = numbers.insert(issuer, number)?;
+    Ok(old)
 }
 
 /// By whom a signature is a live revocation. What costs a look at the verdicts is asked last.
@@ -168,7 +149,7 @@ fn note_revocation(
         return Ok(());
     };
     let best = later(made(sig), number(latest, &issuer));
-    keep(latest, issuer, best)?;
+    let _ = keep(latest, issuer, best)?;
     Ok(())
 }
 
@@ -199,7 +180,8 @@ fn newest_places(
     Ok(places)
 }
 
-/// Adds the signature at this place to the newest certifications.
+/// Adds the signature at this place to the newest certifications. Most issuers have no other one, so the place is kept
+/// first, and what it replaced comes back if it is newer.
 fn note_certification(
     places: &mut Numbers,
     sigs: &[Sig],
@@ -218,20 +200,20 @@ fn note_certification(
     if !stays(sig, number(validity.latest, &issuer)) {
         return Ok(());
     }
-    if !is_newest(sig, kept(places, sigs, &issuer)) {
+    let Some(other) = keep(places, issuer, at)? else {
+        return Ok(());
+    };
+    if is_newest(sig, sig_at(sigs, other)) {
         return Ok(());
     }
-    keep(places, issuer, at)?;
+    let _ = keep(places, issuer, other)?;
     Ok(())
 }
 
-fn kept<'a>(places: &Numbers, sigs: &'a [Sig], issuer: &Fpr) -> Option<&'a Sig>
-    ensures { option_copied result ≡ kept_for places.now.entries sigs.now issuer.now }
+fn sig_at(sigs: &[Sig], place: u32) -> Option<&Sig>
+    ensures { option_copied result ≡ slice_get sigs.now place }
 {
-    match number(places, issuer) {
-        Some(at) => sigs.get(at as usize),
-        None => None,
-    }
+    sigs.get(place as usize)
 }
 
 /// Whether a signature is newer than the other one, if there is one.
