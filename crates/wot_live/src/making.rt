@@ -32,7 +32,7 @@ fn make_edges(alloc: Global, found: &Found, steps: &mut Steps) -> Result<Vec<Edg
 {
     // Reading the count brings its range into the proof.
     let _made = steps.made;
-    let mut edges = Vec::new(alloc);
+    let mut edges = Vec::with_capacity(alloc, found.len())?;
     for facts in found.values() {
         edges.push(Edge::make(*facts, steps))?;
     }
