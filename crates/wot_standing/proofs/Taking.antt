@@ -1,7 +1,8 @@
 -- A certification takes its issuer's place, or gives it back to a newer one.
-use Rattle.std.proofs.Common.{◌≡◌, ℕ, Bool, true, false, cond, List, Option, Some, refl, sym, ap, ◌∙◌}
+use Rattle.std.proofs.Common.{◌≡◌, ℕ, Bool, true, false, cond, List, [], ◌∷◌, ◌++◌, length, map, Option, Some}
+use Rattle.std.proofs.Common.{refl, sym, ap, ◌∙◌}
 use Rattle.std.specs.List.{slice_get}
-use Rattle.std.specs.Option.{option_and_then}
+use Rattle.std.specs.Option.{option_and_then, option_flatten}
 use Rattle.wot_types.specs.declared.fpr.Fpr.{Fpr}
 use Rattle.wot_types.specs.Fpr.{same_fpr}
 use Rattle.wot_verdict.specs.Verdicts.{Entries}
@@ -11,6 +12,15 @@ use Rattle.wot_cert.specs.Time.{newness}
 use Rattle.wot_standing.specs.Latest.{revoked_at, stays}
 use Rattle.wot_standing.specs.Certifiers.{certifier_of, kept_for, newer_by, number_for, KeepsNumber, TakesNewest}
 use Rattle.wot_standing.proofs.NumbersByIssuer.{changed, found_at, is_newer, others_newer, valid_by}
+
+-- ---- by whom the signature is that stands behind these
+
+pub mapped_behind : (f : Signature → Option Fpr) (prefix seen : List Signature) (s : Signature)
+    → option_flatten (slice_get (map f (prefix ++ s ∷ seen)) (length prefix)) ≡ f s
+mapped_behind f [] seen s = refl
+mapped_behind f (x ∷ prefix) seen s = mapped_behind f prefix seen s
+
+-- ---- the place of an issuer
 
 twice : (b : Bool) (x y o : Option ℕ) → cond b x (cond b y o) ≡ cond b x o
 twice true x y o = refl

@@ -1,18 +1,15 @@
 //! The newest valid certification of every issuer on a user ID, found in one walk over its signatures.
 //!
 //! It stands on `latest`, `newest` and `kinds`, and on `specs/Certifiers.antt`. `wot_live` makes one edge of each.
-ghost use Rattle.std.specs.Prelude.{◌≡◌, ◌<◌, ◌^◌, length, true, Some, OnOk, IfOk, if◌then◌else◌};
+ghost use Rattle.std.specs.Prelude.{◌≡◌, ◌<◌, ◌^◌, length, map, Some, OnOk, IfOk, if◌then◌else◌};
 ghost use Rattle.std.specs.List.{slice_get};
 ghost use Rattle.std.specs.List.Sorted.{IsStrictlySortedBy};
 ghost use Rattle.std.specs.Map.{keys_of};
-ghost use Rattle.std.specs.Option.{option_copied};
+ghost use Rattle.std.specs.Option.{option_copied, option_flatten};
 ghost use Rattle.wot_types.specs.Fpr.{fpr_cmp};
-ghost use Rattle.wot_types.specs.declared.fpr.Fpr.{Fpr as TheFpr};
 ghost use Rattle.wot_part.specs.Ranked.{higher_of};
 ghost use Rattle.wot_cert.specs.Time.{newness};
-ghost use Rattle.wot_standing.specs.declared.kinds.Binding.TheVariants.{Certification};
-ghost use Rattle.wot_standing.specs.Certifiers.{certifier_of, kept_for, number_for, revoker_of};
-ghost use Rattle.wot_standing.specs.Valid.{newest_valid};
+ghost use Rattle.wot_standing.specs.Certifiers.{certifier_of, number_for, revoker_of, AreNewestAmong};
 ghost use Rattle.wot_standing.specs.Certifiers.{KeepsLatest, KeepsNewest, KeepsNumber};
 ghost use Rattle.wot_standing.specs.Certifiers.{TakesLatest, TakesNewest};
 
@@ -61,7 +58,13 @@ impl Certifiers {
         ensures newest { IfOk result (λ found. KeepsNewest verdicts.now t uid.now found) }
     {
         let latest = latest_revocations(alloc, uid.sigs(), verdicts, t)?;
-        let places = newest_places(alloc, uid.sigs(), verdicts, t, &latest)?;
+        let issuers = certifiers_in(alloc, uid.sigs(), verdicts, t)?;
+        let validity = Validity {
+            verdicts,
+            t,
+            latest: &latest,
+        };
+        let places = newest_places(alloc, uid.sigs(), &issuers, &validity)?;
         Ok(Certifiers { places })
     }
 
@@ -118,6 +121,25 @@ fn certifier(sig: &Sig, verdicts: &Verdicts, t: u32) -> Option<Fpr>
     }
 }
 
+/// By whom each of these signatures is a live certification. Nothing else is done between the looks at the verdicts:
+/// these lie far apart in memory, and so the processor fetches several at once.
+fn certifiers_in(
+    alloc: Global,
+    sigs: &[Sig],
+    verdicts: &Verdicts,
+    t: u32,
+) -> Result<Vec<Option<Fpr>>, Memory>
+    ensures { IfOk result (λ issuers. issuers.items ≡ map (certifier_of verdicts.now t) sigs.now) }
+{
+    let mut issuers = Vec::with_capacity(alloc, sigs.len())?;
+    let mut rest = sigs;
+    'rest: while let Some((sig, others)) = rest.split_first() {
+        issuers.push(certifier(sig, verdicts, t))?;
+        rest = others;
+    }
+    Ok(issuers)
+}
+
 /// When each issuer's latest live revocation among these signatures was created.
 fn latest_revocations(
     alloc: Global,
@@ -153,50 +175,55 @@ fn note_revocation(
     Ok(())
 }
 
-/// The place of each issuer's newest valid certification.
+/// The place of each issuer's newest valid certification, given by whom each signature is one.
 fn newest_places(
     alloc: Global,
     sigs: &[Sig],
-    verdicts: &Verdicts,
-    t: u32,
-    latest: &Numbers,
+    issuers: &[Option<Fpr>],
+    validity: &Validity<'_>,
 ) -> Result<Numbers, Memory>
     requires few { length sigs.now < 2 ^ 32 }
-    requires latest { KeepsLatest verdicts.now t sigs.now latest.now.entries }
-    ensures { IfOk result (λ places. (q : TheFpr)
-        → kept_for places.entries sigs.now q ≡ newest_valid verdicts.now q t Certification sigs.now) }
+    requires issuers { issuers.now ≡ map (certifier_of validity.now.verdicts.now validity.now.t) sigs.now }
+    requires latest { KeepsLatest validity.now.verdicts.now validity.now.t sigs.now validity.now.latest.now.entries }
+    ensures { IfOk result
+        (λ places. AreNewestAmong validity.now.verdicts.now validity.now.t sigs.now places.entries) }
 {
     let mut places = BTreeMap::new(alloc);
-    let validity = Validity {
-        verdicts,
-        t,
-        latest,
-    };
     let mut rest = sigs;
     'back: while let Some((sig, prefix)) = rest.split_last() {
         rest = prefix;
-        note_certification(&mut places, sigs, prefix.len() as u32, sig, &validity)?;
+        let by = issuer_at(issuers, prefix.len());
+        note_certification(&mut places, sigs, prefix.len() as u32, sig, by, validity)?;
     }
     Ok(places)
 }
 
-/// Adds the signature at this place to the newest certifications. Most issuers have no other one, so the place is kept
-/// first, and what it replaced comes back if it is newer.
+fn issuer_at(issuers: &[Option<Fpr>], at: usize) -> Option<Fpr>
+    ensures { result ≡ option_flatten (slice_get issuers.now at) }
+{
+    match issuers.get(at) {
+        Some(issuer) => *issuer,
+        None => None,
+    }
+}
+
+/// Adds the signature at this place to the newest certifications, if it is one by somebody. Most issuers have no other
+/// one, so the place is kept first, and what it replaced comes back if it is newer.
 fn note_certification(
     places: &mut Numbers,
     sigs: &[Sig],
     at: u32,
     sig: &Sig,
+    by: Option<Fpr>,
     validity: &Validity<'_>,
 ) -> Result<(), Memory>
     requires here { slice_get sigs.now at ≡ Some sig.now }
+    requires by { by ≡ certifier_of validity.now.verdicts.now validity.now.t sig.now }
     requires latest { KeepsLatest validity.now.verdicts.now validity.now.t sigs.now validity.now.latest.now.entries }
     ensures { OnOk result (TakesNewest validity.now.verdicts.now validity.now.t sigs.now sig.now
         places.old.entries places.new.entries) }
 {
-    let Some(issuer) = certifier(sig, validity.verdicts, validity.t) else {
-        return Ok(());
-    };
+    let Some(issuer) = by else { return Ok(()) };
     if !stays(sig, number(validity.latest, &issuer)) {
         return Ok(());
     }

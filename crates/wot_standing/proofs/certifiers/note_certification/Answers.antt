@@ -1,4 +1,4 @@
-use Rattle.std.proofs.Common.{◌∙◌, ap, Option, None, Some, refl, sym}
+use Rattle.std.proofs.Common.{◌∙◌, ap, Option, None, refl, sym}
 use Rattle.std.specs.List.{slice_get}
 use Rattle.std.specs.Option.{option_and_then}
 use Rattle.wot_types.specs.declared.fpr.Fpr.{Fpr}
@@ -14,7 +14,7 @@ pub returns-in_default : goal.returns-in_default
 returns-in_default c q =
     let a = c.args in
     let v = a.validity.now in
-    sym (none_newer v.verdicts.now v.t a.sigs.now a.sig.now c.in_default.ensures q
+    sym (none_newer v.verdicts.now v.t a.sigs.now a.sig.now (sym c.in_default.is ∙ c.requires.by) q
     (kept_for a.places.now.entries a.sigs.now q))
 
 pub returns-then-not-stays : goal.returns-then-not-stays
@@ -23,18 +23,20 @@ returns-then-not-stays c =
     let v = a.validity.now in
     let old : Fpr → Option Signature = λ q. kept_for a.places.now.entries a.sigs.now q in
     let issuer = c.in-Some.issuer in
+    let whose = sym c.in-Some.is ∙ c.requires.by in
     unchanged issuer old (λ q best. newer_by v.verdicts.now q v.t a.sigs.now a.sig.now best)
-    (others_newer v.verdicts.now v.t a.sigs.now a.sig.now issuer c.in-Some.ensures)
+    (others_newer v.verdicts.now v.t a.sigs.now a.sig.now issuer whose)
     (not_newer v.verdicts.now issuer v.t a.sigs.now a.sig.now (old issuer) c.number.result
     (c.number.ensures ∙ c.requires.latest issuer)
-    (valid_by v.verdicts.now issuer v.t c.number.result a.sig.now _ c.in-Some.ensures c.if-not-stays.ensures))
+    (valid_by v.verdicts.now issuer v.t c.number.result a.sig.now _ whose c.if-not-stays.ensures))
 
 pub returns-in_default-2 : goal.returns-in_default-2
 returns-in_default-2 c =
     let a = c.args in
     let v = a.validity.now in
     let issuer = c.in-Some.issuer in
-    takes v.verdicts.now v.t a.sigs.now a.sig.now issuer a.places.now.entries c.number.result c.in-Some.ensures
+    let whose = sym c.in-Some.is ∙ c.requires.by in
+    takes v.verdicts.now v.t a.sigs.now a.sig.now issuer a.places.now.entries c.number.result whose
     (c.number.ensures ∙ c.requires.latest issuer) c.if-not-stays.ensures a.at c.keep.new.numbers.entries None
     c.requires.here c.in_ok-other.ensures.keeps
     (ap (option_and_then (slice_get a.sigs.now)) (sym c.in_default-2.is ∙ c.in_ok-other.ensures.old)) refl
@@ -44,7 +46,8 @@ returns-then-is_newest c =
     let a = c.args in
     let v = a.validity.now in
     let issuer = c.in-Some.issuer in
-    takes v.verdicts.now v.t a.sigs.now a.sig.now issuer a.places.now.entries c.number.result c.in-Some.ensures
+    let whose = sym c.in-Some.is ∙ c.requires.by in
+    takes v.verdicts.now v.t a.sigs.now a.sig.now issuer a.places.now.entries c.number.result whose
     (c.number.ensures ∙ c.requires.latest issuer) c.if-not-stays.ensures a.at c.keep.new.numbers.entries
     (slice_get a.sigs.now c.in-Some-2.other) c.requires.here c.in_ok-other.ensures.keeps
     (ap (option_and_then (slice_get a.sigs.now)) (sym c.in-Some-2.is ∙ c.in_ok-other.ensures.old))
@@ -55,7 +58,8 @@ returns c =
     let a = c.args in
     let v = a.validity.now in
     let issuer = c.in-Some.issuer in
-    comes_back v.verdicts.now v.t a.sigs.now a.sig.now issuer a.places.now.entries c.number.result c.in-Some.ensures
+    let whose = sym c.in-Some.is ∙ c.requires.by in
+    comes_back v.verdicts.now v.t a.sigs.now a.sig.now issuer a.places.now.entries c.number.result whose
     (c.number.ensures ∙ c.requires.latest issuer) c.if-not-stays.ensures a.at c.in-Some-2.other
     c.keep.new.numbers.entries c.keep-2.new.numbers.entries (sym c.in_ok-other.ensures.old ∙ c.in-Some-2.is)
     c.in_ok-other.ensures.keeps c.in_ok-keep.ensures.keeps
