@@ -65,7 +65,7 @@ at_placed issuer uid Greater e y ys f rest =
     ∙ swapped (is_edge_of issuer uid e) (is_edge_of issuer uid y) e y (edge_at ys issuer uid) (λ a b. let t =
     tied issuer uid e y a b in absurd (cc (f, t)))
 
-at_put : (issuer : Fpr) (uid : ℕ) (e : EdgeFacts) (es : List EdgeFacts) → edge_at (with_edge e es) issuer uid ≡ cond
+pub at_put : (issuer : Fpr) (uid : ℕ) (e : EdgeFacts) (es : List EdgeFacts) → edge_at (with_edge e es) issuer uid ≡ cond
     (is_edge_of issuer uid e) (Some e) (edge_at es issuer uid)
 at_put issuer uid e [] = refl
 at_put issuer uid e (y ∷ ys) = at_placed issuer uid (edge_cmp e y) e y ys refl (at_put issuer uid e ys)
@@ -118,10 +118,10 @@ edge_with-is verdicts target t uid p s e h = by (issuer_of verdicts s) h
 abbrev IsFrom : Fpr → ℕ → EdgeFacts → Type 0
 IsFrom target uid e = (e.target ≡ target) × (uid ≤ e.uid)
 
-abbrev IsOn : Fpr → ℕ → EdgeFacts → Type 0
+abbrev pub IsOn : Fpr → ℕ → EdgeFacts → Type 0
 IsOn target uid e = (e.target ≡ target) × (e.uid ≡ uid)
 
-all_on : (verdicts : Entries) (target : Fpr) (t uid : ℕ) (p : Component) →
+pub all_on : (verdicts : Entries) (target : Fpr) (t uid : ℕ) (p : Component) →
     AllByRecursion (IsOn target uid) (edges_on verdicts target t uid p)
 all_on verdicts target t uid p =
     all_filter_map (IsOn target uid) (edge_with verdicts target t uid p) (λ s e h. let i =
@@ -221,7 +221,7 @@ module _ (verdicts : Entries) (target : Fpr) (t : ℕ) (issuer : Fpr) (uid : ℕ
   at_signatures (s ∷ ss) = at_signature (issuer_of verdicts s) (filter_map (edge_with verdicts target t uid p) ss)
       (list_any (counts_by verdicts issuer) ss) (at_signatures ss)
 
-  at_user_id : OnlyCounting verdicts t → edge_at (edges_on verdicts target t uid p) issuer uid ≡ edge_on verdicts target
+  pub at_user_id : OnlyCounting verdicts t → edge_at (edges_on verdicts target t uid p) issuer uid ≡ edge_on verdicts target
       t issuer uid p
   at_user_id only = at_signatures p.sigs ∙ by (list_any (counts_by verdicts issuer) p.sigs) refl
     where
@@ -232,7 +232,7 @@ module _ (verdicts : Entries) (target : Fpr) (t : ℕ) (issuer : Fpr) (uid : ℕ
 
 -- ---- among all user IDs
 
-none_at : (issuer : Fpr) (uid : ℕ) (es : List EdgeFacts) → AllByRecursion (λ e. (e.uid == uid) ≡ false) es →
+pub none_at : (issuer : Fpr) (uid : ℕ) (es : List EdgeFacts) → AllByRecursion (λ e. (e.uid == uid) ≡ false) es →
     edge_at es issuer uid ≡ None
 none_at issuer uid [] h = refl
 none_at issuer uid (e ∷ es) h =
@@ -260,7 +260,7 @@ apart a b never = grind (arith, nat_tests)
 later_apart : (target : Fpr) (uid : ℕ) (e : EdgeFacts) → IsFrom target (uid + 1) e → (e.uid == uid) ≡ false
 later_apart target uid e h = let above : uid + 1 ≤ e.uid = h.1 in apart e.uid uid (λ same. omega arith)
 
-other_apart : (target : Fpr) (uid place : ℕ) (e : EdgeFacts) → (place ≡ uid → ⊥) → IsOn target place e →
+pub other_apart : (target : Fpr) (uid place : ℕ) (e : EdgeFacts) → (place ≡ uid → ⊥) → IsOn target place e →
     (e.uid == uid) ≡ false
 other_apart target uid place e never h = apart e.uid uid (λ same. never (sym h.1 ∙ same))
 

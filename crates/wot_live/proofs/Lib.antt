@@ -2,6 +2,7 @@ pub mod Orders
 pub mod EdgesInserted
 pub mod Exact
 pub mod OneList
+pub mod EdgesKept
 pub mod IssuersInOrder
 pub mod EdgesAreRows
 pub mod EdgesBounded

@@ -1,6 +1,5 @@
--- Signatures and user IDs by their places.
-use Rattle.std.proofs.Common.{◌≡◌, ℕ, zero, suc, ◌+◌, false, cond, List, [], ◌∷◌, ◌++◌, length, Some, None, refl, sym, ap}
-use Rattle.std.proofs.Common.{◌∙◌, arith}
+-- Signatures by their places.
+use Rattle.std.proofs.Common.{◌≡◌, ℕ, zero, suc, ◌+◌, false, cond, List, [], ◌∷◌, Some, sym, ap, ◌∙◌, arith}
 use Rattle.std.specs.declared.cmp.Ordering.TheVariants.{Less}
 use Rattle.std.specs.Cmp.{IsTotalOrder}
 use Rattle.std.specs.List.{slice_get}
@@ -9,14 +8,11 @@ use Rattle.std.specs.Ordering.{is_eq, ordering_reverse}
 use Rattle.std.proofs.lemmas.Cmp.{nat_list_cmp_total, on_total, tied_itself}
 use Rattle.wot_types.specs.declared.fpr.Fpr.{Fpr}
 use Rattle.wot_signature.specs.declared.facts.SigFacts.{SigFacts}
-use Rattle.wot_verdict.specs.Verdicts.{Entries}
 use Rattle.wot_part.specs.Certificate.{Signature, Component, said_by, sig_cmp}
-use Rattle.wot_cert.specs.Issuer.{issuer_of}
 use Rattle.wot_part.specs.Ranked.{IsRising, IsBelow}
 use Rattle.wot_edge.specs.declared.edge.EdgeFacts.{EdgeFacts}
-use Rattle.wot_standing.specs.Certifiers.{KeepsNewest, kept_for}
-use Rattle.wot_live.specs.Edge.{signature_place, edge_facts, edge_by, edge_on}
-use Rattle.wot_live.specs.Found.{edge_at_place, edge_kept, edge_with}
+use Rattle.wot_live.specs.Edge.{signature_place, edge_facts, edge_by}
+use Rattle.wot_live.specs.Found.{edge_at_place}
 
 sig_total : IsTotalOrder sig_cmp
 sig_total = on_total (λ s. s.body) nat_list_cmp_total
@@ -41,22 +37,6 @@ place_at s (x ∷ xs) zero h e =
 place_at s (x ∷ xs) (suc k) h e =
     ap (λ b. cond b 0 (signature_place s xs + 1)) (not_tied x s (below_at x s xs k h.0 e))
     ∙ (let rest = place_at s xs k h.1 e in omega (arith, rest))
-
--- the signature behind these
-pub behind : (ss rest : List Signature) (s : Signature) → slice_get (ss ++ s ∷ rest) (length ss) ≡ Some s
-behind [] rest s = refl
-behind (x ∷ ss) rest s = behind ss rest s
-
--- The edge by the places that are kept is that of the newest certification.
-pub kept_is : (verdicts : Entries) (target : Fpr) (t uid : ℕ) (p : Component) (places : List (Fpr × ℕ)) →
-    KeepsNewest verdicts t p places → (s : Signature)
-    → edge_kept verdicts target uid p places s ≡ edge_with verdicts target t uid p s
-kept_is verdicts target t uid p places h s =
-    elim (issuer_of verdicts s) as (λ o. option_and_then (λ issuer. option_and_then (edge_by issuer target uid p.sigs)
-    (kept_for places p.sigs issuer)) o ≡ option_and_then (λ issuer. edge_on verdicts target t issuer uid p) o) [
-      | Some issuer ↦ ap (option_and_then (edge_by issuer target uid p.sigs)) (h issuer)
-      | None ↦ refl
-    ]
 
 -- the edge of the signature at a place
 pub terms_at : (issuer target : Fpr) (uid place : ℕ) (p : Component) (s : Signature) (f : SigFacts) (e : EdgeFacts) →

@@ -13,7 +13,6 @@ use Rattle.wot_cert.specs.Issuer.{issuer_of}
 use Rattle.wot_part.specs.Ranked.{put, united}
 use Rattle.wot_edge.specs.declared.edge.EdgeFacts.{EdgeFacts}
 use Rattle.wot_edge.specs.Order.{edge_cmp}
-use Rattle.wot_standing.specs.Certifiers.{kept_for}
 use Rattle.wot_standing.specs.Standing.{own}
 use Rattle.wot_live.specs.declared.found.EdgePlace.{EdgePlace}
 use Rattle.wot_live.specs.Edge.{edge_by, edge_on}
@@ -78,12 +77,6 @@ Gains more = Becomes (λ edges. with_edges edges more)
 -- the edge of the signature at this place on the user ID
 abbrev pub edge_at_place : Fpr → Fpr → ℕ → Component → ℕ → Option EdgeFacts
 edge_at_place issuer target uid p place = option_and_then (edge_by issuer target uid p.sigs) (slice_get p.sigs place)
-
--- the edge that the issuer of a signature has, by the places that are kept
-abbrev pub edge_kept : Entries → Fpr → ℕ → Component → List (Fpr × ℕ) → Signature → Option EdgeFacts
-edge_kept verdicts target uid p places s =
-    option_and_then (λ issuer. option_and_then (edge_by issuer target uid p.sigs) (kept_for places p.sigs issuer))
-    (issuer_of verdicts s)
 
 -- few enough signatures for their indices
 abbrev pub HasFew : Component → Type 0

@@ -9,11 +9,13 @@ use Rattle.wot_verdict.specs.Verdicts.{Entries}
 use Rattle.wot_part.specs.Certificate.{Certificate}
 use Rattle.wot_part.specs.Counts.{sigs_on}
 use Rattle.wot_cert.specs.Issuer.{issuer_of}
+use Rattle.wot_cert.specs.declared.moments.Span.{Span}
 use Rattle.wot_edge.specs.declared.edge.EdgeFacts.{EdgeFacts}
 use Rattle.wot_edge.specs.Order.{edge_cmp}
 use Rattle.wot_edge.specs.Record.{Has}
 use Rattle.wot_standing.specs.Own.{is_own_revoked}
-use Rattle.wot_standing.specs.Standing.{own}
+use Rattle.wot_standing.specs.Standing.{own, standing_of}
+use Rattle.wot_standing.specs.Throughout.{IsThroughout}
 use Rattle.wot_live.specs.Edge.{edge_of}
 
 -- ---- the edges
@@ -68,3 +70,9 @@ places_where test place (x ∷ xs) =
 -- the places of the user IDs that are revoked by the certificate's own key at t
 abbrev pub revoked_of : Entries → Certificate → ℕ → List ℕ
 revoked_of verdicts c t = places_where (is_own_revoked verdicts (own c) t) 0 c.user_ids
+
+-- ---- the standing
+
+-- The standing of the key is the same throughout a span as at t.
+abbrev pub StandsThroughout : Entries → Certificate → ℕ → Span → Type 0
+StandsThroughout verdicts c t span = IsThroughout span (standing_of verdicts c) (standing_of verdicts c t)

@@ -1,18 +1,20 @@
-//! Finds the edges of all issuers into one certificate, in the order of issuer and user ID. It walks over the
-//! signatures once and asks wot_standing for each issuer's newest certification. What is found is `found_edges`, and by
-//! the law `found_are_edges` it is `edges_of`.
+//! Finds the edges of all issuers into one certificate, in the order of issuer and user ID. wot_standing walks over the
+//! signatures of a user ID once and lists each issuer with its newest certification, which makes an edge. What is found
+//! is `found_edges`, and by the law `found_are_edges` it is `edges_of`.
 ghost use Rattle.std.specs.Prelude.{◌≡◌, ◌<◌, ◌^◌, [], length, OnOk, IfOk};
 ghost use Rattle.std.specs.List.{AllByRecursion, cons_option};
-ghost use Rattle.wot_standing.specs.Certifiers.{StandsAt};
-ghost use Rattle.wot_live.specs.Found.{Becomes, Gains, HasFew, by_place, edge_kept, edges_on, found_edges, with_edge};
+ghost use Rattle.std.specs.List.Sorted.{IsStrictlySortedBy};
+ghost use Rattle.std.specs.Map.{keys_of};
+ghost use Rattle.wot_live.specs.Found.{Becomes, Gains, HasFew, by_place, edges_on, found_edges, place_cmp, with_edge};
 ghost use Rattle.wot_live.specs.Found.{edge_at_place as edge_at_place_spec};
 
 use crate::terms::terms;
 use std::alloc::Global;
 use std::collections::BTreeMap;
-use wot_cert::{Cert, Part, Sig};
+use wot_cert::{Cert, Part};
 use wot_edge::EdgeFacts;
 use wot_standing::Certifiers;
+use wot_standing::laws::certifications_count;
 use wot_types::{Fpr, Memory};
 use wot_verdict::Verdicts;
 
@@ -33,6 +35,13 @@ struct Target<'a> {
 
 pub(crate) type Found = BTreeMap<EdgePlace, EdgeFacts, Global>;
 
+/// A law: the places rise.
+fn in_order(found: &Found)
+    ensures { IsStrictlySortedBy place_cmp (keys_of found.now.entries) }
+{
+    let _ = found.len();
+}
+
 fn put_edge(found: &mut Found, edge: EdgeFacts) -> Result<(), Memory>
     ensures { OnOk result (Becomes (with_edge edge) found.old.entries found.new.entries) }
 {
@@ -51,23 +60,6 @@ fn edge_at_place(part: &Part, place: u32, issuer: Fpr, target: Fpr, uid: u32) ->
     let sig = part.sigs().get(place as usize)?;
     let said = sig.facts()?;
     Some(terms(issuer, target, uid, place, said))
-}
-
-/// The edge that the issuer of the signature at this place has on the user ID.
-fn edge_with(
-    sig: &Sig,
-    at: u32,
-    part: &Part,
-    uid: u32,
-    to: &Target<'_>,
-    certifiers: &Certifiers,
-) -> Option<EdgeFacts>
-    requires stands { StandsAt to.now.verdicts.now certifiers.now at sig.now }
-    ensures { result ≡ edge_kept to.now.verdicts.now to.now.fpr uid part.now certifiers.now sig.now }
-{
-    let issuer = certifiers.issuer(sig, at, to.verdicts)?;
-    let place = certifiers.place(&issuer)?;
-    edge_at_place(part, place, issuer, to.fpr, uid)
 }
 
 fn put_some(found: &mut Found, edge: Option<EdgeFacts>) -> Result<(), Memory>
@@ -92,11 +84,10 @@ fn put_edges_on(
         found.old.entries found.new.entries) }
 {
     let certifiers = Certifiers::new(alloc, part, to.verdicts, to.t)?;
-    let mut rest = part.sigs();
-    'back: while let Some((sig, prefix)) = rest.split_last() {
-        rest = prefix;
-        let at = prefix.len() as u32;
-        let edge = edge_with(sig, at, part, uid, to, &certifiers);
+    certifications_count();
+    in_order(found);
+    'issuers: for (issuer, place) in certifiers.iter() {
+        let edge = edge_at_place(part, *place, *issuer, to.fpr, uid);
         put_some(found, edge)?;
     }
     Ok(())

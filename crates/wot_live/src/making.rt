@@ -10,7 +10,7 @@ ghost use Rattle.wot_part.specs.Text.{size_of};
 ghost use Rattle.wot_edge.specs.Order.{edge_cmp};
 ghost use Rattle.wot_standing.specs.Standing.{own};
 ghost use Rattle.wot_standing.specs.Throughout.{IsThroughout};
-ghost use Rattle.wot_live.specs.Rows.{AreInto, AreRows, edges_of, revoked_of};
+ghost use Rattle.wot_live.specs.Rows.{AreInto, AreRows, StandsThroughout, edges_of, revoked_of};
 
 use crate::Rows;
 use crate::found::{Found, find_edges};
@@ -32,7 +32,7 @@ fn make_edges(alloc: Global, found: &Found, steps: &mut Steps) -> Result<Vec<Edg
 {
     // Reading the count brings its range into the proof.
     let _made = steps.made;
-    let mut edges = Vec::new(alloc);
+    let mut edges = Vec::with_capacity(alloc, found.len())?;
     for facts in found.values() {
         edges.push(Edge::make(*facts, steps))?;
     }
@@ -40,7 +40,7 @@ fn make_edges(alloc: Global, found: &Found, steps: &mut Steps) -> Result<Vec<Edg
 }
 
 /// The edges into a certificate at a time, the user IDs that its own key revoked, and the span of times in which both
-/// stay the same.
+/// stay the same, and so does the standing of its key.
 ///
 /// The edge of an issuer and a user ID is the newest certification there that counts for the issuer, is live and
 /// unrevoked. A self-certification has depth 0, amount 120 and no scope. Each new edge is counted.
@@ -61,6 +61,7 @@ pub fn rows(
     ensures throughout { IfOk result (λ done. IsThroughout done.1 (edges_of verdicts.now cert.now) done.0.edges.items) }
     ensures revoked_throughout { IfOk result
         (λ done. IsThroughout done.1 (revoked_of verdicts.now cert.now) done.0.revoked.items) }
+    ensures standing { IfOk result (λ done. StandsThroughout verdicts.now cert.now t done.1) }
     ensures made_least { IfOk result
         (λ done. min (steps.old.made + length done.0.edges.items) u64.MAX ≤ steps.new.made) }
     ensures made_most { steps.new.made ≤ steps.old.made + signatures_of cert.now }

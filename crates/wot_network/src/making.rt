@@ -10,7 +10,7 @@ use crate::line::NetLine;
 use std::alloc::Global;
 use wot_cert::Cert;
 use wot_live::rows;
-use wot_standing::standing;
+use wot_standing::standing_at;
 use wot_types::{Memory, Steps};
 use wot_verdict::Verdicts;
 
@@ -31,7 +31,7 @@ pub(crate) fn make(
     ensures never_less { steps.old.made ≤ steps.new.made }
 {
     let (rows, span) = rows(alloc, cert, verdicts, t, steps)?;
-    let (standing, _) = standing(cert, verdicts, t);
+    let standing = standing_at(cert, verdicts, t);
     Ok(NetLine {
         stamp,
         edges: rows.edges,

@@ -3,4 +3,4 @@ pub mod SpanLaw
 pub mod NumbersByIssuer
 pub mod CountsAsIssuer
 pub mod OtherIssuerNamed
-pub mod Whose
+pub mod Taking

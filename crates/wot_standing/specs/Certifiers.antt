@@ -16,6 +16,7 @@ use Rattle.wot_standing.specs.declared.kinds.Binding.TheVariants.{Certification}
 use Rattle.wot_standing.specs.Kinds.{is_certification}
 use Rattle.wot_standing.specs.Latest.{revoked_at, is_valid_after}
 use Rattle.wot_standing.specs.Standing.{newest_certification}
+use Rattle.wot_standing.specs.Valid.{newest_valid}
 
 -- ---- numbers by issuer
 
@@ -37,12 +38,10 @@ abbrev pub KeepsNewest : Entries → ℕ → Component → List (Fpr × ℕ) →
 KeepsNewest verdicts t uid places =
     (issuer : Fpr) → kept_for places uid.sigs issuer ≡ newest_certification verdicts issuer t uid
 
--- It is at this place on a user ID whose newest certifications at some time are kept at these places.
-pub record StandsAt (verdicts : Entries) (places : List (Fpr × ℕ)) (at : ℕ) (s : Signature) : Type 0 where
-  pub uid : Component
-  pub t : ℕ
-  pub keeps : KeepsNewest verdicts t uid places
-  pub here : slice_get uid.sigs at ≡ Some s
+-- The places are those of the newest valid certification of each issuer among these signatures.
+abbrev pub AreNewestAmong : Entries → ℕ → List Signature → List (Fpr × ℕ) → Type 0
+AreNewestAmong verdicts t sigs places =
+    (issuer : Fpr) → kept_for places sigs issuer ≡ newest_valid verdicts issuer t Certification sigs
 
 -- ---- whose a signature is
 

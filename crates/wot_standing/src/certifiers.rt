@@ -1,18 +1,16 @@
 //! The newest valid certification of every issuer on a user ID, found in one walk over its signatures.
 //!
 //! It stands on `latest`, `newest` and `kinds`, and on `specs/Certifiers.antt`. `wot_live` makes one edge of each.
-ghost use Rattle.std.specs.Prelude.{◌≡◌, ◌<◌, ◌^◌, length, true, Some, OnOk, IfOk, if◌then◌else◌};
+ghost use Rattle.std.specs.Prelude.{◌≡◌, ◌<◌, ◌^◌, length, map, Some, OnOk, IfOk, if◌then◌else◌};
 ghost use Rattle.std.specs.List.{slice_get};
-ghost use Rattle.std.specs.Option.{option_and_then, option_copied};
-ghost use Rattle.wot_types.specs.declared.fpr.Fpr.{Fpr as TheFpr};
-ghost use Rattle.wot_part.specs.Certificate.{said_by};
-ghost use Rattle.wot_cert.specs.Issuer.{issuer_of as issuer_in};
+ghost use Rattle.std.specs.List.Sorted.{IsStrictlySortedBy};
+ghost use Rattle.std.specs.Map.{keys_of};
+ghost use Rattle.std.specs.Option.{option_copied, option_flatten};
+ghost use Rattle.wot_types.specs.Fpr.{fpr_cmp};
 ghost use Rattle.wot_part.specs.Ranked.{higher_of};
 ghost use Rattle.wot_cert.specs.Time.{newness};
-ghost use Rattle.wot_standing.specs.declared.kinds.Binding.TheVariants.{Certification};
-ghost use Rattle.wot_standing.specs.Certifiers.{certifier_of, kept_for, number_for, revoker_of};
-ghost use Rattle.wot_standing.specs.Valid.{newest_valid};
-ghost use Rattle.wot_standing.specs.Certifiers.{KeepsLatest, KeepsNewest, KeepsNumber, StandsAt};
+ghost use Rattle.wot_standing.specs.Certifiers.{certifier_of, number_for, revoker_of, AreNewestAmong};
+ghost use Rattle.wot_standing.specs.Certifiers.{KeepsLatest, KeepsNewest, KeepsNumber};
 ghost use Rattle.wot_standing.specs.Certifiers.{TakesLatest, TakesNewest};
 
 use crate::kinds::{CERTIFICATION_REVOCATION, has_kind, is_certification, is_live, made};
@@ -21,6 +19,7 @@ use crate::newest::{compare_newness, stays};
 use std::alloc::Global;
 use std::cmp::Ordering;
 use std::collections::BTreeMap;
+use std::collections::btree_map::Iter;
 use std::marker::Model;
 use wot_cert::{Part, Sig, issuer_of};
 use wot_types::{Fpr, Memory};
@@ -59,7 +58,13 @@ impl Certifiers {
         ensures newest { IfOk result (λ found. KeepsNewest verdicts.now t uid.now found) }
     {
         let latest = latest_revocations(alloc, uid.sigs(), verdicts, t)?;
-        let places = newest_places(alloc, uid.sigs(), verdicts, t, &latest)?;
+        let issuers = certifiers_in(alloc, uid.sigs(), verdicts, t)?;
+        let validity = Validity {
+            verdicts,
+            t,
+            latest: &latest,
+        };
+        let places = newest_places(alloc, uid.sigs(), &issuers, &validity)?;
         Ok(Certifiers { places })
     }
 
@@ -70,35 +75,12 @@ impl Certifiers {
         number(&self.places, issuer)
     }
 
-    /// By whom the signature at this place on the user ID counts. If it names an issuer and is kept for that one, it's
-    /// that one's, and no verdict has to be looked up.
-    pub fn issuer(&self, sig: &Sig, at: u32, verdicts: &Verdicts) -> Option<Fpr>
-        requires stands { StandsAt verdicts.now self.now at sig.now }
-        ensures issuer { result ≡ issuer_in verdicts.now sig.now }
+    /// The issuers in order, each with the place of its certification.
+    pub fn iter(&self) -> Iter<'_, Fpr, u32>
+        ensures places { result ≡ self.now }
+        ensures sorted { IsStrictlySortedBy fpr_cmp (keys_of self.now) }
     {
-        let Some(named) = named_issuer(sig) else {
-            return issuer_of(sig, verdicts);
-        };
-        if is_kept(&self.places, &named, at) {
-            return Some(named);
-        }
-        issuer_of(sig, verdicts)
-    }
-}
-
-fn named_issuer(sig: &Sig) -> Option<Fpr>
-    ensures { result ≡ option_and_then (λ f. f.issuer) (said_by sig.now) }
-{
-    sig.facts()?.issuer
-}
-
-/// Whether this place is kept for an issuer.
-fn is_kept(places: &Numbers, issuer: &Fpr, at: u32) -> bool
-    ensures { result ≡ true → number_for places.now.entries issuer.now ≡ Some at }
-{
-    match number(places, issuer) {
-        Some(place) => place == at,
-        None => false,
+        self.places.iter()
     }
 }
 
@@ -108,11 +90,13 @@ fn number(numbers: &Numbers, issuer: &Fpr) -> Option<u32>
     numbers.get(issuer).copied()
 }
 
-fn keep(numbers: &mut Numbers, issuer: Fpr, number: u32) -> Result<(), Memory>
-    ensures { OnOk result (KeepsNumber numbers.old.entries numbers.new.entries issuer number) }
+/// Keeps a number for an issuer, in place of the one that is returned.
+fn keep(numbers: &mut Numbers, issuer: Fpr, number: u32) -> Result<Option<u32>, Memory>
+    ensures old { IfOk result (λ old. old ≡ number_for numbers.old.entries issuer) }
+    ensures keeps { OnOk result (KeepsNumber numbers.old.entries numbers.new.entries issuer number) }
 {
-    numbers.insert(issuer, number)?;
-    Ok(())
+    let old = numbers.insert(issuer, number)?;
+    Ok(old)
 }
 
 /// By whom a signature is a live revocation. What costs a look at the verdicts is asked last.
@@ -135,6 +119,25 @@ fn certifier(sig: &Sig, verdicts: &Verdicts, t: u32) -> Option<Fpr>
     } else {
         None
     }
+}
+
+/// By whom each of these signatures is a live certification. Nothing else is done between the looks at the verdicts:
+/// these lie far apart in memory, and so the processor fetches several at once.
+fn certifiers_in(
+    alloc: Global,
+    sigs: &[Sig],
+    verdicts: &Verdicts,
+    t: u32,
+) -> Result<Vec<Option<Fpr>>, Memory>
+    ensures { IfOk result (λ issuers. issuers.items ≡ map (certifier_of verdicts.now t) sigs.now) }
+{
+    let mut issuers = Vec::with_capacity(alloc, sigs.len())?;
+    let mut rest = sigs;
+    'rest: while let Some((sig, others)) = rest.split_first() {
+        issuers.push(certifier(sig, verdicts, t))?;
+        rest = others;
+    }
+    Ok(issuers)
 }
 
 /// When each issuer's latest live revocation among these signatures was created.
@@ -168,70 +171,76 @@ fn note_revocation(
         return Ok(());
     };
     let best = later(made(sig), number(latest, &issuer));
-    keep(latest, issuer, best)?;
+    let _ = keep(latest, issuer, best)?;
     Ok(())
 }
 
-/// The place of each issuer's newest valid certification.
+/// The place of each issuer's newest valid certification, given by whom each signature is one.
 fn newest_places(
     alloc: Global,
     sigs: &[Sig],
-    verdicts: &Verdicts,
-    t: u32,
-    latest: &Numbers,
+    issuers: &[Option<Fpr>],
+    validity: &Validity<'_>,
 ) -> Result<Numbers, Memory>
     requires few { length sigs.now < 2 ^ 32 }
-    requires latest { KeepsLatest verdicts.now t sigs.now latest.now.entries }
-    ensures { IfOk result (λ places. (q : TheFpr)
-        → kept_for places.entries sigs.now q ≡ newest_valid verdicts.now q t Certification sigs.now) }
+    requires issuers { issuers.now ≡ map (certifier_of validity.now.verdicts.now validity.now.t) sigs.now }
+    requires latest { KeepsLatest validity.now.verdicts.now validity.now.t sigs.now validity.now.latest.now.entries }
+    ensures { IfOk result
+        (λ places. AreNewestAmong validity.now.verdicts.now validity.now.t sigs.now places.entries) }
 {
     let mut places = BTreeMap::new(alloc);
-    let validity = Validity {
-        verdicts,
-        t,
-        latest,
-    };
     let mut rest = sigs;
     'back: while let Some((sig, prefix)) = rest.split_last() {
         rest = prefix;
-        note_certification(&mut places, sigs, prefix.len() as u32, sig, &validity)?;
+        let by = issuer_at(issuers, prefix.len());
+        note_certification(&mut places, sigs, prefix.len() as u32, sig, by, validity)?;
     }
     Ok(places)
 }
 
-/// Adds the signature at this place to the newest certifications.
+fn issuer_at(issuers: &[Option<Fpr>], at: usize) -> Option<Fpr>
+    ensures { result ≡ option_flatten (slice_get issuers.now at) }
+{
+    match issuers.get(at) {
+        Some(issuer) => *issuer,
+        None => None,
+    }
+}
+
+/// Adds the signature at this place to the newest certifications, if it is one by somebody. Most issuers have no other
+/// one, so the place is kept first, and what it replaced comes back if it is newer.
 fn note_certification(
     places: &mut Numbers,
     sigs: &[Sig],
     at: u32,
     sig: &Sig,
+    by: Option<Fpr>,
     validity: &Validity<'_>,
 ) -> Result<(), Memory>
     requires here { slice_get sigs.now at ≡ Some sig.now }
+    requires by { by ≡ certifier_of validity.now.verdicts.now validity.now.t sig.now }
     requires latest { KeepsLatest validity.now.verdicts.now validity.now.t sigs.now validity.now.latest.now.entries }
     ensures { OnOk result (TakesNewest validity.now.verdicts.now validity.now.t sigs.now sig.now
         places.old.entries places.new.entries) }
 {
-    let Some(issuer) = certifier(sig, validity.verdicts, validity.t) else {
-        return Ok(());
-    };
+    let Some(issuer) = by else { return Ok(()) };
     if !stays(sig, number(validity.latest, &issuer)) {
         return Ok(());
     }
-    if !is_newest(sig, kept(places, sigs, &issuer)) {
+    let Some(other) = keep(places, issuer, at)? else {
+        return Ok(());
+    };
+    if is_newest(sig, sig_at(sigs, other)) {
         return Ok(());
     }
-    keep(places, issuer, at)?;
+    let _ = keep(places, issuer, other)?;
     Ok(())
 }
 
-fn kept<'a>(places: &Numbers, sigs: &'a [Sig], issuer: &Fpr) -> Option<&'a Sig>
-    ensures { option_copied result ≡ kept_for places.now.entries sigs.now issuer.now }
+fn sig_at(sigs: &[Sig], place: u32) -> Option<&Sig>
+    ensures { option_copied result ≡ slice_get sigs.now place }
 {
-    match number(places, issuer) {
-        Some(at) => sigs.get(at as usize),
-        None => None,
-    }
+    sigs.get(place as usize)
 }
 
 /// Whether a signature is newer than the other one, if there is one.

@@ -46,8 +46,9 @@ fn created(cert: &Cert) -> u32
     cert.key().created
 }
 
-fn standing_at(cert: &Cert, verdicts: &Verdicts, t: u32) -> Standing
-    ensures { result ≡ standing_of verdicts.now cert.now t }
+/// Computes the standing alone, as `standing` does, for a caller that has the span already.
+pub fn standing_at(cert: &Cert, verdicts: &Verdicts, t: u32) -> Standing
+    ensures standing { result ≡ standing_of verdicts.now cert.now t }
 {
     let fpr = cert.fpr();
     let by = governing(cert, verdicts, t);

@@ -17,7 +17,7 @@ mod steady;
 mod usable;
 
 pub use certifiers::Certifiers;
-pub use governing::standing;
+pub use governing::{standing, standing_at};
 pub use own::is_own_revoked;
 pub use status::Standing;
 pub use steady::steady_span;

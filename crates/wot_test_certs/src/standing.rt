@@ -12,7 +12,8 @@ use wot_sample::{
     OWN_USER_IDS_REVOKED, POSITIVE, R, SEVERAL_ISSUERS, SPANS, T,
 };
 use wot_standing::{
-    Certifiers, Standing, is_key_in_order, is_own_revoked, is_usable, standing, steady_span,
+    Certifiers, Standing, is_key_in_order, is_own_revoked, is_usable, standing, standing_at,
+    steady_span,
 };
 use wot_verdict::Verdicts;
 
@@ -136,7 +137,7 @@ fn stands_so(rt: &impl Abort, alloc: Global, case: &Case) -> bool {
         hard,
         soft,
     };
-    found == expected && span == Span { from, to }
+    found == expected && span == Span { from, to } && standing_at(&cert, &verdicts, t) == expected
 }
 
 #[test]
@@ -174,6 +175,13 @@ fn usable_and_in_order(rt: HostRuntime) {
     }
 }
 
+/// Whether the list has the places that are found by issuer.
+fn lists_its_places(found: &Certifiers) -> bool {
+    found
+        .iter()
+        .all(|(issuer, place)| found.place(issuer) == Some(*place))
+}
+
 /// Whether the certifications by R, A and T on a user ID are these at a time, and whether its own key revoked it.
 fn stand_at(
     rt: &impl Abort,
@@ -190,6 +198,7 @@ fn stand_at(
     found.place(&R) == of_r
         && found.place(&A) == of_a
         && found.place(&T) == of_t
+        && lists_its_places(&found)
         && is_own_revoked(uid, verdicts, &T, t) == revoked
 }
 

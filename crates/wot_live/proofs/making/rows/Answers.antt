@@ -69,6 +69,9 @@ returns-clause-revoked_throughout c =
     λ u h. sym (revoked_same a.verdicts.now a.cert.now a.t u (c.steady_span.ensures.certifications u h a.verdicts.now
     (own a.cert.now))) ∙ sym c.in_ok-revoked.ensures
 
+pub returns-clause-standing : goal.returns-clause-standing
+returns-clause-standing c = λ u h. c.steady_span.ensures.standings u h c.args.verdicts.now
+
 pub returns-clause-made_most : goal.returns-clause-made_most
 returns-clause-made_most c =
     made_within c.args.verdicts.now c.args.cert.now c.args.t c.args.steps.now.made c.make_edges.new.steps.made
