@@ -58,10 +58,15 @@ def is_changed(crate: Path) -> bool:
     return not stamp.exists() or any(file.stat().st_mtime > stamp.stat().st_mtime for file in sources(crate))
 
 
+def sizes(root: Path, graph: Graph) -> dict[str, int]:
+    """The lines of each crate."""
+    return {name: 1 + sum(len(file.read_bytes().splitlines()) for file in sources(root / "crates" / name))
+            for name in graph}
+
+
 def work_above(root: Path, graph: Graph) -> dict[str, int]:
     """The lines of each crate with those of the longest chain of crates above it."""
-    work = {name: 1 + sum(len(file.read_bytes().splitlines()) for file in sources(root / "crates" / name))
-            for name in graph}
+    work = sizes(root, graph)
     above = dict.fromkeys(graph, 0)
     for name in reversed([*TopologicalSorter(graph).static_order()]):
         work[name] += above[name]
