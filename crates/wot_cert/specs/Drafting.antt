@@ -1,6 +1,7 @@
 -- A certificate before its key is known, whose body every signature's number has: sets of bodies.
 use Rattle.std.specs.List.{AllByRecursion}
-use Rattle.std.specs.Prelude.{◌≡◌, true, ℕ, ◌<◌, ◌^◌, length, Bool, ◌==◌, List, [], ◌∷◌, map, filter, if◌then◌else◌}
+use Rattle.std.specs.Prelude.{◌≡◌, true, ℕ, ◌<◌, ◌^◌, ◌==◌, Bool, if◌then◌else◌}
+use Rattle.std.specs.Prelude.{List, [], ◌∷◌, ◌++◌, length, map, filter}
 use Rattle.std.specs.Borrow.{Bor}
 use Rattle.std.specs.BTreeSet.{BTreeSet}
 use Rattle.std.specs.BTreeMap.{is_at}
@@ -10,9 +11,12 @@ use Rattle.std.specs.declared.cmp.Ordering.{Ordering}
 use Rattle.std.specs.Ordering.{nat_cmp}
 use Rattle.std.specs.Cmp.Lexicographic.{slice_cmp}
 use Rattle.wot_packet.specs.Spelling.{Spelled}
+use Rattle.wot_verdict.specs.Number.{IsBegunOn}
+use Rattle.wot_verdict.specs.declared.number.Numbering.{Numbering}
 use Rattle.wot_cert.specs.Packets.{is_key, is_signature, begins_component}
 use Rattle.wot_part.specs.Ranked.{put, united, IsRising}
-use Rattle.wot_part.specs.Certificate.{Component, Certificate, fresh, on_key, on_user_id, on_attribute, on_subkey}
+use Rattle.wot_part.specs.Certificate.{Component, Certificate, Signature}
+use Rattle.wot_part.specs.Certificate.{fresh, on_key, on_user_id, on_attribute, on_subkey}
 use Rattle.wot_cert.specs.Assembly.{Section, cut_at, has_readable_key, certificate_of}
 use Rattle.wot_cert.specs.declared.draft.Draft.{Draft}
 
@@ -108,6 +112,12 @@ pub record IsSketch (s : Sketch) : Type 0 where
   pub subkeys : IsRising group_cmp s.subkeys
 
 -- ---- with the key
+
+-- one more signature on the component that the numbering was made for
+abbrev pub AddsFresh : Numbering → List ℕ → List Signature → List Signature → Type 0
+AddsFresh numbering body old new =
+    (key : List ℕ) (kind : ℕ) (component : List ℕ) → IsBegunOn key kind component numbering
+    → new ≡ old ++ fresh key kind component body ∷ []
 
 abbrev pub part_drafted : List ℕ → ℕ → Group → Component
 part_drafted key kind group = record { body = group.0; sigs = map (fresh key kind group.0) group.1 }

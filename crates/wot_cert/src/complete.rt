@@ -4,7 +4,7 @@
 ghost use Rattle.std.specs.Prelude.{◌≡◌, ◌<◌, ◌^◌, ◌++◌, ◌∷◌, [], OnOk, IfOk, map, length};
 ghost use Rattle.std.specs.List.{AllByRecursion};
 ghost use Rattle.wot_part.specs.Certificate.{fresh};
-ghost use Rattle.wot_cert.specs.Drafting.{IsShort, IsShortGroup, body_cmp, part_drafted};
+ghost use Rattle.wot_cert.specs.Drafting.{AddsFresh, IsShort, IsShortGroup, body_cmp, part_drafted};
 ghost use Rattle.wot_cert.specs.Drafting.{bodies_in, groups_in};
 ghost use Rattle.wot_part.specs.Ranked.{IsRising};
 
@@ -12,6 +12,7 @@ use crate::draft::{Bodies, Groups};
 use crate::{Part, Sig};
 use std::alloc::Global;
 use wot_types::Memory;
+use wot_verdict::Numbering;
 
 /// The kinds of component in a signature's number: the key, a user ID, a user attribute, a subkey.
 pub(crate) const ON_KEY: u8 = 0;
@@ -25,17 +26,13 @@ pub(crate) const ON_SUBKEY: u8 = 3;
 fn push_fresh(
     alloc: Global,
     sigs: &mut Vec<Sig>,
-    key: &[u8],
-    kind: u8,
-    component: &[u8],
+    numbering: &Numbering,
     body: &[u8],
 ) -> Result<(), Memory>
-    requires key { length key.now < 2 ^ 32 }
-    requires component { length component.now < 2 ^ 32 }
     requires body { length body.now < 2 ^ 32 }
-    ensures pushed { OnOk result (sigs.new.items ≡ sigs.old.items ++ fresh key.now kind component.now body.now ∷ []) }
+    ensures pushed { OnOk result (AddsFresh numbering.now body.now sigs.old.items sigs.new.items) }
 {
-    let sig = Sig::fresh(alloc, key, kind, component, body)?;
+    let sig = Sig::fresh(alloc, numbering, body)?;
     sigs.push(sig)?;
     Ok(())
 }
@@ -55,8 +52,15 @@ pub(crate) fn put_fresh_sigs(
     requires bodies { AllByRecursion IsShort (bodies_in bodies.now) }
     ensures sigs { OnOk result (sigs.new.items ≡ map (fresh key.now kind component.now) (bodies_in bodies.now)) }
 {
+    // Many keys have no signature on the key itself. Nothing is digested for them.
+    if bodies.is_empty() {
+        return Ok(());
+    }
+    // The lists of a certificate that comes alone are kept as they are made, so they get no room to spare.
+    sigs.reserve_exact(bodies.len())?;
+    let numbering = Numbering::on(key, kind, component);
     for body in bodies {
-        push_fresh(alloc, sigs, key, kind, component, body)?;
+        push_fresh(alloc, sigs, &numbering, body)?;
     }
     Ok(())
 }
@@ -115,6 +119,7 @@ pub(crate) fn put_fresh_parts(
     requires rises { AllByRecursion (λ g. IsRising body_cmp g.1) (groups_in groups.now.entries) }
     ensures parts { OnOk result (parts.new.items ≡ map (part_drafted key.now kind) (groups_in groups.now.entries)) }
 {
+    parts.reserve_exact(groups.len())?;
     for (body, sigs) in groups {
         push_drafted(alloc, parts, key, kind, body, sigs)?;
     }

@@ -1,12 +1,13 @@
 -- What a certificate is (RFC 9580, section 10.1), and how two are merged.
-use Rattle.std.specs.Prelude.{ℕ, Bool, false, List, map, Option}
+use Rattle.std.specs.Prelude.{◌≡◌, ℕ, Bool, false, List, map, Option}
 use Rattle.std.specs.declared.cmp.Ordering.{Ordering}
 use Rattle.std.specs.Ordering.{nat_cmp}
 use Rattle.std.specs.Cmp.Lexicographic.{slice_cmp}
 use Rattle.wot_types.specs.declared.number.SigNumber.{SigNumber}
 use Rattle.wot_signature.specs.declared.facts.SigFacts.{SigFacts}
 use Rattle.wot_signature.specs.Signature.{facts_of}
-use Rattle.wot_verdict.specs.Number.{number_of}
+use Rattle.wot_verdict.specs.Number.{IsBegunOn, number_of}
+use Rattle.wot_verdict.specs.declared.number.Numbering.{Numbering}
 use Rattle.wot_part.specs.Ranked.{united}
 
 -- a signature: its body, the number that its body has at its place, and whether the policy admitted it
@@ -55,6 +56,12 @@ on_subkey = 3
 -- the signature with this body at its place, without a mark
 abbrev pub fresh : List ℕ → ℕ → List ℕ → List ℕ → Signature
 fresh key kind component body = record { body = body; number = number_of key kind component body; admitted = false }
+
+-- the signature with this body on the component that the numbering was made for, without a mark
+abbrev pub IsFreshBy : Numbering → List ℕ → Signature → Type 0
+IsFreshBy numbering body s =
+    (key : List ℕ) (kind : ℕ) (component : List ℕ) → IsBegunOn key kind component numbering
+    → s ≡ fresh key kind component body
 
 -- ---- merging
 

@@ -3,7 +3,7 @@
 //! It stands on `wot_signature`, `wot_verdict` and `wot_policy`, and on `specs/Certificate.antt` and
 //! `specs/Judged.antt`. Lists of signatures are sorted by body and merged here.
 ghost use Rattle.std.specs.Prelude.{◌≡◌, ◌<◌, ◌^◌, OnOk, IfOk, [], ◌∷◌, ◌++◌, length, map, if◌then◌else◌};
-ghost use Rattle.wot_part.specs.Certificate.{kept, sig_cmp, unite_sigs, said_by, fresh};
+ghost use Rattle.wot_part.specs.Certificate.{IsFreshBy, kept, sig_cmp, unite_sigs, said_by};
 ghost use Rattle.wot_part.specs.Copied.{mark_under, copied};
 ghost use Rattle.wot_part.specs.Judged.{judged_sig, if_sound};
 ghost use Rattle.wot_part.specs.Marked.{mark_by, one_if_sound, is_admitted_as};
@@ -17,7 +17,7 @@ use std::marker::Model;
 use wot_policy::{Ask, Policy};
 use wot_signature::{SigFacts, read_signature};
 use wot_types::{Memory, SigNumber};
-use wot_verdict::number_of;
+use wot_verdict::Numbering;
 
 /// What a signature holds.
 #[derive(Drop)]
@@ -86,20 +86,12 @@ impl Sig {
         self.held.admitted
     }
 
-    /// The signature with this body at its place, without a mark.
-    pub fn fresh(
-        alloc: Global,
-        key: &[u8],
-        kind: u8,
-        component: &[u8],
-        body: &[u8],
-    ) -> Result<Sig, Memory>
-        requires key { length key.now < 2 ^ 32 }
-        requires component { length component.now < 2 ^ 32 }
+    /// The signature with this body on the component that `numbering` was made for, without a mark.
+    pub fn fresh(alloc: Global, numbering: &Numbering, body: &[u8]) -> Result<Sig, Memory>
         requires body { length body.now < 2 ^ 32 }
-        ensures fresh { IfOk result (λ s. s ≡ fresh key.now kind component.now body.now) }
+        ensures fresh { IfOk result (IsFreshBy numbering.now body.now) }
     {
-        let number = number_of(key, kind, component, body);
+        let number = numbering.number(body);
         let facts = read_signature(body);
         let body = Vec::from_slice(alloc, body)?;
         let held = Held {

@@ -1,7 +1,7 @@
 //! Tests of wot_verdict: signature numbers as another program computes them, and verdicts as a sorted map.
 use crate::assertion::expect_that;
 use wot_types::{Fpr, SigNumber};
-use wot_verdict::{Verdict, Verdicts, number_of};
+use wot_verdict::{Numbering, Verdict, Verdicts, number_of};
 
 /// A key, and a direct key signature and a certification in their short forms.
 const KEY: &[u8] = b"\x04\x00\x00\x03\xe8\x1b\x01";
@@ -37,6 +37,24 @@ fn numbers_as_another_program_gives_them(rt: HostRuntime) {
     for (kind, component, signature, digits) in &NUMBERED {
         let number = number_of(KEY, *kind, component, signature);
         expect_that(&rt, SigNumber::read(digits.as_bytes()) == Some(number));
+        let numbering = Numbering::on(KEY, *kind, component);
+        expect_that(&rt, numbering.number(signature) == number);
+    }
+}
+
+/// A body that doesn't fit in one block of SHA-256.
+const LONG: &[u8] =
+    b"A block of SHA-256 has 64 octets. This body has more, so its digest goes on after one.";
+
+/// Bodies of signatures on one component. The first comes again after the others.
+static ON_ONE: [&[u8]; 4] = [DIRECT, LONG, b"", DIRECT];
+
+#[test]
+fn each_signature_on_a_component_gets_its_own_number(rt: HostRuntime) {
+    let numbering = Numbering::on(KEY, 2, LONG);
+    for signature in &ON_ONE {
+        let number = number_of(KEY, 2, LONG, signature);
+        expect_that(&rt, numbering.number(signature) == number);
     }
 }
 

@@ -9,6 +9,6 @@ mod number;
 mod verdict;
 mod verdicts;
 
-pub use number::number_of;
+pub use number::{Numbering, number_of};
 pub use verdict::Verdict;
 pub use verdicts::{Verdicts, VerdictsIter};
