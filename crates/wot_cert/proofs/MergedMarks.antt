@@ -6,7 +6,7 @@ use Rattle.wot_policy.specs.declared.rows.PolicyRows.{PolicyRows}
 use Rattle.wot_part.specs.Ranked.{IsRising}
 use Rattle.wot_part.specs.Counts.{sum_of, part_weight}
 use Rattle.wot_part.specs.Certificate.{Signature, Component, Certificate, sig_cmp, part_cmp, kept, unite, unite_sigs}
-use Rattle.wot_part.specs.Certificate.{unite_part, unite_parts, part_with}
+use Rattle.wot_part.specs.Certificate.{of_parts, unite_part, unite_parts, part_with}
 use Rattle.wot_part.specs.Judged.{judged_sig, judged, if_sound, sound_of, IsJudgedSig, IsJudgedPart, IsJudged}
 use Rattle.wot_part.specs.New.{stays, none, judged_sigs, judged_part, judged_parts, sound_new, sound_new_on}
 use Rattle.wot_part.specs.New.{judged_beside, sound_beside}
@@ -81,6 +81,9 @@ nothing_old (y ∷ ys) = ap (λ n. if_sound y + n) (nothing_old ys)
 plain_alone : (n : ℕ) → n ≡ 0 + n
 plain_alone n = omega arith
 
+alone : (p : Component) → sound_new p.sigs [] ≡ weight p
+alone p = nothing_old p.sigs ∙ plain_alone _
+
 pub parts_weighed : (a b : List Component) → IsRising part_cmp a → IsRising part_cmp b → AllByRecursion Rises a
     → AllByRecursion Rises b → sound_new_on (unite_parts a b) a + sum_of weight a ≡ sum_of weight (unite_parts a b)
 parts_weighed a b h k p q =
@@ -89,7 +92,7 @@ parts_weighed a b h k p q =
     Rises
     (λ x r. same_weight _ _ _ (sigs_weighed x.sigs [] r tt))
     (λ x y e r t. same_weight _ _ _ (sigs_weighed x.sigs y.sigs r t))
-    (λ x r. nothing_old x.sigs ∙ plain_alone _)
+    (λ x r. alone x)
     a b h k p q
 
 -- ---- certificates
@@ -130,6 +133,38 @@ merged_sound a b h k =
     (places_weighed a.key b.key _ a.user_ids b.user_ids h.user_ids k.user_ids)
     (places_weighed a.key b.key _ a.attributes b.attributes h.attributes k.attributes)
     (places_weighed a.key b.key _ a.subkeys b.subkeys h.subkeys k.subkeys)
+
+-- ---- with no old ones
+
+parts_alone : (rows r : PolicyRows) (ps qs : List Component) → r ≡ rows → qs ≡ judged_parts r ps []
+    → qs ≡ map (part_with (judged_sig rows)) ps
+parts_alone rows r ps qs e h =
+    h
+    ∙ ap (λ (other : PolicyRows). judged_parts other ps []) e
+    ∙ all_new part_cmp (λ (old : Component) (new : Component). judged_part rows old.sigs new) (judged_part rows []) ps
+    ∙ only_same rows ps
+
+-- If nothing is old, everything is marked.
+pub all_marked : (rows r2 r3 r4 : PolicyRows) (c : Certificate) (d : List Signature) (u t s : List Component)
+    → r2 ≡ rows → r3 ≡ rows → r4 ≡ rows → d ≡ judged_sigs rows c.direct [] → u ≡ judged_parts r2 c.user_ids []
+    → t ≡ judged_parts r3 c.attributes [] → s ≡ judged_parts r4 c.subkeys [] → of_parts c.key d u t s ≡ judged rows c
+all_marked rows r2 r3 r4 c d u t s e2 e3 e4 ed eu et es =
+    same_cert _ _ refl (ed ∙ all_new sig_cmp stays (judged_sig rows) c.direct) (parts_alone rows r2 c.user_ids u e2 eu)
+    (parts_alone rows r3 c.attributes t e3 et) (parts_alone rows r4 c.subkeys s e4 es)
+
+sound_alone : (ps : List Component) → sound_new_on ps [] ≡ sum_of weight ps
+sound_alone [] = refl
+sound_alone (p ∷ ps) = λ i. alone p i + sound_alone ps i
+
+-- If nothing is old, the policy is asked about each well-formed signature.
+pub all_asked : (c : Certificate) (d u t s : ℕ) → d ≡ sound_new c.direct [] → u ≡ sound_new_on c.user_ids []
+    → t ≡ sound_new_on c.attributes [] → s ≡ sound_new_on c.subkeys [] → d + u + t + s ≡ sound_of c
+all_asked c d u t s ed eu et es =
+    let direct : d ≡ sum_of if_sound c.direct = ed ∙ nothing_old c.direct in
+    let ids : u ≡ sum_of weight c.user_ids = eu ∙ sound_alone c.user_ids in
+    let attributes : t ≡ sum_of weight c.attributes = et ∙ sound_alone c.attributes in
+    let subkeys : s ≡ sum_of weight c.subkeys = es ∙ sound_alone c.subkeys in
+    λ i. direct i + ids i + attributes i + subkeys i
 
 -- ---- marked
 

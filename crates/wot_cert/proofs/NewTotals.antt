@@ -1,5 +1,7 @@
--- Judging what is new keeps the totals.
+-- Marking what is new keeps the invariant of a certificate, its totals included.
 use Rattle.std.proofs.Common.{◌≡◌, ℕ, ◌+◌, List, length, refl, sym, ap, ◌∙◌}
+use Rattle.wot_types.specs.declared.fpr.Fpr.{Fpr}
+use Rattle.wot_key.specs.declared.key.Key.{Key}
 use Rattle.wot_packet.specs.Writing.{written}
 use Rattle.wot_policy.specs.declared.rows.PolicyRows.{PolicyRows}
 use Rattle.wot_part.specs.declared.adds.Adds.{Adds}
@@ -9,7 +11,9 @@ use Rattle.wot_part.specs.Judged.{judged_sig}
 use Rattle.wot_part.specs.New.{judged_sigs, judged_part, judged_parts}
 use Rattle.wot_part.specs.Sizes.{sig_size, own_size}
 use Rattle.wot_part.specs.Totals.{AreTotals}
+use Rattle.wot_cert.specs.Parts.{IsCertOf}
 use Rattle.wot_part.proofs.Follows.{totals_same}
+use Rattle.wot_part.proofs.NewWhole.{lists_whole}
 use Rattle.wot_part.proofs.TextSize.{size_is}
 use Rattle.wot_part.proofs.Weights.{sigs_weight, parts_weight}
 
@@ -35,10 +39,16 @@ module _ (r1 r2 r3 r4 : PolicyRows) (o1 : List Signature) (o2 o3 o4 : List Compo
       ap (sum_of (part_weight sig own)) es ∙ parts_weight sig own r4 (sig_as r4) (own_as r4) c.subkeys o4 in
       λ i. direct i + ids i + attributes i + subkeys i
 
-  pub lists_totals : (totals : Adds) → AreTotals totals c → AreTotals totals new
+  lists_totals : (totals : Adds) → AreTotals totals c → AreTotals totals new
   lists_totals totals h =
       totals_same totals c new
       (ap (λ n. 1 + n) (weight (λ _. 1) (λ _. 1) (λ rows x. refl) (λ rows old p. refl)))
       (weight (λ _. 1) (λ _. 0) (λ rows x. refl) (λ rows old p. refl))
       (size_is new ∙ ap (λ n. length (written 6 c.key) + n)
       (weight sig_size own_size (λ rows x. refl) (λ rows old p. refl)) ∙ sym (size_is c)) h
+
+  -- what holds of a certificate's key, fingerprint and totals holds with these lists
+  pub lists_cert : (key : Key) (fpr : Fpr) (totals : Adds) → IsCertOf key fpr c × AreTotals totals c
+      → IsCertOf key fpr new × AreTotals totals new
+  lists_cert key fpr totals h =
+      ((h.0.0, h.0.1, lists_whole r1 r2 r3 r4 o1 o2 o3 o4 c d u t s ed eu et es h.0.2), lists_totals totals h.1)

@@ -1,4 +1,4 @@
-//! The type `Cert` and its calls: build, read, merge, grow and shrink.
+//! The type `Cert` and its calls: build, read, mark, merge, grow and shrink.
 //!
 //! It stands on `wot_part` and `places`; `export` and `adds` have its other calls. Their public clauses are what all
 //! crates above know of a certificate.
@@ -146,7 +146,7 @@ impl Cert {
     }
 
     /// How many keys, components and signatures it has, at most `u64::MAX`.
-    pub(crate) fn items(&self) -> u64
+    pub fn items(&self) -> u64
         ensures items { result ≡ min (items_of self.now) (2 ^ 64 - 1) }
     {
         self.totals.items
@@ -230,6 +230,20 @@ impl Cert {
         judge_new_parts(&mut self.places.user_ids, &old.places.user_ids, policy);
         judge_new_parts(&mut self.places.attributes, &old.places.attributes, policy);
         judge_new_parts(&mut self.places.subkeys, &old.places.subkeys, policy);
+    }
+
+    /// Asks the policy about each well-formed signature, and marks it by the answer, whatever its mark was. Signatures
+    /// that aren't well-formed are left without a mark.
+    pub fn judge<F: Fn(Ask) -> bool>(&mut self, policy: &mut Policy<F>)
+        requires faithful { IsFaithful F.Fn policy.old }
+        ensures judged { self.new ≡ judged (rows_of policy.old) self.old }
+        ensures asked { Asks policy.old policy.new (λ k. k ≡ sound_of self.old) }
+        ensures faithful { IsFaithful F.Fn policy.new }
+    {
+        judge_new(&mut self.places.direct, &[], policy);
+        judge_new_parts(&mut self.places.user_ids, &[], policy);
+        judge_new_parts(&mut self.places.attributes, &[], policy);
+        judge_new_parts(&mut self.places.subkeys, &[], policy);
     }
 
     /// Merges with a certificate of the same key into a new one, with new signatures marked.

@@ -237,31 +237,44 @@ fn facts_of_signatures(rt: HostRuntime) {
     }
 }
 
+/// A certification with hash number 1, one with hash number 8, and an invalid one.
+const BY_OLD_HASH: Packet = SignatureByHash(1, CERTIFICATION, &[Made(2000)]);
+
+const BY_NEW_HASH: Packet = Signature(CERTIFICATION, &[Made(2000)]);
+
+const UNSOUND: Packet = Signature(CERTIFICATION, &[Made(2000), Subpacket(0xe5, b"")]);
+
 /// The key R with a direct key signature; T with one and an invalid signature on `t`; T with one of hash number 1
 /// there; T with that and one of hash number 8; and another key.
 const R_WITH_DIRECT: &[Packet] = &[KEY_R, DIRECT];
 
-const T_WITH_UNSOUND: &[Packet] = &[
-    KEY_T,
-    DIRECT,
-    UserId(b"t"),
-    Signature(CERTIFICATION, &[Made(2000), Subpacket(0xe5, b"")]),
-];
+const T_WITH_UNSOUND: &[Packet] = &[KEY_T, DIRECT, UserId(b"t"), UNSOUND];
 
-const T_WITH_OLD_HASH: &[Packet] = &[
-    KEY_T,
-    UserId(b"t"),
-    SignatureByHash(1, CERTIFICATION, &[Made(2000)]),
-];
+const T_WITH_OLD_HASH: &[Packet] = &[KEY_T, UserId(b"t"), BY_OLD_HASH];
 
-const T_WITH_BOTH_HASHES: &[Packet] = &[
-    KEY_T,
-    UserId(b"t"),
-    Signature(CERTIFICATION, &[Made(2000)]),
-    SignatureByHash(1, CERTIFICATION, &[Made(2000)]),
-];
+const T_WITH_BOTH_HASHES: &[Packet] = &[KEY_T, UserId(b"t"), BY_NEW_HASH, BY_OLD_HASH];
 
 const OTHER_KEY: &[Packet] = &[KEY_A];
+
+/// The key T with a certification of each hash number, and an invalid one, in every place.
+const T_WITH_ALL: &[Packet] = &[
+    KEY_T,
+    BY_OLD_HASH,
+    BY_NEW_HASH,
+    UNSOUND,
+    UserId(b"t"),
+    BY_OLD_HASH,
+    BY_NEW_HASH,
+    UNSOUND,
+    Other(ATTRIBUTE, b"t"),
+    BY_OLD_HASH,
+    BY_NEW_HASH,
+    UNSOUND,
+    Other(SUBKEY, b"t"),
+    BY_OLD_HASH,
+    BY_NEW_HASH,
+    UNSOUND,
+];
 
 /// Merges the first certificate of a text. Both are small.
 fn merge_text<F: Fn(Ask) -> bool>(
@@ -308,6 +321,8 @@ static INTO_T: [Merge; 5] = [
     (T_WITH_BOTH_HASHES, Ok(1), 4),
     (R_WITH_DIRECT, Err(MergeFault::Clash), 4),
 ];
+
+static ALL_INTO_T: [Merge; 1] = [(T_WITH_ALL, Ok(15), 8)];
 
 /// Whether these merges return what they should.
 fn merges<F: Fn(Ask) -> bool>(
@@ -359,6 +374,35 @@ fn merging_asks_of_new_sound_signatures(rt: HostRuntime) {
         &rt,
         policy.asked() == 4 && calls.get() == 4 && are_marked(sigs_of(t.user_ids())),
     );
+}
+
+/// Whether the signatures in every place have these marks.
+fn are_all_marked(cert: &Cert) -> bool {
+    are_marked(cert.direct())
+        && are_marked(sigs_of(cert.user_ids()))
+        && are_marked(sigs_of(cert.attributes()))
+        && are_marked(sigs_of(cert.subkeys()))
+}
+
+/// `judge` marks a certificate as a merge into its bare key does, and asks as often.
+#[test]
+fn judging_in_place(rt: HostRuntime) {
+    let rows = standard_rows();
+    let calls = Cell::new(0u64);
+    let mut policy = Policy::new(rows, |ask| {
+        calls.set(calls.get().wrapping_add(1));
+        admits(&rows, ask)
+    });
+    let mut t = bare(&rt, rt.alloc(), T_BODY);
+    let into_t = written(&rt, rt.alloc(), &ALL_INTO_T);
+    expect_that(&rt, merges(&rt, rt.alloc(), &mut t, &mut policy, &into_t));
+    let found = of_packets(&rt, rt.alloc(), T_WITH_ALL);
+    let mut marked = first(&rt, &found)
+        .duplicate(rt.alloc())
+        .expect(&rt, "memory");
+    marked.judge(&mut policy);
+    expect_that(&rt, policy.asked() == 16 && calls.get() == 16);
+    expect_that(&rt, are_all_marked(&t) && are_all_marked(&marked));
 }
 
 /// The text of a certificate.
