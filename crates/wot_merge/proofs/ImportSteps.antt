@@ -21,12 +21,15 @@ use Rattle.wot_held.specs.declared.kept.Kept.{Kept}
 use Rattle.wot_merge.specs.declared.undo.Was.{Was as TheWas}
 use Rattle.wot_merge.specs.declared.staging.Fault.{Fault}
 use Rattle.wot_merge.specs.declared.staging.Fault.TheVariants.{Clash, Memory}
+use Rattle.wot_merge.specs.declared.staging.Step.{Step}
+use Rattle.wot_merge.specs.declared.staging.Terms.{Terms}
 use Rattle.wot_merge.specs.declared.tally.Tally.{Tally}
 use Rattle.wot_held.specs.Keyring.{Entries}
 use Rattle.wot_held.specs.Kept.{AreSortedByFpr, AreJudged}
 use Rattle.wot_merge.specs.Staging.{found_for, found_by, joined, kept_as, kept_with, kept_all, clash_at, clash_in}
-use Rattle.wot_merge.specs.Staging.{weigh_kept, IsTally, StillLeadsBack, IsClashTold}
-use Rattle.wot_merge.proofs.Steps.{weighs_by}
+use Rattle.wot_merge.specs.Staging.{weigh_kept, staged_as, IsTally, StillLeadsBack, IsClashTold}
+use Rattle.wot_merge.specs.Staging.{CanMove, IsMergedOn, Moves}
+use Rattle.wot_merge.proofs.Steps.{fresh_moved, judged_moved, may_move, put_with, tally_moved, weighs_by}
 
 -- ---- order
 
@@ -122,6 +125,35 @@ pub record Put (rows : PolicyRows) (stamp limit : ℕ) (c : Certificate) (es es'
   pub clash : clash_at (found_for es c) c ≡ false
   pub judged : AreJudged rows es → AreJudged rows es'
 
+-- A certificate that was merged, and the tally after it.
+module _ (rows : PolicyRows) (terms : Terms) (c : Certificate) (es es' : Entries) (s : Step)
+    (merged : IsMergedOn rows terms c es es' s) (sorted : AreSortedByFpr es) (t : Tally)
+    (tallied : IsTally terms.limit es t.total) where
+  pub can_count : CanMove s.before s.after t.total
+  can_count = may_move rows terms.stamp terms.limit es es' c (staged_as merged.kept s) merged.staged sorted t.total
+      tallied
+
+  pub put_done : (log log' : List TheWas) (t' : Tally) → StillLeadsBack log es log' es' →
+      clash_at (found_for es c) c ≡ false → Moves s.before s.after t.total t'.total →
+      t'.fresh ≡ t.fresh + s.items + s.keys → Put rows terms.stamp terms.limit c es es' log log' t t'
+  put_done log log' t' leads clash moves fresh =
+      let staged = staged_as merged.kept s in
+      let stamp = terms.stamp in
+      let limit = terms.limit in
+      record {
+        put = put_with rows stamp limit es es' c staged merged.staged sorted merged.put;
+        sorted =
+            subst (λ (x : Entries). AreSortedByFpr x) (sym merged.put)
+            (sorted_insert es (fpr_of c.key) merged.kept sorted);
+        leads = leads;
+        tallied = tally_moved rows stamp limit es es' c staged merged.staged sorted merged.put t.total t'.total tallied
+            moves;
+        fresh = fresh_moved rows stamp limit es es' c staged merged.staged sorted merged.put t.fresh t'.fresh
+            (weigh_kept items_of es) t.fresh refl fresh;
+        clash = clash;
+        judged = judged_moved rows stamp limit es es' c staged merged.staged sorted merged.put;
+      }
+
 -- What the steps so far did, of those that the whole list asks for.
 pub record Run (rows : PolicyRows) (stamp limit : ℕ) (all : List Certificate) (first : Entries) (log : List TheWas)
     (t : Tally) (rest : List Certificate) (es : Entries) (log' : List TheWas) (t' : Tally) : Type 0 where
@@ -180,6 +212,17 @@ pub none_asked : ((x y : Certificate) → sound_of x ≤ sound_of (unite x y)) �
     (found : Option Kept) (c : Certificate) (k : ℕ) → k ≡ 0 →
     k + found_by sound_of found ≤ sound_of (joined rows found c)
 none_asked grows rows found c k none = none_before k _ _ none (found_less sound_of grows rows 0 found c)
+
+plus_none : (k n : ℕ) → k ≡ n → k + 0 ≡ n
+plus_none k n e = omega arith
+
+-- if nothing was found, all of it is new
+pub asked_first : (rows : PolicyRows) (found : Option Kept) (c : Certificate) (k : ℕ) → found ≡ None →
+    sound_of (judged rows c) ≡ sound_of c → k ≡ sound_of c →
+    k + found_by sound_of found ≡ sound_of (joined rows found c)
+asked_first rows found c k absent same asked =
+    subst (λ (o : Option Kept). k + found_by sound_of o ≡ sound_of (joined rows o c)) (sym absent)
+    (plus_none k (sound_of (judged rows c)) (asked ∙ sym same))
 
 pub asked_up_to : ((x y : Certificate) → sound_of x ≤ sound_of (unite x y)) →
     (rows : PolicyRows) (stamp limit : ℕ) (all : List Certificate) (first : Entries) (log : List TheWas) (t : Tally)

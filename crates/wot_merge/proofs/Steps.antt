@@ -20,8 +20,8 @@ use Rattle.wot_merge.specs.declared.staging.Staged.{Staged}
 use Rattle.wot_merge.specs.declared.tally.Weight.{Weight}
 use Rattle.wot_held.specs.Keyring.{Entries, is_fpr}
 use Rattle.wot_held.specs.Kept.{AreSortedByFpr, AreJudged}
-use Rattle.wot_merge.specs.Staging.{found_for, found_by, kept_with, long_of, WeighsFound, weigh_kept, IsTally, CanMove}
-use Rattle.wot_merge.specs.Staging.{Moves, IsFoundJudged, IsStaged, joined}
+use Rattle.wot_merge.specs.Staging.{found_for, found_by, kept_as, kept_with, long_of, WeighsFound, weigh_kept, IsTally}
+use Rattle.wot_merge.specs.Staging.{CanMove, Moves, IsFoundJudged, IsStaged, joined}
 use Rattle.wot_merge.proofs.TotalWeight.{found_weight, insert_weighs}
 
 -- ---- an insertion
@@ -133,8 +133,9 @@ module _ (rows : PolicyRows) (stamp limit : ℕ) (es es' : Entries) (c : Certifi
         subst (AreJudged rows) (sym put) (put_all (λ (x : Kept). IsJudged rows x.cert) es (fpr_of c.key) s.kept all
         (h.judged (found_judged rows (is_fpr (fpr_of c.key)) es all)))
 
-  -- The policy was asked for what is valid and new in this step.
-  pub asked_moved : (k : ℕ) → k + found_by sound_of (found_for es c) ≡ sound_of (joined rows (found_for es c) c) →
-      k + weigh_kept sound_of es ≡ weigh_kept sound_of (kept_with rows stamp es c)
-  asked_moved k a = asked_by k _ _ _ _ (a ∙ ap (λ (x : Kept). sound_of x.cert) (sym h.kept)) (by sound_of)
-      ∙ ap (λ (x : Kept). weigh_kept sound_of (insert_entry fpr_cmp es (fpr_of c.key) x)) h.kept
+-- The policy was asked for what is valid and new in this step.
+pub asked_moved : (rows : PolicyRows) (stamp : ℕ) (es : Entries) (c : Certificate) (k : ℕ) → AreSortedByFpr es →
+    k + found_by sound_of (found_for es c) ≡ sound_of (joined rows (found_for es c) c) →
+    k + weigh_kept sound_of es ≡ weigh_kept sound_of (kept_with rows stamp es c)
+asked_moved rows stamp es c k sorted a =
+    asked_by k _ _ _ _ a (weighs_by sound_of es (fpr_of c.key) (kept_as rows stamp (found_for es c) c) sorted)

@@ -257,3 +257,9 @@ pub record IsMergedAt (rows : PolicyRows) (stamp limit : ℕ) (c : Certificate) 
 -- The result of merging it under these terms.
 abbrev pub IsMergedOn : PolicyRows → Terms → Certificate → Entries → Entries → Step → Type 0
 IsMergedOn rows terms c es es' s = IsMergedAt rows terms.stamp terms.limit c es es' s
+
+-- What a step led to is kept under this fingerprint: so the certificate of the step is merged, whichever it is.
+abbrev pub IsPut : Staged → Fpr → Entries → Entries → Step → Type 0
+IsPut staged fpr es es' s =
+    (rows : PolicyRows) (terms : Terms) (c : Certificate) → fpr ≡ fpr_of c.key
+    → IsStepOf rows terms.stamp terms.limit es c staged → IsMergedOn rows terms c es es' s

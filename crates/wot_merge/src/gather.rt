@@ -2,7 +2,7 @@
 //! then merged once, however often its key occurs in the input. The list is split in halves, so that each certificate
 //! is visited a logarithmic number of times. `Keyring::take` stands on this, and on the law that the order doesn't
 //! matter.
-ghost use Rattle.std.specs.Prelude.{◌≡◌, ◌++◌, ◌∷◌, [], None, IfOk, IfNone, OnOk};
+ghost use Rattle.std.specs.Prelude.{◌≡◌, ◌++◌, ◌∷◌, [], None, true, IfOk, IfNone, OnOk};
 ghost use Rattle.std.specs.BTreeMap.{insert_entry};
 ghost use Rattle.std.specs.List.{AllByRecursion};
 ghost use Rattle.std.specs.Map.{lookup, remove_entry, values_of};
@@ -12,6 +12,7 @@ ghost use Rattle.wot_part.specs.Whole.{IsCertificate};
 ghost use Rattle.wot_merge.specs.Gather.{AreOwn, DoTheSame, IsGathered, TellsClashWith, TellsNothing};
 ghost use Rattle.wot_held.specs.Keyring.{is_fpr};
 
+use crate::room::only;
 use crate::staging::Fault;
 use std::alloc::Global;
 use std::collections::BTreeMap;
@@ -147,8 +148,22 @@ fn listed(alloc: Global, mut certs: BTreeMap<Fpr, Cert, Global>) -> Result<Vec<C
     Ok(list)
 }
 
-/// One certificate for each key of a list: all that the list has of this key, merged.
-pub fn gathered(alloc: Global, list: &[Cert]) -> Result<Vec<Cert>, Fault>
+/// Whether a list has exactly one certificate.
+fn is_alone(list: &[Cert]) -> bool
+    ensures { result ≡ true → AllByRecursion IsCertificate list.now }
+{
+    match only(list) {
+        Some(cert) => {
+            // Its contract says that the certificate is whole.
+            let _ = cert.fpr();
+            true
+        }
+        None => false,
+    }
+}
+
+/// Copies of the certificates of a list, those of one key merged.
+fn gathered_anew(alloc: Global, list: &[Cert]) -> Result<Vec<Cert>, Fault>
     ensures whole { IfOk result (λ gathered. AllByRecursion IsCertificate gathered.items) }
     ensures same { IfOk result (λ gathered. DoTheSame list.now gathered.items) }
     ensures clash { TellsNothing result list.now }
@@ -161,4 +176,17 @@ pub fn gathered(alloc: Global, list: &[Cert]) -> Result<Vec<Cert>, Fault>
         Ok(list) => Ok(list),
         Err(Memory) => Err(Fault::Memory),
     }
+}
+
+/// One certificate for each key of a list: all that the list has of this key, merged. A certificate that is alone is
+/// returned as it is: nothing is copied.
+pub fn gathered(alloc: Global, list: Vec<Cert>) -> Result<Vec<Cert>, Fault>
+    ensures whole { IfOk result (λ gathered. AllByRecursion IsCertificate gathered.items) }
+    ensures same { IfOk result (λ gathered. DoTheSame list.items gathered.items) }
+    ensures clash { TellsNothing result list.items }
+{
+    if is_alone(list.as_slice()) {
+        return Ok(list);
+    }
+    gathered_anew(alloc, list.as_slice())
 }

@@ -1,8 +1,10 @@
 //! Merging certificates into the kept ones: all or none. The certificates of one import are gathered by key, tried, and
-//! merged one after another with a log that undoes each step; the totals that limits are compared with follow. It
-//! stands on wot_held alone, beside wot_index. wot_keyring calls it for an import.
+//! merged one after another with a log that undoes each step; the totals that limits are compared with follow. A
+//! certificate that is the only one of an import, and of a new key, is kept itself. It stands on wot_held alone, beside
+//! wot_index. wot_keyring calls it for an import.
 #![tactic(auto)]
 
+mod adopting;
 mod gather;
 mod in_place;
 mod room;
@@ -11,6 +13,7 @@ mod tally;
 mod trial;
 mod undo;
 
+pub use adopting::put_new;
 pub use gather::gathered;
 pub use room::{has_room, only};
 pub use staging::{Fault, Progress, Terms, put_all};

@@ -13,8 +13,8 @@ ghost use Rattle.wot_part.specs.Whole.{IsCertificate};
 ghost use Rattle.wot_held.specs.Kept.{AreSortedByFpr, AreJudged};
 ghost use Rattle.wot_held.specs.declared.kept.Kept.{Kept as TheKept};
 ghost use Rattle.wot_merge.specs.Staging.{begun, found_for, stamp_over, clash_at, kept_with, kept_all, clash_in};
-ghost use Rattle.wot_merge.specs.Staging.{AsksForNew, AsksToJoin, Counts, IsMergedOn, IsStepOf, IsTally};
-ghost use Rattle.wot_merge.specs.Staging.{StillLeadsBack, TellsClash, Weighs};
+ghost use Rattle.wot_merge.specs.Staging.{AsksForNew, AsksToJoin, Counts, IsMergedOn, IsPut, IsStepOf};
+ghost use Rattle.wot_merge.specs.Staging.{IsTally, StillLeadsBack, TellsClash, Weighs};
 ghost use Rattle.wot_part.specs.Asking.{AsksOnOk};
 
 use crate::in_place::{grow_at, is_small_beside};
@@ -221,6 +221,34 @@ pub(crate) struct Step {
     pub keys: u64,
 }
 
+/// Keeps what a step led to, and logs what was kept before. On an error the log still undoes everything.
+pub(crate) fn put_staged(
+    certs: &mut BTreeMap<Fpr, Kept, Global>,
+    log: &mut Vec<Was>,
+    fpr: Fpr,
+    staged: Staged,
+) -> Result<Step, Memory>
+    ensures put { IfOk result (IsPut staged fpr certs.old.entries certs.new.entries) }
+    ensures log { StillLeadsBack log.old.items certs.old.entries log.new.items certs.new.entries }
+{
+    let Staged {
+        kept,
+        before,
+        after,
+        items,
+        keys,
+    } = staged;
+    match put(certs, log, fpr, kept) {
+        Ok(()) => Ok(Step {
+            before,
+            after,
+            items,
+            keys,
+        }),
+        Err(Memory) => Err(Memory),
+    }
+}
+
 /// Merges one certificate under a policy and logs what was kept: in place if it is small compared with the kept one,
 /// else with a copy. On an error the log still undoes everything.
 fn put_one<F: Fn(Ask) -> bool>(
@@ -251,20 +279,8 @@ fn put_one<F: Fn(Ask) -> bool>(
         Ok(staged) => staged,
         Err(fault) => return Err(fault),
     };
-    let Staged {
-        kept,
-        before,
-        after,
-        items,
-        keys,
-    } = staged;
-    match put(certs, log, cert.fpr(), kept) {
-        Ok(()) => Ok(Step {
-            before,
-            after,
-            items,
-            keys,
-        }),
+    match put_staged(certs, log, cert.fpr(), staged) {
+        Ok(step) => Ok(step),
         Err(Memory) => Err(Fault::Memory),
     }
 }
@@ -298,13 +314,7 @@ fn put_next<F: Fn(Ask) -> bool>(
         Ok(step) => step,
         Err(fault) => return Err(fault),
     };
-    match count(
-        &mut progress.tally,
-        &step.before,
-        &step.after,
-        step.items,
-        step.keys,
-    ) {
+    match count(&mut progress.tally, &step) {
         Ok(()) => Ok(()),
         Err(Memory) => Err(Fault::Memory),
     }

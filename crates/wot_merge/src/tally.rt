@@ -4,6 +4,7 @@ ghost use Rattle.std.specs.Prelude.{◌≡◌, ◌+◌, ◌≤◌, ◌<◌, ◌^
 ghost use Rattle.wot_part.specs.Text.{size_of};
 ghost use Rattle.wot_merge.specs.Staging.{CanMove, Moves, Weighs};
 
+use crate::staging::Step;
 use wot_cert::Cert;
 use wot_types::Memory;
 
@@ -96,21 +97,15 @@ fn plus(count: u64, more: u64) -> Result<u64, Memory>
     }
 }
 
-/// Updates the tally for one certificate: its weight before and after, and how many items and keys are new.
-pub fn count(
-    tally: &mut Tally,
-    before: &Weight,
-    after: &Weight,
-    items: u64,
-    keys: u64,
-) -> Result<(), Memory>
-    requires can { CanMove before.now after.now tally.old.total }
-    ensures moved { OnOk result (Moves before.now after.now tally.old.total tally.new.total) }
-    ensures fresh { OnOk result (tally.new.fresh ≡ tally.old.fresh + items + keys) }
+/// Updates the tally for what one certificate changed.
+pub(crate) fn count(tally: &mut Tally, step: &Step) -> Result<(), Memory>
+    requires can { CanMove step.now.before step.now.after tally.old.total }
+    ensures moved { OnOk result (Moves step.now.before step.now.after tally.old.total tally.new.total) }
+    ensures fresh { OnOk result (tally.new.fresh ≡ tally.old.fresh + step.now.items + step.now.keys) }
 {
-    let total = moved_weight(&tally.total, before, after)?;
-    let more = plus(tally.fresh, items)?;
-    let fresh = plus(more, keys)?;
+    let total = moved_weight(&tally.total, &step.before, &step.after)?;
+    let more = plus(tally.fresh, step.items)?;
+    let fresh = plus(more, step.keys)?;
     tally.total = total;
     tally.fresh = fresh;
     Ok(())

@@ -1,7 +1,4 @@
-use Rattle.std.proofs.Common.{ap, ◌∙◌, refl}
-use Rattle.std.specs.BTreeMap.{insert_entry}
-use Rattle.wot_types.specs.declared.fpr.Fpr.{Fpr}
-use Rattle.wot_types.specs.Fpr.{fpr_cmp}
+use Rattle.std.proofs.Common.{refl}
 use Rattle.wot_policy.specs.Kept.{rows_of}
 use Rattle.wot_merge.specs.Staging.{found_for}
 use Rattle.wot_merge.proofs.ImportSteps.{none_asked, not_asked}
@@ -20,24 +17,12 @@ returns-in-Err-clause-asked g c = (
 
 -- ---- with a copy
 
-pub returns-in-Ok-put-clause-merged : goal.returns-in-Ok-put-clause-merged
-returns-in-Ok-put-clause-merged g c =
-    let staged = c.in-Ok-take_step.staged in
-    let step = c.in-Ok-take_step.ensures.step in
-    record {
-      kept = staged.kept;
-      put = c.in-Ok-put.ensures.entries
-          ∙ ap (λ (f : Fpr). insert_entry fpr_cmp c.args.certs.now.entries f staged.kept) c.fpr.ensures.fpr;
-      staged = record {
-        kept = step.kept;
-        before = step.before;
-        after = step.after;
-        items = step.items;
-        judged = step.judged;
-      };
-    }
+pub returns-in-Ok-put_staged-clause-merged : goal.returns-in-Ok-put_staged-clause-merged
+returns-in-Ok-put_staged-clause-merged g c =
+    c.in-Ok-put_staged.ensures.put (rows_of c.args.policy.now) c.args.terms.now c.args.cert.now c.fpr.ensures.fpr
+    c.in-Ok-take_step.ensures.step
 
-pub returns-in-Err-put-clause-asked : goal.returns-in-Err-put-clause-asked
-returns-in-Err-put-clause-asked g c =
+pub returns-in-Err-put_staged-clause-asked : goal.returns-in-Err-put_staged-clause-asked
+returns-in-Err-put_staged-clause-asked g c =
     let a = c.in-Ok-take_step.ensures.asked in
     (a.0, a.1, no_more _ _ a.2)
