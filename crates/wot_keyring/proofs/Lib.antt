@@ -16,3 +16,4 @@ pub mod SpareRoom
 pub mod DumpSize
 pub mod UnionNoted
 pub mod Imports
+pub mod Adopted

@@ -1,3 +1,4 @@
 pub mod Dump
 pub mod Parts
 pub mod Behind
+pub mod Uniting

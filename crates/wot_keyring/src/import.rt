@@ -38,7 +38,7 @@ impl Keyring {
             Ok(read) => read,
             Err(refusal) => return Err(refusal),
         };
-        self.take(alloc, &read, policy)
+        self.take(alloc, read, policy)
     }
 
     /// Merges the one certificate of a directory entry with the kept ones. The octets are read as by `import`. Returns
@@ -69,6 +69,6 @@ impl Keyring {
         if !is_entry(name, &found) {
             return Err(Refusal::Misfiled);
         }
-        self.take(alloc, &found, policy)
+        self.take(alloc, found, policy)
     }
 }

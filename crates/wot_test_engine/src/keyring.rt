@@ -3,6 +3,7 @@
 ghost use Rattle.wot_held.specs.Kept.{AreSmall, IsJudgedBy};
 ghost use Rattle.wot_policy.specs.Kept.{IsFaithful, rows_of};
 
+mod arriving;
 mod loading;
 mod pending;
 

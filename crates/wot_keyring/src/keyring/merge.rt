@@ -1,6 +1,6 @@
 //! Merges certificates that were read with the kept ones: all, or none if two clash or a limit would be exceeded. It
-//! gathers, tries and merges with wot_merge, and keeps totals, index and log in step. `import` and `load` call `take`,
-//! whose contract theirs stand on.
+//! gathers, tries and merges with wot_merge, and keeps totals, index and log in step. A new certificate that came alone
+//! is kept as it was read, without a copy. `import` and `load` call `take`, whose contract theirs stand on.
 ghost use Rattle.std.specs.Prelude.{◌≡◌, ◌<◌, ◌^◌, ◌+◌, ◌-◌, nat_lt, if◌then◌else◌, Some};
 ghost use Rattle.std.specs.Prelude.{true, Ok, OnOk, OnErr};
 ghost use Rattle.std.specs.List.{AllByRecursion};
@@ -31,23 +31,25 @@ impl Keyring {
     pub(crate) fn take<F: Fn(Ask) -> bool>(
         &mut self,
         alloc: Global,
-        read: &Assembled,
+        read: Assembled,
         policy: &mut Policy<F>,
     ) -> Result<Imported, Refusal>
         requires countable { self.old.changes < 2 ^ 64 - 1 }
         requires judged { IsJudgedBy (rows_of policy.old) self.old }
         requires faithful { IsFaithful F.Fn policy.old }
-        ensures answer { AnswersUnited result (rows_of policy.old) self.old read.now.certs read.now.skipped }
-        ensures united { OnOk result (self.new ≡ with_united (rows_of policy.old) self.old read.now.certs) }
+        ensures answer { AnswersUnited result (rows_of policy.old) self.old read.certs read.skipped }
+        ensures united { OnOk result (self.new ≡ with_united (rows_of policy.old) self.old read.certs) }
         ensures kept { OnErr result (self.new ≡ self.old) }
-        ensures asked { Asked result (asked_for (rows_of policy.old) self.old read.now.certs) policy.old policy.new }
+        ensures asked { Asked result (asked_for (rows_of policy.old) self.old read.certs) policy.old policy.new }
         ensures counted { IsOneChange self.old self.new }
         ensures later { IsLater self.old self.new }
         ensures judged { IsJudgedBy (rows_of policy.old) self.new }
         ensures faithful { IsFaithful F.Fn policy.new }
     {
         self.lawful();
-        let certs = read.certs.as_slice();
+        let Assembled { certs, skipped } = read;
+        let certs = certs.into_vec();
+        let taken = certs.len();
         let list = match gathered(alloc, certs) {
             Ok(list) => list,
             Err(Fault::Clash) => return Err(Refusal::Clash),
@@ -56,9 +58,9 @@ impl Keyring {
         if let Some(refusal) = self.refusal(alloc, list.as_slice()) {
             return Err(refusal);
         }
-        match self.accept(alloc, list.as_slice(), read.skipped, policy) {
+        match self.accept(alloc, list, skipped, policy) {
             Ok(done) => Ok(Imported {
-                taken: certs.len() as u64,
+                taken: taken as u64,
                 skipped: done.skipped,
                 fresh: done.fresh,
             }),
@@ -101,19 +103,19 @@ impl Keyring {
     fn accept<F: Fn(Ask) -> bool>(
         &mut self,
         alloc: Global,
-        list: &[Cert],
+        list: Vec<Cert>,
         skipped: u64,
         policy: &mut Policy<F>,
     ) -> Result<Imported, Refusal>
         requires countable { self.old.changes < 2 ^ 64 - 1 }
         requires judged { IsJudgedBy (rows_of policy.old) self.old }
         requires faithful { IsFaithful F.Fn policy.old }
-        requires whole { AllByRecursion IsCertificate list.now }
-        requires may { MayUnite self.old.limits (certificates_in self.old) list.now }
-        ensures answer { AnswersUnited result (rows_of policy.old) self.old list.now skipped }
-        ensures united { OnOk result (self.new ≡ with_united (rows_of policy.old) self.old list.now) }
+        requires whole { AllByRecursion IsCertificate list.items }
+        requires may { MayUnite self.old.limits (certificates_in self.old) list.items }
+        ensures answer { AnswersUnited result (rows_of policy.old) self.old list.items skipped }
+        ensures united { OnOk result (self.new ≡ with_united (rows_of policy.old) self.old list.items) }
         ensures kept { OnErr result (self.new ≡ self.old) }
-        ensures asked { Asked result (asked_for (rows_of policy.old) self.old list.now) policy.old policy.new }
+        ensures asked { Asked result (asked_for (rows_of policy.old) self.old list.items) policy.old policy.new }
         ensures counted { IsOneChange self.old self.new }
         ensures later { IsLater self.old self.new }
         ensures judged { IsJudgedBy (rows_of policy.old) self.new }
@@ -123,11 +125,13 @@ impl Keyring {
         united_whole();
         nothing_added();
         let terms = self.terms();
-        log::make_room(&mut self.log, list.len(), self.certs.len());
+        let taken = list.len();
+        log::make_room(&mut self.log, taken, self.certs.len());
         match unite_all(
             alloc,
             &mut self.certs,
             &mut self.index,
+            &mut self.log,
             list,
             &terms,
             policy,
@@ -136,9 +140,8 @@ impl Keyring {
                 self.octets = tally.total.octets;
                 self.signatures = tally.total.signatures;
                 self.changes = raised(self.changes, tally.fresh);
-                log::log_union(&mut self.log, tally.fresh, terms.stamp, list);
                 Ok(Imported {
-                    taken: list.len() as u64,
+                    taken: taken as u64,
                     skipped,
                     fresh: tally.fresh,
                 })

@@ -1,6 +1,7 @@
-use Rattle.std.proofs.Common.{sym, subst, refl}
+use Rattle.std.proofs.Common.{Ok, sym, subst, refl, ◌∙◌}
 use Rattle.wot_policy.specs.Kept.{rows_of}
 use Rattle.wot_index.specs.Index.{IsIndexOf}
+use Rattle.wot_held.specs.Importing.{AnswersUnited}
 use Rattle.wot_held.specs.Keyring.{Entries}
 use Rattle.wot_keyring.proofs.Accepted.{asked_now, asked_by_now, no_clash, answered_now, held_now, counted_now}
 use Rattle.wot_keyring.proofs.Accepted.{keyring_now}
@@ -17,8 +18,8 @@ invariant_of-self g c =
       verdicts = c.self.inside.verdicts;
       changes = c.self.inside.changes;
     })
-    c.args.self.now c.self.view_is c.terms-terms.result.stamp c.terms-terms.ensures.stamp c.args.list.now
-    c.args.list.now refl c.self.invariant.0 c.unite_all.new.certs.entries c.in-Ok.tally.fresh
+    c.args.self.now c.self.view_is c.terms-terms.result.stamp c.terms-terms.ensures.stamp c.args.list.items
+    c.args.list.items refl c.self.invariant.0 c.unite_all.new.certs.entries c.in-Ok.tally.fresh
     c.raised-self-inside.result c.in-Ok.ensures.put c.in-Ok.ensures.fresh c.united_grows.ensures.items
     c.raised-self-inside.ensures.raised c.nothing_added.ensures.items c.united_whole.ensures.united
     c.united_whole.ensures.judged c.in-Ok.tally.total c.terms-terms.result.limit c.terms-terms.ensures.limit
@@ -28,7 +29,7 @@ invariant_of-self g c =
       subst (λ (es : Entries). IsIndexOf c.unite_all.new.index es) (sym c.in-Ok.ensures.put)
           (indexed_all c.united_whole.ensures.united c.united_whole.ensures.judged (rows_of c.args.policy.now)
           c.terms-terms.result.stamp c.self.inside.index c.unite_all.new.index c.self.inside.certs.entries
-          c.args.list.now c.self.invariant.0.whole c.requires.whole c.in-Ok.ensures.clash c.in-Ok.ensures.noted
+          c.args.list.items c.self.invariant.0.whole c.requires.whole c.in-Ok.ensures.clash c.in-Ok.ensures.noted
           c.self.invariant.2),
       logged_now (rows_of c.args.policy.now) c.terms-terms.result.stamp c.nothing_added.ensures.items
           c.united_grows.ensures.items (record {
@@ -37,10 +38,10 @@ invariant_of-self g c =
             verdicts = c.self.inside.verdicts;
             changes = c.self.inside.changes;
           }) c.args.self.now c.self.view_is
-          c.terms-terms.ensures.stamp c.args.list.now c.self.inside.log c.make_room.new.log c.log_union.new.log
+          c.terms-terms.ensures.stamp c.args.list.items c.self.inside.log c.make_room.new.log c.unite_all.new.log
           c.unite_all.new.certs.entries c.in-Ok.tally.fresh c.raised-self-inside.result c.self.invariant.0
           c.in-Ok.ensures.put c.raised-self-inside.ensures.raised c.in-Ok.ensures.fresh c.make_room.ensures.from
-          c.make_room.ensures.entries c.log_union.ensures.logged c.self.invariant.3,
+          c.make_room.ensures.entries c.in-Ok.ensures.logged c.self.invariant.3,
     )
 
 pub returns-in-Ok-clause-later : goal.returns-in-Ok-clause-later
@@ -52,22 +53,28 @@ returns-in-Ok-clause-later g c =
       verdicts = c.self.inside.verdicts;
       changes = c.self.inside.changes;
     }) c.args.self.now c.self.view_is
-    c.terms-terms.ensures.stamp c.args.list.now c.unite_all.new.certs.entries c.in-Ok.tally.fresh
+    c.terms-terms.ensures.stamp c.args.list.items c.unite_all.new.certs.entries c.in-Ok.tally.fresh
     c.raised-self-inside.result c.in-Ok.ensures.put c.raised-self-inside.ensures.raised
 
 pub returns-in-Ok-clause-answer : goal.returns-in-Ok-clause-answer
 returns-in-Ok-clause-answer g c =
-    answered_now (rows_of c.args.policy.now) (record {
+    subst (λ taken. AnswersUnited (Ok (record {
+      taken = taken;
+      skipped = c.args.skipped;
+      fresh = c.in-Ok.tally.fresh;
+    })) (rows_of c.args.policy.now) c.args.self.now c.args.list.items c.args.skipped)
+    (sym (c.len-taken.ensures ∙ c.args.list.ok.0))
+    (answered_now (rows_of c.args.policy.now) (record {
       limits = c.self.inside.limits;
       certs =
           c.self.inside.certs.entries;
       verdicts = c.self.inside.verdicts;
       changes = c.self.inside.changes;
     })
-    c.args.self.now c.self.view_is c.terms-terms.result.stamp c.terms-terms.ensures.stamp c.args.list.now
-    c.args.list.now refl c.self.invariant.0 c.unite_all.new.certs.entries c.in-Ok.tally.fresh
+    c.args.self.now c.self.view_is c.terms-terms.result.stamp c.terms-terms.ensures.stamp c.args.list.items
+    c.args.list.items refl c.self.invariant.0 c.unite_all.new.certs.entries c.in-Ok.tally.fresh
     c.raised-self-inside.result c.in-Ok.ensures.put c.in-Ok.ensures.fresh c.united_grows.ensures.items
-    c.raised-self-inside.ensures.raised c.args.skipped c.requires.may
+    c.raised-self-inside.ensures.raised c.args.skipped c.requires.may)
 
 pub returns-in-Ok-clause-united : goal.returns-in-Ok-clause-united
 returns-in-Ok-clause-united g c =
@@ -77,7 +84,7 @@ returns-in-Ok-clause-united g c =
       verdicts = c.self.inside.verdicts;
       changes = c.self.inside.changes;
     }) c.args.self.now c.self.view_is
-    c.terms-terms.result.stamp c.terms-terms.ensures.stamp c.args.list.now c.args.list.now refl c.self.invariant.0
+    c.terms-terms.result.stamp c.terms-terms.ensures.stamp c.args.list.items c.args.list.items refl c.self.invariant.0
     c.unite_all.new.certs.entries c.in-Ok.tally.fresh c.raised-self-inside.result c.in-Ok.ensures.put
     c.in-Ok.ensures.fresh c.united_grows.ensures.items c.raised-self-inside.ensures.raised
 
@@ -93,8 +100,8 @@ returns-in-Ok-clause-asked g c =
         verdicts = c.self.inside.verdicts;
         changes = c.self.inside.changes;
       })
-          c.args.self.now c.self.view_is c.terms-terms.result.stamp c.terms-terms.ensures.stamp c.args.list.now
-          c.args.list.now refl c.self.invariant.0 a.0 a.2,
+          c.args.self.now c.self.view_is c.terms-terms.result.stamp c.terms-terms.ensures.stamp c.args.list.items
+          c.args.list.items refl c.self.invariant.0 a.0 a.2,
     )
 
 pub returns-in-Ok-clause-counted : goal.returns-in-Ok-clause-counted
@@ -106,8 +113,8 @@ returns-in-Ok-clause-counted g c =
       verdicts = c.self.inside.verdicts;
       changes = c.self.inside.changes;
     })
-    c.args.self.now c.self.view_is c.terms-terms.result.stamp c.terms-terms.ensures.stamp c.args.list.now
-    c.args.list.now refl c.self.invariant.0 c.unite_all.new.certs.entries c.in-Ok.tally.fresh
+    c.args.self.now c.self.view_is c.terms-terms.result.stamp c.terms-terms.ensures.stamp c.args.list.items
+    c.args.list.items refl c.self.invariant.0 c.unite_all.new.certs.entries c.in-Ok.tally.fresh
     c.raised-self-inside.result c.in-Ok.ensures.put c.in-Ok.ensures.fresh c.united_grows.ensures.items
     c.raised-self-inside.ensures.raised c.nothing_added.ensures.items
     (returns-in-Ok-clause-later g c)
@@ -121,7 +128,7 @@ returns-in-Err-Clash-clause-answer g c =
       verdicts = c.self.inside.verdicts;
       changes = c.self.inside.changes;
     }) c.args.self.now
-    c.self.view_is c.terms-terms.result.stamp c.terms-terms.ensures.stamp c.args.list.now c.args.list.now refl
+    c.self.view_is c.terms-terms.result.stamp c.terms-terms.ensures.stamp c.args.list.items c.args.list.items refl
     c.self.invariant.0 c.requires.may c.in-Err-Clash.field-0 c.in-Err-Clash.field-0-is c.in-Err-Clash.ensures.clash)
 
 pub returns-in-Err-Clash-clause-asked : goal.returns-in-Err-Clash-clause-asked
@@ -133,7 +140,7 @@ returns-in-Err-Clash-clause-asked g c =
       verdicts = c.self.inside.verdicts;
       changes = c.self.inside.changes;
     }) c.args.self.now
-    c.self.view_is c.terms-terms.result.stamp c.terms-terms.ensures.stamp c.args.list.now c.args.list.now refl
+    c.self.view_is c.terms-terms.result.stamp c.terms-terms.ensures.stamp c.args.list.items c.args.list.items refl
     c.self.invariant.0 c.requires.may c.in-Err-Clash.field-0 c.in-Err-Clash.field-0-is c.in-Err-Clash.ensures.clash)
 
 pub returns-in-Err-Memory-clause-asked : goal.returns-in-Err-Memory-clause-asked
@@ -148,6 +155,6 @@ returns-in-Err-Memory-clause-asked g c =
         verdicts = c.self.inside.verdicts;
         changes = c.self.inside.changes;
       })
-          c.args.self.now c.self.view_is c.terms-terms.result.stamp c.terms-terms.ensures.stamp c.args.list.now
-          c.args.list.now refl c.self.invariant.0 a.0 a.2,
+          c.args.self.now c.self.view_is c.terms-terms.result.stamp c.terms-terms.ensures.stamp c.args.list.items
+          c.args.list.items refl c.self.invariant.0 a.0 a.2,
     )

@@ -1,4 +1,4 @@
-use Rattle.std.proofs.Common.{◌≡◌, false, length, List, Ok, Err, sym, ap, ◌∙◌, subst, refl}
+use Rattle.std.proofs.Common.{◌≡◌, false, List, Ok, Err, sym, ap, ◌∙◌, subst}
 use Rattle.wot_policy.specs.Kept.{rows_of}
 use Rattle.wot_part.specs.Certificate.{Certificate}
 use Rattle.wot_held.specs.declared.refusal.Refusal.TheVariants.{Clash}
@@ -13,88 +13,76 @@ use Rattle.wot_keyring.proofs.keyring.Keyring.take.Goals as goal
 pub returns-in-Err-Clash-clause-answer : goal.returns-in-Err-Clash-clause-answer
 returns-in-Err-Clash-clause-answer g c =
     subst (λ (cs : List Certificate). AnswersUnited (Err Clash) (rows_of c.args.policy.now) c.args.self.now cs
-    c.args.read.now.skipped) c.as_slice-certs.ensures.items
-    (nothing_answered (rows_of c.args.policy.now) c.args.self.now c.lawful.ensures.keyring c.as_slice-certs.result.now
-    c.args.read.now.skipped (subst (λ (f : Fault). IsNothingTold f c.as_slice-certs.result.now)
+    c.args.read.skipped) c.into_vec-certs.ensures.items
+    (nothing_answered (rows_of c.args.policy.now) c.args.self.now c.lawful.ensures.keyring c.into_vec-certs.result.items
+    c.args.read.skipped (subst (λ (f : Fault). IsNothingTold f c.into_vec-certs.result.items)
     c.in-Err-Clash.field-0-is c.in-Err-Clash.ensures.clash))
 
 pub returns-in-Some-clause-answer : goal.returns-in-Some-clause-answer
 returns-in-Some-clause-answer g c =
-    let same : DoTheSame c.as_slice-certs.result.now c.as_slice.result.now =
-    subst (λ (ys : List Certificate). DoTheSame c.as_slice-certs.result.now ys) (sym c.as_slice.ensures.value)
+    let same : DoTheSame c.into_vec-certs.result.items c.as_slice.result.now =
+    subst (λ (ys : List Certificate). DoTheSame c.into_vec-certs.result.items ys) (sym c.as_slice.ensures.value)
     c.in-Ok.ensures.same in
     subst (λ (cs : List Certificate). AnswersUnited (Err c.in-Some.refusal) (rows_of c.args.policy.now) c.args.self.now
-    cs c.args.read.now.skipped) c.as_slice-certs.ensures.items
-    (same_refusal (rows_of c.args.policy.now) c.args.self.now c.lawful.ensures.keyring c.as_slice-certs.result.now
-    c.as_slice.result.now same c.in-Some.refusal c.args.read.now.skipped c.in-Some.ensures.told)
+    cs c.args.read.skipped) c.into_vec-certs.ensures.items
+    (same_refusal (rows_of c.args.policy.now) c.args.self.now c.lawful.ensures.keyring c.into_vec-certs.result.items
+    c.as_slice.result.now same c.in-Some.refusal c.args.read.skipped c.in-Some.ensures.told)
 
 pub returns-in-Ok-accept-clause-answer : goal.returns-in-Ok-accept-clause-answer
 returns-in-Ok-accept-clause-answer g c =
-    let same : DoTheSame c.as_slice-certs.result.now c.as_slice-2.result.now =
-    subst (λ (ys : List Certificate). DoTheSame c.as_slice-certs.result.now ys) (sym c.as_slice-2.ensures.value)
-    c.in-Ok.ensures.same in
     subst (λ (cs : List Certificate). AnswersUnited
     (Ok (record {
-      taken = length c.as_slice-certs.result.now;
+      taken = c.len-taken.result;
       skipped = c.in-Ok-accept.done.skipped;
       fresh =
           c.in-Ok-accept.done.fresh;
-    })) (rows_of c.args.policy.now) c.args.self.now cs c.args.read.now.skipped)
-    c.as_slice-certs.ensures.items
-    (same_counts (rows_of c.args.policy.now) c.args.self.now c.lawful.ensures.keyring c.as_slice-certs.result.now
-    c.as_slice-2.result.now same (Ok c.in-Ok-accept.done) (length c.as_slice-certs.result.now)
-    c.args.read.now.skipped refl
+    })) (rows_of c.args.policy.now) c.args.self.now cs c.args.read.skipped)
+    c.into_vec-certs.ensures.items
+    (same_counts (rows_of c.args.policy.now) c.args.self.now c.lawful.ensures.keyring c.into_vec-certs.result.items
+    c.in-Ok.list.items c.in-Ok.ensures.same (Ok c.in-Ok-accept.done) c.len-taken.result c.args.read.skipped
+    (c.len-taken.ensures ∙ c.into_vec-certs.result.ok.0)
     (subst (λ (z : Keyring). AnswersUnited (Ok c.in-Ok-accept.done) (rows_of c.args.policy.now) z
-    c.as_slice-2.result.now c.args.read.now.skipped) c.in_default.ensures.same c.in-Ok-accept.ensures.answer))
+    c.in-Ok.list.items c.args.read.skipped) c.in_default.ensures.same c.in-Ok-accept.ensures.answer))
 
 pub returns-in-Ok-accept-clause-united : goal.returns-in-Ok-accept-clause-united
 returns-in-Ok-accept-clause-united g c =
-    let same : DoTheSame c.as_slice-certs.result.now c.as_slice-2.result.now =
-    subst (λ (ys : List Certificate). DoTheSame c.as_slice-certs.result.now ys) (sym c.as_slice-2.ensures.value)
-    c.in-Ok.ensures.same in
-    let none : any_clash (alone (certificates_in c.args.self.now)) c.as_slice-2.result.now ≡ false =
-    ap (any_clash (alone (certificates_in c.args.self.now))) (c.as_slice-2.ensures.value
-    ∙ sym c.as_slice.ensures.value) ∙ c.in_default.ensures.told.clash in
+    let none : any_clash (alone (certificates_in c.args.self.now)) c.in-Ok.list.items ≡ false =
+    ap (any_clash (alone (certificates_in c.args.self.now))) (sym c.as_slice.ensures.value)
+    ∙ c.in_default.ensures.told.clash in
     c.in-Ok-accept.ensures.united
     ∙ ap (λ (z : Keyring). holding z (with_certs (rows_of c.args.policy.now) (certificates_in z)
-    c.as_slice-2.result.now)) c.in_default.ensures.same
-    ∙ same_holding (rows_of c.args.policy.now) c.args.self.now c.lawful.ensures.keyring c.as_slice-certs.result.now
-    c.as_slice-2.result.now same none
+    c.in-Ok.list.items)) c.in_default.ensures.same
+    ∙ same_holding (rows_of c.args.policy.now) c.args.self.now c.lawful.ensures.keyring c.into_vec-certs.result.items
+    c.in-Ok.list.items c.in-Ok.ensures.same none
     ∙ ap (λ (cs : List Certificate). holding c.args.self.now (with_certs (rows_of c.args.policy.now)
-    (certificates_in c.args.self.now) cs)) c.as_slice-certs.ensures.items
+    (certificates_in c.args.self.now) cs)) c.into_vec-certs.ensures.items
 
 pub returns-in-Ok-accept-clause-asked : goal.returns-in-Ok-accept-clause-asked
 returns-in-Ok-accept-clause-asked g c =
-    let same : DoTheSame c.as_slice-certs.result.now c.as_slice-2.result.now =
-    subst (λ (ys : List Certificate). DoTheSame c.as_slice-certs.result.now ys) (sym c.as_slice-2.ensures.value)
-    c.in-Ok.ensures.same in
-    let none : any_clash (alone (certificates_in c.args.self.now)) c.as_slice-2.result.now ≡ false =
-    ap (any_clash (alone (certificates_in c.args.self.now))) (c.as_slice-2.ensures.value
-    ∙ sym c.as_slice.ensures.value) ∙ c.in_default.ensures.told.clash in
+    let none : any_clash (alone (certificates_in c.args.self.now)) c.in-Ok.list.items ≡ false =
+    ap (any_clash (alone (certificates_in c.args.self.now))) (sym c.as_slice.ensures.value)
+    ∙ c.in_default.ensures.told.clash in
     let a = c.in-Ok-accept.ensures.asked in (
       a.0,
       a.1,
-      a.2 ∙ ap (λ (z : Keyring). asked_for (rows_of c.args.policy.now) z c.as_slice-2.result.now)
+      a.2 ∙ ap (λ (z : Keyring). asked_for (rows_of c.args.policy.now) z c.in-Ok.list.items)
           c.in_default.ensures.same ∙ same_asked (rows_of c.args.policy.now) c.args.self.now c.lawful.ensures.keyring
-          c.as_slice-certs.result.now c.as_slice-2.result.now same none
-          ∙ ap (asked_for (rows_of c.args.policy.now) c.args.self.now) c.as_slice-certs.ensures.items,
+          c.into_vec-certs.result.items c.in-Ok.list.items c.in-Ok.ensures.same none
+          ∙ ap (asked_for (rows_of c.args.policy.now) c.args.self.now) c.into_vec-certs.ensures.items,
     )
 
-pub returns-clause-asked : goal.returns-clause-asked
-returns-clause-asked g c =
-    let same : DoTheSame c.as_slice-certs.result.now c.as_slice-2.result.now =
-    subst (λ (ys : List Certificate). DoTheSame c.as_slice-certs.result.now ys) (sym c.as_slice-2.ensures.value)
-    c.in-Ok.ensures.same in
-    let none : any_clash (alone (certificates_in c.args.self.now)) c.as_slice-2.result.now ≡ false =
-    ap (any_clash (alone (certificates_in c.args.self.now))) (c.as_slice-2.ensures.value
-    ∙ sym c.as_slice.ensures.value) ∙ c.in_default.ensures.told.clash in
+pub returns-in-Err-clause-asked : goal.returns-in-Err-clause-asked
+returns-in-Err-clause-asked g c =
+    let none : any_clash (alone (certificates_in c.args.self.now)) c.in-Ok.list.items ≡ false =
+    ap (any_clash (alone (certificates_in c.args.self.now))) (sym c.as_slice.ensures.value)
+    ∙ c.in_default.ensures.told.clash in
     let a = c.in-Err.ensures.asked in (
       a.0,
       a.1,
       subst (λ all. IsAskedAbout (Err c.in-Err.refusal) all a.0)
-          (ap (λ (z : Keyring). asked_for (rows_of c.args.policy.now) z c.as_slice-2.result.now)
+          (ap (λ (z : Keyring). asked_for (rows_of c.args.policy.now) z c.in-Ok.list.items)
           c.in_default.ensures.same
-          ∙ same_asked (rows_of c.args.policy.now) c.args.self.now c.lawful.ensures.keyring c.as_slice-certs.result.now
-          c.as_slice-2.result.now same none ∙ ap (asked_for (rows_of c.args.policy.now) c.args.self.now)
-          c.as_slice-certs.ensures.items) a.2,
+          ∙ same_asked (rows_of c.args.policy.now) c.args.self.now c.lawful.ensures.keyring c.into_vec-certs.result.items
+          c.in-Ok.list.items c.in-Ok.ensures.same none ∙ ap (asked_for (rows_of c.args.policy.now) c.args.self.now)
+          c.into_vec-certs.ensures.items) a.2,
     )
