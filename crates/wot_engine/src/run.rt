@@ -24,6 +24,7 @@ ghost use Rattle.wot_engine.specs.declared.run.Stop.TheVariants as stops;
 ghost use Rattle.wot_engine.specs.declared.run.Stop.TheVariants.{Read, Write};
 
 use std::alloc::Global;
+use std::mem;
 use wot_certd::Shelf;
 use wot_io::{Failed, Line, Lines, LinesFault, Sink, Source, write_all};
 use wot_laws::each_line_has_one_outcome;
@@ -148,7 +149,8 @@ fn flush<K: Sink>(lines: &Lines, output: &mut K, out: &mut Vec<u8>) -> Result<()
 }
 
 /// Answers the lines of an input. The replies to all complete lines that are available are written together, before
-/// more is read. If memory runs out for a line, the replies to the lines before it are written.
+/// more is read. If memory runs out for a line, the replies to the lines before it are written. What the machine holds
+/// in the end is left to the process.
 pub fn run<S: Source, K: Sink, D: Shelf, F: Fn(Ask) -> bool>(
     alloc: Global,
     input: &mut S,
@@ -170,7 +172,7 @@ pub fn run<S: Source, K: Sink, D: Shelf, F: Fn(Ask) -> bool>(
     each_line_has_one_outcome();
     let mut lines = Lines::new(alloc)?;
     let mut machine = Machine::new(alloc);
-    answer_lines(
+    let ended = answer_lines(
         alloc,
         &mut lines,
         &mut machine,
@@ -178,7 +180,10 @@ pub fn run<S: Source, K: Sink, D: Shelf, F: Fn(Ask) -> bool>(
         output,
         shelf,
         policy,
-    )
+    );
+    // A run ends with its process. To free a large keyring piece by piece takes as long as to read a fifth of it.
+    mem::forget(machine);
+    ended
 }
 
 /// Answers the lines of an input, starting with a fresh reader and a fresh machine.

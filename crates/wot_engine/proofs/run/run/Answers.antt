@@ -68,37 +68,37 @@ returns-in_err-lines-clause-asked g c =
 -- ---- everything else follows from the contract of `answer_lines`
 
 pub returns-clause-does : goal.returns-clause-does
-returns-clause-does g c = c.answer_lines.ensures.runs.does
+returns-clause-does g c = c.answer_lines-ended.ensures.runs.does
 
 pub returns-clause-takes : goal.returns-clause-takes
-returns-clause-takes g c = c.answer_lines.ensures.runs.takes
+returns-clause-takes g c = c.answer_lines-ended.ensures.runs.takes
 
 pub returns-clause-source : goal.returns-clause-source
-returns-clause-source g c = c.answer_lines.ensures.source
+returns-clause-source g c = c.answer_lines-ended.ensures.source
 
 pub returns-clause-sink : goal.returns-clause-sink
-returns-clause-sink g c = c.answer_lines.ensures.sink
+returns-clause-sink g c = c.answer_lines-ended.ensures.sink
 
 pub returns-clause-asked : goal.returns-clause-asked
-returns-clause-asked g c = c.answer_lines.ensures.runs.asked
+returns-clause-asked g c = c.answer_lines-ended.ensures.runs.asked
 
 pub returns-clause-faithful : goal.returns-clause-faithful
-returns-clause-faithful g c = c.answer_lines.ensures.runs.faithful
+returns-clause-faithful g c = c.answer_lines-ended.ensures.runs.faithful
 
 pub returns-clause-rows : goal.returns-clause-rows
-returns-clause-rows g c = c.answer_lines.ensures.runs.rows
+returns-clause-rows g c = c.answer_lines-ended.ensures.runs.rows
 
-pub answer_lines-requires-clause-unread : goal.answer_lines-requires-clause-unread
-answer_lines-requires-clause-unread g c = c.in_ok-lines.ensures
+pub answer_lines-ended-requires-clause-unread : goal.answer_lines-ended-requires-clause-unread
+answer_lines-ended-requires-clause-unread g c = c.in_ok-lines.ensures
 
-pub answer_lines-requires-clause-engine : goal.answer_lines-requires-clause-engine
-answer_lines-requires-clause-engine g c = c.new-machine.ensures.start
+pub answer_lines-ended-requires-clause-engine : goal.answer_lines-ended-requires-clause-engine
+answer_lines-ended-requires-clause-engine g c = c.new-machine.ensures.start
 
-pub answer_lines-requires-clause-cursors : goal.answer_lines-requires-clause-cursors
-answer_lines-requires-clause-cursors g c = c.new-machine.ensures.cursors
+pub answer_lines-ended-requires-clause-cursors : goal.answer_lines-ended-requires-clause-cursors
+answer_lines-ended-requires-clause-cursors g c = c.new-machine.ensures.cursors
 
-pub answer_lines-requires-clause-watches : goal.answer_lines-requires-clause-watches
-answer_lines-requires-clause-watches g c = c.new-machine.ensures.watches
+pub answer_lines-ended-requires-clause-watches : goal.answer_lines-ended-requires-clause-watches
+answer_lines-ended-requires-clause-watches g c = c.new-machine.ensures.watches
 
-pub answer_lines-requires-clause-faithful : goal.answer_lines-requires-clause-faithful
-answer_lines-requires-clause-faithful g c = c.requires.faithful
+pub answer_lines-ended-requires-clause-faithful : goal.answer_lines-ended-requires-clause-faithful
+answer_lines-ended-requires-clause-faithful g c = c.requires.faithful
