@@ -13,3 +13,4 @@ pub mod Fitting
 pub mod Sizes
 pub mod Totals
 pub mod Growing
+pub mod KeptFacts

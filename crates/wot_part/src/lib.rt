@@ -7,7 +7,9 @@
 pub mod adds;
 pub mod growing;
 pub mod growth;
+mod issuer_place;
 pub mod judge;
+mod kept_facts;
 pub mod measure;
 mod merging;
 pub mod part;

@@ -1,6 +1,6 @@
 //! A signature in a certificate: its body, its number, its facts, and the policy's mark.
 //!
-//! It stands on `wot_signature`, `wot_verdict` and `wot_policy`, and on `specs/Certificate.antt` and
+//! It stands on `kept_facts`, `wot_verdict` and `wot_policy`, and on `specs/Certificate.antt` and
 //! `specs/Judged.antt`. Lists of signatures are sorted by body and merged here.
 ghost use Rattle.std.specs.Prelude.{◌≡◌, ◌<◌, ◌^◌, OnOk, IfOk, [], ◌∷◌, ◌++◌, length, map, if◌then◌else◌};
 ghost use Rattle.wot_part.specs.Certificate.{IsFreshBy, kept, sig_cmp, unite_sigs, said_by};
@@ -10,12 +10,13 @@ ghost use Rattle.wot_part.specs.Marked.{mark_by, one_if_sound, is_admitted_as};
 ghost use Rattle.wot_part.specs.Ranked.{IsRising};
 ghost use Rattle.wot_policy.specs.Kept.{IsFaithful, rows_of, asked_more};
 
+use crate::kept_facts::KeptFacts;
 use crate::merging::{Ranked, put_merged};
 use std::alloc::Global;
 use std::cmp::Ordering;
 use std::marker::Model;
 use wot_policy::{Ask, Policy};
-use wot_signature::{SigFacts, read_signature};
+use wot_signature::SigFacts;
 use wot_types::{Memory, SigNumber};
 use wot_verdict::Numbering;
 
@@ -24,7 +25,7 @@ use wot_verdict::Numbering;
 struct Held {
     body: Vec<u8>,
     number: SigNumber,
-    facts: Option<SigFacts>,
+    facts: KeptFacts,
     admitted: bool,
 }
 
@@ -35,9 +36,8 @@ pub struct Sig {
 }
 
 impl Model for Sig {
-    ghost use Rattle.std.specs.Prelude.{◌≡◌};
-    ghost use Rattle.wot_signature.specs.Signature.{facts_of};
     ghost use Rattle.wot_part.specs.Certificate.{Signature};
+    ghost use Rattle.wot_part.specs.KeptFacts.{AreFactsOf};
 
     ghost Value = { Signature };
 
@@ -47,7 +47,7 @@ impl Model for Sig {
       admitted = a.held.value.admitted;
     } };
 
-    ghost invariant = { λ a. a.held.value.facts ≡ facts_of a.held.value.body.items };
+    ghost invariant = { λ a. AreFactsOf a.held.value.body.items a.held.value.facts };
 }
 
 /// Whether copies keep their marks.
@@ -73,10 +73,12 @@ impl Sig {
     }
 
     /// What it says; `None` if it can't be parsed.
+    #[inline(always)]
     pub fn facts(&self) -> Option<SigFacts>
         ensures said { result ≡ said_by self.now }
     {
-        self.held.facts
+        let held = &*self.held;
+        held.facts.completed(&held.body)
     }
 
     /// Whether the policy admitted it.
@@ -92,7 +94,7 @@ impl Sig {
         ensures fresh { IfOk result (IsFreshBy numbering.now body.now) }
     {
         let number = numbering.number(body);
-        let facts = read_signature(body);
+        let facts = KeptFacts::read(alloc, body)?;
         let body = Vec::from_slice(alloc, body)?;
         let held = Held {
             body,
@@ -110,10 +112,11 @@ impl Sig {
     {
         let here = &*self.held;
         let body = Vec::from_slice(alloc, &here.body)?;
+        let facts = here.facts.again(alloc)?;
         let held = Held {
             body,
             number: here.number,
-            facts: here.facts,
+            facts,
             admitted: mark,
         };
         let held = Box::new(alloc, held)?;
@@ -128,7 +131,8 @@ impl Sig {
         ensures faithful { IsFaithful F.Fn policy.new }
     {
         let held = &mut *self.held;
-        held.admitted = judge_facts(held.facts, policy);
+        let facts = held.facts.completed(&held.body);
+        held.admitted = judge_facts(facts, policy);
     }
 }
 
