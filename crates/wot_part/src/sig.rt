@@ -15,6 +15,7 @@ use crate::merging::{Ranked, put_merged};
 use std::alloc::Global;
 use std::cmp::Ordering;
 use std::marker::Model;
+use std::mem::size_of;
 use wot_policy::{Ask, Policy};
 use wot_signature::SigFacts;
 use wot_types::{Memory, SigNumber};
@@ -28,6 +29,9 @@ struct Held {
     facts: KeptFacts,
     admitted: bool,
 }
+
+// A keyring may hold a million of them, each in a chunk of memory of its own. One of 96 octets is enough for 88.
+const _: () = prove!(size_of::<Held>() <= 88);
 
 /// A signature of a certificate. The value itself is small, since an insertion moves all signatures after it.
 #[derive(Drop)]
