@@ -181,7 +181,7 @@ pub fn run<S: Source, K: Sink, D: Shelf, F: Fn(Ask) -> bool>(
         shelf,
         policy,
     );
-    // A run ends with its process. To free a large keyring piece by piece takes as long as to read a fifth of it.
+    // A run ends with its process. To free a large keyring piece by piece takes an eighth of a run, or more.
     mem::forget(machine);
     ended
 }

@@ -27,7 +27,7 @@ use wot_types::Memory;
 
 impl Keyring {
     /// Merges certificates that were read with the kept ones. Those of one key are first merged with each other, so
-    /// that a kept certificate is copied once, however often its key was read.
+    /// that a kept certificate is copied at most once, however often its key was read.
     pub(crate) fn take<F: Fn(Ask) -> bool>(
         &mut self,
         alloc: Global,
