@@ -15,20 +15,20 @@ use Rattle.wot_cache.specs.Turns.{Turns}
 use Rattle.wot_cache.specs.Views.{Views, is_name}
 use Rattle.wot_kept.specs.RightLaws.{right_found}
 
-abbrev RestOnLeads : Keyring → Entries → Type 0
-RestOnLeads k entries = AllByRecursion (λ (e : ℕ × KeptAnswer). RestsOnLeads k e.1) entries
+abbrev RestIn : Keyring → Entries → Type 0
+RestIn k entries = AllByRecursion (λ (e : ℕ × KeptAnswer). RestsOnLeads k e.1) entries
 
 right_leads : (k : Keyring) (roots : Amounts) (turn : ℕ) (entries : Entries) → AreRight k roots turn entries
-    → RestOnLeads k entries
+    → RestIn k entries
 right_leads k roots turn [] all = tt
 right_leads k roots turn (e ∷ entries) all = (all.0.0.leads, right_leads k roots turn entries all.1)
 
-leads_of : (k : Keyring) (answers : AllAnswers) (name : List ℕ) → AreAllRight k answers
-    → RestOnLeads k (option_map_or (λ (of_view : OfView). of_view.entries) (lookup (is_name name) answers) [])
+pub leads_of : (k : Keyring) (answers : AllAnswers) (name : List ℕ) → AreAllRight k answers
+    → RestIn k (option_map_or (λ (of_view : OfView). of_view.entries) (lookup (is_name name) answers) [])
 leads_of k answers name all = by (lookup (is_name name) answers) refl
   where
     by : (o : Option OfView) → lookup (is_name name) answers ≡ o
-        → RestOnLeads k (option_map_or (λ (of_view : OfView). of_view.entries) o [])
+        → RestIn k (option_map_or (λ (of_view : OfView). of_view.entries) o [])
     by None e = tt
     by (Some v) e = right_leads k v.roots v.turn v.entries (right_found k answers name v all e).each
 

@@ -118,6 +118,10 @@ looked_in a = option_map_or (λ (looked : Vec Looked Global). length looked.item
 abbrev pub looked_by : Option KeptAnswer → ℕ
 looked_by found = option_map_or looked_in found 0
 
+-- how many fingerprints these answers depend on together
+abbrev pub looked_of : Entries → ℕ
+looked_of entries = sum_by looked_in (values_of entries)
+
 -- the limits of what is kept for one view: 1,024 answers, and 2^20 consulted fingerprints, of which `looked` is the
 -- count
 pub record AreFew (entries : Entries) (looked : ℕ) : Type 0 where

@@ -12,7 +12,7 @@ ghost use Rattle.wot_reach.specs.Reach.{IsReach};
 ghost use Rattle.wot_network.specs.Net.{told_of};
 ghost use Rattle.wot_kept.specs.Answers.{AllStill, AreFew, AreRight, AreRightIn, StayRight, StayRightWith};
 ghost use Rattle.wot_kept.specs.Answers.{IsAmong, IsTheAnswer, IsFound, IsGood, IsRight};
-ghost use Rattle.wot_kept.specs.Answers.{looked_by, looked_in, IsSameBut};
+ghost use Rattle.wot_kept.specs.Answers.{looked_by, looked_in, looked_of, IsSameBut};
 ghost use Rattle.wot_kept.specs.Asked.{AreSettled, IsAnswered, IsAskedIn};
 ghost use Rattle.wot_kept.specs.Question.{present_in};
 
@@ -263,10 +263,11 @@ impl Answers {
         give(&mut self.table, parts, self.turn, asked)
     }
 
-    /// The number of kept answers.
+    /// The number of kept answers. Together they depend on at most 2^20 fingerprints.
     pub fn len(&self) -> usize
         ensures count { result ≡ length self.now.entries }
         ensures few { result ≤ 1024 }
+        ensures looked { looked_of self.now.entries ≤ 1048576 }
     {
         self.table.len()
     }
