@@ -12,6 +12,7 @@ mod Marked
 mod Named
 mod Outcomes
 mod ProofsRestOnLeads
+mod QuietWatches
 mod Reached
 mod Refusals
 mod RefusedWatches

@@ -23,7 +23,7 @@ use Rattle.wot_script.specs.declared.reply.Reply.TheVariants as replies
 use Rattle.wot_certd.specs.World.{World}
 use Rattle.wot_cache.specs.declared.view.View.{View}
 use Rattle.wot_cache.specs.Question.{question_in}
-use Rattle.wot_cache.specs.State.{IsState, State}
+use Rattle.wot_cache.specs.State.{State}
 use Rattle.wot_cache.specs.Views.{view_at}
 use Rattle.wot_table.specs.Table.{is_name}
 use Rattle.wot_watch.specs.Watches.{Watch, Watches, is_full, watch_at, with_watch, without_watch}
@@ -40,30 +40,29 @@ use Rattle.wot_step.specs.Watching.{AreLines, HasAmount, IsWatchLine, LeavesWatc
 use Rattle.wot_step.specs.Watching.{Watching}
 use Rattle.wot_step.specs.Watching.{is_watching, line_by, opened, with_line}
 use Rattle.wot_step.specs.Session.{Session}
-use Rattle.wot_laws.specs.TrueWatches.{IsAmountOf, IsLast, IsNews, QuietLinesTellNothing}
+use Rattle.wot_laws.specs.TrueWatches.{IsAmountOf, IsLast, IsNews}
 use Rattle.wot_laws.specs.TrueWatches.{WatchLinesAreNews, WatchesAreTrue}
 use Rattle.wot_laws.specs.Numbers.{amount_in}
 use Rattle.wot_laws.specs.TrueWatches.{amounts_in, line_cmp, name_in}
-use Rattle.wot_laws.proofs.Reached.{reached_can_be}
 use Rattle.wot_step.proofs.Entries.{AllValues, all_found, all_put, all_without, apart, found_put, gone_without}
 use Rattle.wot_step.proofs.Entries.{other_put, other_without, rising_put, rising_without}
 use Rattle.wot_laws.proofs.StaleTold.{untold}
 use Rattle.wot_laws.proofs.WatchLines.{AreByName, all_keep, all_order, behind, is_itself, last_behind, none_of}
 use Rattle.wot_laws.proofs.WatchLines.{other_way}
 use Rattle.wot_laws.proofs.WatchLines.{same_name, was_there}
-use Rattle.wot_step.proofs.Watched.{AnswerOne, Lawful, Tells-one, amount_has, lines_are_watch, plain_watching}
+use Rattle.wot_step.proofs.Watched.{amount_has, lines_are_watch, plain_watching}
 use Rattle.wot_step.proofs.Watched.{watched_cases}
 
 -- ---- what was reported so far
 
-abbrev wants : Watch → Type 0
+abbrev pub wants : Watch → Type 0
 wants watch = 1 ≤ watch.wanted
 
 -- the watches have the amounts that were last reported for them
-record AreTold (told : List Reply) (watches : Watches) : Type 0 where
-  order : AreByName watches
-  some : AllValues wants watches
-  last : (name : List ℕ) (watch : Watch) → watch_at watches name ≡ Some watch → IsLast (amounts_in name told) watch.told
+pub record AreTold (told : List Reply) (watches : Watches) : Type 0 where
+  pub order : AreByName watches
+  pub some : AllValues wants watches
+  pub last : (name : List ℕ) (watch : Watch) → watch_at watches name ≡ Some watch → IsLast (amounts_in name told) watch.told
 
 amounts_behind : (name : List ℕ) (told : List Reply) (reply : Reply)
     → amounts_in name (told ++ reply ∷ []) ≡ amounts_in name told ++ (amount_in name reply ++ [])
@@ -218,7 +217,7 @@ module _ (told : List Reply) where
         left_told said reply old.watches new.watches (g.0, ap (λ (w : Session). w.watches) g.1)
         (still_told old.watches said none t)
 
-    step_told : ((line : List ℕ) (command : Command) → command_of line ≡ Some command → HasSpelling command)
+    pub step_told : ((line : List ℕ) (command : Command) → command_of line ≡ Some command → HasSpelling command)
         → (line : List ℕ) (reply : Option Reply) → LineStep rows old line given reply new
         → AreTold (told ++ listed reply) new.watches
     step_told spelled line reply = long (nat_lt longest (length line))
@@ -253,7 +252,7 @@ module _ (told : List Reply) where
 
 -- ---- the watch lines after it
 
-amount_is : (s : State) (o : Option View) (was : Watch) (amount : ℕ) → wants was
+pub amount_is : (s : State) (o : Option View) (was : Watch) (amount : ℕ) → wants was
     → HasAmount s o was.target was.wanted was.uid (Some amount) → IsAmountOf s o (record was { told = amount }) amount
 amount_is s None was amount some h = absurd (cc h)
 amount_is s (Some view) was amount some h = by (was.wanted == 0) refl h.1
@@ -268,9 +267,9 @@ amount_is s (Some view) was amount some h = by (was.wanted == 0) refl h.1
     by false e is = (is.0, is.1, same_Some amount h.0 h.2 ∙ is.2)
 
 -- what holds of a reached state, by everything reported so far
-record IsTold (told : List Reply) (w : Session) : Type 0 where
-  are : AreTold told w.watches
-  now : (name : List ℕ) (watch : Watch) → watch_at w.watches name ≡ Some watch
+pub record IsTold (told : List Reply) (w : Session) : Type 0 where
+  pub are : AreTold told w.watches
+  pub now : (name : List ℕ) (watch : Watch) → watch_at w.watches name ≡ Some watch
       → IsAmountOf w.state (view_at w.state.views watch.view) watch watch.told
 
 tells_told : (told lines : List Reply) (old new : Session) → ReportsWatches old lines new → AreTold told old.watches
@@ -296,7 +295,7 @@ tells_told told lines old new tells t = subst (IsTold (told ++ lines)) (sym tell
 -- ---- news
 
 -- each watch is found by its name
-each_found : (Q : List ℕ → Watch → Type 0) (watches : Watches) → AreByName watches
+pub each_found : (Q : List ℕ → Watch → Type 0) (watches : Watches) → AreByName watches
     → ((name : List ℕ) (watch : Watch) → watch_at watches name ≡ Some watch → Q name watch)
     → AllByRecursion (λ (e : List ℕ × Watch). Q e.0 e.1) watches
 each_found Q [] r f = tt
@@ -384,7 +383,7 @@ rising_lines s (x ∷ xs) lines r p =
 -- ---- if all amounts are reported already
 
 -- its amount was reported, and something is wanted
-abbrev IsCalm : State → Watch → Type 0
+abbrev pub IsCalm : State → Watch → Type 0
 IsCalm s watch = wants watch × IsAmountOf s (view_at s.views watch.view) watch watch.told
 
 calm_has : (s : State) (o : Option View) (watch : Watch) → wants watch → IsAmountOf s o watch watch.told
@@ -400,7 +399,7 @@ calm_line name told = by (told == told) refl
     by true e = refl
     by false e = absurd (eqb-false told told e refl)
 
-calm_lines : (s : State) (watches : Watches) → AllByRecursion (λ (e : List ℕ × Watch). IsCalm s e.1) watches
+pub calm_lines : (s : State) (watches : Watches) → AllByRecursion (λ (e : List ℕ × Watch). IsCalm s e.1) watches
     → AreLines s watches []
 calm_lines s [] all = refl
 calm_lines s (x ∷ xs) all = (
@@ -435,7 +434,7 @@ module _ (rows : PolicyRows)
         (ap (λ (rs : List Reply). rs ++ r.3) (append_assoc before (listed r.0) r.1)
         ∙ append_assoc before (listed r.0 ++ r.1) r.3 ∙ ap (λ (rs : List Reply). before ++ rs) (sym r.6)) rest
 
-    reached_told : (world : World) (lines : List (List ℕ)) (told : List Reply) (s : Scene)
+    pub reached_told : (world : World) (lines : List (List ℕ)) (told : List Reply) (s : Scene)
         → Run rows (opening world) lines told s → IsTold told s.whole
     reached_told world lines told s r =
         run_told lines (opening world) [] told s r
@@ -462,16 +461,3 @@ module _ (rows : PolicyRows)
               step.mid.watches a.order a.last) step.tells.lines_are;
           order = rising_lines step.mid.state step.mid.watches behind a.order step.tells.lines_are;
         }
-
-    module _ (one : AnswerOne) (lawful : Lawful) where
-      pub lines_quiet : QuietLinesTellNothing rows
-      lines_quiet world lines told old line reply behind new r step same =
-          let t : IsTold told step.mid = subst (IsTold told) (sym same) (reached_told world lines told old r) in
-          let can : IsState step.mid.state =
-          subst (λ (w : Session). IsState w.state) (sym same) (reached_can_be rows world lines told old r) in
-          let calm : AreLines step.mid.state step.mid.watches [] =
-          calm_lines step.mid.state step.mid.watches
-          (each_found (λ (name : List ℕ) (watch : Watch). IsCalm step.mid.state watch) step.mid.watches t.are.order
-          (λ name watch e. (all_found wants (is_name name) watch step.mid.watches t.are.some e, t.now name watch e))) in
-          (Tells-one one lawful step.mid behind [] new.whole step.mid can step.tells
-          (record { lines_are = calm; left = refl })).0

@@ -82,12 +82,13 @@ WatchLinesAreNews rows =
     → Run rows (opening world) lines told old → Step rows old line reply behind new
     → AreNews (told ++ listed reply) behind
 
--- ---- lines that change nothing
+-- ---- lines that leave the state
 
--- No watch line follows a line that changes nothing: one that is silent, refused or no command, or that asks or lists.
+-- No watch line follows a line that changes no certificate, no verdict and no view: one that is silent, refused or no
+-- command, that asks or lists, or that is about cursors or watches.
 abbrev pub QuietLinesTellNothing : PolicyRows → Type 0
 QuietLinesTellNothing rows =
     (world : World) (lines : List (List ℕ)) (told : List Reply) (old : Scene) (line : List ℕ) (reply : Option Reply)
     (behind : List Reply) (new : Scene)
-    → Run rows (opening world) lines told old → (step : Step rows old line reply behind new) → step.mid ≡ old.whole
-    → behind ≡ []
+    → Run rows (opening world) lines told old → (step : Step rows old line reply behind new)
+    → step.mid.state ≡ old.whole.state → behind ≡ []

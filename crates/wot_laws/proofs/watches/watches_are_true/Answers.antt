@@ -1,4 +1,5 @@
-use Rattle.wot_laws.proofs.TrueWatches.{lines_news, lines_quiet, watches_true}
+use Rattle.wot_laws.proofs.QuietWatches.{lines_quiet}
+use Rattle.wot_laws.proofs.TrueWatches.{lines_news, watches_true}
 use Rattle.wot_laws.proofs.watches.watches_are_true.Goals as goal
 
 pub returns-clause-now : goal.returns-clause-now
