@@ -1,11 +1,29 @@
 -- What a command may count on, and what it leaves for the next one.
-use Rattle.std.specs.Prelude.{◌≡◌, ◌≤◌, ◌<◌, ◌-◌, ◌^◌, ℕ, None, Option, OnErr, Result}
+use Rattle.std.specs.Prelude.{◌≡◌, ◌≤◌, ◌<◌, ◌-◌, ◌^◌, ℕ, Bool, true, false, None, Option, OnErr, Result}
 use Rattle.wot_types.specs.Limits.{standard_limits}
 use Rattle.wot_held.specs.Import.{IsOneChange}
 use Rattle.wot_certd.specs.World.{World}
 use Rattle.wot_cache.specs.State.{Engine, State}
+use Rattle.wot_step.specs.declared.class.Change.TheVariants as changes
+use Rattle.wot_step.specs.declared.class.Class.{Class}
+use Rattle.wot_step.specs.declared.class.StateCommand.{StateCommand}
+use Rattle.wot_step.specs.declared.class.StateCommand.TheVariants as kinds
+use Rattle.wot_step.specs.declared.class.ViewChange.TheVariants as alterings
+use Rattle.wot_step.specs.Classes.{IsFit, IsSmall}
 use Rattle.wot_step.specs.Entry.{MayPut, Use, entry_for}
 pub use Rattle.wot_held.specs.Judging.{IsJudging, StaysJudging}
+
+-- What holds of every command that is read from a line: what it may want, and how long it may be.
+pub record IsRead (class : Class) : Type 0 where
+  pub fit : IsFit class
+  pub small : IsSmall class
+
+-- whether a command only removes something, which takes no memory
+abbrev pub removes : StateCommand → Bool
+removes (kinds.Change (changes.Remove fpr)) = true
+removes (kinds.Change (changes.Unjudge number)) = true
+removes (kinds.View view alterings.Close) = true
+removes _ = false
 
 -- The counts of changes and of turns can rise.
 pub record CanCount (engine : Engine) : Type 0 where

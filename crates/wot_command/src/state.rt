@@ -1,6 +1,6 @@
 //! Runs the commands that don't change cursors or watches: one function for each class, which chooses the command's own
 //! function. Those are in the files next to this one. A new command of a class is one arm here.
-ghost use Rattle.std.specs.Prelude.{◌≡◌, ◌≤◌, ◌<◌, ◌-◌, ◌^◌, ℕ, None, false, true, IfOk, OnOk, OnErr};
+ghost use Rattle.std.specs.Prelude.{◌≡◌, ◌≤◌, ◌<◌, ◌-◌, ◌^◌, ℕ, None, false, true, IfOk, OnOk, OnErr, is_ok};
 ghost use Rattle.wot_types.specs.Limits.{standard_limits};
 ghost use Rattle.wot_policy.specs.declared.rows.PolicyRows.{PolicyRows};
 ghost use Rattle.wot_policy.specs.Kept.{rows_of};
@@ -12,11 +12,11 @@ ghost use Rattle.wot_step.specs.declared.class.Class.TheVariants.{State as OfSta
 ghost use Rattle.wot_step.specs.declared.class.StateCommand.TheVariants as kinds;
 ghost use Rattle.wot_command.specs.Asked.{AsksBy, CallAsks, ChangeAsks};
 ghost use Rattle.wot_step.specs.Both.{ends};
-ghost use Rattle.wot_step.specs.Classes.{AnswersQuestion, IsFit, IsSmall, IsWanted};
+ghost use Rattle.wot_step.specs.Classes.{AnswersQuestion, IsSmall, IsWanted};
 ghost use Rattle.wot_step.specs.Classes.{change_of, reading, view_change_of};
 ghost use Rattle.wot_command.specs.EdgeLines.{CommandMarks, QuestionMarks};
 ghost use Rattle.wot_command.specs.Lasting.{CanChange, CanRun, ChangesHeld, ChangesOnce};
-ghost use Rattle.wot_command.specs.Lasting.{IsJudging, StaysJudging, Touches};
+ghost use Rattle.wot_command.specs.Lasting.{IsJudging, IsRead, StaysJudging, Touches, removes};
 ghost use Rattle.wot_step.specs.Entry.{MayPutTo, entry_for, use_by, use_in};
 ghost use Rattle.wot_step.specs.Fresh.{IsMadeAnew, OnDump};
 ghost use Rattle.wot_step.specs.LineStep.{ComesTo};
@@ -43,7 +43,7 @@ use wot_step::{AskedBinding, Change, Read, ShelfCall, StateCommand, ViewChange, 
 use wot_types::{Memory, Steps, ViewName};
 
 /// Runs a command that doesn't change cursors or watches. If the reply isn't short, and after `Memory`, nothing has
-/// changed but marks and the count of edges made.
+/// changed but marks and the count of edges made. A command that only removes something takes no memory.
 pub fn obey<D: Shelf, F: Fn(Ask) -> bool>(
     alloc: Global,
     engine: &mut Engine,
@@ -52,8 +52,7 @@ pub fn obey<D: Shelf, F: Fn(Ask) -> bool>(
     shelf: &mut D,
     policy: &mut Policy<F>,
 ) -> Result<Reply, Memory>
-    requires fit { IsFit (OfState command.now) }
-    requires small { IsSmall (OfState command.now) }
+    requires read { IsRead (OfState command.now) }
     requires ready { CanRun engine.old }
     requires judging { IsJudging F.Fn policy.old engine.old.keyring }
     ensures did { IfOk result (StateRunOver (rows_of policy.old) command.now
@@ -65,6 +64,7 @@ pub fn obey<D: Shelf, F: Fn(Ask) -> bool>(
     ensures edges { OnOk result (CommandMarks engine.old (OfState command.now)) }
     ensures quiet { IfOk result (λ reply. is_short reply ≡ false → StaysButMarks engine.old engine.new) }
     ensures kept { OnErr result (StaysButMarks engine.old engine.new) }
+    ensures sure { removes command.now ≡ true → is_ok result ≡ true }
     ensures makes { MakesFor result command.now engine.old engine.new steps.old.made steps.new.made }
     ensures changes { ChangesOnce engine.old engine.new }
     ensures turned { OnOk result (IsTurnedBy (OfState command.now)
@@ -95,6 +95,7 @@ fn change<F: Fn(Ask) -> bool>(
         ComesTo (change_of (rows_of policy.old) (state_of engine.old) what.now) reply (state_of engine.new)) }
     ensures short { IfOk result (λ reply. is_short reply ≡ true) }
     ensures kept { OnErr result (engine.new ≡ engine.old) }
+    ensures sure { removes (kinds.Change what.now) ≡ true → is_ok result ≡ true }
     ensures held { ChangesHeld engine.old engine.new }
     ensures asked { ChangeAsks result what.now (state_of engine.old) (state_of engine.new) policy.old policy.new }
     ensures judging { StaysJudging F.Fn policy.old policy.new engine.new.keyring }
@@ -117,6 +118,7 @@ fn change_view(engine: &mut Engine, view: &ViewName, what: &ViewChange) -> Resul
         engine.old.views engine.old.turns engine.new.views engine.new.turns }
     ensures short { IfOk result (λ reply. is_short reply ≡ true) }
     ensures kept { OnErr result (engine.new ≡ engine.old) }
+    ensures sure { removes (kinds.View view.now what.now) ≡ true → is_ok result ≡ true }
     ensures marks { (made : ℕ) → ChangesMarks result view.now what.now engine.old engine.new made made }
     ensures keyring { engine.new.keyring ≡ engine.old.keyring }
 {

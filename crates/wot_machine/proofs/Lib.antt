@@ -1,5 +1,6 @@
 pub mod CommandsInLines
 pub mod Unchanged
+mod Removals
 mod Reported
 mod DumpLine
 mod Worded

@@ -1,11 +1,16 @@
 -- What contracts see of a machine.
-use Rattle.std.specs.Prelude.{◌≡◌, ◌≤◌, ◌+◌, ℕ}
+use Rattle.std.specs.Prelude.{◌≡◌, ◌≤◌, ◌+◌, ℕ, Bool, true, false}
 use Rattle.wot_types.specs.Limits.{standard_limits}
 use Rattle.wot_held.specs.Import.{IsOneChange}
 use Rattle.wot_cache.specs.State.{Engine, StaysButMarks, state_of}
 use Rattle.wot_cursor.specs.Cursors.{Cursors}
 use Rattle.wot_watch.specs.Watches.{Watches}
+use Rattle.wot_command.specs.Lasting.{removes}
 use Rattle.wot_machine.specs.declared.dispatch.Parts.{Parts}
+use Rattle.wot_step.specs.declared.class.Class.{Class}
+use Rattle.wot_step.specs.declared.class.Class.TheVariants.{State as OfState, Cursor as OfCursor, Watch as OfWatch}
+use Rattle.wot_step.specs.declared.class.CursorCommand.TheVariants as paces
+use Rattle.wot_step.specs.declared.class.WatchCommand.TheVariants as commands
 use Rattle.wot_step.specs.Session.{Session, watched, session_of}
 
 -- its engine, cursors and watches, and the number of edges made for all its questions
@@ -27,6 +32,13 @@ StaysKept old new =
 -- what contracts see of its parts
 abbrev pub machine_of : Parts → Machine
 machine_of p = record { engine = p.engine; cursors = p.cursors; watches = p.watches; made = p.steps.made }
+
+-- whether a command only removes a certificate, a verdict, a view, a cursor or a watch, which takes no memory
+abbrev pub is_removal : Class → Bool
+is_removal (OfState command) = removes command
+is_removal (OfCursor name paces.Close) = true
+is_removal (OfWatch name commands.Off) = true
+is_removal _ = false
 
 -- What a line did to the engine's limits and counts: what is held, and the views, changed at most once. If the state is
 -- unchanged, so are the turns of the views.

@@ -1,6 +1,6 @@
 //! Reads a line as a command, and runs it by its class, in wot_command, wot_pacing or wot_watching. A further class
 //! needs an arm of `act`. Both functions work on the parts of a machine, whose invariant need not hold meanwhile.
-ghost use Rattle.std.specs.Prelude.{◌≡◌, ◌≤◌, length, false, IfOk, OnOk, OnErr};
+ghost use Rattle.std.specs.Prelude.{◌≡◌, ◌≤◌, length, false, true, IfOk, OnOk, OnErr, is_ok};
 ghost use Rattle.wot_policy.specs.declared.rows.PolicyRows.{PolicyRows};
 ghost use Rattle.wot_policy.specs.Kept.{rows_of};
 ghost use Rattle.wot_script.specs.Grammar.{command_of};
@@ -13,7 +13,7 @@ ghost use Rattle.wot_command.specs.Lasting.{CanRun, IsJudging, StaysJudging, Tou
 ghost use Rattle.wot_step.specs.Entry.{use_by, use_of};
 ghost use Rattle.wot_command.specs.CommandRun.{over};
 ghost use Rattle.wot_machine.specs.Stepped.{ClassRunsIn, PartsMake, RunsIn};
-ghost use Rattle.wot_machine.specs.Machine.{machine_of, RunsOnce, StaysKept};
+ghost use Rattle.wot_machine.specs.Machine.{is_removal, machine_of, RunsOnce, StaysKept};
 ghost use Rattle.wot_step.specs.Fresh.{IsDump, OnDump, IsMadeAnew};
 ghost use Rattle.wot_step.specs.Both.{ends};
 ghost use Rattle.wot_step.specs.Made.{Makes};
@@ -77,7 +77,7 @@ impl Parts {
         }
     }
 
-    /// Runs a command, by its class.
+    /// Runs a command, by its class. A command that only removes something takes no memory.
     fn act<D: Shelf, F: Fn(Ask) -> bool>(
         &mut self,
         class: Class,
@@ -97,6 +97,7 @@ impl Parts {
         ensures quiet { IfOk result (λ told.
             is_short told.reply ≡ false → StaysKept (machine_of self.old) (machine_of self.new)) }
         ensures kept { OnErr result (StaysKept (machine_of self.old) (machine_of self.new)) }
+        ensures sure { is_removal class ≡ true → is_ok result ≡ true }
         ensures makes { Makes result class self.old.cursors self.old.engine self.new.engine
             self.old.steps.made self.new.steps.made }
         ensures once { RunsOnce self.old.engine self.new.engine }

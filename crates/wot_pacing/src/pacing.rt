@@ -1,7 +1,7 @@
 //! The `cursor` commands: `over`, `next` and `close`. A piece is listed from the cursor's place, and the cursor moves
 //! only once the piece was written. It stands on wot_cursor and wot_explain. wot_laws says that the pieces
 //! join to the list.
-ghost use Rattle.std.specs.Prelude.{◌≡◌, ◌≤◌, Some, false, true, length, IfOk, OnErr, is_some};
+ghost use Rattle.std.specs.Prelude.{◌≡◌, ◌≤◌, Some, false, true, length, IfOk, OnErr, is_ok, is_some};
 ghost use Rattle.wot_script.specs.Replies.{is_short};
 ghost use Rattle.wot_cache.specs.State.{StaysButMarks};
 ghost use Rattle.wot_cache.specs.Views.{view_at};
@@ -20,7 +20,8 @@ use wot_script::{BindLines, Reply};
 use wot_step::{CursorCommand, CursorMove, DraftReply, Refused, alone, bind_lines, reply_to};
 use wot_types::{Memory, Place, Steps, UserId, ViewName};
 
-/// Runs a command about the cursor of this name. A cursor moves only once the reply is written.
+/// Runs a command about the cursor of this name. A cursor moves only once the reply is written. `close` takes no
+/// memory.
 pub fn pace(
     alloc: Global,
     engine: &mut Engine,
@@ -36,6 +37,7 @@ pub fn pace(
         steps.old.made steps.new.made }
     ensures quiet { IfOk result (λ told. is_short told.reply ≡ false → cursors.new ≡ cursors.old) }
     ensures kept { OnErr result (cursors.new ≡ cursors.old) }
+    ensures sure { command.now ≡ paces.Close → is_ok result ≡ true }
 {
     match command {
         CursorCommand::Over(view, wanted) => over(alloc, engine, cursors, name, view, *wanted),

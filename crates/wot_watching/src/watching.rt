@@ -1,6 +1,6 @@
 //! The `watch` commands, and the watch lines after each line. A watch's question is asked again only if what its answer
 //! depends on may have changed: `wot_cache`'s `Basis` says so. Watches are kept by wot_watch.
-ghost use Rattle.std.specs.Prelude.{◌≡◌, ◌≤◌, [], None, true, IfOk, IfSome, OnErr};
+ghost use Rattle.std.specs.Prelude.{◌≡◌, ◌≤◌, [], None, true, IfOk, IfSome, OnErr, is_ok};
 ghost use Rattle.std.specs.List.{AllByRecursion};
 ghost use Rattle.wot_script.specs.Replies.{is_short};
 ghost use Rattle.wot_cache.specs.Basis.{HasGrown, IsPresent};
@@ -23,7 +23,7 @@ use wot_step::{AskedBinding, Refused, WatchCommand, reply_to};
 use wot_types::{Memory, Steps, UserId, ViewName};
 use wot_watch::{Watch, Watches};
 
-/// Runs a command about the watch of this name. After `Memory` the watches are unchanged.
+/// Runs a command about the watch of this name. After `Memory` the watches are unchanged. `off` takes no memory.
 pub fn watch(
     alloc: Global,
     engine: &mut Engine,
@@ -39,6 +39,7 @@ pub fn watch(
     ensures makes { WatchMakesMarks result command.now engine.old engine.new steps.old.made steps.new.made }
     ensures short { IfOk result (λ reply. is_short reply ≡ true) }
     ensures kept { OnErr result (watches.new ≡ watches.old) }
+    ensures sure { command.now ≡ commands.Off → is_ok result ≡ true }
 {
     match command {
         WatchCommand::On(view, target, wanted, uid) => {

@@ -46,6 +46,12 @@ returns-in-Change-clause-asked g c = rw c.in-Change.is c.change.ensures.asked
 pub returns-in-Change-clause-judging : goal.returns-in-Change-clause-judging
 returns-in-Change-clause-judging g c = c.change.ensures.judging
 
+pub change-requires-clause-small : goal.change-requires-clause-small
+change-requires-clause-small g c = rw c.in-Change.is at c.requires.read.small
+
+pub returns-in-Change-clause-sure : goal.returns-in-Change-clause-sure
+returns-in-Change-clause-sure g c = rw c.in-Change.is c.change.ensures.sure
+
 -- ---- a change of a view
 
 pub change_view-requires : goal.change_view-requires
@@ -82,6 +88,9 @@ returns-in-View-clause-makes g c = rw c.in-View.is (c.change_view.ensures.marks 
 pub returns-in-View-clause-turned : goal.returns-in-View-clause-turned
 returns-in-View-clause-turned g c = rw c.in-View.is (always c.change_view.result _ c.change_view.ensures.turned)
 
+pub returns-in-View-clause-sure : goal.returns-in-View-clause-sure
+returns-in-View-clause-sure g c = rw c.in-View.is c.change_view.ensures.sure
+
 -- ---- a question
 
 pub returns-in-Question-clause-directory : goal.returns-in-Question-clause-directory
@@ -114,6 +123,12 @@ returns-in-Question-clause-edges g c = rw c.in-Question.is c.answer.ensures.edge
 
 pub returns-in-Question-clause-makes : goal.returns-in-Question-clause-makes
 returns-in-Question-clause-makes g c = rw c.in-Question.is c.answer.ensures.refreshed
+
+pub answer-requires-clause-wanted : goal.answer-requires-clause-wanted
+answer-requires-clause-wanted g c = rw c.in-Question.is at c.requires.read.fit
+
+pub answer-requires-clause-small : goal.answer-requires-clause-small
+answer-requires-clause-small g c = rw c.in-Question.is at c.requires.read.small
 
 -- ---- what is read
 

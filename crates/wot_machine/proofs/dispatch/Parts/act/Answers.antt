@@ -12,9 +12,16 @@ use Rattle.wot_step.proofs.Results.{if_ok}
 use Rattle.wot_machine.proofs.Unchanged.{runs_none}
 use Rattle.wot_machine.proofs.CommandsInLines.{few_turns, kept_told, on_err_told, on_ok_told, paced_ran, ran_told}
 use Rattle.wot_machine.proofs.CommandsInLines.{still_turns, told_as, watched_told}
+use Rattle.wot_machine.proofs.Removals.{close_only, off_only}
 use Rattle.wot_machine.proofs.dispatch.Parts.act.Goals as goal
 
 -- ---- a command that leaves cursors and watches
+
+pub obey-requires-clause-read : goal.obey-requires-clause-read
+obey-requires-clause-read g c = record {
+  fit = rw c.in-State.is at c.requires.fit;
+  small = rw c.in-State.is at c.requires.small;
+}
 
 pub obey-requires-clause-ready : goal.obey-requires-clause-ready
 obey-requires-clause-ready g c = c.requires.ready
@@ -87,6 +94,9 @@ returns-in-State-clause-asked g c =
 pub returns-in-State-clause-judging : goal.returns-in-State-clause-judging
 returns-in-State-clause-judging g c = c.obey.ensures.judging
 
+pub returns-in-State-clause-sure : goal.returns-in-State-clause-sure
+returns-in-State-clause-sure g c = rw c.in-State.is (λ e. c.plain.ensures.same ∙ c.obey.ensures.sure e)
+
 -- ---- a command of a cursor
 
 pub returns-in-Cursor-clause-ran : goal.returns-in-Cursor-clause-ran
@@ -117,6 +127,10 @@ returns-in-Cursor-clause-makes g c = rw c.in-Cursor.is c.pace.ensures.makes
 pub returns-in-Cursor-clause-quiet : goal.returns-in-Cursor-clause-quiet
 returns-in-Cursor-clause-quiet g c =
     if_ok c.pace.result _ _ (λ told quiet long. (c.pace.ensures.stays, quiet long, refl)) c.pace.ensures.quiet
+
+pub returns-in-Cursor-clause-sure : goal.returns-in-Cursor-clause-sure
+returns-in-Cursor-clause-sure g c =
+    rw c.in-Cursor.is (λ e. c.pace.ensures.sure (close_only c.in-Cursor.name c.in-Cursor.command e))
 
 -- ---- a command of a watch
 
@@ -150,3 +164,8 @@ returns-in-Watch-clause-makes g c =
     (watch_makes_as c.watch.result c.plain-in-Watch.result (λ done. sym c.plain-in-Watch.ensures.same ∙ done)
     c.in-Watch.command c.args.self.now.engine c.watch.new.engine c.args.self.now.steps.made c.watch.new.steps.made
     c.watch.ensures.makes)
+
+pub returns-in-Watch-clause-sure : goal.returns-in-Watch-clause-sure
+returns-in-Watch-clause-sure g c =
+    rw c.in-Watch.is
+    (λ e. c.plain-in-Watch.ensures.same ∙ c.watch.ensures.sure (off_only c.in-Watch.name c.in-Watch.command e))
