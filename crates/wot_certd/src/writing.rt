@@ -3,9 +3,10 @@
 //!
 //! It stands on std's files and on the places of `name`. A change here changes what a crash can leave in a user's
 //! directory.
-ghost use Rattle.std.specs.Prelude.{◌≡◌, IfOk, string_bytes};
+ghost use Rattle.std.specs.Prelude.{◌≡◌, Some, IfOk, IfSome, string_bytes};
 ghost use Rattle.wot_certd.specs.Names.{path_in, place_beside, entry_place};
-ghost use Rattle.wot_certd.specs.Shelf.{FitsEntry};
+ghost use Rattle.wot_certd.specs.Shelf.{FitsEntry, IsReadAs};
+ghost use Rattle.wot_certd.specs.World.{entry_answer};
 
 use crate::shelf::LONGEST;
 use crate::{Given, name_beside, name_of};
@@ -75,9 +76,12 @@ fn read_file<R: Files>(files: &R, alloc: Global, path: &str) -> io::Result<Given
     }
 }
 
-/// Reads to the end, or until there are more octets than an entry may have.
+/// Reads to the end, or until there are more octets than an entry may have. If what is left of the file is known, the
+/// result is what a read of an entry with these octets returns.
 fn read_all<F: Read>(alloc: Global, file: &mut F) -> io::Result<Given>
     ensures within { IfOk result (λ given. FitsEntry given) }
+    ensures answers { IfOk result (λ given. IfSome (F.remaining file.old) (λ octets.
+        IsReadAs given (entry_answer (Some octets)))) }
 {
     let mut octets = Vec::new(alloc);
     let mut piece = [0u8; PIECE];
