@@ -1,6 +1,7 @@
 -- The mark of a new file, `_`, occurs in no entry's place.
 use Rattle.std.proofs.Common.{zero, suc, arith, refl, subst, sym, ◌∙◌, Result, Ok, Err}
 use Rattle.std.specs.Prelude.{◌≡◌, ◌≢◌, IfOk, ℕ, ◌/◌, ◌%◌, List, [], ◌∷◌, ◌++◌, take, drop, slice_index, codes}
+use Rattle.std.proofs.lemmas.List.{append_cancel_left}
 use Rattle.std.specs.List.{AllByRecursion}
 use Rattle.std.specs.Fmt.{decimal}
 use Rattle.hex.specs.Hex.{encode_with, lower_digits}
@@ -8,7 +9,7 @@ use Rattle.wot_types.specs.declared.fpr.Fpr.{Fpr}
 use Rattle.wot_types.specs.declared.name.Name.{Name}
 use Rattle.wot_types.specs.declared.name.Name.TheVariants.{Cert, TrustRoot}
 use Rattle.wot_types.specs.Fpr.{digits_of, octets_of}
-use Rattle.wot_certd.specs.Names.{file_of, folder_of, place_beside, entry_place}
+use Rattle.wot_certd.specs.Names.{file_of, folder_of, place_beside, entry_place, path_in, IsNoEntry}
 
 -- no octet is the mark
 abbrev Unmarked : List ℕ → Type 0
@@ -92,3 +93,11 @@ pub text_is_no_entry : {T E : Type 0} (result : Result T E) (bytes : T → List 
     → IfOk result (λ text. (entry : Name) → bytes text ≢ entry_place entry)
 text_is_no_entry (Ok text) bytes name number e = λ entry f. is_no_entry name entry number (sym e ∙ f)
 text_is_no_entry (Err fault) bytes name number e = tt
+
+-- nor is its path in a directory that of an entry
+pub path_is_no_entry : {T E : Type 0} (result : Result T E) (bytes : T → List ℕ) (directory place : List ℕ)
+    → IfOk result (λ path. bytes path ≡ path_in directory place) → ((entry : Name) → place ≢ entry_place entry)
+    → IfOk result (λ path. IsNoEntry directory (bytes path))
+path_is_no_entry (Ok path) bytes directory place e apart =
+    λ entry f. apart entry (append_cancel_left (directory ++ codes "/") place (entry_place entry) (sym e ∙ f))
+path_is_no_entry (Err fault) bytes directory place e apart = tt

@@ -1,5 +1,5 @@
 -- The names of entries: their order, and their places in a directory.
-use Rattle.std.specs.Prelude.{◌≡◌, ℕ, ◌++◌, List, [], length, take, drop, codes}
+use Rattle.std.specs.Prelude.{◌≡◌, ◌≢◌, ℕ, ◌++◌, List, [], length, take, drop, codes}
 use Rattle.std.specs.Fmt.{decimal}
 use Rattle.std.specs.declared.cmp.Ordering.{Ordering}
 use Rattle.std.specs.declared.cmp.Ordering.TheVariants.{Less, Equal, Greater}
@@ -43,6 +43,10 @@ place_beside name number = folder_of name ++ codes "_" ++ file_of name ++ codes 
 -- the path of a place in a directory
 abbrev pub path_in : List ℕ → List ℕ → List ℕ
 path_in directory place = directory ++ codes "/" ++ place
+
+-- No entry of the directory is at this path.
+abbrev pub IsNoEntry : List ℕ → List ℕ → Type 0
+IsNoEntry directory path = (entry : Name) → path ≢ path_in directory (entry_place entry)
 
 -- A fingerprint has 20 octets, or 32.
 abbrev pub IsFpr : Fpr → Type 0

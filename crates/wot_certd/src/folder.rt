@@ -100,5 +100,5 @@ fn read_at<R: Files>(files: &R, alloc: Global, folder: &str, name: &Name) -> io:
     ensures within { IfOk result (λ given. FitsEntry given) }
 {
     let path = path_of(alloc, folder, name)?;
-    read_entry(files, alloc, &path)
+    read_entry(files, alloc, folder, name, &path)
 }

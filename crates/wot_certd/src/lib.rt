@@ -2,6 +2,7 @@
 //! entries.
 #![tactic(auto)]
 
+mod changing;
 mod folder;
 mod memory;
 mod name;

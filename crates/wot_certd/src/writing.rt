@@ -1,13 +1,14 @@
-//! Files of a directory, read and replaced. The system's calls have no contract: what is said of paths is proved here,
-//! and what is done with them is tested over the built program (`tests/suites/directory`).
+//! Files of a directory, read and replaced. The system's calls have no contract: which paths are read, replaced and
+//! removed is proved here, and what is done with them is tested over the built program (`tests/suites/directory`).
 //!
-//! It stands on std's files and on the places of `name`. A change here changes what a crash can leave in a user's
-//! directory.
-ghost use Rattle.std.specs.Prelude.{◌≡◌, Some, IfOk, IfSome, string_bytes};
-ghost use Rattle.wot_certd.specs.Names.{path_in, place_beside, entry_place};
+//! It stands on std's files, on the places of `name` and on the conditions of `changing`. A change here changes what a
+//! crash can leave in a user's directory.
+ghost use Rattle.std.specs.Prelude.{◌≡◌, Some, IfOk, IfSome, length, string_bytes};
+ghost use Rattle.wot_certd.specs.Names.{path_in, place_beside, entry_place, IsNoEntry};
 ghost use Rattle.wot_certd.specs.Shelf.{FitsEntry, IsReadAs};
 ghost use Rattle.wot_certd.specs.World.{entry_answer};
 
+use crate::changing::{put_in_place, remove_new_file, remove_new_folder};
 use crate::shelf::LONGEST;
 use crate::{Given, name_beside, name_of};
 use std::alloc::Global;
@@ -44,7 +45,8 @@ pub fn path_of(alloc: Global, folder: &str, name: &Name) -> io::Result<String>
 
 /// The path of a new file next to an entry.
 fn path_beside(alloc: Global, folder: &str, name: &Name, number: u32) -> io::Result<String>
-    ensures { IfOk result (λ path. string_bytes path ≡ path_in folder.now (place_beside name.now number)) }
+    ensures place { IfOk result (λ path. string_bytes path ≡ path_in folder.now (place_beside name.now number)) }
+    ensures apart { IfOk result (λ path. IsNoEntry folder.now (string_bytes path)) }
 {
     match name_beside(alloc, name, number) {
         Ok(place) => joined(alloc, folder, &place),
@@ -53,8 +55,16 @@ fn path_beside(alloc: Global, folder: &str, name: &Name, number: u32) -> io::Res
 }
 
 /// Reads an entry's file. The entry is absent if the file or its folder doesn't exist. Links are followed. Anything but
-/// a regular file is an error, and isn't opened: a FIFO would block, and a device may never end.
-pub fn read_entry<R: Files>(files: &R, alloc: Global, path: &str) -> io::Result<Given>
+/// a regular file is an error, and isn't opened: a FIFO would block, and a device may never end. `_folder` and `_name`
+/// say which entry is at the path.
+pub fn read_entry<R: Files>(
+    files: &R,
+    alloc: Global,
+    _folder: &str,
+    _name: &Name,
+    path: &str,
+) -> io::Result<Given>
+    requires place { path.now ≡ path_in _folder.now (entry_place _name.now) }
     ensures within { IfOk result (λ given. FitsEntry given) }
 {
     match fs::metadata(files, path) {
@@ -129,14 +139,16 @@ fn write_beside<R: Files>(
     name: &Name,
     path: &str,
     octets: &[u8],
-) -> io::Result<()> {
+) -> io::Result<()>
+    requires place { path.now ≡ path_in folder.now (entry_place name.now) }
+{
     let (beside, mut out) = open_beside(files, alloc, folder, name)?;
     let mut done = fill(&mut out, octets);
     if done.is_ok() {
-        done = fs::rename(files, beside.as_str(), path);
+        done = put_in_place(files, folder, name, beside.as_str(), path);
     }
     if done.is_err() {
-        let _ = fs::remove_file(files, beside.as_str());
+        let _ = remove_new_file(files, folder, beside.as_str());
     }
     done
 }
@@ -147,7 +159,9 @@ fn open_beside<R: Files>(
     alloc: Global,
     folder: &str,
     name: &Name,
-) -> io::Result<(String, R::File)> {
+) -> io::Result<(String, R::File)>
+    ensures apart { IfOk result (λ opened. IsNoEntry folder.now (string_bytes opened.0)) }
+{
     for number in 0..TRIES {
         let beside = path_beside(alloc, folder, name, number)?;
         match File::create_new(files, beside.as_str()) {
@@ -166,7 +180,9 @@ fn fill<F: Write + OpenFile>(out: &mut F, octets: &[u8]) -> io::Result<()> {
 }
 
 /// The prefix of a path up to this offset, if it is the path of a folder. None if no name ends there.
-fn folder_to(path: &str, end: usize) -> Option<&str> {
+fn folder_to(path: &str, end: usize) -> Option<&str>
+    ensures long { IfSome result (λ folder. length folder.now ≡ end) }
+{
     match path.split_at_checked(end) {
         Some((folder, rest)) if rest.is_empty() || rest.starts_with('/') => Some(folder),
         _ => None,
@@ -192,7 +208,7 @@ fn remove_folders<R: Files>(files: &R, path: &str, there: usize) {
             return;
         }
         if let Some(folder) = folder_to(path, end) {
-            let _ = fs::remove_dir(files, folder);
+            let _ = remove_new_folder(files, there, folder);
         }
     }
 }

@@ -1,0 +1,39 @@
+//! The calls that move or remove something in a directory, each with what it may touch.
+//!
+//! The system's calls have no contract, so nothing is said of what these do. But each has a condition, which `writing`
+//! has to show: only a new file is moved or removed, it is moved only to the place of its entry, and only a folder that
+//! wasn't there before is removed. So a failed store leaves the old entry, and what isn't an entry stays.
+ghost use Rattle.std.specs.Prelude.{◌≡◌, ◌<◌, length};
+ghost use Rattle.wot_certd.specs.Names.{IsNoEntry, path_in, entry_place};
+
+use std::rt::Files;
+use std::{fs, io};
+use wot_types::Name;
+
+/// Renames a new file over an entry. `_folder` and `_name` say which entry that is.
+pub fn put_in_place<R: Files>(
+    files: &R,
+    _folder: &str,
+    _name: &Name,
+    from: &str,
+    to: &str,
+) -> io::Result<()>
+    requires new { IsNoEntry _folder.now from.now }
+    requires place { to.now ≡ path_in _folder.now (entry_place _name.now) }
+{
+    fs::rename(files, from, to)
+}
+
+/// Removes a new file. `_folder` is the directory, of which it must be no entry.
+pub fn remove_new_file<R: Files>(files: &R, _folder: &str, path: &str) -> io::Result<()>
+    requires new { IsNoEntry _folder.now path.now }
+{
+    fs::remove_file(files, path)
+}
+
+/// Removes a folder of a path of which the first `_there` octets existed before. It stays if it isn't empty.
+pub fn remove_new_folder<R: Files>(files: &R, _there: usize, folder: &str) -> io::Result<()>
+    requires new { _there < length folder.now }
+{
+    fs::remove_dir(files, folder)
+}
