@@ -3,8 +3,9 @@
 //!
 //! `writing` reads and writes the files. `main` in `wot_cli` makes one for a run; `tests/suites/directory` tests it
 //! over the built program.
-ghost use Rattle.std.specs.Prelude.{◌≡◌, ◌≤◌, None, IfOk, OnOk, IsErrOf};
+ghost use Rattle.std.specs.Prelude.{◌≡◌, ◌≤◌, None, IfOk, MatchBool, OnOk, IsErrOf};
 ghost use Rattle.wot_io.specs.Counts.{Rose, next_count};
+ghost use Rattle.wot_certd.specs.Errors.{IsOwnWant};
 ghost use Rattle.wot_certd.specs.Shelf.{FitsEntry};
 
 use crate::writing::{path_of, read_entry, write_entry};
@@ -52,13 +53,22 @@ impl<'a, R: Files> FolderShelf<'a, R> {
         ensures cause { result ≡ ShelfFault.Failed → self.new ≡ next_count self.old }
         ensures wanting { result ≡ ShelfFault.Memory → self.new ≡ self.old }
         ensures later { self.old ≤ self.new }
+        ensures own { result ≡ ShelfFault.Memory → IsOwnWant error.now }
+        ensures failed { result ≡ ShelfFault.Failed → IsOwnWant error.now → ⊥ }
     {
-        if error.kind() == ErrorKind::OutOfMemory && error.raw_os_error().is_none() {
+        if is_own_want(error) {
             return ShelfFault::Memory;
         }
         self.faults = self.faults.saturating_add(1);
         ShelfFault::Failed
     }
+}
+
+/// Whether the program itself ran out of memory: the system reported no error.
+fn is_own_want(error: &io::Error) -> bool
+    ensures { MatchBool result (IsOwnWant error.now) (IsOwnWant error.now → ⊥) }
+{
+    error.kind() == ErrorKind::OutOfMemory && error.raw_os_error().is_none()
 }
 
 /// Every error of the system is a fault, except that a file to be read, or its folder, doesn't exist.

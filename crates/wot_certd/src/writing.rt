@@ -3,7 +3,8 @@
 //!
 //! It stands on std's files, on the places of `name` and on the conditions of `changing`. A change here changes what a
 //! crash can leave in a user's directory.
-ghost use Rattle.std.specs.Prelude.{◌≡◌, Some, IfOk, IfSome, length, string_bytes};
+ghost use Rattle.std.specs.Prelude.{◌≡◌, Some, IfOk, IfSome, OnErr, OnOk, length, string_bytes};
+ghost use Rattle.wot_certd.specs.Errors.{IsMissing};
 ghost use Rattle.wot_certd.specs.Names.{path_in, place_beside, entry_place, IsNoEntry};
 ghost use Rattle.wot_certd.specs.Shelf.{FitsEntry, IsReadAs};
 ghost use Rattle.wot_certd.specs.World.{entry_answer};
@@ -70,9 +71,21 @@ pub fn read_entry<R: Files>(
     match fs::metadata(files, path) {
         Ok(about) if about.is_file() => read_file(files, alloc, path),
         Ok(_) => Err(io::Error::from(ErrorKind::InvalidInput)),
-        Err(e) if e.kind() == ErrorKind::NotFound => Ok(Given::Absent),
-        Err(e) => Err(e),
+        Err(e) => absent_if_missing(e),
     }
+}
+
+/// An entry is absent if its file, or the file's folder, doesn't exist. Any other error stays one: what can't be read
+/// is never taken for absent.
+fn absent_if_missing(error: io::Error) -> io::Result<Given>
+    ensures absent { IfOk result (λ given. given ≡ Given.Absent) }
+    ensures missing { OnOk result (IsMissing error) }
+    ensures other { OnErr result (IsMissing error → ⊥) }
+{
+    if error.kind() == ErrorKind::NotFound {
+        return Ok(Given::Absent);
+    }
+    Err(error)
 }
 
 /// Reads a regular file, which another program may remove before it is opened.
@@ -81,8 +94,7 @@ fn read_file<R: Files>(files: &R, alloc: Global, path: &str) -> io::Result<Given
 {
     match fs::open(files, path) {
         Ok(mut file) => read_all(alloc, &mut file),
-        Err(e) if e.kind() == ErrorKind::NotFound => Ok(Given::Absent),
-        Err(e) => Err(e),
+        Err(e) => absent_if_missing(e),
     }
 }
 
