@@ -4,6 +4,7 @@
 //! It stands on std's files, on the places of `name` and on the conditions of `changing`. A change here changes what a
 //! crash can leave in a user's directory.
 ghost use Rattle.std.specs.Prelude.{◌≡◌, Some, IfOk, IfSome, OnErr, OnOk, length, string_bytes};
+ghost use Rattle.std.specs.Io.KnownBytes.{Appends};
 ghost use Rattle.wot_certd.specs.Errors.{IsMissing};
 ghost use Rattle.wot_certd.specs.Names.{path_in, place_beside, entry_place, IsNoEntry};
 ghost use Rattle.wot_certd.specs.Shelf.{FitsEntry, IsReadAs};
@@ -186,7 +187,9 @@ fn open_beside<R: Files>(
 }
 
 /// Writes all octets, and waits until the system has stored them.
-fn fill<F: Write + OpenFile>(out: &mut F, octets: &[u8]) -> io::Result<()> {
+fn fill<F: Write + OpenFile>(out: &mut F, octets: &[u8]) -> io::Result<()>
+    ensures written { OnOk result (Appends (F.contents out.old) (F.contents out.new) octets.now) }
+{
     out.write_all(octets)?;
     out.sync_all()
 }
