@@ -2,26 +2,49 @@
 //!
 //! The system's calls have no contract, so nothing is said of what these do. But each has a condition, which `writing`
 //! has to show: only a new file is moved or removed, it is moved only to the place of its entry, and only a folder that
-//! wasn't there before is removed. So a failed store leaves the old entry, and what isn't an entry stays.
-ghost use Rattle.std.specs.Prelude.{◌≡◌, ◌<◌, length};
+//! wasn't there before is removed. So a failed store leaves the old entry, and what isn't an entry stays. Nothing but
+//! `fill` makes a `Filled`, and nothing but `put_in_place` a `Stored`. So a store that reports success has written the
+//! whole file and renamed it.
+ghost use Rattle.std.specs.Io.KnownBytes.{Appends};
+ghost use Rattle.std.specs.Prelude.{◌≡◌, ◌<◌, OnOk, length};
 ghost use Rattle.wot_certd.specs.Names.{IsNoEntry, path_in, entry_place};
 
+use std::fs::{self, OpenFile};
+use std::io::{self, Write};
 use std::rt::Files;
-use std::{fs, io};
 use wot_types::Name;
+
+/// A new file has all octets of an entry, and the system has stored them.
+#[derive(Drop)]
+pub struct Filled(());
+
+/// An entry was replaced.
+#[derive(Drop)]
+pub struct Stored(());
+
+/// Writes all octets to a new file, and waits until the system has stored them.
+pub fn fill<F: Write + OpenFile>(out: &mut F, octets: &[u8]) -> io::Result<Filled>
+    ensures written { OnOk result (Appends (F.contents out.old) (F.contents out.new) octets.now) }
+{
+    out.write_all(octets)?;
+    out.sync_all()?;
+    Ok(Filled(()))
+}
 
 /// Renames a new file over an entry. `_folder` and `_name` say which entry that is.
 pub fn put_in_place<R: Files>(
     files: &R,
     _folder: &str,
     _name: &Name,
+    _filled: Filled,
     from: &str,
     to: &str,
-) -> io::Result<()>
+) -> io::Result<Stored>
     requires new { IsNoEntry _folder.now from.now }
     requires place { to.now ≡ path_in _folder.now (entry_place _name.now) }
 {
-    fs::rename(files, from, to)
+    fs::rename(files, from, to)?;
+    Ok(Stored(()))
 }
 
 /// Removes a new file. `_folder` is the directory, of which it must be no entry.

@@ -3,7 +3,7 @@
 //!
 //! `writing` reads and writes the files. `main` in `wot_cli` makes one for a run; `tests/suites/directory` tests it
 //! over the built program.
-ghost use Rattle.std.specs.Prelude.{◌≡◌, ◌≤◌, None, IfOk, MatchBool, OnOk, IsErrOf};
+ghost use Rattle.std.specs.Prelude.{◌≡◌, ◌≤◌, None, Ok, IfOk, IsOk, MatchBool, OnOk, IsErrOf};
 ghost use Rattle.wot_io.specs.Counts.{Rose, next_count};
 ghost use Rattle.wot_certd.specs.Errors.{IsOwnWant};
 ghost use Rattle.wot_certd.specs.Shelf.{FitsEntry};
@@ -62,6 +62,21 @@ impl<'a, R: Files> FolderShelf<'a, R> {
         self.faults = self.faults.saturating_add(1);
         ShelfFault::Failed
     }
+
+    /// The result of a call, with its error sorted. A call that failed never succeeds here.
+    fn sorted<T: Drop>(&mut self, done: io::Result<T>) -> Result<T, ShelfFault>
+        ensures done { IfOk result (λ value. done ≡ Ok value) }
+        ensures failed { OnOk done (IsOk result) }
+        ensures same { OnOk result (self.new ≡ self.old) }
+        ensures counted { IsErrOf result ShelfFault.Failed → self.new ≡ next_count self.old }
+        ensures wanting { IsErrOf result ShelfFault.Memory → self.new ≡ self.old }
+        ensures later { self.old ≤ self.new }
+    {
+        match done {
+            Ok(value) => Ok(value),
+            Err(e) => Err(self.fault_of(&e)),
+        }
+    }
 }
 
 /// Whether the program itself ran out of memory: the system reported no error.
@@ -85,10 +100,8 @@ impl<R: Files> Shelf for FolderShelf<'_, R> {
         ensures counted { IsErrOf result ShelfFault.Failed → self.new ≡ next_count self.old }
         ensures wanting { IsErrOf result ShelfFault.Memory → self.new ≡ self.old }
     {
-        match read_at(self.files, self.alloc, &self.folder, name) {
-            Ok(given) => Ok(given),
-            Err(e) => Err(self.fault_of(&e)),
-        }
+        let read = read_at(self.files, self.alloc, &self.folder, name);
+        self.sorted(read)
     }
 
     /// Writes and syncs a new file next to the old one, renames it over the old one, and syncs the folders.
@@ -99,10 +112,9 @@ impl<R: Files> Shelf for FolderShelf<'_, R> {
         ensures counted { IsErrOf result ShelfFault.Failed → self.new ≡ next_count self.old }
         ensures wanting { IsErrOf result ShelfFault.Memory → self.new ≡ self.old }
     {
-        match write_entry(self.files, self.alloc, &self.folder, name, bytes) {
-            Ok(()) => Ok(()),
-            Err(e) => Err(self.fault_of(&e)),
-        }
+        let done = write_entry(self.files, self.alloc, &self.folder, name, bytes);
+        let _stored = self.sorted(done)?;
+        Ok(())
     }
 }
 

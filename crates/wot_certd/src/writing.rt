@@ -4,18 +4,17 @@
 //! It stands on std's files, on the places of `name` and on the conditions of `changing`. A change here changes what a
 //! crash can leave in a user's directory.
 ghost use Rattle.std.specs.Prelude.{◌≡◌, Some, IfOk, IfSome, OnErr, OnOk, length, string_bytes};
-ghost use Rattle.std.specs.Io.KnownBytes.{Appends};
 ghost use Rattle.wot_certd.specs.Errors.{IsMissing};
 ghost use Rattle.wot_certd.specs.Names.{path_in, place_beside, entry_place, IsNoEntry};
 ghost use Rattle.wot_certd.specs.Shelf.{FitsEntry, IsReadAs};
 ghost use Rattle.wot_certd.specs.World.{entry_answer};
 
-use crate::changing::{put_in_place, remove_new_file, remove_new_folder};
+use crate::changing::{Stored, fill, put_in_place, remove_new_file, remove_new_folder};
 use crate::shelf::LONGEST;
 use crate::{Given, name_beside, name_of};
 use std::alloc::Global;
 use std::fs::{self, File, OpenFile};
-use std::io::{self, ErrorKind, Read, Write};
+use std::io::{self, ErrorKind, Read};
 use std::rt::Files;
 use wot_types::{Memory, Name};
 
@@ -127,21 +126,26 @@ pub fn write_entry<R: Files>(
     folder: &str,
     name: &Name,
     octets: &[u8],
-) -> io::Result<()> {
+) -> io::Result<Stored> {
     let path = path_of(alloc, folder, name)?;
     let Some((parent, _)) = path.rsplit_once('/') else {
         return Err(io::Error::from(ErrorKind::InvalidInput));
     };
     let there = length_there(files, parent)?;
-    let mut done = fs::create_dir_all(files, parent);
-    if done.is_ok() {
-        done = write_beside(files, alloc, folder, name, &path, octets);
+    let done = match fs::create_dir_all(files, parent) {
+        Ok(()) => write_beside(files, alloc, folder, name, &path, octets),
+        Err(e) => Err(e),
+    };
+    match done {
+        Ok(stored) => {
+            sync_folders(files, parent, there)?;
+            Ok(stored)
+        }
+        Err(e) => {
+            remove_folders(files, parent, there);
+            Err(e)
+        }
     }
-    if done.is_err() {
-        remove_folders(files, parent, there);
-        return done;
-    }
-    sync_folders(files, parent, there)
 }
 
 /// Writes a new file next to the old one, and renames it.
@@ -152,14 +156,14 @@ fn write_beside<R: Files>(
     name: &Name,
     path: &str,
     octets: &[u8],
-) -> io::Result<()>
+) -> io::Result<Stored>
     requires place { path.now ≡ path_in folder.now (entry_place name.now) }
 {
     let (beside, mut out) = open_beside(files, alloc, folder, name)?;
-    let mut done = fill(&mut out, octets);
-    if done.is_ok() {
-        done = put_in_place(files, folder, name, beside.as_str(), path);
-    }
+    let done = match fill(&mut out, octets) {
+        Ok(filled) => put_in_place(files, folder, name, filled, beside.as_str(), path),
+        Err(e) => Err(e),
+    };
     if done.is_err() {
         let _ = remove_new_file(files, folder, beside.as_str());
     }
@@ -184,14 +188,6 @@ fn open_beside<R: Files>(
         }
     }
     Err(io::Error::from(ErrorKind::AlreadyExists))
-}
-
-/// Writes all octets, and waits until the system has stored them.
-fn fill<F: Write + OpenFile>(out: &mut F, octets: &[u8]) -> io::Result<()>
-    ensures written { OnOk result (Appends (F.contents out.old) (F.contents out.new) octets.now) }
-{
-    out.write_all(octets)?;
-    out.sync_all()
 }
 
 /// The prefix of a path up to this offset, if it is the path of a folder. None if no name ends there.
@@ -257,5 +253,6 @@ fn sync_first<R: Files>(files: &R, path: &str, there: usize) -> io::Result<()> {
 
 /// Waits until the system has stored the names in a folder.
 fn sync_folder<R: Files>(files: &R, folder: &str) -> io::Result<()> {
-    fs::open(files, folder)?.sync_all()
+    let opened = fs::open(files, folder)?;
+    OpenFile::sync_all(&opened)
 }
