@@ -60,7 +60,7 @@ fn may_count(sig: &Sig) -> bool
 /// The key whose signature this counts as: the signature can be parsed, is well-formed and admitted by the policy, its
 /// verdict is good with that key, and its hashed issuer fingerprint is absent or that key's.
 pub fn issuer_of(sig: &Sig, verdicts: &Verdicts) -> Option<Fpr>
-    ensures issuer { result ≡ issuer_in verdicts.now sig.now }
+    ensures issuer { result ≡ issuer_in verdicts.now.entries sig.now }
 {
     if !may_count(sig) {
         return None;

@@ -50,7 +50,7 @@ fn step_of(sig: &Sig, issuer: Fpr, target: Fpr, place: u32) -> Option<Step>
 
 /// The step of the edge that a certification makes, by the verdict on it.
 fn step(sig: &Sig, uid: &Part, verdicts: &Verdicts, target: Fpr, place: u32) -> Option<Step>
-    ensures { result ≡ step_by verdicts.now target place uid.now sig.now }
+    ensures { result ≡ step_by verdicts.now.entries target place uid.now sig.now }
 {
     match verdicts.get(&sig.number()) {
         Some(Verdict::Good(issuer)) => step_of(sig, issuer, target, place),

@@ -13,7 +13,8 @@ use wot_verdict::Verdicts;
 
 /// Whether each live revocation by this issuer was created before then.
 fn are_before(sigs: &[Sig], verdicts: &Verdicts, fpr: &Fpr, t: u32, then: u32) -> bool
-    ensures { result ≡ list_all (λ r. not (revokes_by verdicts.now fpr.now t r) || nat_lt (made_of r) then) sigs.now }
+    ensures { result
+        ≡ list_all (λ r. not (revokes_by verdicts.now.entries fpr.now t r) || nat_lt (made_of r) then) sigs.now }
 {
     let mut all = true;
     let mut rest = sigs;
@@ -26,7 +27,7 @@ fn are_before(sigs: &[Sig], verdicts: &Verdicts, fpr: &Fpr, t: u32, then: u32) -
 
 /// Whether no revocation by this issuer in the same place revokes a signature at `t`.
 pub(crate) fn is_unrevoked(sig: &Sig, sigs: &[Sig], verdicts: &Verdicts, fpr: &Fpr, t: u32) -> bool
-    ensures { result ≡ is_unrevoked_spec verdicts.now fpr.now t sigs.now sig.now }
+    ensures { result ≡ is_unrevoked_spec verdicts.now.entries fpr.now t sigs.now sig.now }
 {
     !is_revocable(sig) || are_before(sigs, verdicts, fpr, t, made(sig))
 }

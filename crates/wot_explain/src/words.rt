@@ -33,7 +33,7 @@ pub(crate) struct Certification<'a> {
 }
 
 fn standing_at(cert: &Cert, verdicts: &Verdicts, t: u32) -> Standing
-    ensures { result ≡ standing_of verdicts.now cert.now t }
+    ensures { result ≡ standing_of verdicts.now.entries cert.now t }
 {
     standing(cert, verdicts, t).0
 }

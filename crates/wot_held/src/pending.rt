@@ -30,7 +30,7 @@ pub struct Pending {
 
 /// Whether a signature is well-formed and has no verdict.
 fn waits(sig: &Sig, verdicts: &Verdicts) -> bool
-    ensures { result ≡ is_pending verdicts.now sig.now }
+    ensures { result ≡ is_pending verdicts.now.entries sig.now }
 {
     let Some(facts) = sig.facts() else {
         return false;
@@ -56,7 +56,7 @@ fn told(sig: &Sig, fpr: Fpr) -> Pending
 
 /// Appends the entry of a signature on the certificate of this fingerprint, if it has no verdict.
 fn push_sig(out: &mut Vec<Pending>, sig: &Sig, fpr: Fpr, verdicts: &Verdicts) -> Result<(), Memory>
-    ensures { OnOk result (out.new.items ≡ out.old.items ++ pending_among verdicts.now fpr (sig.now ∷ [])) }
+    ensures { OnOk result (out.new.items ≡ out.old.items ++ pending_among verdicts.now.entries fpr (sig.now ∷ [])) }
 {
     if waits(sig, verdicts) {
         out.push(told(sig, fpr))?;
@@ -70,7 +70,7 @@ fn push_sigs(
     fpr: Fpr,
     verdicts: &Verdicts,
 ) -> Result<(), Memory>
-    ensures { OnOk result (out.new.items ≡ out.old.items ++ pending_among verdicts.now fpr sigs.now) }
+    ensures { OnOk result (out.new.items ≡ out.old.items ++ pending_among verdicts.now.entries fpr sigs.now) }
 {
     let mut left = sigs;
     'sigs: while let Some((sig, rest)) = left.split_first() {
@@ -86,7 +86,8 @@ fn push_parts(
     fpr: Fpr,
     verdicts: &Verdicts,
 ) -> Result<(), Memory>
-    ensures { OnOk result (out.new.items ≡ out.old.items ++ pending_among verdicts.now fpr (sigs_on parts.now)) }
+    ensures { OnOk result
+        (out.new.items ≡ out.old.items ++ pending_among verdicts.now.entries fpr (sigs_on parts.now)) }
 {
     let mut left = parts;
     'parts: while let Some((part, rest)) = left.split_first() {
@@ -102,7 +103,7 @@ fn push_cert(
     fpr: Fpr,
     verdicts: &Verdicts,
 ) -> Result<(), Memory>
-    ensures { OnOk result (out.new.items ≡ out.old.items ++ pending_on verdicts.now (fpr, cert.now)) }
+    ensures { OnOk result (out.new.items ≡ out.old.items ++ pending_on verdicts.now.entries (fpr, cert.now)) }
 {
     push_sigs(out, cert.direct(), fpr, verdicts)?;
     push_parts(out, cert.user_ids(), fpr, verdicts)?;
@@ -116,7 +117,8 @@ pub fn waiting(
     certs: &BTreeMap<Fpr, Kept, Global>,
     verdicts: &Verdicts,
 ) -> Result<Vec<Pending>, Memory>
-    ensures { IfOk result (λ list. list.items ≡ flat_map (pending_on verdicts.now) (stripped certs.now.entries)) }
+    ensures { IfOk result
+        (λ list. list.items ≡ flat_map (pending_on verdicts.now.entries) (stripped certs.now.entries)) }
 {
     let mut list = Vec::new(alloc);
     'certs: for (fpr, kept) in certs.iter() {

@@ -6,10 +6,9 @@ use Rattle.std.proofs.lemmas.List.Folds.{list_any-append}
 use Rattle.wot_types.specs.declared.fpr.Fpr.{Fpr}
 use Rattle.wot_types.specs.declared.number.SigNumber.{SigNumber}
 use Rattle.wot_key.specs.Key.{fpr_of}
-use Rattle.wot_verdict.specs.Verdicts.{is_number}
+use Rattle.wot_verdict.specs.Verdicts.{ByNumber, is_number}
 use Rattle.wot_part.specs.Certificate.{Signature, Component, Certificate}
 use Rattle.wot_part.specs.Counts.{sigs_on}
-use Rattle.wot_index.specs.declared.holders.Holders.{Holders}
 use Rattle.wot_index.specs.declared.index.Index.{Index}
 use Rattle.wot_held.specs.Keyring.{is_fpr}
 use Rattle.wot_index.specs.Index.{holder_of, is_holder, is_noted, unless, is_logged, holder_without, Notes}
@@ -21,7 +20,7 @@ use Rattle.wot_index.proofs.Choices.{or_false, or_itself, or_more, and_each}
 -- ---- one number noted
 
 -- If nothing else was noted for it, one more number is noted, and nothing else changes.
-module _ (holders holders' : Holders) (number : SigNumber) (fpr : Fpr) (put : (n : SigNumber) →
+module _ (holders holders' : ByNumber) (number : SigNumber) (fpr : Fpr) (put : (n : SigNumber) →
     holder_of holders' n ≡ cond (is_number number n) (Some fpr) (holder_of holders n)) where
   elsewhere : (n : SigNumber) → is_number n number ≡ false → holder_of holders' n ≡ holder_of holders n
   elsewhere n other = put n ∙ ap (λ b. cond b (Some fpr) (holder_of holders n)) (turned number n ∙ other)
@@ -84,6 +83,15 @@ module _ (holders holders' : Holders) (number : SigNumber) (fpr : Fpr) (put : (n
         | true ↦ λ same. here n same ∙ sym (ap (holder_of holders) (same_number n number same) ∙ some)
         | false ↦ λ other. elsewhere n other
       ]) refl)
+
+-- A number that has this fingerprint is noted again.
+pub put_again : (verdicts : ByNumber) (number : SigNumber) (fpr : Fpr) → holder_of verdicts number ≡ Some fpr →
+    (q : SigNumber) → holder_of verdicts q ≡ cond (is_number number q) (Some fpr) (holder_of verdicts q)
+put_again verdicts number fpr has q = by (is_number number q) refl
+  where
+    by : (b : Bool) → is_number number q ≡ b → holder_of verdicts q ≡ cond b (Some fpr) (holder_of verdicts q)
+    by true t = ap (holder_of verdicts) (sym (same_number number q t)) ∙ has
+    by false t = refl
 
 -- ---- several numbers noted
 
@@ -170,7 +178,7 @@ without_both true b o = refl
 without_both false b o = refl
 
 -- One of the logged numbers was removed.
-pub forgot_last : (old new : Holders) (log log' : List SigNumber) (number : SigNumber) → log ≡ log' ++ number ∷ [] →
+pub forgot_last : (old new : ByNumber) (log log' : List SigNumber) (number : SigNumber) → log ≡ log' ++ number ∷ [] →
     Forgets old new (λ n. is_number n number) → (n : SigNumber) → holder_without log' new n ≡ holder_without log old n
 forgot_last old new log log' number popped forgotten n =
     ap (unless (is_logged n log')) (forgotten n)
@@ -180,7 +188,7 @@ forgot_last old new log log' number popped forgotten n =
     ∙ ap (λ (x : List SigNumber). unless (is_logged n x) (holder_of old n)) (sym popped)
 
 -- Some of these numbers were removed, and others are left.
-pub forgot_these : (old new : Holders) (gone left : SigNumber → Bool) → Forgets old new gone → (n : SigNumber) →
+pub forgot_these : (old new : ByNumber) (gone left : SigNumber → Bool) → Forgets old new gone → (n : SigNumber) →
     unless (left n) (holder_of new n) ≡ unless (gone n || left n) (holder_of old n)
 forgot_these old new gone left forgotten n =
     ap (unless (left n)) (forgotten n) ∙ by (gone n) (left n) (holder_of old n)

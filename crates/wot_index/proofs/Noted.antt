@@ -14,6 +14,7 @@ use Rattle.wot_types.specs.declared.fpr.Fpr.{Fpr}
 use Rattle.wot_types.specs.declared.number.SigNumber.{SigNumber}
 use Rattle.wot_types.specs.Fpr.{fpr_cmp}
 use Rattle.wot_types.specs.FprLaws.{fpr_total, same_fpr-true, same_fpr-refl}
+use Rattle.wot_verdict.specs.Verdicts.{Holders, holder_at}
 use Rattle.wot_index.specs.declared.index.Index.{Index}
 use Rattle.wot_held.specs.declared.kept.Kept.{Kept}
 use Rattle.wot_index.specs.Index.{holder_of, is_holder, stands_at, unless, IsIndexOf}
@@ -65,17 +66,23 @@ found_without q fpr es sorted =
 -- What was on a removed certificate isn't noted any more.
 pub indexed_without : (old new : Index) (es : Entries) (fpr : Fpr) (kept : Kept) → AreSortedByFpr es →
     Some kept ≡ lookup (is_fpr fpr) es → new.exact ≡ old.exact →
-    ((n : SigNumber) → holder_of new.holders n ≡ unless (has_number n kept.cert)
-    (holder_of old.holders n)) → IsIndexOf old es
+    ((n : SigNumber) → holder_of new.verdicts n ≡ unless (has_number n kept.cert)
+    (holder_of old.verdicts n)) → IsIndexOf old es
     → IsIndexOf new (remove_entry (is_fpr fpr) es)
 indexed_without old new es fpr kept sorted found same holders before exact n q =
     let noted = before (sym same ∙ exact) n in
     ap (λ (p : Option Fpr). is_holder p q) (holders n)
-    ∙ out n fpr q (holder_of old.holders n) es noted (has_number n kept.cert)
+    ∙ out n fpr q (holder_of old.verdicts n) es noted (has_number n kept.cert)
     (noted fpr ∙ ap (on_found n) (sym found))
     ∙ ap (on_found n) (sym (found_without q fpr es sorted))
 
 -- ---- a verdict altered
+
+-- The same signatures are noted.
+pub indexed_same : (old new : Index) (es : Entries) → new.exact ≡ old.exact →
+    new.verdicts.holders ≡ old.verdicts.holders → IsIndexOf old es → IsIndexOf new es
+indexed_same old new es same holders before exact n q =
+    ap (λ (hs : Holders). is_holder (holder_at hs n) q) holders ∙ before (sym same ∙ exact) n q
 
 found_again : (n m : SigNumber) (stamp : ℕ) (found : Option Kept) →
     on_found n (option_map (restamped m stamp) found) ≡ on_found n found
@@ -130,14 +137,14 @@ module _ (n : SigNumber) (stamp : ℕ) where
 
   -- A number that is on no certificate alters no stamp.
   pub restamped_nowhere : (i : Index) (es : Entries) → AreSortedByFpr es → IsIndexOf i es → i.exact ≡ true →
-      holder_of i.holders n ≡ None → es ≡ restamped_all n stamp es
+      holder_of i.verdicts n ≡ None → es ≡ restamped_all n stamp es
   restamped_nowhere i es sorted indexed exact none =
       sym (unmoved es (each_noted None es es (λ q. ap (λ (p : Option Fpr). is_holder p q) (sym none)
       ∙ indexed exact n q) (found_each es sorted)))
 
   -- A number that is on one certificate alters its stamp.
   pub restamped_there : (i : Index) (es new : Entries) (fpr : Fpr) → AreSortedByFpr es → IsIndexOf i es →
-      i.exact ≡ true → holder_of i.holders n ≡ Some fpr
+      i.exact ≡ true → holder_of i.verdicts n ≡ Some fpr
       → MatchOption (lookup (is_fpr fpr) es) (new ≡ es) (λ (x : Kept). new ≡ set_value (is_fpr fpr) es
       (record { cert = x.cert; stamp = stamp })) → new ≡ restamped_all n stamp es
   restamped_there i es new fpr sorted indexed exact some done =
@@ -157,12 +164,12 @@ module _ (n : SigNumber) (stamp : ℕ) where
 
 module _ (n : SigNumber) (i : Index) (es : Entries) where
   -- It is on no certificate.
-  pub noted_nowhere : IsIndexOf i es → i.exact ≡ true → holder_of i.holders n ≡ None → (q : Fpr) →
+  pub noted_nowhere : IsIndexOf i es → i.exact ≡ true → holder_of i.verdicts n ≡ None → (q : Fpr) →
       stands_at es n q ≡ true → ⊥
   noted_nowhere indexed exact none q h = let e : false ≡ true = ap (λ (p : Option Fpr). is_holder p q) (sym none)
       ∙ indexed exact n q ∙ h in cc
 
   -- It is on at most one certificate.
-  pub noted_there : (fpr : Fpr) → IsIndexOf i es → i.exact ≡ true → holder_of i.holders n ≡ Some fpr →
+  pub noted_there : (fpr : Fpr) → IsIndexOf i es → i.exact ≡ true → holder_of i.verdicts n ≡ Some fpr →
       (q : Fpr) → stands_at es n q ≡ true → is_fpr fpr q ≡ true
   noted_there fpr indexed exact some q h = ap (λ (p : Option Fpr). is_holder p q) (sym some) ∙ indexed exact n q ∙ h

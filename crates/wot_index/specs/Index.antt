@@ -1,43 +1,31 @@
 -- On which certificate each signature is, by its number: how a change of a verdict finds the certificate.
-use Rattle.std.specs.Prelude.{◌≡◌, ℕ, Bool, true, false, ◌&&◌, ◌||◌, cond, List, Option, Some, None}
-use Rattle.std.specs.Option.{option_map, option_map_or, option_or, MatchOption}
+use Rattle.std.specs.Prelude.{◌≡◌, ℕ, Bool, true, false, ◌&&◌, ◌||◌, cond, List, Option, None}
+use Rattle.std.specs.Option.{option_map_or, MatchOption}
 use Rattle.std.specs.List.{list_any}
 use Rattle.std.specs.Map.{lookup, set_value}
 use Rattle.wot_types.specs.declared.fpr.Fpr.{Fpr}
-use Rattle.wot_types.specs.declared.fpr.Fpr.TheVariants.{V4}
 use Rattle.wot_types.specs.declared.number.SigNumber.{SigNumber}
 use Rattle.wot_key.specs.Key.{fpr_of}
-use Rattle.wot_verdict.specs.Verdicts.{is_number}
+use Rattle.wot_verdict.specs.Verdicts.{ByNumber, holder_at, is_number}
 use Rattle.wot_part.specs.Certificate.{Certificate}
 use Rattle.wot_held.specs.declared.kept.Kept.{Kept}
-use Rattle.wot_slots.specs.Near.{held_of}
-use Rattle.wot_index.specs.declared.holders.Holders.{Holders}
-use Rattle.wot_index.specs.declared.holders.Short.{Short}
 use Rattle.wot_index.specs.declared.index.Index.{Index}
 use Rattle.wot_held.specs.Keyring.{Entries, is_fpr}
 use Rattle.wot_held.specs.Verdict.{has_number}
 
 -- ---- what is noted
 
--- the fingerprint of version 4 with these octets
-abbrev pub full : Short → Fpr
-full short = V4 short.0
-
--- the fingerprint that slots and a tree have for a number
-abbrev pub holder_in : (SigNumber → Option Short) → List (SigNumber × Fpr) → SigNumber → Option Fpr
-holder_in short long n = option_or (option_map full (short n)) (lookup (is_number n) long)
-
 -- the fingerprint noted for a number
-abbrev pub holder_of : Holders → SigNumber → Option Fpr
-holder_of holders n = holder_in (held_of holders.short) holders.long.entries n
-
--- The new ones have this fingerprint for the number too.
-abbrev pub Puts : SigNumber → Fpr → Holders → Holders → Type 0
-Puts number fpr old new = (n : SigNumber) → holder_of new n ≡ cond (is_number number n) (Some fpr) (holder_of old n)
+abbrev pub holder_of : ByNumber → SigNumber → Option Fpr
+holder_of verdicts n = holder_at verdicts.holders n
 
 -- Both have the same fingerprint for each number.
-abbrev pub HoldsSame : Holders → Holders → Type 0
+abbrev pub HoldsSame : ByNumber → ByNumber → Type 0
 HoldsSame old new = (n : SigNumber) → holder_of new n ≡ holder_of old n
+
+-- Both have the same verdicts.
+abbrev pub SaysSame : ByNumber → ByNumber → Type 0
+SaysSame old new = new.entries ≡ old.entries
 
 -- whether it is this fingerprint
 abbrev pub is_holder : Option Fpr → Fpr → Bool
@@ -45,7 +33,7 @@ is_holder holder fpr = option_map_or (λ (p : Fpr). is_fpr p fpr) holder false
 
 -- whether a number is noted at a fingerprint
 abbrev pub is_noted : Index → SigNumber → Fpr → Bool
-is_noted i n fpr = is_holder (holder_of i.holders n) fpr
+is_noted i n fpr = is_holder (holder_of i.verdicts n) fpr
 
 -- whether the certificate kept under a fingerprint has a signature of this number
 abbrev pub stands_at : Entries → SigNumber → Fpr → Bool
@@ -81,7 +69,7 @@ NotesOn old new rest all =
 -- Both have the same fingerprint for each number.
 abbrev pub NotesNothing : Index → Index → Type 0
 NotesNothing old new =
-    new.exact ≡ true → (old.exact ≡ true) × HoldsSame old.holders new.holders
+    new.exact ≡ true → (old.exact ≡ true) × HoldsSame old.verdicts new.verdicts
 
 -- ---- removal
 
@@ -93,18 +81,18 @@ abbrev pub is_logged : SigNumber → List SigNumber → Bool
 is_logged n log = list_any (is_number n) log
 
 -- what is noted for a number without the logged ones
-abbrev pub holder_without : List SigNumber → Holders → SigNumber → Option Fpr
-holder_without log holders n = unless (is_logged n log) (holder_of holders n)
+abbrev pub holder_without : List SigNumber → ByNumber → SigNumber → Option Fpr
+holder_without log verdicts n = unless (is_logged n log) (holder_of verdicts n)
 
 -- What was noted for these numbers was removed.
-abbrev pub Forgets : Holders → Holders → (SigNumber → Bool) → Type 0
+abbrev pub Forgets : ByNumber → ByNumber → (SigNumber → Bool) → Type 0
 Forgets old new these = (n : SigNumber) → holder_of new n ≡ unless (these n) (holder_of old n)
 
 -- Removing what the new log lists leaves what removing what the old one lists would have left.
 abbrev pub StillLogged : Index → List SigNumber → Index → List SigNumber → Type 0
 StillLogged old log new log' =
     new.exact ≡ true → (old.exact ≡ true)
-    × ((n : SigNumber) → holder_without log' new.holders n ≡ holder_without log old.holders n)
+    × ((n : SigNumber) → holder_without log' new.verdicts n ≡ holder_without log old.verdicts n)
 
 -- ---- restamping
 

@@ -1,37 +1,51 @@
 //! Removes the signatures of a certificate from the index, before the certificate itself is removed. It stands on
-//! `holders`, and visits the places that `noting` visits: change both together. Nothing here allocates.
-ghost use Rattle.wot_index.specs.Index.{Forgets};
+//! wot_verdict, and visits the places that `noting` visits: change both together. The verdicts stay. Nothing here
+//! allocates.
+ghost use Rattle.wot_index.specs.Index.{Forgets, SaysSame};
 ghost use Rattle.wot_held.specs.Verdict.{is_among, is_on, has_number};
+ghost use Rattle.wot_verdict.specs.Verdicts.{is_number};
 
-use crate::holders::Holders;
 use wot_cert::{Cert, Part, Sig};
+use wot_types::SigNumber;
+use wot_verdict::Verdicts;
 
-fn forget_sigs(holders: &mut Holders, sigs: &[Sig])
-    ensures forgotten { Forgets holders.old holders.new (λ n. is_among n sigs.now) }
+/// Removes a number from the index.
+pub(crate) fn forget(verdicts: &mut Verdicts, number: &SigNumber)
+    ensures forgotten { Forgets verdicts.old verdicts.new (λ n. is_number n number.now) }
+    ensures verdicts { SaysSame verdicts.old verdicts.new }
+{
+    verdicts.let_go(number);
+}
+
+fn forget_sigs(verdicts: &mut Verdicts, sigs: &[Sig])
+    ensures forgotten { Forgets verdicts.old verdicts.new (λ n. is_among n sigs.now) }
+    ensures verdicts { SaysSame verdicts.old verdicts.new }
 {
     let mut left = sigs;
     'sigs: while let Some((sig, rest)) = left.split_first() {
-        holders.forget(&sig.number());
+        forget(verdicts, &sig.number());
         left = rest;
     }
 }
 
-fn forget_parts(holders: &mut Holders, parts: &[Part])
-    ensures forgotten { Forgets holders.old holders.new (λ n. is_on n parts.now) }
+fn forget_parts(verdicts: &mut Verdicts, parts: &[Part])
+    ensures forgotten { Forgets verdicts.old verdicts.new (λ n. is_on n parts.now) }
+    ensures verdicts { SaysSame verdicts.old verdicts.new }
 {
     let mut left = parts;
     'parts: while let Some((part, rest)) = left.split_first() {
-        forget_sigs(holders, part.sigs());
+        forget_sigs(verdicts, part.sigs());
         left = rest;
     }
 }
 
 /// Removes the signatures of a certificate from the index.
-pub fn forget_cert(holders: &mut Holders, cert: &Cert)
-    ensures forgotten { Forgets holders.old holders.new (λ n. has_number n cert.now) }
+pub fn forget_cert(verdicts: &mut Verdicts, cert: &Cert)
+    ensures forgotten { Forgets verdicts.old verdicts.new (λ n. has_number n cert.now) }
+    ensures verdicts { SaysSame verdicts.old verdicts.new }
 {
-    forget_sigs(holders, cert.direct());
-    forget_parts(holders, cert.user_ids());
-    forget_parts(holders, cert.attributes());
-    forget_parts(holders, cert.subkeys());
+    forget_sigs(verdicts, cert.direct());
+    forget_parts(verdicts, cert.user_ids());
+    forget_parts(verdicts, cert.attributes());
+    forget_parts(verdicts, cert.subkeys());
 }

@@ -1,35 +1,37 @@
 //! The index from signature numbers to certificates, so that a verdict finds its certificate without a walk over the
-//! keyring. `noting` and `forgetting` keep it in step with the certificates, and `restamp` reads it. It is exact unless
-//! two certificates hold signatures of one number.
+//! keyring. `wot_verdict` keeps it beside the verdicts, in one row of slots. `noting` and `forgetting` keep it in step
+//! with the certificates, and `restamp` reads it. It is exact unless two certificates hold signatures of one number.
 ghost use Rattle.std.specs.Prelude.{◌≡◌, ◌≢◌, ◌<◌, ◌&&◌, ◌++◌, ◌∷◌, [], true, vec_len, vec_capacity, MatchBool, OnOk};
 ghost use Rattle.std.specs.Prelude.{None};
 ghost use Rattle.wot_types.specs.declared.fpr.Fpr.{Fpr as TheFpr};
 ghost use Rattle.wot_types.specs.declared.number.SigNumber.{SigNumber as TheNumber};
 ghost use Rattle.wot_verdict.specs.Verdicts.{is_number};
 ghost use Rattle.wot_held.specs.Keyring.{is_fpr};
-ghost use Rattle.wot_index.specs.Index.{holder_of, is_logged, Forgets, Notes, StillLogged};
+ghost use Rattle.wot_index.specs.Index.{holder_of, is_logged, Forgets, Notes, SaysSame, StillLogged};
 
-use crate::holders::Holders;
+use crate::forgetting::forget;
 use std::alloc::Global;
 use wot_types::{Fpr, Memory, SigNumber};
+use wot_verdict::Verdicts;
 
-/// On which certificate each signature is: fingerprints by signature number.
+/// On which certificate each signature is, beside the verdicts on signatures.
 #[derive(Drop)]
 pub struct Index {
-    pub holders: Holders,
+    pub verdicts: Verdicts,
     /// False once a number was seen on two certificates, which takes a collision of SHA-256. What is noted means
     /// nothing from then on.
     pub exact: bool,
 }
 
 impl Index {
-    /// The index of no certificates. Doesn't allocate.
+    /// The index of no certificates, and no verdicts. Doesn't allocate.
     pub fn new(alloc: Global) -> Index
-        ensures empty { (n : TheNumber) → holder_of result.holders n ≡ None }
+        ensures empty { (n : TheNumber) → holder_of result.verdicts n ≡ None }
+        ensures verdicts { result.verdicts.entries ≡ [] }
         ensures exact { result.exact ≡ true }
     {
         Index {
-            holders: Holders::new(alloc),
+            verdicts: Verdicts::new(alloc),
             exact: true,
         }
     }
@@ -61,9 +63,10 @@ pub fn note(
     ensures noted { OnOk result (Notes index.old index.new
         (λ (n : TheNumber) (q : TheFpr). is_number n number && is_fpr fpr q)) }
     ensures log { StillLogged index.old log.old.items index.new log.new.items }
+    ensures verdicts { SaysSame index.old.verdicts index.new.verdicts }
 {
     log.reserve(1)?;
-    let Some(before) = index.holders.get(&number) else {
+    let Some(before) = index.verdicts.holder(&number) else {
         return note_new(index, log, number, fpr);
     };
     index.exact = stays_exact(index.exact, before, fpr);
@@ -78,21 +81,23 @@ fn note_new(
     fpr: Fpr,
 ) -> Result<(), Memory>
     requires room { vec_len log.old < vec_capacity log.old }
-    requires absent { holder_of index.old.holders number ≡ None }
+    requires absent { holder_of index.old.verdicts number ≡ None }
     ensures noted { OnOk result (Notes index.old index.new
         (λ (n : TheNumber) (q : TheFpr). is_number n number && is_fpr fpr q)) }
     ensures log { StillLogged index.old log.old.items index.new log.new.items }
+    ensures verdicts { SaysSame index.old.verdicts index.new.verdicts }
 {
-    index.holders.put(number, fpr)?;
+    index.verdicts.hold(number, fpr)?;
     put_in_log(log, number);
     Ok(())
 }
 
 /// Removes all numbers of a log. Doesn't allocate.
-pub fn forget_logged(holders: &mut Holders, mut log: Vec<SigNumber>)
-    ensures forgotten { Forgets holders.old holders.new (λ n. is_logged n log.items) }
+pub fn forget_logged(verdicts: &mut Verdicts, mut log: Vec<SigNumber>)
+    ensures forgotten { Forgets verdicts.old verdicts.new (λ n. is_logged n log.items) }
+    ensures verdicts { SaysSame verdicts.old verdicts.new }
 {
     'log: while let Some(number) = log.pop() {
-        holders.forget(&number);
+        forget(verdicts, &number);
     }
 }

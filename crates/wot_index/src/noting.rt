@@ -3,7 +3,7 @@
 ghost use Rattle.std.specs.Prelude.{◌&&◌, OnOk, OnErr};
 ghost use Rattle.wot_types.specs.declared.fpr.Fpr.{Fpr as TheFpr};
 ghost use Rattle.wot_types.specs.declared.number.SigNumber.{SigNumber as TheNumber};
-ghost use Rattle.wot_index.specs.Index.{stands_among, stands_on, Notes, NotesNothing, StillLogged};
+ghost use Rattle.wot_index.specs.Index.{stands_among, stands_on, Notes, NotesNothing, SaysSame, StillLogged};
 ghost use Rattle.wot_held.specs.Keyring.{is_fpr};
 ghost use Rattle.wot_held.specs.Verdict.{is_among, is_on};
 
@@ -21,6 +21,7 @@ fn note_sigs(
     ensures noted { OnOk result (Notes index.old index.new
         (λ (n : TheNumber) (q : TheFpr). is_among n sigs.now && is_fpr fpr q)) }
     ensures log { StillLogged index.old log.old.items index.new log.new.items }
+    ensures verdicts { SaysSame index.old.verdicts index.new.verdicts }
 {
     let mut left = sigs;
     'sigs: while let Some((sig, rest)) = left.split_first() {
@@ -39,6 +40,7 @@ fn note_parts(
     ensures noted { OnOk result (Notes index.old index.new
         (λ (n : TheNumber) (q : TheFpr). is_on n parts.now && is_fpr fpr q)) }
     ensures log { StillLogged index.old log.old.items index.new log.new.items }
+    ensures verdicts { SaysSame index.old.verdicts index.new.verdicts }
 {
     let mut left = parts;
     'parts: while let Some((part, rest)) = left.split_first() {
@@ -51,6 +53,7 @@ fn note_parts(
 fn note_cert(index: &mut Index, log: &mut Vec<SigNumber>, cert: &Cert) -> Result<(), Memory>
     ensures noted { OnOk result (Notes index.old index.new (stands_on cert.now)) }
     ensures log { StillLogged index.old log.old.items index.new log.new.items }
+    ensures verdicts { SaysSame index.old.verdicts index.new.verdicts }
 {
     let fpr = cert.fpr();
     note_sigs(index, log, cert.direct(), fpr)?;
@@ -62,6 +65,7 @@ fn note_cert(index: &mut Index, log: &mut Vec<SigNumber>, cert: &Cert) -> Result
 fn note_certs(index: &mut Index, log: &mut Vec<SigNumber>, certs: &[Cert]) -> Result<(), Memory>
     ensures noted { OnOk result (Notes index.old index.new (stands_among certs.now)) }
     ensures log { StillLogged index.old log.old.items index.new log.new.items }
+    ensures verdicts { SaysSame index.old.verdicts index.new.verdicts }
 {
     let mut left = certs;
     'certs: while let Some((cert, rest)) = left.split_first() {
@@ -75,12 +79,13 @@ fn note_certs(index: &mut Index, log: &mut Vec<SigNumber>, certs: &[Cert]) -> Re
 pub fn note_all(alloc: Global, index: &mut Index, certs: &[Cert]) -> Result<(), Memory>
     ensures noted { OnOk result (Notes index.old index.new (stands_among certs.now)) }
     ensures same { OnErr result (NotesNothing index.old index.new) }
+    ensures verdicts { SaysSame index.old.verdicts index.new.verdicts }
 {
     let mut log = Vec::new(alloc);
     match note_certs(index, &mut log, certs) {
         Ok(()) => Ok(()),
         Err(Memory) => {
-            forget_logged(&mut index.holders, log);
+            forget_logged(&mut index.verdicts, log);
             Err(Memory)
         }
     }

@@ -103,7 +103,7 @@ pub fn restamp_noted(
         begin_anew(log, stamp);
         return restamp(certs, number, stamp);
     }
-    let Some(fpr) = index.holders.get(number) else {
+    let Some(fpr) = index.verdicts.holder(number) else {
         return;
     };
     log_at(log, stamp, fpr);

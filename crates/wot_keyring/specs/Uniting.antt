@@ -8,7 +8,7 @@ use Rattle.wot_held.specs.declared.kept.Kept.{Kept}
 use Rattle.wot_held.specs.Keyring.{Entries, is_fpr}
 use Rattle.wot_index.specs.declared.index.Index.{Index}
 use Rattle.wot_index.specs.declared.log.Log.{Log}
-use Rattle.wot_index.specs.Index.{stands_among, Notes, NotesNothing}
+use Rattle.wot_index.specs.Index.{stands_among, Notes, NotesNothing, SaysSame}
 use Rattle.wot_index.specs.Log.{is_named_in, LogsAt}
 use Rattle.wot_merge.specs.declared.staging.Fault.{Fault}
 use Rattle.wot_merge.specs.declared.tally.Tally.{Tally}
@@ -30,10 +30,10 @@ pub record NamesSame (cs ds : List Certificate) : Type 0 where
   pub stands : (n : SigNumber) (fpr : Fpr) → stands_among cs n fpr ≡ stands_among ds n fpr
   pub named : (fpr : Fpr) → is_named_in cs fpr ≡ is_named_in ds fpr
 
--- The signatures of these certificates were noted; on an error, nothing was.
+-- The verdicts are left alone. The signatures of these certificates were noted; on an error, nothing was.
 abbrev pub NotesOnOk : {T E : Type 0} → Result T E → List Certificate → Index → Index → Type 0
-NotesOnOk (Ok done) cs old new = Notes old new (stands_among cs)
-NotesOnOk (Err fault) cs old new = NotesNothing old new
+NotesOnOk (Ok done) cs old new = SaysSame old.verdicts new.verdicts × Notes old new (stands_among cs)
+NotesOnOk (Err fault) cs old new = SaysSame old.verdicts new.verdicts × NotesNothing old new
 
 -- These certificates were logged with a stamp if anything was new; on an error, nothing was.
 abbrev pub LogsOnOk : Result Tally Fault → ℕ → List Certificate → Log → Log → Type 0

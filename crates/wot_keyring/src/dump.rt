@@ -94,9 +94,9 @@ fn put_verdict(number: SigNumber, verdict: Verdict, out: &mut Vec<u8>) -> Result
 
 /// Appends a line for each verdict that sets it.
 pub fn put_verdicts(verdicts: &Verdicts, out: &mut Vec<u8>) -> Result<(), Memory>
-    ensures appended { OnOk result (out.new.items ≡ out.old.items ++ lines_of (map setting_of verdicts.now)) }
-    ensures lines { OnOk result (AreLines (map setting_of verdicts.now)) }
-    ensures sorted { AreSortedByNumber verdicts.now }
+    ensures appended { OnOk result (out.new.items ≡ out.old.items ++ lines_of (map setting_of verdicts.now.entries)) }
+    ensures lines { OnOk result (AreLines (map setting_of verdicts.now.entries)) }
+    ensures sorted { AreSortedByNumber verdicts.now.entries }
     ensures kept { OnErr result (out.new.items ≡ out.old.items) }
 {
     let start = out.len();

@@ -46,13 +46,12 @@ use wot_verdict::{Verdict, Verdicts};
 pub struct Keyring {
     limits: Limits,
     certs: BTreeMap<Fpr, Kept, Global>,
-    verdicts: Verdicts,
     changes: u64,
     /// The total size of the certificates.
     octets: u64,
     /// How many signatures the certificates have.
     signatures: u64,
-    /// On which certificate each signature is.
+    /// The verdicts, and on which certificate each signature is.
     index: Index,
     /// What was altered recently.
     log: Log,
@@ -64,9 +63,9 @@ impl Model for Keyring {
 
     ghost Value = { Keyring };
 
-    ghost view = { λ a. of_parts a.limits a.certs.entries a.verdicts a.changes };
+    ghost view = { λ a. of_parts a.limits a.certs.entries a.index.verdicts.entries a.changes };
 
-    ghost invariant = { λ a. HoldTogether (of_parts a.limits a.certs.entries a.verdicts a.changes)
+    ghost invariant = { λ a. HoldTogether (of_parts a.limits a.certs.entries a.index.verdicts.entries a.changes)
         a.octets a.signatures a.index a.log };
 }
 
@@ -79,7 +78,6 @@ impl Keyring {
         Keyring {
             limits,
             certs: BTreeMap::new(alloc),
-            verdicts: Verdicts::new(alloc),
             changes: 0,
             octets: 0,
             signatures: 0,
@@ -138,9 +136,9 @@ impl Keyring {
 
     /// All verdicts, by signature number.
     pub fn verdicts(&self) -> &Verdicts
-        ensures verdicts { result.now ≡ self.now.verdicts }
+        ensures verdicts { result.now.entries ≡ self.now.verdicts }
     {
-        &self.verdicts
+        &self.index.verdicts
     }
 
     /// The count of changes at which a certificate, or a verdict on one of its signatures, was last altered. It is 0 if
@@ -194,7 +192,7 @@ impl Keyring {
         };
         let octets = kept.cert.size();
         let signatures = kept.cert.signatures();
-        forget_cert(&mut self.index.holders, &kept.cert);
+        forget_cert(&mut self.index.verdicts, &kept.cert);
         take_out(&mut self.certs, fpr);
         self.octets -= octets;
         self.signatures -= signatures;
@@ -224,7 +222,7 @@ impl Keyring {
             return Err(Refusal::Full(Limit::Verdicts));
         }
         log::make_room(&mut self.log, 1, self.certs.len());
-        match self.verdicts.set(number, verdict) {
+        match self.index.verdicts.set(number, verdict) {
             Ok(_) => {
                 self.altered_at(&number);
                 Ok(())
@@ -245,10 +243,10 @@ impl Keyring {
         ensures later { IsLater self.old self.new }
         ensures judged { StaysJudged self.old self.new }
     {
-        if self.verdicts.get(number).is_none() {
+        if self.index.verdicts.get(number).is_none() {
             return Err(Absent);
         }
-        let _ = self.verdicts.clear(number);
+        let _ = self.index.verdicts.clear(number);
         self.altered_at(number);
         Ok(())
     }
@@ -285,8 +283,8 @@ impl Keyring {
         replayed();
         let start = out.len();
         put_certs(alloc, self.certs(), out)?;
-        match put_verdicts(&self.verdicts, out) {
-            Ok(()) => Ok(self.certs.len() as u64 + self.verdicts.len() as u64),
+        match put_verdicts(&self.index.verdicts, out) {
+            Ok(()) => Ok(self.certs.len() as u64 + self.index.verdicts.len() as u64),
             Err(fault) => {
                 out.truncate(start);
                 Err(fault)
@@ -299,23 +297,23 @@ impl Keyring {
     pub fn pending(&self, alloc: Global) -> Result<Vec<Pending>, Memory>
         ensures pending { IfOk result (λ list. list.items ≡ pending_in (held_of self.now)) }
     {
-        waiting(alloc, &self.certs, &self.verdicts)
+        waiting(alloc, &self.certs, &self.index.verdicts)
     }
 
     fn says(&self, number: &SigNumber, verdict: Verdict) -> bool
         ensures says { MatchBool result
             (verdict_on self.now number.now ≡ Some verdict) (verdict_on self.now number.now ≢ Some verdict) }
     {
-        self.verdicts.get(number) == Some(verdict)
+        self.index.verdicts.get(number) == Some(verdict)
     }
 
     fn would_pass(&self, number: &SigNumber) -> bool
         ensures passes { result ≡ would_pass self.now number.now }
         ensures sorted { AreSortedByNumber self.now.verdicts }
     {
-        let count = self.verdicts.len() as u64;
+        let count = self.index.verdicts.len() as u64;
         // The number is looked up only if the limit is reached.
-        self.limits.verdicts <= count && self.verdicts.get(number).is_none()
+        self.limits.verdicts <= count && self.index.verdicts.get(number).is_none()
     }
 
     /// Counts a change of the verdict on a number.

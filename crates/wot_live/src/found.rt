@@ -80,7 +80,7 @@ fn put_edges_on(
     to: &Target<'_>,
 ) -> Result<(), Memory>
     requires few { HasFew part.now }
-    ensures { OnOk result (Gains (edges_on to.now.verdicts.now to.now.fpr to.now.t uid part.now)
+    ensures { OnOk result (Gains (edges_on to.now.verdicts.now.entries to.now.fpr to.now.t uid part.now)
         found.old.entries found.new.entries) }
 {
     let certifiers = Certifiers::new(alloc, part, to.verdicts, to.t)?;
@@ -102,7 +102,7 @@ pub(crate) fn find_edges(
 ) -> Result<Found, Memory>
     requires few { AllByRecursion HasFew cert.now.user_ids }
     requires count { length cert.now.user_ids < 2 ^ 32 }
-    ensures { IfOk result (λ found. found.entries ≡ by_place (found_edges verdicts.now cert.now t)) }
+    ensures { IfOk result (λ found. found.entries ≡ by_place (found_edges verdicts.now.entries cert.now t)) }
 {
     let mut found = BTreeMap::new(alloc);
     let target = Target {

@@ -52,16 +52,17 @@ pub fn rows(
     steps: &mut Steps,
 ) -> Result<(Rows, Span), Memory>
     requires size { size_of cert.now < 2 ^ 32 }
-    ensures edges { IfOk result (λ done. done.0.edges.items ≡ edges_of verdicts.now cert.now t) }
-    ensures exact { IfOk result (λ done. AreRows verdicts.now cert.now t done.0.edges.items) }
+    ensures edges { IfOk result (λ done. done.0.edges.items ≡ edges_of verdicts.now.entries cert.now t) }
+    ensures exact { IfOk result (λ done. AreRows verdicts.now.entries cert.now t done.0.edges.items) }
     ensures order { IfOk result (λ done. IsStrictlySortedBy edge_cmp done.0.edges.items) }
     ensures into { IfOk result (λ done. AreInto (own cert.now) done.0.edges.items) }
-    ensures revoked { IfOk result (λ done. done.0.revoked.items ≡ revoked_of verdicts.now cert.now t) }
+    ensures revoked { IfOk result (λ done. done.0.revoked.items ≡ revoked_of verdicts.now.entries cert.now t) }
     ensures span { IfOk result (λ done. done.1 ≡ span_of cert.now t) }
-    ensures throughout { IfOk result (λ done. IsThroughout done.1 (edges_of verdicts.now cert.now) done.0.edges.items) }
+    ensures throughout { IfOk result
+        (λ done. IsThroughout done.1 (edges_of verdicts.now.entries cert.now) done.0.edges.items) }
     ensures revoked_throughout { IfOk result
-        (λ done. IsThroughout done.1 (revoked_of verdicts.now cert.now) done.0.revoked.items) }
-    ensures standing { IfOk result (λ done. StandsThroughout verdicts.now cert.now t done.1) }
+        (λ done. IsThroughout done.1 (revoked_of verdicts.now.entries cert.now) done.0.revoked.items) }
+    ensures standing { IfOk result (λ done. StandsThroughout verdicts.now.entries cert.now t done.1) }
     ensures made_least { IfOk result
         (λ done. min (steps.old.made + length done.0.edges.items) u64.MAX ≤ steps.new.made) }
     ensures made_most { steps.new.made ≤ steps.old.made + signatures_of cert.now }

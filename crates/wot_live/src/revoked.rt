@@ -17,7 +17,7 @@ pub(crate) fn revoked_places(
     t: u32,
 ) -> Result<Vec<u32>, Memory>
     requires count { length cert.now.user_ids < 2 ^ 32 }
-    ensures { IfOk result (λ places. places.items ≡ revoked_of verdicts.now cert.now t) }
+    ensures { IfOk result (λ places. places.items ≡ revoked_of verdicts.now.entries cert.now t) }
 {
     let mut places = Vec::new(alloc);
     let fpr = cert.fpr();

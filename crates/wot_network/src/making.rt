@@ -24,9 +24,9 @@ pub(crate) fn make(
     steps: &mut Steps,
 ) -> Result<NetLine, Memory>
     requires size { size_of cert.now < 2 ^ 32 }
-    ensures made { IfOk result (λ line. IsMade verdicts.now cert.now stamp t line) }
+    ensures made { IfOk result (λ line. IsMade verdicts.now.entries cert.now stamp t line) }
     ensures made_least { OnOk result
-        (min (steps.old.made + length (edges_of verdicts.now cert.now t)) u64.MAX ≤ steps.new.made) }
+        (min (steps.old.made + length (edges_of verdicts.now.entries cert.now t)) u64.MAX ≤ steps.new.made) }
     ensures made_most { steps.new.made ≤ steps.old.made + signatures_of cert.now }
     ensures never_less { steps.old.made ≤ steps.new.made }
 {

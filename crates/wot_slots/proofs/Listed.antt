@@ -15,9 +15,8 @@ use Rattle.std.proofs.lemmas.Map.Entries.{none_below_head}
 use Rattle.std.proofs.lemmas.Map.Keys.{IsDistinct-from_sorted, sorted_head, sorted_tail}
 use Rattle.wot_types.specs.declared.number.SigNumber.{SigNumber}
 use Rattle.wot_types.specs.SigNumber.{number_cmp}
-use Rattle.wot_slots.specs.declared.slots.Slots.{Slots}
-use Rattle.wot_slots.specs.Above.{above_only, entries_above, is_above, listed, numbers_in, with_value}
-use Rattle.wot_slots.specs.Near.{Slot, Rest, held_of, holder_in, is_number, near_in, place_in}
+use Rattle.wot_slots.specs.Above.{listed, numbers_in, with_value}
+use Rattle.wot_slots.specs.Near.{Slot, Rest, holder_in, is_number, near_in, place_in}
 use Rattle.wot_slots.proofs.Numbers.{numbers_total, same_number, itself, turned}
 use Rattle.wot_slots.proofs.Rows.{slot_found}
 
@@ -285,7 +284,7 @@ module _ {T : Type 0} where
       by None e all = all
       by (Some value) e all = keys_put P (listed found ns) n value all (each n value e)
 
-  found_listed : (found : SigNumber → Option T) (ns : List SigNumber) (q : SigNumber) →
+  pub found_listed : (found : SigNumber → Option T) (ns : List SigNumber) (q : SigNumber) →
       lookup (is_number q) (listed found ns) ≡ cond (list_any (is_number q) ns) (found q) None
   found_listed found [] q = refl
   found_listed found (n ∷ ns) q = by (found n) refl (found_listed found ns q)
@@ -319,7 +318,7 @@ module _ {T : Type 0} where
 
   -- ---- each number of the slots is listed
 
-  in_rest : (es : Rest T) (q : SigNumber) (value : T) → lookup (is_number q) es ≡ Some value →
+  pub in_rest : (es : Rest T) (q : SigNumber) (value : T) → lookup (is_number q) es ≡ Some value →
       list_any (is_number q) (keys_of es) ≡ true
   in_rest [] q value h = absurd (none_some h)
   in_rest (e ∷ es) q value h = by (is_number q e.0) h (in_rest es q value)
@@ -356,7 +355,7 @@ module _ {T : Type 0} where
   in_slots (Some e ∷ slots) rest q value (suc i) h =
       or_right (is_number q e.0) (list_any (is_number q) (numbers_in slots rest)) (in_slots slots rest q value i h)
 
-  all_listed : (near : List (Slot T)) (rest : Rest T) (q : SigNumber) (value : T) →
+  pub all_listed : (near : List (Slot T)) (rest : Rest T) (q : SigNumber) (value : T) →
       holder_in near rest q ≡ Some value → list_any (is_number q) (numbers_in near rest) ≡ true
   all_listed near rest q value h = by (near_in near q) refl h
     where
@@ -365,31 +364,3 @@ module _ {T : Type 0} where
       by None e h = behind_slots near rest q (in_rest rest q value h)
       by (Some x) e h =
           let slot = slot_found near q x (place_in (length near) q) 8 e in in_slots near rest q x slot.0 slot.1
-
-  -- ---- the entries above a number
-
-  pub found_above : (last : Option SigNumber) (slots : Slots T) (q : SigNumber) →
-      lookup (is_number q) (entries_above last slots) ≡ above_only last (held_of slots) q
-  found_above last slots q =
-      found_listed (above_only last (held_of slots)) (numbers_in slots.near.items slots.rest.entries) q
-      ∙ by (held_of slots q) refl (is_above last q)
-    where
-      by : (o : Option T) → held_of slots q ≡ o → (b : Bool) →
-          cond (list_any (is_number q) (numbers_in slots.near.items slots.rest.entries))
-          (cond b (held_of slots q) None) None ≡ cond b (held_of slots q) None
-      by o e false = neither (list_any (is_number q) (numbers_in slots.near.items slots.rest.entries))
-        where
-          neither : (d : Bool) → ◌≡◌ {A = Option T} (cond d None None) None
-          neither true = refl
-          neither false = refl
-      by None e true = nothing (list_any (is_number q) (numbers_in slots.near.items slots.rest.entries))
-        where
-          nothing : (d : Bool) → cond d (held_of slots q) None ≡ held_of slots q
-          nothing true = refl
-          nothing false = sym e
-      by (Some value) e true =
-          ap (λ d. cond d (held_of slots q) None) (all_listed slots.near.items slots.rest.entries q value e)
-
-  pub sorted_above : (last : Option SigNumber) (slots : Slots T) → AreSorted (entries_above last slots)
-  sorted_above last slots =
-      sorted_listed (above_only last (held_of slots)) (numbers_in slots.near.items slots.rest.entries)

@@ -89,13 +89,13 @@ numbers_in (Some e ∷ slots) rest = e.0 ∷ numbers_in slots rest
 abbrev pub above_only : {T : Type 0} → Option SigNumber → (SigNumber → Option T) → SigNumber → Option T
 above_only last found n = cond (is_above last n) (found n) None
 
+-- the numbers above the last one that have something, in order: `found` says what each of them has
+abbrev pub entries_by : {T U : Type 0} → (SigNumber → Option U) → Option SigNumber → Slots T → Rest U
+entries_by found last slots = listed (above_only last found) (numbers_in slots.near.items slots.rest.entries)
+
 -- the numbers above the last one with their values, in order
 abbrev pub entries_above : {T : Type 0} → Option SigNumber → Slots T → Rest T
-entries_above last slots = listed (above_only last (held_of slots)) (numbers_in slots.near.items slots.rest.entries)
-
--- all numbers with their values, in order
-abbrev pub entries_of : {T : Type 0} → Slots T → Rest T
-entries_of slots = entries_above None slots
+entries_above last slots = entries_by (held_of slots) last slots
 
 -- Each number that has a value has 32 octets.
 abbrev pub AreNumbers : {T : Type 0} → Slots T → Type 0

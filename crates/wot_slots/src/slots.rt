@@ -97,8 +97,8 @@ impl<T: Copy> Slots<T> {
         Ok(())
     }
 
-    /// Replaces the value of a number.
-    fn replace(&mut self, number: SigNumber, value: T)
+    /// Replaces the value of a number that has one. Doesn't allocate.
+    pub fn replace(&mut self, number: SigNumber, value: T)
         requires there { is_some (held_of self.old number) ≡ true }
         ensures put { Puts number (Some value) self.old self.new }
     {

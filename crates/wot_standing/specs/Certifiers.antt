@@ -12,6 +12,7 @@ use Rattle.wot_cert.specs.Issuer.{issuer_of}
 use Rattle.wot_part.specs.Ranked.{higher_of}
 use Rattle.wot_cert.specs.Revoked.{has_kind, revokes_by}
 use Rattle.wot_cert.specs.Time.{made_of, is_live, newness}
+use Rattle.wot_standing.specs.declared.certifiers.Validity.{Validity}
 use Rattle.wot_standing.specs.declared.kinds.Binding.TheVariants.{Certification}
 use Rattle.wot_standing.specs.Kinds.{is_certification}
 use Rattle.wot_standing.specs.Latest.{revoked_at, is_valid_after}
@@ -77,3 +78,7 @@ TakesLatest verdicts t s old new = (q : Fpr) → number_for new q ≡ later_by v
 abbrev pub TakesNewest : Entries → ℕ → List Signature → Signature → List (Fpr × ℕ) → List (Fpr × ℕ) → Type 0
 TakesNewest verdicts t sigs s old new =
     (q : Fpr) → kept_for new sigs q ≡ newer_by verdicts q t sigs s (kept_for old sigs q)
+
+-- The signature is taken into account, by what decides whether it is valid.
+abbrev pub TakesValid : Validity → List Signature → Signature → List (Fpr × ℕ) → List (Fpr × ℕ) → Type 0
+TakesValid by sigs s old new = TakesNewest by.verdicts.now.entries by.t sigs s old new

@@ -11,7 +11,7 @@ ghost use Rattle.wot_part.specs.Ranked.{higher_of};
 ghost use Rattle.wot_cert.specs.Time.{newness};
 ghost use Rattle.wot_standing.specs.Certifiers.{certifier_of, number_for, revoker_of, AreNewestAmong};
 ghost use Rattle.wot_standing.specs.Certifiers.{KeepsLatest, KeepsNewest, KeepsNumber};
-ghost use Rattle.wot_standing.specs.Certifiers.{TakesLatest, TakesNewest};
+ghost use Rattle.wot_standing.specs.Certifiers.{TakesLatest, TakesValid};
 
 use crate::kinds::{CERTIFICATION_REVOCATION, has_kind, is_certification, is_live, made};
 use crate::latest::later;
@@ -55,7 +55,7 @@ impl Certifiers {
     /// unrevoked.
     pub fn new(alloc: Global, uid: &Part, verdicts: &Verdicts, t: u32) -> Result<Certifiers, Memory>
         requires few { length uid.now.sigs < 2 ^ 32 }
-        ensures newest { IfOk result (λ found. KeepsNewest verdicts.now t uid.now found) }
+        ensures newest { IfOk result (λ found. KeepsNewest verdicts.now.entries t uid.now found) }
     {
         let latest = latest_revocations(alloc, uid.sigs(), verdicts, t)?;
         let issuers = certifiers_in(alloc, uid.sigs(), verdicts, t)?;
@@ -101,7 +101,7 @@ fn keep(numbers: &mut Numbers, issuer: Fpr, number: u32) -> Result<Option<u32>, 
 
 /// By whom a signature is a live revocation. What costs a look at the verdicts is asked last.
 fn revoker(sig: &Sig, verdicts: &Verdicts, t: u32) -> Option<Fpr>
-    ensures { result ≡ revoker_of verdicts.now t sig.now }
+    ensures { result ≡ revoker_of verdicts.now.entries t sig.now }
 {
     if has_kind(sig, CERTIFICATION_REVOCATION) && is_live(sig, t) {
         issuer_of(sig, verdicts)
@@ -112,7 +112,7 @@ fn revoker(sig: &Sig, verdicts: &Verdicts, t: u32) -> Option<Fpr>
 
 /// By whom a signature is a live certification.
 fn certifier(sig: &Sig, verdicts: &Verdicts, t: u32) -> Option<Fpr>
-    ensures { result ≡ certifier_of verdicts.now t sig.now }
+    ensures { result ≡ certifier_of verdicts.now.entries t sig.now }
 {
     if is_certification(sig) && is_live(sig, t) {
         issuer_of(sig, verdicts)
@@ -129,7 +129,7 @@ fn certifiers_in(
     verdicts: &Verdicts,
     t: u32,
 ) -> Result<Vec<Option<Fpr>>, Memory>
-    ensures { IfOk result (λ issuers. issuers.items ≡ map (certifier_of verdicts.now t) sigs.now) }
+    ensures { IfOk result (λ issuers. issuers.items ≡ map (certifier_of verdicts.now.entries t) sigs.now) }
 {
     let mut issuers = Vec::with_capacity(alloc, sigs.len())?;
     let mut rest = sigs;
@@ -147,7 +147,7 @@ fn latest_revocations(
     verdicts: &Verdicts,
     t: u32,
 ) -> Result<Numbers, Memory>
-    ensures { IfOk result (λ latest. KeepsLatest verdicts.now t sigs.now latest.entries) }
+    ensures { IfOk result (λ latest. KeepsLatest verdicts.now.entries t sigs.now latest.entries) }
 {
     let mut latest = BTreeMap::new(alloc);
     let mut rest = sigs;
@@ -165,7 +165,7 @@ fn note_revocation(
     verdicts: &Verdicts,
     t: u32,
 ) -> Result<(), Memory>
-    ensures { OnOk result (TakesLatest verdicts.now t sig.now latest.old.entries latest.new.entries) }
+    ensures { OnOk result (TakesLatest verdicts.now.entries t sig.now latest.old.entries latest.new.entries) }
 {
     let Some(issuer) = revoker(sig, verdicts, t) else {
         return Ok(());
@@ -183,10 +183,11 @@ fn newest_places(
     validity: &Validity<'_>,
 ) -> Result<Numbers, Memory>
     requires few { length sigs.now < 2 ^ 32 }
-    requires issuers { issuers.now ≡ map (certifier_of validity.now.verdicts.now validity.now.t) sigs.now }
-    requires latest { KeepsLatest validity.now.verdicts.now validity.now.t sigs.now validity.now.latest.now.entries }
+    requires issuers { issuers.now ≡ map (certifier_of validity.now.verdicts.now.entries validity.now.t) sigs.now }
+    requires latest { KeepsLatest validity.now.verdicts.now.entries validity.now.t sigs.now
+        validity.now.latest.now.entries }
     ensures { IfOk result
-        (λ places. AreNewestAmong validity.now.verdicts.now validity.now.t sigs.now places.entries) }
+        (λ places. AreNewestAmong validity.now.verdicts.now.entries validity.now.t sigs.now places.entries) }
 {
     let mut places = BTreeMap::new(alloc);
     let mut rest = sigs;
@@ -218,10 +219,11 @@ fn note_certification(
     validity: &Validity<'_>,
 ) -> Result<(), Memory>
     requires here { slice_get sigs.now at ≡ Some sig.now }
-    requires by { by ≡ certifier_of validity.now.verdicts.now validity.now.t sig.now }
-    requires latest { KeepsLatest validity.now.verdicts.now validity.now.t sigs.now validity.now.latest.now.entries }
-    ensures { OnOk result (TakesNewest validity.now.verdicts.now validity.now.t sigs.now sig.now
-        places.old.entries places.new.entries) }
+    requires by { by ≡ certifier_of validity.now.verdicts.now.entries validity.now.t sig.now }
+    requires latest { KeepsLatest validity.now.verdicts.now.entries validity.now.t sigs.now
+        validity.now.latest.now.entries }
+    ensures { OnOk result
+        (TakesValid validity.now sigs.now sig.now places.old.entries places.new.entries) }
 {
     let Some(issuer) = by else { return Ok(()) };
     if !stays(sig, number(validity.latest, &issuer)) {

@@ -17,7 +17,7 @@ use wot_verdict::Verdicts;
 
 /// The governing signature: the newest direct key signature, or else the primary self-certification.
 fn governing<'a>(cert: &'a Cert, verdicts: &Verdicts, t: u32) -> Option<&'a Sig>
-    ensures { option_copied result ≡ governing_spec verdicts.now cert.now t }
+    ensures { option_copied result ≡ governing_spec verdicts.now.entries cert.now t }
 {
     let fpr = cert.fpr();
     match newest_valid(cert.direct(), verdicts, &fpr, t, Binding::DirectKey) {
@@ -48,7 +48,7 @@ fn created(cert: &Cert) -> u32
 
 /// Computes the standing alone, as `standing` does, for a caller that has the span already.
 pub fn standing_at(cert: &Cert, verdicts: &Verdicts, t: u32) -> Standing
-    ensures standing { result ≡ standing_of verdicts.now cert.now t }
+    ensures standing { result ≡ standing_of verdicts.now.entries cert.now t }
 {
     let fpr = cert.fpr();
     let by = governing(cert, verdicts, t);
@@ -68,9 +68,9 @@ pub fn standing_at(cert: &Cert, verdicts: &Verdicts, t: u32) -> Standing
 /// of all user IDs' newest self-certifications governs, compared by the primary mark and then by newness. A revocation
 /// of the key is hard unless it says that the key was superseded or retired or that the user ID isn't valid any more.
 pub fn standing(cert: &Cert, verdicts: &Verdicts, t: u32) -> (Standing, Span)
-    ensures standing { result.0 ≡ standing_of verdicts.now cert.now t }
+    ensures standing { result.0 ≡ standing_of verdicts.now.entries cert.now t }
     ensures span { result.1 ≡ span_of cert.now t }
-    ensures throughout { IsThroughout result.1 (standing_of verdicts.now cert.now) result.0 }
+    ensures throughout { IsThroughout result.1 (standing_of verdicts.now.entries cert.now) result.0 }
 {
     (standing_at(cert, verdicts, t), span(cert, t))
 }

@@ -137,7 +137,7 @@ fn may_be_by(sig: &Sig, fpr: &Fpr) -> bool
 
 /// Whether it counts as a signature by this key. Most that don't name another key, and need no look at the verdicts.
 pub(crate) fn counts(sig: &Sig, verdicts: &Verdicts, fpr: &Fpr) -> bool
-    ensures { result ≡ counts_by verdicts.now fpr.now sig.now }
+    ensures { result ≡ counts_by verdicts.now.entries fpr.now sig.now }
 {
     if !may_be_by(sig, fpr) {
         return false;
@@ -150,7 +150,7 @@ pub(crate) fn counts(sig: &Sig, verdicts: &Verdicts, fpr: &Fpr) -> bool
 
 /// Whether it is a live revocation of certifications by this key.
 pub fn revokes(sig: &Sig, verdicts: &Verdicts, fpr: &Fpr, t: u32) -> bool
-    ensures { result ≡ revokes_by verdicts.now fpr.now t sig.now }
+    ensures { result ≡ revokes_by verdicts.now.entries fpr.now t sig.now }
 {
     has_kind(sig, CERTIFICATION_REVOCATION) && counts(sig, verdicts, fpr) && is_live(sig, t)
 }

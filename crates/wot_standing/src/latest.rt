@@ -12,7 +12,7 @@ use wot_verdict::Verdicts;
 
 /// When the latest live revocation by this key among these signatures was created.
 pub(crate) fn latest_revocation(sigs: &[Sig], verdicts: &Verdicts, fpr: &Fpr, t: u32) -> Option<u32>
-    ensures { result ≡ revoked_at verdicts.now fpr.now t sigs.now }
+    ensures { result ≡ revoked_at verdicts.now.entries fpr.now t sigs.now }
 {
     let mut best: Option<u32> = None;
     let mut rest = sigs;

@@ -59,7 +59,7 @@ pub(crate) fn is_valid_after(
     binding: Binding,
     revoked: Option<u32>,
 ) -> bool
-    ensures { result ≡ is_valid_after_spec verdicts.now fpr.now t binding revoked sig.now }
+    ensures { result ≡ is_valid_after_spec verdicts.now.entries fpr.now t binding revoked sig.now }
 {
     is_binding(sig, binding) && counts(sig, verdicts, fpr) && is_live(sig, t) && stays(sig, revoked)
 }
@@ -81,7 +81,7 @@ fn newest_after<'a>(
     revoked: Option<u32>,
 ) -> Option<&'a Sig>
     ensures { option_copied result ≡ greatest newness
-        (filter (is_valid_after_spec verdicts.now fpr.now t binding revoked) sigs.now) }
+        (filter (is_valid_after_spec verdicts.now.entries fpr.now t binding revoked) sigs.now) }
 {
     let mut best: Option<&'a Sig> = None;
     let mut rest = sigs;
@@ -105,7 +105,7 @@ pub(crate) fn newest_valid<'a>(
     t: u32,
     binding: Binding,
 ) -> Option<&'a Sig>
-    ensures { option_copied result ≡ newest_valid_spec verdicts.now fpr.now t binding sigs.now }
+    ensures { option_copied result ≡ newest_valid_spec verdicts.now.entries fpr.now t binding sigs.now }
 {
     let revoked = latest_revocation(sigs, verdicts, fpr, t);
     newest_after(sigs, verdicts, fpr, t, binding, revoked)
@@ -118,7 +118,7 @@ pub(crate) fn primary<'a>(
     fpr: &Fpr,
     t: u32,
 ) -> Option<&'a Sig>
-    ensures { option_copied result ≡ primary_among verdicts.now fpr.now t user_ids.now }
+    ensures { option_copied result ≡ primary_among verdicts.now.entries fpr.now t user_ids.now }
 {
     let mut best: Option<&'a Sig> = None;
     let mut rest = user_ids;

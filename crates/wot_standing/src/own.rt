@@ -12,7 +12,7 @@ use wot_types::Fpr;
 use wot_verdict::Verdicts;
 
 fn has_revocation(sigs: &[Sig], verdicts: &Verdicts, fpr: &Fpr, t: u32) -> bool
-    ensures { result ≡ list_any (revokes_by verdicts.now fpr.now t) sigs.now }
+    ensures { result ≡ list_any (revokes_by verdicts.now.entries fpr.now t) sigs.now }
 {
     let mut found = false;
     let mut rest = sigs;
@@ -26,7 +26,7 @@ fn has_revocation(sigs: &[Sig], verdicts: &Verdicts, fpr: &Fpr, t: u32) -> bool
 /// Whether a user ID is revoked at a time by its own key, which has this fingerprint: it has a live revocation by the
 /// key, and no live and unrevoked self-certification.
 pub fn is_own_revoked(uid: &Part, verdicts: &Verdicts, fpr: &Fpr, t: u32) -> bool
-    ensures revoked { result ≡ is_own_revoked_spec verdicts.now fpr.now t uid.now }
+    ensures revoked { result ≡ is_own_revoked_spec verdicts.now.entries fpr.now t uid.now }
 {
     has_revocation(uid.sigs(), verdicts, fpr, t)
         && newest_valid(uid.sigs(), verdicts, fpr, t, Binding::Certification).is_none()

@@ -14,26 +14,26 @@ use wot_types::Fpr;
 use wot_verdict::Verdicts;
 
 fn revokes_key(sig: &Sig, verdicts: &Verdicts, fpr: &Fpr) -> bool
-    ensures { result ≡ revokes_key_spec verdicts.now fpr.now sig.now }
+    ensures { result ≡ revokes_key_spec verdicts.now.entries fpr.now sig.now }
 {
     has_kind(sig, KEY_REVOCATION) && counts(sig, verdicts, fpr)
 }
 
 fn is_hard_revocation(sig: &Sig, verdicts: &Verdicts, fpr: &Fpr) -> bool
-    ensures { result ≡ is_hard_spec verdicts.now fpr.now sig.now }
+    ensures { result ≡ is_hard_spec verdicts.now.entries fpr.now sig.now }
 {
     revokes_key(sig, verdicts, fpr) && !is_soft(sig)
 }
 
 fn is_soft_revocation(sig: &Sig, verdicts: &Verdicts, fpr: &Fpr, t: u32) -> bool
-    ensures { result ≡ is_soft_revocation_spec verdicts.now fpr.now t sig.now }
+    ensures { result ≡ is_soft_revocation_spec verdicts.now.entries fpr.now t sig.now }
 {
     revokes_key(sig, verdicts, fpr) && is_soft(sig) && is_live(sig, t)
 }
 
 /// Whether one of these is a hard revocation of the key, whenever it was created.
 pub(crate) fn has_hard(direct: &[Sig], verdicts: &Verdicts, fpr: &Fpr) -> bool
-    ensures { result ≡ list_any (is_hard_spec verdicts.now fpr.now) direct.now }
+    ensures { result ≡ list_any (is_hard_spec verdicts.now.entries fpr.now) direct.now }
 {
     let mut found = false;
     let mut rest = direct;
@@ -46,7 +46,7 @@ pub(crate) fn has_hard(direct: &[Sig], verdicts: &Verdicts, fpr: &Fpr) -> bool
 
 /// When the first live soft revocation of the key was created.
 pub(crate) fn soft_moment(direct: &[Sig], verdicts: &Verdicts, fpr: &Fpr, t: u32) -> Option<u32>
-    ensures { result ≡ soft_moment_spec verdicts.now fpr.now t direct.now }
+    ensures { result ≡ soft_moment_spec verdicts.now.entries fpr.now t direct.now }
 {
     let mut first: Option<u32> = None;
     let mut rest = direct;

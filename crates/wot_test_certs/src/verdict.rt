@@ -1,4 +1,5 @@
-//! Tests of wot_verdict: signature numbers as another program computes them, and verdicts as a sorted map.
+//! Tests of wot_verdict: signature numbers as another program computes them, verdicts as a sorted map, and the
+//! certificates beside them.
 use crate::assertion::expect_that;
 use wot_types::{Fpr, SigNumber};
 use wot_verdict::{Numbering, Verdict, Verdicts, number_of};
@@ -95,4 +96,25 @@ fn verdicts_are_a_map_in_order(rt: HostRuntime) {
         &rt,
         verdicts.get(&FIRST).is_none() && are_these(&verdicts, &[(SECOND, GOOD)]),
     );
+}
+
+/// Certificates of both versions: they are kept in different places.
+static HOLDERS: [Fpr; 2] = [Fpr::V4([4; 20]), Fpr::V6([6; 32])];
+
+#[test]
+fn a_verdict_and_a_certificate_leave_each_other_alone(rt: HostRuntime) {
+    for holder in &HOLDERS {
+        let mut verdicts = Verdicts::new(rt.alloc());
+        expect_that(&rt, verdicts.hold(FIRST, *holder).is_ok());
+        expect_that(&rt, are_these(&verdicts, &[]));
+        expect_that(&rt, verdicts.set(FIRST, GOOD) == Ok(true));
+        expect_that(&rt, are_these(&verdicts, &[(FIRST, GOOD)]));
+        expect_that(&rt, verdicts.holder(&FIRST) == Some(*holder));
+        expect_that(&rt, verdicts.clear(&FIRST) && are_these(&verdicts, &[]));
+        expect_that(&rt, verdicts.holder(&FIRST) == Some(*holder));
+        expect_that(&rt, verdicts.set(FIRST, Verdict::Bad) == Ok(true));
+        verdicts.let_go(&FIRST);
+        expect_that(&rt, verdicts.holder(&FIRST).is_none());
+        expect_that(&rt, verdicts.get(&FIRST) == Some(Verdict::Bad));
+    }
 }

@@ -1,1 +1,3 @@
-mod Changed
+pub mod Changed
+pub mod Holding
+pub mod Passing

@@ -1,14 +1,17 @@
-//! Changes a verdict, and how many there are.
+//! Changes what is noted for a number: a verdict, and how many there are, or a certificate of version 4.
 //!
-//! It stands on `wot_slots` and on `specs/Kept.antt`. `verdicts` calls it.
-ghost use Rattle.std.specs.Prelude.{◌≡◌, ◌<◌, ◌+◌, ◌-◌, ◌^◌, OnOk, OnErr, Some, None, is_some, cond};
+//! It stands on `wot_slots`, on `noted` and on `specs/Kept.antt`. `verdicts` calls it. A change of one of the two
+//! leaves the other alone.
+ghost use Rattle.std.specs.Prelude.{◌≡◌, ◌<◌, ◌+◌, ◌-◌, ◌^◌, OnOk, OnErr, Some, None, is_some, cond, true};
 ghost use Rattle.std.specs.Option.{IfNone, IfSome};
-ghost use Rattle.wot_slots.specs.Above.{entries_of};
-ghost use Rattle.wot_slots.specs.Near.{held_of};
-ghost use Rattle.wot_verdict.specs.Kept.{ChangesAt, IsKept};
-ghost use Rattle.wot_verdict.specs.Verdicts.{with_verdict, without_verdict};
+ghost use Rattle.wot_slots.specs.Near.{held_of, Puts};
+ghost use Rattle.wot_verdict.specs.Kept.{said_in, verdicts_in, IsKept, KeepsCount, SameShorts, ShortsAt};
+ghost use Rattle.wot_verdict.specs.Verdicts.{with_verdict as with_it, without_verdict as without_it, ChangesAt};
 
 use crate::Verdict;
+use crate::noted::{
+    Noted, Short, verdict_of, with_holder, with_verdict, without_holder, without_verdict,
+};
 use wot_slots::{Slots, number_is_whole};
 use wot_types::{Memory, SigNumber};
 
@@ -39,45 +42,81 @@ fn count_without(count: usize, there: bool) -> usize
     }
 }
 
-/// Sets the verdict on a number that had the old one. After `Memory` nothing changed.
+/// Keeps what is left for a number, which is nothing if nothing was noted for it. Doesn't allocate.
+fn keep_left(held: &mut Slots<Noted>, number: &SigNumber, left: Option<Noted>)
+    requires less { is_some left ≡ true → is_some (held_of held.old number.now) ≡ true }
+    ensures put { Puts number.now left held.old held.new }
+{
+    match left {
+        Some(noted) => held.replace(*number, noted),
+        None => held.forget(number),
+    }
+}
+
+/// Sets the verdict on a number for which this was noted. After `Memory` nothing changed.
 pub(crate) fn set_counted(
-    held: &mut Slots<Verdict>,
+    held: &mut Slots<Noted>,
     count: &mut usize,
     number: SigNumber,
-    old: Option<Verdict>,
+    old: Option<Noted>,
     verdict: Verdict,
 ) -> Result<(), Memory>
     requires kept { IsKept held.old count.old }
     requires old { old ≡ held_of held.old number }
     ensures kept { IsKept held.new count.new }
-    ensures set { OnOk result (entries_of held.new ≡ with_verdict (entries_of held.old) number verdict) }
-    ensures at_each { OnOk result (ChangesAt number (Some verdict) (entries_of held.old) (entries_of held.new)) }
-    ensures same { OnErr result (entries_of held.new ≡ entries_of held.old) }
-    ensures was_absent { OnErr result (held_of held.old number ≡ None) }
+    ensures set { OnOk result (verdicts_in held.new ≡ with_it (verdicts_in held.old) number verdict) }
+    ensures at_each { OnOk result (ChangesAt number (Some verdict) (verdicts_in held.old) (verdicts_in held.new)) }
+    ensures same { OnErr result (verdicts_in held.new ≡ verdicts_in held.old) }
+    ensures was_absent { OnErr result (said_in held.old number ≡ None) }
+    ensures holders { SameShorts held.old held.new }
 {
     number_is_whole(&number);
-    let Some(counted) = count_with(*count, old) else {
+    let Some(counted) = count_with(*count, verdict_of(old)) else {
         return Err(Memory);
     };
-    held.set(number, verdict)?;
+    held.set(number, with_verdict(old, verdict))?;
     *count = counted;
     Ok(())
 }
 
-/// Removes the verdict on a number. Returns whether there was one.
-pub(crate) fn clear_counted(
-    held: &mut Slots<Verdict>,
-    count: &mut usize,
-    number: &SigNumber,
-) -> bool
+/// Removes the verdict on a number. Returns whether there was one. Doesn't allocate.
+pub(crate) fn clear_counted(held: &mut Slots<Noted>, count: &mut usize, number: &SigNumber) -> bool
     requires kept { IsKept held.old count.old }
     ensures kept { IsKept held.new count.new }
-    ensures cleared { entries_of held.new ≡ without_verdict (entries_of held.old) number.now }
-    ensures at_each { ChangesAt number.now None (entries_of held.old) (entries_of held.new) }
-    ensures was_there { result ≡ is_some (held_of held.old number.now) }
+    ensures cleared { verdicts_in held.new ≡ without_it (verdicts_in held.old) number.now }
+    ensures at_each { ChangesAt number.now None (verdicts_in held.old) (verdicts_in held.new) }
+    ensures was_there { result ≡ is_some (said_in held.old number.now) }
+    ensures holders { SameShorts held.old held.new }
 {
-    let there = held.get(number).is_some();
-    held.forget(number);
+    let old = held.get(number);
+    let there = verdict_of(old).is_some();
+    keep_left(held, number, without_verdict(old));
     *count = count_without(*count, there);
     there
+}
+
+/// Notes that the signature of a number is on this certificate. On `Memory` nothing changed.
+pub(crate) fn hold_short(
+    held: &mut Slots<Noted>,
+    number: SigNumber,
+    short: Short,
+) -> Result<(), Memory>
+    ensures held { OnOk result (ShortsAt number (Some short) held.old held.new) }
+    ensures same { OnErr result (SameShorts held.old held.new) }
+    ensures verdicts { verdicts_in held.new ≡ verdicts_in held.old }
+    ensures kept { KeepsCount held.old held.new }
+{
+    number_is_whole(&number);
+    let old = held.get(&number);
+    held.set(number, with_holder(old, short))
+}
+
+/// Notes that the signature of a number is on no certificate of version 4. Doesn't allocate.
+pub(crate) fn let_short_go(held: &mut Slots<Noted>, number: &SigNumber)
+    ensures gone { ShortsAt number.now None held.old held.new }
+    ensures verdicts { verdicts_in held.new ≡ verdicts_in held.old }
+    ensures kept { KeepsCount held.old held.new }
+{
+    let old = held.get(number);
+    keep_left(held, number, without_holder(old));
 }

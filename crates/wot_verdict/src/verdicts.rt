@@ -1,96 +1,144 @@
-//! Verdicts by signature number.
+//! Verdicts by signature number, and on which certificate each signature is.
 //!
-//! It stands on `wot_slots`, on `keeping` and on `specs/{Kept,Verdicts}.antt`. `wot_keyring` keeps one such map for all
-//! certificates, within the limit on verdicts, and a dump prints it.
+//! It stands on `wot_slots`, on std's map, on `keeping` and `listing`, and on `specs/{Kept,Verdicts}.antt`.
+//! `wot_keyring` keeps one such map for all certificates, within the limit on verdicts, and a dump prints it.
+//! `wot_index` notes the certificates.
 ghost use Rattle.std.specs.Prelude.{◌≡◌, ◌≢◌, ◌<◌, ◌^◌, ◌↔◌, [], length, IsTrue, IfOk, OnOk, OnErr, Some, None};
-ghost use Rattle.std.specs.Prelude.{is_some, cond};
+ghost use Rattle.std.specs.Prelude.{is_some};
 ghost use Rattle.std.specs.Iterator.{YieldsFirst, item_count};
-ghost use Rattle.wot_types.specs.declared.number.SigNumber.{SigNumber as Number};
-ghost use Rattle.wot_verdict.specs.Verdicts.{verdict_at, with_verdict, without_verdict, is_number, AreSortedByNumber};
+ghost use Rattle.wot_verdict.specs.Verdicts.{verdict_at, with_verdict, without_verdict, holder_at};
+ghost use Rattle.wot_verdict.specs.Verdicts.{AreSortedByNumber, ChangesAt, HoldsAt};
 
 use crate::Verdict;
-use crate::keeping::{clear_counted, set_counted};
+use crate::keeping::{clear_counted, hold_short, let_short_go, set_counted};
+use crate::listing::next_verdict;
+use crate::noted::{Noted, full_of, holder_of, short_of, verdict_of};
 use std::alloc::Global;
+use std::collections::BTreeMap;
 use std::marker::Model;
 use wot_slots::Slots;
-use wot_types::{Memory, SigNumber};
+use wot_types::{Fpr, Memory, SigNumber};
 
-/// Verdicts by signature number. Contracts see the list of the entries in the order of the numbers.
+/// Verdicts by signature number, and on which certificate each signature is. Contracts see two lists of entries in the
+/// order of the numbers.
 #[derive(Drop)]
 pub struct Verdicts {
-    held: Slots<Verdict>,
+    /// The verdicts, and the certificates of version 4.
+    held: Slots<Noted>,
+    /// The certificates of version 6.
+    long: BTreeMap<SigNumber, Fpr, Global>,
     /// How many numbers have a verdict.
     count: usize,
 }
 
 impl Model for Verdicts {
-    ghost use Rattle.wot_slots.specs.Above.{entries_of};
-    ghost use Rattle.wot_verdict.specs.Kept.{IsKept};
-    ghost use Rattle.wot_verdict.specs.Verdicts.{Entries};
+    ghost use Rattle.wot_verdict.specs.Kept.{by_number, IsKept};
+    ghost use Rattle.wot_verdict.specs.Verdicts.{ByNumber};
 
-    ghost Value = { Entries };
+    ghost Value = { ByNumber };
 
-    ghost view = { λ v. entries_of v.held };
+    ghost view = { λ v. by_number v.held v.long.entries };
 
     ghost invariant = { λ v. IsKept v.held v.count };
 }
 
 impl Verdicts {
-    /// No verdicts. Takes no memory.
+    /// No verdicts, and no certificates. Takes no memory.
     pub fn new(alloc: Global) -> Verdicts
-        ensures none { result ≡ [] }
+        ensures none { result.entries ≡ [] }
+        ensures nowhere { result.holders ≡ [] }
     {
+        let held = Slots::new(alloc);
+        let long = BTreeMap::new(alloc);
         Verdicts {
-            held: Slots::new(alloc),
+            held,
+            long,
             count: 0,
         }
     }
 
     /// The verdict on a number.
     pub fn get(&self, number: &SigNumber) -> Option<Verdict>
-        ensures found { result ≡ verdict_at self.now number.now }
+        ensures found { result ≡ verdict_at self.now.entries number.now }
     {
-        self.held.get(number)
+        verdict_of(self.held.get(number))
     }
 
     /// Sets the verdict on a number, in place of an earlier one. Returns whether something changed. After `Memory`
     /// nothing did.
     pub fn set(&mut self, number: SigNumber, verdict: Verdict) -> Result<bool, Memory>
-        ensures set { OnOk result (self.new ≡ with_verdict self.old number verdict) }
-        ensures at_each { OnOk result ((q : Number)
-            → verdict_at self.new q ≡ cond (is_number number q) (Some verdict) (verdict_at self.old q)) }
-        ensures changed { IfOk result (λ changed. IsTrue changed ↔ (verdict_at self.old number ≢ Some verdict)) }
+        ensures set { OnOk result (self.new.entries ≡ with_verdict self.old.entries number verdict) }
+        ensures at_each { OnOk result (ChangesAt number (Some verdict) self.old.entries self.new.entries) }
+        ensures changed { IfOk result
+            (λ changed. IsTrue changed ↔ (verdict_at self.old.entries number ≢ Some verdict)) }
         ensures kept { OnErr result (self.new ≡ self.old) }
-        ensures was_absent { OnErr result (verdict_at self.old number ≡ None) }
+        ensures was_absent { OnErr result (verdict_at self.old.entries number ≡ None) }
+        ensures holders { self.new.holders ≡ self.old.holders }
     {
         let old = self.held.get(&number);
         set_counted(&mut self.held, &mut self.count, number, old, verdict)?;
-        Ok(differs(old, verdict))
+        Ok(differs(verdict_of(old), verdict))
     }
 
-    /// Removes the verdict on a number. Returns whether there was one.
+    /// Removes the verdict on a number. Returns whether there was one. Doesn't allocate.
     pub fn clear(&mut self, number: &SigNumber) -> bool
-        ensures cleared { self.new ≡ without_verdict self.old number.now }
-        ensures at_each { (q : Number)
-            → verdict_at self.new q ≡ cond (is_number number.now q) None (verdict_at self.old q) }
-        ensures was_there { result ≡ is_some (verdict_at self.old number.now) }
+        ensures cleared { self.new.entries ≡ without_verdict self.old.entries number.now }
+        ensures at_each { ChangesAt number.now None self.old.entries self.new.entries }
+        ensures was_there { result ≡ is_some (verdict_at self.old.entries number.now) }
+        ensures holders { self.new.holders ≡ self.old.holders }
     {
         clear_counted(&mut self.held, &mut self.count, number)
     }
 
+    /// The certificate that the signature of a number is on.
+    pub fn holder(&self, number: &SigNumber) -> Option<Fpr>
+        ensures holder { result ≡ holder_at self.now.holders number.now }
+    {
+        match holder_of(self.held.get(number)) {
+            Some(short) => Some(full_of(short)),
+            None => self.long.get(number).copied(),
+        }
+    }
+
+    /// Notes the certificate that the signature of a number is on. None is noted for it so far. After `Memory` nothing
+    /// changed.
+    pub fn hold(&mut self, number: SigNumber, fpr: Fpr) -> Result<(), Memory>
+        requires absent { holder_at self.old.holders number ≡ None }
+        ensures held { OnOk result (HoldsAt number (Some fpr) self.old.holders self.new.holders) }
+        ensures kept { OnErr result (self.new ≡ self.old) }
+        ensures verdicts { self.new.entries ≡ self.old.entries }
+    {
+        if let Some(short) = short_of(&fpr) {
+            return hold_short(&mut self.held, number, short);
+        }
+        match self.long.insert(number, fpr) {
+            Ok(_) => Ok(()),
+            Err(_) => Err(Memory),
+        }
+    }
+
+    /// Notes that the signature of a number is on no certificate. Doesn't allocate.
+    pub fn let_go(&mut self, number: &SigNumber)
+        ensures gone { HoldsAt number.now None self.old.holders self.new.holders }
+        ensures verdicts { self.new.entries ≡ self.old.entries }
+    {
+        let_short_go(&mut self.held, number);
+        let _ = self.long.remove(number);
+    }
+
     /// How many numbers have a verdict.
     pub fn len(&self) -> usize
-        ensures count { result ≡ length self.now }
+        ensures count { result ≡ length self.now.entries }
         ensures few { result < 2 ^ 63 }
-        ensures sorted { AreSortedByNumber self.now }
+        ensures sorted { AreSortedByNumber self.now.entries }
     {
         self.count
     }
 
     /// The numbers with their verdicts, in the order of the numbers.
     pub fn iter(&self) -> VerdictsIter<'_>
-        ensures entries { result ≡ self.now }
-        ensures sorted { AreSortedByNumber self.now }
+        ensures entries { result ≡ self.now.entries }
+        ensures sorted { AreSortedByNumber self.now.entries }
     {
         VerdictsIter {
             held: &self.held,
@@ -105,21 +153,22 @@ fn differs(old: Option<Verdict>, new: Verdict) -> bool
     old != Some(new)
 }
 
-/// Iterates over the entries of [`Verdicts`].
+/// Iterates over the verdicts of [`Verdicts`].
 #[derive(Drop)]
 pub struct VerdictsIter<'a> {
-    held: &'a Slots<Verdict>,
+    held: &'a Slots<Noted>,
     /// The number of the last entry.
     last: Option<SigNumber>,
 }
 
 impl<'a> Model for VerdictsIter<'a> {
-    ghost use Rattle.wot_slots.specs.Above.{AreNumbers, entries_above};
+    ghost use Rattle.wot_slots.specs.Above.{AreNumbers};
+    ghost use Rattle.wot_verdict.specs.Kept.{verdicts_above};
     ghost use Rattle.wot_verdict.specs.Verdicts.{Entries};
 
     ghost Value = { Entries };
 
-    ghost view = { λ i. entries_above i.last i.held.now };
+    ghost view = { λ i. verdicts_above i.last i.held.now };
 
     ghost invariant = { λ i. AreNumbers i.held.now };
 }
@@ -132,7 +181,7 @@ impl<'a> Iterator for VerdictsIter<'a> {
     ghost remaining = { item_count (λ i. i) };
 
     fn next(&mut self) -> Option<(SigNumber, Verdict)> {
-        let Some((number, verdict)) = self.held.next_above(self.last) else {
+        let Some((number, verdict)) = next_verdict(self.held, self.last) else {
             return None;
         };
         self.last = Some(number);

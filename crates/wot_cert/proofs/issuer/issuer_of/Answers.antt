@@ -9,6 +9,6 @@ pub returns-then-not-may_count : goal.returns-then-not-may_count
 returns-then-not-may_count c =
     let s = c.args.sig.now in
     record {
-      issuer = sym (uncounted (said_by s) s.admitted (good_by (verdict_at c.args.verdicts.now s.number))
+      issuer = sym (uncounted (said_by s) s.admitted (good_by (verdict_at c.args.verdicts.now.entries s.number))
           (sym c.if-not-may_count.ensures));
     }

@@ -12,7 +12,7 @@ use Rattle.wot_explain.proofs.reasons.step.Goals as goal
 pub returns-in-Some-Good : goal.returns-in-Some-Good
 returns-in-Some-Good c =
     let a = c.args in
-    let said : Some (Good c.in-Some-Good.issuer) ≡ verdict_at a.verdicts.now a.sig.now.number =
+    let said : Some (Good c.in-Some-Good.issuer) ≡ verdict_at a.verdicts.now.entries a.sig.now.number =
     cc (c.in-Some-Good.ensures.found, c.in-Some-Good.field-0-is, c.number.ensures.number) in
     c.step_of.ensures a.uid.now.sigs
     ∙ ap (λ (o : Option Verdict). option_map step_of

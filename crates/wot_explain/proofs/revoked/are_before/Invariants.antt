@@ -8,7 +8,7 @@ use Rattle.wot_explain.proofs.revoked.are_before.Given as goal
 
 abbrev pub invariant-back : goal.invariant-back
 invariant-back l = (seen : List Signature) × (l.sigs ≡ l.rest ++ seen)
-    × (l.all ≡ list_all (λ r. not (revokes_by l.verdicts l.fpr l.t r) || nat_lt (made_of r) l.then) seen)
+    × (l.all ≡ list_all (λ r. not (revokes_by l.verdicts.entries l.fpr l.t r) || nat_lt (made_of r) l.then) seen)
 
 abbrev pub decreases-back : goal.decreases-back
 decreases-back l = length l.rest

@@ -4,8 +4,8 @@ use Rattle.wot_held.specs.Pending.{pending_among}
 use Rattle.wot_held.proofs.pending.push_parts.Given as goal
 
 abbrev pub invariant-parts : goal.invariant-parts
-invariant-parts l = l.out.items ++ pending_among l.verdicts l.fpr
-    (sigs_on l.left) ≡ l.initial.out.items ++ pending_among l.verdicts l.fpr (sigs_on l.parts)
+invariant-parts l = l.out.items ++ pending_among l.verdicts.entries l.fpr
+    (sigs_on l.left) ≡ l.initial.out.items ++ pending_among l.verdicts.entries l.fpr (sigs_on l.parts)
 
 abbrev pub decreases-parts : goal.decreases-parts
 decreases-parts l = length l.left

@@ -3,8 +3,8 @@ use Rattle.wot_held.specs.Pending.{pending_among}
 use Rattle.wot_held.proofs.pending.push_sigs.Given as goal
 
 abbrev pub invariant-sigs : goal.invariant-sigs
-invariant-sigs l = l.out.items ++ pending_among l.verdicts l.fpr l.left ≡ l.initial.out.items ++ pending_among
-    l.verdicts l.fpr l.sigs
+invariant-sigs l = l.out.items ++ pending_among l.verdicts.entries l.fpr l.left ≡ l.initial.out.items ++ pending_among
+    l.verdicts.entries l.fpr l.sigs
 
 abbrev pub decreases-sigs : goal.decreases-sigs
 decreases-sigs l = length l.left

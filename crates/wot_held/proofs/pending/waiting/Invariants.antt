@@ -5,5 +5,5 @@ use Rattle.wot_held.specs.Pending.{pending_on}
 use Rattle.wot_held.proofs.pending.waiting.Given as goal
 
 abbrev pub invariant-certs : goal.invariant-certs
-invariant-certs l = l.list.items ++ flat_map (pending_on l.verdicts) (stripped l.fpr-iterator) ≡ flat_map
-    (pending_on l.verdicts) (stripped l.certs.entries)
+invariant-certs l = l.list.items ++ flat_map (pending_on l.verdicts.entries) (stripped l.fpr-iterator) ≡ flat_map
+    (pending_on l.verdicts.entries) (stripped l.certs.entries)

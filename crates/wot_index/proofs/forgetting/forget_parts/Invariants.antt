@@ -1,13 +1,16 @@
 use Rattle.std.proofs.Common.{◌≡◌, length}
 use Rattle.wot_types.specs.declared.number.SigNumber.{SigNumber}
 use Rattle.wot_part.specs.Counts.{sigs_on}
-use Rattle.wot_index.specs.Index.{holder_of, unless}
+use Rattle.wot_index.specs.Index.{SaysSame, holder_of, unless}
 use Rattle.wot_held.specs.Verdict.{is_among}
 use Rattle.wot_index.proofs.forgetting.forget_parts.Given as goal
 
 abbrev pub invariant-parts : goal.invariant-parts
-invariant-parts l = (n : SigNumber) → unless (is_among n (sigs_on l.left)) (holder_of l.holders n) ≡ unless
-    (is_among n (sigs_on l.parts)) (holder_of l.initial.holders n)
+invariant-parts l = record {
+  forgotten : (n : SigNumber) → unless (is_among n (sigs_on l.left)) (holder_of l.verdicts n)
+      ≡ unless (is_among n (sigs_on l.parts)) (holder_of l.initial.verdicts n);
+  verdicts : SaysSame l.initial.verdicts l.verdicts;
+}
 
 abbrev pub decreases-parts : goal.decreases-parts
 decreases-parts l = length l.left

@@ -3,5 +3,8 @@ use Rattle.wot_index.proofs.Indexed.{forgot_last}
 use Rattle.wot_index.proofs.index.forget_logged.Goals as goal
 
 pub log-preserved : goal.log-preserved
-log-preserved c = λ n. forgot_last c.log.holders c.forget.new.self c.log.log.items c.pop.new.self.items
-    c.in-Some.number c.in-Some.ensures.items c.forget.ensures.forgotten n ∙ c.log.invariant n
+log-preserved c = record {
+  forgotten = λ n. forgot_last c.log.verdicts c.forget.new.verdicts c.log.log.items c.pop.new.self.items
+      c.in-Some.number c.in-Some.ensures.items c.forget.ensures.forgotten n ∙ c.log.invariant.forgotten n;
+  verdicts = c.forget.ensures.verdicts ∙ c.log.invariant.verdicts;
+}

@@ -1,4 +1,4 @@
-use Rattle.std.proofs.Common.{List, ap}
+use Rattle.std.proofs.Common.{List, ap, ◌∙◌}
 use Rattle.std.proofs.lemmas.List.{nil_from_length}
 use Rattle.wot_part.specs.Certificate.{Certificate}
 use Rattle.wot_index.specs.Index.{stands_among, stands_on}
@@ -15,6 +15,7 @@ certs-preserved c = record {
       c.in_ok-note_cert.ensures.noted;
   log = still_logged c.args.index.now c.certs.index c.note_cert.new.index c.args.log.now.items c.certs.log.items
       c.note_cert.new.log.items c.certs.invariant.log c.note_cert.ensures.log;
+  verdicts = c.note_cert.ensures.verdicts ∙ c.certs.invariant.verdicts;
 }
 
 pub returns-clause-noted : goal.returns-clause-noted

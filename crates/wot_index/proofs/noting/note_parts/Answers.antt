@@ -31,6 +31,7 @@ parts-preserved c = record {
       c.in_ok-note_sigs.ensures.noted;
   log = still_logged c.args.index.now c.parts.index c.note_sigs.new.index c.args.log.now.items c.parts.log.items
       c.note_sigs.new.log.items c.parts.invariant.log c.note_sigs.ensures.log;
+  verdicts = c.note_sigs.ensures.verdicts ∙ c.parts.invariant.verdicts;
 }
 
 pub returns-clause-noted : goal.returns-clause-noted

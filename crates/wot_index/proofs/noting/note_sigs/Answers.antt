@@ -26,6 +26,7 @@ sigs-preserved c = record {
       c.in_ok-note.ensures.noted;
   log = still_logged c.args.index.now c.sigs.index c.note.new.index c.args.log.now.items c.sigs.log.items
       c.note.new.log.items c.sigs.invariant.log c.note.ensures.log;
+  verdicts = c.note.ensures.verdicts ∙ c.sigs.invariant.verdicts;
 }
 
 pub returns-clause-noted : goal.returns-clause-noted

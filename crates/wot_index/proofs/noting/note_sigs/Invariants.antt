@@ -2,7 +2,7 @@ use Rattle.std.proofs.Common.{◌&&◌, length}
 use Rattle.wot_types.specs.declared.fpr.Fpr.{Fpr}
 use Rattle.wot_types.specs.declared.number.SigNumber.{SigNumber}
 use Rattle.wot_held.specs.Keyring.{is_fpr}
-use Rattle.wot_index.specs.Index.{NotesOn, StillLogged}
+use Rattle.wot_index.specs.Index.{NotesOn, SaysSame, StillLogged}
 use Rattle.wot_held.specs.Verdict.{is_among}
 use Rattle.wot_index.proofs.noting.note_sigs.Given as goal
 
@@ -11,6 +11,7 @@ invariant-sigs l = record {
   noted : NotesOn l.initial.index l.index (λ (n : SigNumber) (q : Fpr). is_among n l.left && is_fpr l.fpr q)
       (λ (n : SigNumber) (q : Fpr). is_among n l.sigs && is_fpr l.fpr q);
   log : StillLogged l.initial.index l.initial.log.items l.index l.log.items;
+  verdicts : SaysSame l.initial.index.verdicts l.index.verdicts;
 }
 
 abbrev pub decreases-sigs : goal.decreases-sigs

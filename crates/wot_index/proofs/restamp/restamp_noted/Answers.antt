@@ -1,4 +1,4 @@
-use Rattle.std.proofs.Common.{false, sym}
+use Rattle.std.proofs.Common.{sym}
 use Rattle.wot_index.specs.Index.{stands_at}
 use Rattle.wot_index.proofs.Logged.{logs_anew, logs_none, logs_these}
 use Rattle.wot_index.proofs.Noted.{restamped_nowhere, restamped_there, noted_nowhere, noted_there}
@@ -9,20 +9,20 @@ returns c = record {
   restamped =
       restamped_there c.args.number.now c.args.stamp c.args.index.now c.args.certs.now.entries
       c.restamp_at.new.certs.entries c.in-Some.fpr c.requires.sorted c.requires.indexed c.if-not-index.false
-      (sym c.in-Some.ensures.held) c.restamp_at.ensures.restamped;
+      (sym c.in-Some.ensures.holder) c.restamp_at.ensures.restamped;
   logged =
       logs_these c.args.stamp _ (stands_at c.args.certs.now.entries c.args.number.now) c.args.log.now c.log_at.new.log
       (noted_there c.args.number.now c.args.index.now c.args.certs.now.entries c.in-Some.fpr c.requires.indexed
-      c.if-not-index.false (sym c.in-Some.ensures.held)) c.log_at.ensures.logged;
+      c.if-not-index.false (sym c.in-Some.ensures.holder)) c.log_at.ensures.logged;
 }
 
 pub returns-in_default : goal.returns-in_default
 returns-in_default c = record {
   restamped = restamped_nowhere c.args.number.now c.args.stamp c.args.index.now c.args.certs.now.entries
-      c.requires.sorted c.requires.indexed c.if-not-index.false (sym c.in_default.ensures.held);
+      c.requires.sorted c.requires.indexed c.if-not-index.false (sym c.in_default.ensures.holder);
   logged = logs_none c.args.stamp (stands_at c.args.certs.now.entries c.args.number.now) c.args.log.now c.requires.from
       (noted_nowhere c.args.number.now c.args.index.now c.args.certs.now.entries c.requires.indexed c.if-not-index.false
-      (sym c.in_default.ensures.held));
+      (sym c.in_default.ensures.holder));
 }
 
 pub returns-then-not-index-clause-logged : goal.returns-then-not-index-clause-logged

@@ -7,4 +7,4 @@ abbrev pub invariant-verdicts : goal.invariant-verdicts
 invariant-verdicts l =
     (goal.iterator-verdicts).can_next l.number-iterator
     × (goal.iterator-verdicts).is_finite l.number-iterator
-    × PutSoFar l.fn.out.items l.out.items (map setting_of l.fn.verdicts) (map setting_of l.number-iterator)
+    × PutSoFar l.fn.out.items l.out.items (map setting_of l.fn.verdicts.entries) (map setting_of l.number-iterator)

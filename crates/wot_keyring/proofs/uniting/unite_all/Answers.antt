@@ -10,9 +10,11 @@ pub returns-in-Ok-note_all-clause-noted : goal.returns-in-Ok-note_all-clause-not
 returns-in-Ok-note_all-clause-noted g c =
     let same : NamesSame c.certs_in-named.result.now c.args.list.items =
     subst (λ (cs : List Certificate). NamesSame cs c.args.list.items) (sym c.certs_in-named.ensures)
-    c.in-Ok.ensures.merged in
-    notes_same c.certs_in-named.result.now c.args.list.items same c.args.index.now c.note_all.new.index
-    c.in-Ok-note_all.ensures.noted
+    c.in-Ok.ensures.merged in (
+      c.note_all.ensures.verdicts,
+      notes_same c.certs_in-named.result.now c.args.list.items same c.args.index.now c.note_all.new.index
+          c.in-Ok-note_all.ensures.noted,
+    )
 
 pub returns-in-Ok-note_all-clause-logged : goal.returns-in-Ok-note_all-clause-logged
 returns-in-Ok-note_all-clause-logged g c =

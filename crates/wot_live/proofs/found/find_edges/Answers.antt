@@ -16,7 +16,7 @@ back-preserved c =
           c.back.invariant.all c.in-Some.ensures.cases.0;
       few = all_prefix HasFew c.in-Some.prefix.now (part ∷ []) (subst (AllByRecursion HasFew) c.in-Some.ensures.cases.0
           c.back.invariant.few);
-      found = more_found a.verdicts.now (own a.cert.now) c.fpr.result a.t (length c.in-Some.prefix.now)
+      found = more_found a.verdicts.now.entries (own a.cert.now) c.fpr.result a.t (length c.in-Some.prefix.now)
           (length c.in-Some.prefix.now) (length c.back.rest.now) part c.back.invariant.seen
           c.back.found.entries c.put_edges_on.new.found.entries c.fpr.ensures.fpr refl c.in-Some.ensures.cases.1
           c.back.invariant.found c.in_ok-put_edges_on.ensures;

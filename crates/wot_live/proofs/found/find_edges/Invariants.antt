@@ -10,7 +10,8 @@ invariant-back l = record {
   seen : List Component;
   all : l.cert.user_ids ≡ l.rest ++ seen;
   few : AllByRecursion HasFew l.rest;
-  found : l.found.entries ≡ by_place (in_edge_order (edges_from l.verdicts (own l.cert) l.t (length l.rest) seen));
+  found : l.found.entries
+      ≡ by_place (in_edge_order (edges_from l.verdicts.entries (own l.cert) l.t (length l.rest) seen));
 }
 
 abbrev pub decreases-back : goal.decreases-back

@@ -27,7 +27,7 @@ returns c es e =
     puts_all to.fpr a.uid a.part.now a.found.now.entries c.issuers.found.entries c.into_iter-issuer-iterator.result
     c.issuers.issuer-iterator c.in-None.ensures.steps.0 c.issuers.invariant.2 es e
     ∙ ap (λ ps. by_place (after es (filter_map (edge_for to.fpr a.uid a.part.now) ps))) same
-    ∙ ap by_place (put_all to.fpr a.uid a.part.now to.verdicts.now to.t
-    (c.certifications_count.ensures.only to.verdicts.now to.t) kept
+    ∙ ap by_place (put_all to.fpr a.uid a.part.now to.verdicts.now.entries to.t
+    (c.certifications_count.ensures.only to.verdicts.now.entries to.t) kept
     c.iter-issuer-items.ensures.sorted c.in_ok-certifiers.ensures.newest es
     (sorted_places es (subst (λ entries. Sorted place_cmp (keys_of entries)) e c.in_order.ensures)))

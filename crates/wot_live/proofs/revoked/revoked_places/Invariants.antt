@@ -6,8 +6,8 @@ use Rattle.wot_live.proofs.revoked.revoked_places.Given as goal
 
 abbrev pub invariant-rest : goal.invariant-rest
 invariant-rest l = record {
-  places : l.places.items ++ places_where (is_own_revoked l.verdicts (own l.cert) l.t) l.place l.rest ≡ revoked_of
-      l.verdicts l.cert l.t;
+  places : l.places.items ++ places_where (is_own_revoked l.verdicts.entries (own l.cert) l.t) l.place l.rest
+      ≡ revoked_of l.verdicts.entries l.cert l.t;
   place : l.place + length l.rest ≡ length l.cert.user_ids;
 }
 

@@ -62,7 +62,7 @@ pub returns-clause-kept : goal.returns-clause-kept
 returns-clause-kept c =
     looked_keeps c.args.at.now.keyring.now c.args.at.now.t c.args.lines.now.entries c.args.fpr.now c.in-Some.cert.now
     c.stamp-stamp.result (sym c.in-Some.ensures.found) c.stamp-stamp.ensures.stamp (sym c.if-is_done.ensures.done)
-    c.put.new.lines.entries c.in_ok-line.line c.verdicts.result.now c.verdicts.ensures.verdicts c.requires.sorted
+    c.put.new.lines.entries c.in_ok-line.line c.verdicts.result.now.entries c.verdicts.ensures.verdicts c.requires.sorted
     c.in-Some.ensures.named c.in_ok-line.ensures.made
     (λ q. ap (λ (ls : Lines). line_at ls q) c.in_ok-put.ensures.entries ∙ found_put q c.args.lines.now.entries
     c.args.fpr.now c.in_ok-line.line)
@@ -73,7 +73,7 @@ pub returns-clause-progress : goal.returns-clause-progress
 returns-clause-progress c =
     looked_on c.args.at.now.keyring.now c.args.at.now.t c.args.lines.now.entries c.args.fpr.now c.in-Some.cert.now
     c.stamp-stamp.result (sym c.in-Some.ensures.found) c.stamp-stamp.ensures.stamp (sym c.if-is_done.ensures.done)
-    c.put.new.lines.entries c.in_ok-line.line c.verdicts.result.now c.verdicts.ensures.verdicts c.requires.sorted
+    c.put.new.lines.entries c.in_ok-line.line c.verdicts.result.now.entries c.verdicts.ensures.verdicts c.requires.sorted
     c.in-Some.ensures.named c.in_ok-line.ensures.made
     (λ q. ap (λ (ls : Lines). line_at ls q) c.in_ok-put.ensures.entries ∙ found_put q c.args.lines.now.entries
     c.args.fpr.now c.in_ok-line.line)
@@ -83,7 +83,7 @@ pub returns-clause-advances : goal.returns-clause-advances
 returns-clause-advances c =
     looked_further c.args.at.now.keyring.now c.args.at.now.t c.args.lines.now.entries c.args.fpr.now c.in-Some.cert.now
     c.stamp-stamp.result (sym c.in-Some.ensures.found) c.stamp-stamp.ensures.stamp (sym c.if-is_done.ensures.done)
-    c.put.new.lines.entries c.in_ok-line.line c.verdicts.result.now c.verdicts.ensures.verdicts c.requires.sorted
+    c.put.new.lines.entries c.in_ok-line.line c.verdicts.result.now.entries c.verdicts.ensures.verdicts c.requires.sorted
     c.in-Some.ensures.named c.in_ok-line.ensures.made
     (λ q. ap (λ (ls : Lines). line_at ls q) c.in_ok-put.ensures.entries ∙ found_put q c.args.lines.now.entries
     c.args.fpr.now c.in_ok-line.line)
@@ -93,7 +93,7 @@ pub returns-clause-done : goal.returns-clause-done
 returns-clause-done c =
     looked_done c.args.at.now.keyring.now c.args.at.now.t c.args.lines.now.entries c.args.fpr.now c.in-Some.cert.now
     c.stamp-stamp.result (sym c.in-Some.ensures.found) c.stamp-stamp.ensures.stamp (sym c.if-is_done.ensures.done)
-    c.put.new.lines.entries c.in_ok-line.line c.verdicts.result.now c.verdicts.ensures.verdicts c.requires.sorted
+    c.put.new.lines.entries c.in_ok-line.line c.verdicts.result.now.entries c.verdicts.ensures.verdicts c.requires.sorted
     c.in-Some.ensures.named c.in_ok-line.ensures.made
     (λ q. ap (λ (ls : Lines). line_at ls q) c.in_ok-put.ensures.entries ∙ found_put q c.args.lines.now.entries
     c.args.fpr.now c.in_ok-line.line)

@@ -7,7 +7,7 @@ abbrev pub invariant-back : goal.invariant-back
 invariant-back l = record {
   seen : List Signature;
   all : l.sigs ≡ l.rest ++ seen;
-  latest : KeepsLatest l.verdicts l.t seen l.latest.entries;
+  latest : KeepsLatest l.verdicts.entries l.t seen l.latest.entries;
 }
 
 abbrev pub decreases-back : goal.decreases-back

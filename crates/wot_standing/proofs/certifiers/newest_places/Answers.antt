@@ -22,9 +22,9 @@ note_certification-requires-clause-by c =
     let prefix = c.in-Some.prefix.now in
     c.issuer_at-by.ensures
     ∙ ap (λ issuers. option_flatten (slice_get issuers (length prefix))) c.requires.issuers
-    ∙ ap (λ ss. option_flatten (slice_get (map (certifier_of v.verdicts.now v.t) ss) (length prefix)))
+    ∙ ap (λ ss. option_flatten (slice_get (map (certifier_of v.verdicts.now.entries v.t) ss) (length prefix)))
     (seam a.sigs.now c.back.rest.now prefix c.back.invariant.seen sig c.back.invariant.all c.in-Some.ensures.cases.0)
-    ∙ mapped_behind (certifier_of v.verdicts.now v.t) prefix c.back.invariant.seen sig
+    ∙ mapped_behind (certifier_of v.verdicts.now.entries v.t) prefix c.back.invariant.seen sig
 
 pub back-preserved : goal.back-preserved
 back-preserved c =
@@ -35,9 +35,10 @@ back-preserved c =
       all = seam a.sigs.now c.back.rest.now c.in-Some.prefix.now c.back.invariant.seen c.in-Some.sig.now
           c.back.invariant.all c.in-Some.ensures.cases.0;
       newest = λ q. c.in_ok-note_certification.ensures q
-          ∙ ap (newer_by v.verdicts.now q v.t a.sigs.now c.in-Some.sig.now) (c.back.invariant.newest q)
+          ∙ ap (newer_by v.verdicts.now.entries q v.t a.sigs.now c.in-Some.sig.now) (c.back.invariant.newest q)
           ∙ greatest_more
-          (is_valid_after v.verdicts.now q v.t Certification (revoked_at v.verdicts.now q v.t a.sigs.now))
+          (is_valid_after v.verdicts.now.entries q v.t Certification
+          (revoked_at v.verdicts.now.entries q v.t a.sigs.now))
           c.in-Some.sig.now c.back.invariant.seen;
     }
 
@@ -50,5 +51,6 @@ returns c q =
     ∙ ap (λ r. r ++ c.back.invariant.seen) (nil_from_length c.back.rest.now c.in_default.ensures.cases)) in
     c.back.invariant.newest q
     ∙ ap (λ ss. greatest newness
-    (filter (is_valid_after v.verdicts.now q v.t Certification (revoked_at v.verdicts.now q v.t a.sigs.now)) ss)) e
-    ∙ newest-latest v.verdicts.now q v.t Certification a.sigs.now
+    (filter (is_valid_after v.verdicts.now.entries q v.t Certification
+    (revoked_at v.verdicts.now.entries q v.t a.sigs.now)) ss)) e
+    ∙ newest-latest v.verdicts.now.entries q v.t Certification a.sigs.now

@@ -15,8 +15,8 @@ invariant-back l = record {
   all : l.sigs ≡ l.rest ++ seen;
   newest : (q : Fpr)
       → kept_for l.places.entries l.sigs q ≡ greatest newness
-      (filter (is_valid_after l.validity.verdicts.now q l.validity.t Certification
-      (revoked_at l.validity.verdicts.now q l.validity.t l.sigs)) seen);
+      (filter (is_valid_after l.validity.verdicts.now.entries q l.validity.t Certification
+      (revoked_at l.validity.verdicts.now.entries q l.validity.t l.sigs)) seen);
 }
 
 abbrev pub decreases-back : goal.decreases-back

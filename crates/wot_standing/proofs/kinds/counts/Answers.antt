@@ -8,5 +8,5 @@ use Rattle.wot_standing.proofs.kinds.counts.Goals as goal
 pub returns-then-not-may_be_by : goal.returns-then-not-may_be_by
 returns-then-not-may_be_by c =
     let s = c.args.sig.now in
-    sym (not_by (said_by s) s.admitted (good_by (verdict_at c.args.verdicts.now s.number)) c.args.fpr.now
+    sym (not_by (said_by s) s.admitted (good_by (verdict_at c.args.verdicts.now.entries s.number)) c.args.fpr.now
     (sym c.if-not-may_be_by.ensures))

@@ -10,7 +10,8 @@ use Rattle.wot_standing.proofs.newest.newest_after.Given as goal
 abbrev pub invariant-back : goal.invariant-back
 invariant-back l =
     (seen : List Signature) × (l.sigs ≡ l.rest ++ seen)
-    × (option_copied l.best ≡ greatest newness (filter (is_valid_after l.verdicts l.fpr l.t l.binding l.revoked) seen))
+    × (option_copied l.best
+    ≡ greatest newness (filter (is_valid_after l.verdicts.entries l.fpr l.t l.binding l.revoked) seen))
 
 abbrev pub decreases-back : goal.decreases-back
 decreases-back l = length l.rest

@@ -10,6 +10,6 @@ pub returns : goal.returns
 returns c =
     let a = c.args in
     c.newest_after.ensures
-    ∙ ap (λ r. greatest newness (filter (is_valid_after a.verdicts.now a.fpr.now a.t a.binding r) a.sigs.now))
+    ∙ ap (λ r. greatest newness (filter (is_valid_after a.verdicts.now.entries a.fpr.now a.t a.binding r) a.sigs.now))
     c.latest_revocation-revoked.ensures
-    ∙ newest-latest a.verdicts.now a.fpr.now a.t a.binding a.sigs.now
+    ∙ newest-latest a.verdicts.now.entries a.fpr.now a.t a.binding a.sigs.now

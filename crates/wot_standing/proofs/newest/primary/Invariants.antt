@@ -7,7 +7,7 @@ use Rattle.wot_standing.proofs.newest.primary.Given as goal
 abbrev pub invariant-back : goal.invariant-back
 invariant-back l =
     (seen : List Component) × (l.user_ids ≡ l.rest ++ seen)
-    × (option_copied l.best ≡ primary_among l.verdicts l.fpr l.t seen)
+    × (option_copied l.best ≡ primary_among l.verdicts.entries l.fpr l.t seen)
 
 abbrev pub decreases-back : goal.decreases-back
 decreases-back l = length l.rest

@@ -6,7 +6,8 @@ use Rattle.wot_standing.proofs.own.has_revocation.Given as goal
 
 abbrev pub invariant-back : goal.invariant-back
 invariant-back l =
-    (seen : List Signature) × (l.sigs ≡ l.rest ++ seen) × (l.found ≡ list_any (revokes_by l.verdicts l.fpr l.t) seen)
+    (seen : List Signature) × (l.sigs ≡ l.rest ++ seen)
+    × (l.found ≡ list_any (revokes_by l.verdicts.entries l.fpr l.t) seen)
 
 abbrev pub decreases-back : goal.decreases-back
 decreases-back l = length l.rest

@@ -7,7 +7,7 @@ use Rattle.wot_standing.proofs.revoked.has_hard.Given as goal
 abbrev pub invariant-back : goal.invariant-back
 invariant-back l =
     (seen : List Signature) × (l.direct ≡ l.rest ++ seen)
-    × (l.found ≡ list_any (is_hard_revocation l.verdicts l.fpr) seen)
+    × (l.found ≡ list_any (is_hard_revocation l.verdicts.entries l.fpr) seen)
 
 abbrev pub decreases-back : goal.decreases-back
 decreases-back l = length l.rest

@@ -5,7 +5,7 @@ use Rattle.wot_standing.proofs.revoked.soft_moment.Given as goal
 
 abbrev pub invariant-back : goal.invariant-back
 invariant-back l =
-    (seen : List Signature) × (l.direct ≡ l.rest ++ seen) × (l.first ≡ soft_moment l.verdicts l.fpr l.t seen)
+    (seen : List Signature) × (l.direct ≡ l.rest ++ seen) × (l.first ≡ soft_moment l.verdicts.entries l.fpr l.t seen)
 
 abbrev pub decreases-back : goal.decreases-back
 decreases-back l = length l.rest

@@ -15,7 +15,7 @@ invariant_of-self g c =
       limits = c.self.inside.limits;
       certs =
           c.self.inside.certs.entries;
-      verdicts = c.self.inside.verdicts;
+      verdicts = c.self.inside.index.verdicts.entries;
       changes = c.self.inside.changes;
     })
     c.args.self.now c.self.view_is c.terms-terms.result.stamp c.terms-terms.ensures.stamp c.args.list.items
@@ -23,19 +23,20 @@ invariant_of-self g c =
     c.raised-self-inside.result c.in-Ok.ensures.put c.in-Ok.ensures.fresh c.united_grows.ensures.items
     c.raised-self-inside.ensures.raised c.nothing_added.ensures.items c.united_whole.ensures.united
     c.united_whole.ensures.judged c.in-Ok.tally.total c.terms-terms.result.limit c.terms-terms.ensures.limit
-    c.in-Ok.ensures.sorted c.in-Ok.ensures.tallied c.in-Ok.ensures.clash c.requires.whole c.requires.may in (
+    c.in-Ok.ensures.sorted c.in-Ok.ensures.tallied c.in-Ok.ensures.clash c.requires.whole c.requires.may in
+    rw c.in-Ok.ensures.noted.0 (
       kept.0,
       kept.1,
       subst (λ (es : Entries). IsIndexOf c.unite_all.new.index es) (sym c.in-Ok.ensures.put)
           (indexed_all c.united_whole.ensures.united c.united_whole.ensures.judged (rows_of c.args.policy.now)
           c.terms-terms.result.stamp c.self.inside.index c.unite_all.new.index c.self.inside.certs.entries
-          c.args.list.items c.self.invariant.0.whole c.requires.whole c.in-Ok.ensures.clash c.in-Ok.ensures.noted
+          c.args.list.items c.self.invariant.0.whole c.requires.whole c.in-Ok.ensures.clash c.in-Ok.ensures.noted.1
           c.self.invariant.2),
       logged_now (rows_of c.args.policy.now) c.terms-terms.result.stamp c.nothing_added.ensures.items
           c.united_grows.ensures.items (record {
             limits = c.self.inside.limits;
             certs = c.self.inside.certs.entries;
-            verdicts = c.self.inside.verdicts;
+            verdicts = c.self.inside.index.verdicts.entries;
             changes = c.self.inside.changes;
           }) c.args.self.now c.self.view_is
           c.terms-terms.ensures.stamp c.args.list.items c.self.inside.log c.make_room.new.log c.unite_all.new.log
@@ -46,15 +47,15 @@ invariant_of-self g c =
 
 pub returns-in-Ok-clause-later : goal.returns-in-Ok-clause-later
 returns-in-Ok-clause-later g c =
-    united_later_now (rows_of c.args.policy.now) c.terms-terms.result.stamp c.nothing_added.ensures.items
-    c.united_grows.ensures.items (record {
+    rw c.in-Ok.ensures.noted.0 (united_later_now (rows_of c.args.policy.now) c.terms-terms.result.stamp
+    c.nothing_added.ensures.items c.united_grows.ensures.items (record {
       limits = c.self.inside.limits;
       certs = c.self.inside.certs.entries;
-      verdicts = c.self.inside.verdicts;
+      verdicts = c.self.inside.index.verdicts.entries;
       changes = c.self.inside.changes;
     }) c.args.self.now c.self.view_is
     c.terms-terms.ensures.stamp c.args.list.items c.unite_all.new.certs.entries c.in-Ok.tally.fresh
-    c.raised-self-inside.result c.in-Ok.ensures.put c.raised-self-inside.ensures.raised
+    c.raised-self-inside.result c.in-Ok.ensures.put c.raised-self-inside.ensures.raised)
 
 pub returns-in-Ok-clause-answer : goal.returns-in-Ok-clause-answer
 returns-in-Ok-clause-answer g c =
@@ -68,7 +69,7 @@ returns-in-Ok-clause-answer g c =
       limits = c.self.inside.limits;
       certs =
           c.self.inside.certs.entries;
-      verdicts = c.self.inside.verdicts;
+      verdicts = c.self.inside.index.verdicts.entries;
       changes = c.self.inside.changes;
     })
     c.args.self.now c.self.view_is c.terms-terms.result.stamp c.terms-terms.ensures.stamp c.args.list.items
@@ -78,15 +79,15 @@ returns-in-Ok-clause-answer g c =
 
 pub returns-in-Ok-clause-united : goal.returns-in-Ok-clause-united
 returns-in-Ok-clause-united g c =
-    held_now (rows_of c.args.policy.now) (record {
+    rw c.in-Ok.ensures.noted.0 (held_now (rows_of c.args.policy.now) (record {
       limits = c.self.inside.limits;
       certs = c.self.inside.certs.entries;
-      verdicts = c.self.inside.verdicts;
+      verdicts = c.self.inside.index.verdicts.entries;
       changes = c.self.inside.changes;
     }) c.args.self.now c.self.view_is
     c.terms-terms.result.stamp c.terms-terms.ensures.stamp c.args.list.items c.args.list.items refl c.self.invariant.0
     c.unite_all.new.certs.entries c.in-Ok.tally.fresh c.raised-self-inside.result c.in-Ok.ensures.put
-    c.in-Ok.ensures.fresh c.united_grows.ensures.items c.raised-self-inside.ensures.raised
+    c.in-Ok.ensures.fresh c.united_grows.ensures.items c.raised-self-inside.ensures.raised)
 
 pub returns-in-Ok-clause-asked : goal.returns-in-Ok-clause-asked
 returns-in-Ok-clause-asked g c =
@@ -97,7 +98,7 @@ returns-in-Ok-clause-asked g c =
         limits = c.self.inside.limits;
         certs =
             c.self.inside.certs.entries;
-        verdicts = c.self.inside.verdicts;
+        verdicts = c.self.inside.index.verdicts.entries;
         changes = c.self.inside.changes;
       })
           c.args.self.now c.self.view_is c.terms-terms.result.stamp c.terms-terms.ensures.stamp c.args.list.items
@@ -106,18 +107,26 @@ returns-in-Ok-clause-asked g c =
 
 pub returns-in-Ok-clause-counted : goal.returns-in-Ok-clause-counted
 returns-in-Ok-clause-counted g c =
-    counted_now (rows_of c.args.policy.now) (record {
+    rw c.in-Ok.ensures.noted.0 (counted_now (rows_of c.args.policy.now) (record {
       limits = c.self.inside.limits;
       certs =
           c.self.inside.certs.entries;
-      verdicts = c.self.inside.verdicts;
+      verdicts = c.self.inside.index.verdicts.entries;
       changes = c.self.inside.changes;
     })
     c.args.self.now c.self.view_is c.terms-terms.result.stamp c.terms-terms.ensures.stamp c.args.list.items
     c.args.list.items refl c.self.invariant.0 c.unite_all.new.certs.entries c.in-Ok.tally.fresh
     c.raised-self-inside.result c.in-Ok.ensures.put c.in-Ok.ensures.fresh c.united_grows.ensures.items
     c.raised-self-inside.ensures.raised c.nothing_added.ensures.items
-    (returns-in-Ok-clause-later g c)
+    (united_later_now (rows_of c.args.policy.now) c.terms-terms.result.stamp c.nothing_added.ensures.items
+    c.united_grows.ensures.items (record {
+      limits = c.self.inside.limits;
+      certs = c.self.inside.certs.entries;
+      verdicts = c.self.inside.index.verdicts.entries;
+      changes = c.self.inside.changes;
+    }) c.args.self.now c.self.view_is
+    c.terms-terms.ensures.stamp c.args.list.items c.unite_all.new.certs.entries c.in-Ok.tally.fresh
+    c.raised-self-inside.result c.in-Ok.ensures.put c.raised-self-inside.ensures.raised))
 
 pub returns-in-Err-Clash-clause-answer : goal.returns-in-Err-Clash-clause-answer
 returns-in-Err-Clash-clause-answer g c =
@@ -125,7 +134,7 @@ returns-in-Err-Clash-clause-answer g c =
       limits = c.self.inside.limits;
       certs =
           c.self.inside.certs.entries;
-      verdicts = c.self.inside.verdicts;
+      verdicts = c.self.inside.index.verdicts.entries;
       changes = c.self.inside.changes;
     }) c.args.self.now
     c.self.view_is c.terms-terms.result.stamp c.terms-terms.ensures.stamp c.args.list.items c.args.list.items refl
@@ -137,7 +146,7 @@ returns-in-Err-Clash-clause-asked g c =
       limits = c.self.inside.limits;
       certs =
           c.self.inside.certs.entries;
-      verdicts = c.self.inside.verdicts;
+      verdicts = c.self.inside.index.verdicts.entries;
       changes = c.self.inside.changes;
     }) c.args.self.now
     c.self.view_is c.terms-terms.result.stamp c.terms-terms.ensures.stamp c.args.list.items c.args.list.items refl
@@ -152,7 +161,7 @@ returns-in-Err-Memory-clause-asked g c =
         limits = c.self.inside.limits;
         certs =
             c.self.inside.certs.entries;
-        verdicts = c.self.inside.verdicts;
+        verdicts = c.self.inside.index.verdicts.entries;
         changes = c.self.inside.changes;
       })
           c.args.self.now c.self.view_is c.terms-terms.result.stamp c.terms-terms.ensures.stamp c.args.list.items

@@ -12,8 +12,7 @@ returns c = record {
       (has_changed (record {
         limits = c.self.inside.limits;
         certs = c.self.inside.certs.entries;
-        verdicts =
-            c.self.inside.verdicts;
+        verdicts = c.self.inside.index.verdicts.entries;
         changes = c.self.inside.changes;
       }) c.self.inside.log c.args.count c.since.result.now
       c.self.invariant.3 c.if-count-self.false

@@ -1,4 +1,4 @@
-use Rattle.std.proofs.Common.{◌≡◌, true, sym, ap, ◌∙◌, subst}
+use Rattle.std.proofs.Common.{◌≡◌, true, refl, sym, ap, ◌∙◌, subst}
 use Rattle.std.specs.Prelude.{is_some}
 use Rattle.wot_verdict.specs.Verdicts.{verdict_at}
 use Rattle.wot_held.specs.Keyring.{Keyring}
@@ -7,6 +7,7 @@ use Rattle.wot_keyring.proofs.Altered.{cleared_once}
 use Rattle.wot_keyring.proofs.HeldChanges.{cleared_in_place}
 use Rattle.wot_keyring.proofs.InvariantKept.{judged_keyring, cleared_few}
 use Rattle.wot_index.proofs.Later.{cleared_later_now}
+use Rattle.wot_index.proofs.Noted.{indexed_same}
 use Rattle.wot_keyring.proofs.keyring.Keyring.clear_verdict.Goals as goal
 
 pub returns-clause-judged : goal.returns-clause-judged
@@ -18,13 +19,16 @@ invariant_of-self c = rw c.clear.ensures.cleared (
   judged_keyring (record {
     limits = c.self.inside.limits;
     certs = c.self.inside.certs.entries;
-    verdicts =
-        c.self.inside.verdicts;
+    verdicts = c.self.inside.index.verdicts.entries;
     changes = c.self.inside.changes;
   }) _ c.self.invariant.0
-      (cleared_few c.self.inside.limits c.self.inside.verdicts c.args.number.now c.self.invariant.0.within.verdicts),
+      (cleared_few c.self.inside.limits c.self.inside.index.verdicts.entries c.args.number.now
+      c.self.invariant.0.within.verdicts),
   record { octets = c.self.invariant.1.octets; signatures = c.self.invariant.1.signatures },
-  c.self.invariant.2,
+  indexed_same c.self.inside.index (record {
+    verdicts = c.clear.new.self;
+    exact = c.self.inside.index.exact;
+  }) c.self.inside.certs.entries refl c.clear.ensures.holders c.self.invariant.2,
   c.self.invariant.3,
 )
 
@@ -33,8 +37,7 @@ returns-clause-later c =
     cleared_later_now (record {
       limits = c.self.inside.limits;
       certs = c.self.inside.certs.entries;
-      verdicts =
-          c.self.inside.verdicts;
+      verdicts = c.self.inside.index.verdicts.entries;
       changes = c.self.inside.changes;
     }) c.args.self.now c.altered_at.new.self
     c.args.number.now _ c.self.view_is c.clear.ensures.cleared c.altered_at.ensures.counted
@@ -44,21 +47,19 @@ returns-clause-held c =
     cleared_in_place (record {
       limits = c.self.inside.limits;
       certs = c.self.inside.certs.entries;
-      verdicts =
-          c.self.inside.verdicts;
+      verdicts = c.self.inside.index.verdicts.entries;
       changes = c.self.inside.changes;
     }) c.args.self.now c.altered_at.new.self
     c.args.number.now _ c.self.view_is c.clear.ensures.cleared c.altered_at.ensures.counted
 
 pub returns-clause-counted : goal.returns-clause-counted
 returns-clause-counted c =
-    let there : is_some (verdict_at c.self.inside.verdicts c.args.number.now) ≡ true =
+    let there : is_some (verdict_at c.self.inside.index.verdicts.entries c.args.number.now) ≡ true =
     ap is_some (sym c.get.ensures.found) ∙ c.if-is_none.ensures in
     cleared_once (record {
       limits = c.self.inside.limits;
       certs = c.self.inside.certs.entries;
-      verdicts =
-          c.self.inside.verdicts;
+      verdicts = c.self.inside.index.verdicts.entries;
       changes = c.self.inside.changes;
     }) c.args.self.now c.altered_at.new.self
     c.args.number.now _ c.self.view_is there c.clear.ensures.cleared c.altered_at.ensures.counted

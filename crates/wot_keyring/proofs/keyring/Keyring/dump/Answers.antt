@@ -19,14 +19,14 @@ put_certs-requires c =
 
 pub returns-in-Ok-clause-lines : goal.returns-in-Ok-clause-lines
 returns-in-Ok-clause-lines c =
-    dumped c.args.self.now c.certs.result c.self.inside.verdicts c.certs.ensures.certs
+    dumped c.args.self.now c.certs.result c.self.inside.index.verdicts.entries c.certs.ensures.certs
     (ap (λ (k : Keyring). k.verdicts) c.self.view_is)
     c.args.out.now.items c.put_certs.new.out.items c.put_verdicts.new.out.items c.in_ok-put_certs.ensures.appended
     c.in-Ok.ensures.appended
 
 pub returns-in-Ok-clause-read_back : goal.returns-in-Ok-clause-read_back
 returns-in-Ok-clause-read_back c =
-    dumped_lines c.args.self.now c.certs.result c.self.inside.verdicts c.certs.ensures.certs
+    dumped_lines c.args.self.now c.certs.result c.self.inside.index.verdicts.entries c.certs.ensures.certs
     (ap (λ (k : Keyring). k.verdicts) c.self.view_is)
     c.in_ok-put_certs.ensures.lines c.in-Ok.ensures.lines
 

@@ -8,7 +8,7 @@ returns-in-Some c = λ room.
     (record {
       limits = c.self.inside.limits;
       certs = c.self.inside.certs.entries;
-      verdicts = c.self.inside.verdicts;
+      verdicts = c.self.inside.index.verdicts.entries;
       changes = c.self.inside.changes;
     }) c.args.self.now c.total.result c.in-Some.cert.now c.args.list.now
     c.self.view_is (c.has_room.ensures room) c.total.ensures.keyring c.total.ensures.total c.total.ensures.none_long

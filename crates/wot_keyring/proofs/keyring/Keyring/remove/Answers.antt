@@ -24,14 +24,13 @@ overflow_sub-self-2 c =
     c.in-Some.ensures.found c.size-octets.ensures.size c.signatures-signatures.ensures.signatures).signed
 
 pub invariant_of-self : goal.invariant_of-self
-invariant_of-self c = rw c.take_out.ensures.out (
+invariant_of-self c = rw (c.take_out.ensures.out, c.forget_cert.ensures.verdicts) (
   removed_keyring _ c.args.fpr.now c.self.invariant.0 (rw c.take_out.ensures.out at c.take_out.ensures.sorted),
   (removed_totals _ c.args.fpr.now c.in-Some.kept.now _ _ _ _ c.self.invariant.0 c.self.invariant.1
       c.in-Some.ensures.found c.size-octets.ensures.size c.signatures-signatures.ensures.signatures).rest,
   indexed_without c.self.inside.index (record {
-    holders = c.forget_cert.new.holders;
-    exact =
-        c.self.inside.index.exact;
+    verdicts = c.forget_cert.new.verdicts;
+    exact = c.self.inside.index.exact;
   }) c.self.inside.certs.entries c.args.fpr.now c.in-Some.kept.now
       c.self.invariant.0.sorted c.in-Some.ensures.found refl c.forget_cert.ensures.forgotten c.self.invariant.2,
   logged_on c.self.inside.log c.log_at.new.log c.self.inside.certs.entries _ c.self.inside.changes
@@ -41,16 +40,19 @@ invariant_of-self c = rw c.take_out.ensures.out (
 )
 
 pub returns-clause-later : goal.returns-clause-later
-returns-clause-later c = removed_later_now _ c.args.self.now c.args.fpr.now c.take_out.new.certs.entries c.self.view_is
-    c.self.invariant.0 c.take_out.ensures.out
+returns-clause-later c =
+    rw c.forget_cert.ensures.verdicts (removed_later_now _ c.args.self.now c.args.fpr.now c.take_out.new.certs.entries
+    c.self.view_is c.self.invariant.0 c.take_out.ensures.out)
 
 pub returns-in_default-clause-later : goal.returns-in_default-clause-later
 returns-in_default-clause-later c = later_itself c.args.self.now
 
 pub returns-clause-counted : goal.returns-clause-counted
-returns-clause-counted c = removed_once _ c.args.self.now c.args.fpr.now c.in-Some.kept.now c.take_out.new.certs.entries
-    c.self.view_is c.self.invariant.0 c.in-Some.ensures.found c.take_out.ensures.out
+returns-clause-counted c =
+    rw c.forget_cert.ensures.verdicts (removed_once _ c.args.self.now c.args.fpr.now c.in-Some.kept.now
+    c.take_out.new.certs.entries c.self.view_is c.self.invariant.0 c.in-Some.ensures.found c.take_out.ensures.out)
 
 pub returns-clause-held : goal.returns-clause-held
-returns-clause-held c = removed_in_place _ c.args.self.now c.args.fpr.now c.take_out.new.certs.entries c.self.view_is
-    c.take_out.ensures.out
+returns-clause-held c =
+    rw c.forget_cert.ensures.verdicts (removed_in_place _ c.args.self.now c.args.fpr.now c.take_out.new.certs.entries
+    c.self.view_is c.take_out.ensures.out)

@@ -1,4 +1,4 @@
-use Rattle.std.proofs.Common.{◌≡◌, false, sym, subst}
+use Rattle.std.proofs.Common.{◌≡◌, false, refl, sym, subst}
 use Rattle.wot_verdict.specs.Verdicts.{AreSortedByNumber}
 use Rattle.wot_held.specs.Keyring.{Keyring}
 use Rattle.wot_held.specs.Kept.{IsJudgedBy}
@@ -8,6 +8,7 @@ use Rattle.wot_keyring.proofs.HeldChanges.{held_said, set_in_place}
 use Rattle.wot_keyring.proofs.InvariantKept.{judged_keyring, set_few}
 use Rattle.wot_index.proofs.Later.{later_itself, set_later_now}
 use Rattle.wot_index.proofs.Logged.{logged_again}
+use Rattle.wot_index.proofs.Noted.{indexed_same}
 use Rattle.wot_keyring.proofs.keyring.Keyring.set_verdict.Goals as goal
 
 pub returns-in-Ok-clause-judged : goal.returns-in-Ok-clause-judged
@@ -16,23 +17,25 @@ returns-in-Ok-clause-judged c = λ rows all. c.altered_at.ensures.judged rows (s
 
 pub invariant_of-self : goal.invariant_of-self
 invariant_of-self c =
-    let passes : is_over c.self.inside.limits c.self.inside.verdicts c.args.number ≡ false =
+    let passes : is_over c.self.inside.limits c.self.inside.index.verdicts.entries c.args.number ≡ false =
     subst (λ (k : Keyring). is_over k.limits k.verdicts c.args.number ≡ false) (sym c.self.view_is)
     (sym c.if-would_pass.ensures.passes) in
-    let sorted : AreSortedByNumber c.self.inside.verdicts = subst (λ (k : Keyring). AreSortedByNumber k.verdicts)
-    (sym c.self.view_is) c.would_pass.ensures.sorted in
+    let sorted : AreSortedByNumber c.self.inside.index.verdicts.entries =
+    subst (λ (k : Keyring). AreSortedByNumber k.verdicts) (sym c.self.view_is) c.would_pass.ensures.sorted in
     rw c.in-Ok.ensures.set (
       judged_keyring (record {
         limits = c.self.inside.limits;
         certs = c.self.inside.certs.entries;
-        verdicts =
-            c.self.inside.verdicts;
+        verdicts = c.self.inside.index.verdicts.entries;
         changes = c.self.inside.changes;
       }) _ c.self.invariant.0
-          (set_few c.self.inside.limits c.self.inside.verdicts c.args.number c.args.verdict sorted passes
+          (set_few c.self.inside.limits c.self.inside.index.verdicts.entries c.args.number c.args.verdict sorted passes
           c.self.invariant.0.within.verdicts),
       record { octets = c.self.invariant.1.octets; signatures = c.self.invariant.1.signatures },
-      c.self.invariant.2,
+      indexed_same c.self.inside.index (record {
+        verdicts = c.set.new.self;
+        exact = c.self.inside.index.exact;
+      }) c.self.inside.certs.entries refl c.set.ensures.holders c.self.invariant.2,
       logged_again c.self.inside.log c.make_room.new.log c.self.inside.certs.entries c.self.inside.changes
           c.make_room.ensures.from c.make_room.ensures.entries c.self.invariant.3,
     )
@@ -42,8 +45,7 @@ returns-in-Ok-clause-later c =
     set_later_now (record {
       limits = c.self.inside.limits;
       certs = c.self.inside.certs.entries;
-      verdicts =
-          c.self.inside.verdicts;
+      verdicts = c.self.inside.index.verdicts.entries;
       changes = c.self.inside.changes;
     }) c.args.self.now c.altered_at.new.self
     c.args.number c.args.verdict _ c.self.view_is c.in-Ok.ensures.set c.altered_at.ensures.counted
@@ -63,8 +65,7 @@ returns-in-Ok-clause-counted c =
     set_once (record {
       limits = c.self.inside.limits;
       certs = c.self.inside.certs.entries;
-      verdicts =
-          c.self.inside.verdicts;
+      verdicts = c.self.inside.index.verdicts.entries;
       changes = c.self.inside.changes;
     }) c.args.self.now c.altered_at.new.self
     c.args.number c.args.verdict _ c.self.view_is c.if-says.ensures.says c.in-Ok.ensures.set
@@ -75,8 +76,7 @@ returns-in-Ok-clause-held c =
     set_in_place (record {
       limits = c.self.inside.limits;
       certs = c.self.inside.certs.entries;
-      verdicts =
-          c.self.inside.verdicts;
+      verdicts = c.self.inside.index.verdicts.entries;
       changes = c.self.inside.changes;
     }) c.args.self.now c.altered_at.new.self
     c.args.number c.args.verdict _ c.self.view_is c.if-says.ensures.says c.in-Ok.ensures.set
