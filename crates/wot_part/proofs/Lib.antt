@@ -22,3 +22,4 @@ pub mod Inserted
 pub mod Onward
 pub mod Changed
 pub mod Fresh
+pub mod NewOctets

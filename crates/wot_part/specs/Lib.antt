@@ -14,3 +14,4 @@ pub mod Sizes
 pub mod Totals
 pub mod Growing
 pub mod KeptFacts
+pub mod KeptOctets

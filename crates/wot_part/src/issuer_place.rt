@@ -17,10 +17,10 @@ pub(crate) fn octet_at(body: &[u8], at: usize) -> u8
 
 /// The issuer at this place. `None` if neither version stands there, or if the fingerprint is cut off.
 #[inline(always)]
-pub(crate) fn issuer_at(body: &[u8], at: u16) -> Option<Fpr>
+pub(crate) fn issuer_at(body: &[u8], at: u32) -> Option<Fpr>
     ensures { result ≡ issuer_at_spec body.now at }
 {
-    let place = usize::from(at);
+    let place = at as usize;
     match octet_at(body, place) {
         4 => fingerprint_v4(body, place + 1),
         6 => fingerprint_v6(body, place + 1),
@@ -28,12 +28,12 @@ pub(crate) fn issuer_at(body: &[u8], at: u16) -> Option<Fpr>
     }
 }
 
-/// The first place at which this issuer stands. `None` if it isn't in the body, or only after the places that a `u16`
+/// The first place at which this issuer stands. `None` if it isn't in the body, or only after the places that a `u32`
 /// counts.
-pub(crate) fn place_of(issuer: &Fpr, body: &[u8]) -> Option<u16>
+pub(crate) fn place_of(issuer: &Fpr, body: &[u8]) -> Option<u32>
     ensures { IfSome result (λ at. issuer_at_spec body.now at ≡ Some issuer.now) }
 {
-    let end = u16::try_from(body.len()).unwrap_or(u16::MAX);
+    let end = u32::try_from(body.len()).unwrap_or(u32::MAX);
     for at in 0..end {
         if stands_at(issuer, body, at) {
             return Some(at);
@@ -42,7 +42,7 @@ pub(crate) fn place_of(issuer: &Fpr, body: &[u8]) -> Option<u16>
     None
 }
 
-fn stands_at(issuer: &Fpr, body: &[u8], at: u16) -> bool
+fn stands_at(issuer: &Fpr, body: &[u8], at: u32) -> bool
     ensures { result ≡ stands_at_spec issuer.now body.now at }
 {
     match issuer_at(body, at) {
@@ -53,7 +53,7 @@ fn stands_at(issuer: &Fpr, body: &[u8], at: u16) -> bool
 
 #[inline(always)]
 fn fingerprint_v4(body: &[u8], from: usize) -> Option<Fpr>
-    requires { from ≤ 2 ^ 16 }
+    requires { from ≤ 2 ^ 32 }
     ensures { result ≡ option_map Fpr.V4 (octets_from 20 from body.now) }
 {
     if body.len() < from + 20 {
@@ -66,7 +66,7 @@ fn fingerprint_v4(body: &[u8], from: usize) -> Option<Fpr>
 
 #[inline(always)]
 fn fingerprint_v6(body: &[u8], from: usize) -> Option<Fpr>
-    requires { from ≤ 2 ^ 16 }
+    requires { from ≤ 2 ^ 32 }
     ensures { result ≡ option_map Fpr.V6 (octets_from 32 from body.now) }
 {
     if body.len() < from + 32 {

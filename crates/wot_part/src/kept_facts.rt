@@ -1,144 +1,106 @@
-//! The facts of a signature as they are kept beside its body: without those that stand at a known place in it.
+//! The facts of a signature in its octets: what octets they are, and how they are read again.
 //!
-//! It stands on `read_signature`, on `issuer_place` and on `specs/KeptFacts.antt`. `sig` keeps them. A keyring may hold
-//! a million signatures, so it matters that they take 24 octets and not 64. What completes them is inlined, since most
-//! callers use one fact: then the others aren't read.
-ghost use Rattle.std.specs.Prelude.{◌≡◌, IfOk, IfSome};
-ghost use Rattle.wot_part.specs.KeptFacts.{short_of, whole_of, facts_kept, AreFactsOf, AreSameFacts};
+//! It stands on `read_signature`, on `octets` and `issuer_place`, and on `specs/KeptFacts.antt`. A keyring may hold a
+//! million signatures, so most of them keep 10 octets of facts: what stands at a known place in the body isn't kept
+//! again. What reads them is inlined, since most callers use one fact: then the others aren't read.
+ghost use Rattle.std.specs.Prelude.{◌≡◌, ◌≤◌, ◌<◌, ◌+◌, length};
+ghost use Rattle.wot_part.specs.KeptOctets.{ReachesBody, head_size};
+ghost use Rattle.wot_part.specs.KeptFacts.{facts_kept, facts_by as facts_by_spec, plain_facts as plain_facts_spec};
+ghost use Rattle.wot_part.specs.KeptFacts.{full_facts as full_facts_spec, u32_at as u32_at_spec};
+ghost use Rattle.wot_part.specs.KeptFacts.{flag_at as flag_at_spec, reason_at as reason_at_spec};
 
-use crate::issuer_place::{issuer_at, octet_at, place_of};
-use std::alloc::Global;
+use crate::issuer_place::{issuer_at, octet_at};
+use crate::octets::{body_in, shape_in};
+use crate::shape::Shape;
 use wot_signature::{SigFacts, read_signature};
-use wot_types::{Fpr, Memory};
 
-/// The facts without the signature type, the hash algorithm and the issuer. `SigFacts` says what each of them means.
-#[derive(Clone, Copy)]
-pub(crate) struct ShortFacts {
-    made: u32,
-    lasts: u32,
-    key_lasts: u32,
-    depth: u8,
-    amount: u8,
-    scoped: bool,
-    revocable: bool,
-    primary: bool,
-    reason: Option<u8>,
-    sound: bool,
-}
-
-/// The facts of a signature, to be completed from its body.
-#[derive(Drop)]
-pub(crate) enum KeptFacts {
-    /// The body can't be parsed.
-    Unparseable,
-    /// It names no issuer.
-    WithoutIssuer(ShortFacts),
-    /// The issuer stands at this place in the body.
-    WithIssuer(u16, ShortFacts),
-    /// All facts. The issuer is named too far back for such a place.
-    Whole(Box<SigFacts>),
-}
-
-impl KeptFacts {
-    /// Reads the facts of a body.
-    pub(crate) fn read(alloc: Global, body: &[u8]) -> Result<KeptFacts, Memory>
-        ensures { IfOk result (AreFactsOf body.now) }
-    {
-        let Some(facts) = read_signature(body) else {
-            return Ok(KeptFacts::Unparseable);
-        };
-        match shortened(facts, body) {
-            Some(kept) => Ok(kept),
-            None => {
-                let facts = Box::new(alloc, facts)?;
-                Ok(KeptFacts::Whole(facts))
-            }
-        }
-    }
-
-    /// All facts, completed from the body that they were read from.
-    #[inline(always)]
-    pub(crate) fn completed(&self, body: &[u8]) -> Option<SigFacts>
-        ensures { result ≡ facts_kept body.now self.now }
-    {
-        match self {
-            KeptFacts::Unparseable => None,
-            KeptFacts::WithoutIssuer(facts) => Some(facts.whole(None, body)),
-            KeptFacts::WithIssuer(at, facts) => Some(facts.whole(issuer_at(body, *at), body)),
-            KeptFacts::Whole(facts) => Some(**facts),
-        }
-    }
-
-    /// A copy.
-    pub(crate) fn again(&self, alloc: Global) -> Result<KeptFacts, Memory>
-        ensures { IfOk result (λ copy. AreSameFacts copy self.now) }
-    {
-        match self {
-            KeptFacts::Unparseable => Ok(KeptFacts::Unparseable),
-            KeptFacts::WithoutIssuer(facts) => Ok(KeptFacts::WithoutIssuer(*facts)),
-            KeptFacts::WithIssuer(at, facts) => Ok(KeptFacts::WithIssuer(*at, *facts)),
-            KeptFacts::Whole(facts) => {
-                let facts = Box::new(alloc, **facts)?;
-                Ok(KeptFacts::Whole(facts))
-            }
-        }
-    }
-}
-
-impl ShortFacts {
-    fn of(facts: SigFacts) -> ShortFacts
-        ensures { result ≡ short_of facts }
-    {
-        ShortFacts {
-            made: facts.made,
-            lasts: facts.lasts,
-            key_lasts: facts.key_lasts,
-            depth: facts.depth,
-            amount: facts.amount,
-            scoped: facts.scoped,
-            revocable: facts.revocable,
-            primary: facts.primary,
-            reason: facts.reason,
-            sound: facts.sound,
-        }
-    }
-
-    #[inline(always)]
-    fn whole(self, issuer: Option<Fpr>, body: &[u8]) -> SigFacts
-        ensures { result ≡ whole_of self issuer body.now }
-    {
-        SigFacts {
-            kind: octet_at(body, 1),
-            hash: octet_at(body, 3),
-            made: self.made,
-            lasts: self.lasts,
-            key_lasts: self.key_lasts,
-            depth: self.depth,
-            amount: self.amount,
-            scoped: self.scoped,
-            revocable: self.revocable,
-            primary: self.primary,
-            reason: self.reason,
-            issuer,
-            sound: self.sound,
-        }
-    }
-}
-
-/// The facts without those that stand in the body. `None` if they aren't found there.
-fn shortened(facts: SigFacts, body: &[u8]) -> Option<KeptFacts>
-    ensures { IfSome result (λ kept. facts_kept body.now kept ≡ Some facts) }
+/// The facts in the octets after the mark; `None` if the body can't be parsed.
+#[inline(always)]
+pub(crate) fn facts_in(kept: &[u8]) -> Option<SigFacts>
+    requires { ReachesBody kept.now }
+    ensures { result ≡ facts_kept kept.now }
 {
-    let kind = octet_at(body, 1);
-    let hash = octet_at(body, 3);
-    if kind != facts.kind || hash != facts.hash {
-        return None;
+    facts_by(shape_in(kept), kept, body_in(kept))
+}
+
+#[inline(always)]
+fn facts_by(shape: Shape, kept: &[u8], body: &[u8]) -> Option<SigFacts>
+    requires { head_size shape ≤ length kept.now }
+    ensures { result ≡ facts_by_spec shape kept.now body.now }
+{
+    match shape {
+        Shape::Unparseable => None,
+        Shape::Plain => Some(plain_facts(kept, body)),
+        Shape::Full => Some(full_facts(kept, body)),
+        Shape::NotKept => read_signature(body),
     }
-    match facts.issuer {
-        None => Some(KeptFacts::WithoutIssuer(ShortFacts::of(facts))),
-        Some(issuer) => {
-            let at = place_of(&issuer, body)?;
-            Some(KeptFacts::WithIssuer(at, ShortFacts::of(facts)))
-        }
+}
+
+#[inline(always)]
+fn plain_facts(kept: &[u8], body: &[u8]) -> SigFacts
+    requires { 11 ≤ length kept.now }
+    ensures { result ≡ plain_facts_spec kept.now body.now }
+{
+    SigFacts {
+        kind: octet_at(body, 1),
+        hash: octet_at(body, 3),
+        made: u32_at(kept, 1),
+        lasts: 0,
+        key_lasts: 0,
+        depth: kept[9],
+        amount: kept[10],
+        scoped: false,
+        revocable: true,
+        primary: false,
+        reason: None,
+        issuer: issuer_at(body, u32_at(kept, 5)),
+        sound: true,
     }
+}
+
+#[inline(always)]
+fn full_facts(kept: &[u8], body: &[u8]) -> SigFacts
+    requires { 26 ≤ length kept.now }
+    ensures { result ≡ full_facts_spec kept.now body.now }
+{
+    let plain = plain_facts(kept, body);
+    SigFacts {
+        lasts: u32_at(kept, 11),
+        key_lasts: u32_at(kept, 15),
+        scoped: flag_at(kept, 19),
+        revocable: flag_at(kept, 20),
+        primary: flag_at(kept, 21),
+        sound: flag_at(kept, 22),
+        reason: reason_at(kept, 23),
+        issuer: if flag_at(kept, 25) {
+            plain.issuer
+        } else {
+            None
+        },
+        ..plain
+    }
+}
+
+#[inline(always)]
+fn u32_at(kept: &[u8], at: usize) -> u32
+    requires { at + 4 ≤ length kept.now }
+    ensures { result ≡ u32_at_spec kept.now at }
+{
+    u32::from_be_bytes([kept[at], kept[at + 1], kept[at + 2], kept[at + 3]])
+}
+
+#[inline(always)]
+fn flag_at(kept: &[u8], at: usize) -> bool
+    requires { at < length kept.now }
+    ensures { result ≡ flag_at_spec kept.now at }
+{
+    kept[at] == 1
+}
+
+#[inline(always)]
+fn reason_at(kept: &[u8], at: usize) -> Option<u8>
+    requires { at + 2 ≤ length kept.now }
+    ensures { result ≡ reason_at_spec kept.now at }
+{
+    flag_at(kept, at).then_some(kept[at + 1])
 }

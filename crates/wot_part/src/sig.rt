@@ -1,7 +1,8 @@
 //! A signature in a certificate: its body, its number, its facts, and the policy's mark.
 //!
-//! It stands on `kept_facts`, `wot_verdict` and `wot_policy`, and on `specs/Certificate.antt` and
-//! `specs/Judged.antt`. Lists of signatures are sorted by body and merged here.
+//! It stands on `octets`, `new_octets` and `kept_facts`, on `wot_verdict` and `wot_policy`, and on
+//! `specs/KeptFacts.antt`, `specs/Certificate.antt` and `specs/Judged.antt`. Lists of signatures are sorted by body and
+//! merged here.
 ghost use Rattle.std.specs.Prelude.{◌≡◌, ◌<◌, ◌^◌, OnOk, IfOk, [], ◌∷◌, ◌++◌, length, map, if◌then◌else◌};
 ghost use Rattle.wot_part.specs.Certificate.{IsFreshBy, kept, sig_cmp, unite_sigs, said_by};
 ghost use Rattle.wot_part.specs.Copied.{mark_under, copied};
@@ -10,8 +11,10 @@ ghost use Rattle.wot_part.specs.Marked.{mark_by, one_if_sound, is_admitted_as};
 ghost use Rattle.wot_part.specs.Ranked.{IsRising};
 ghost use Rattle.wot_policy.specs.Kept.{IsFaithful, rows_of, asked_more};
 
-use crate::kept_facts::KeptFacts;
+use crate::kept_facts::facts_in;
 use crate::merging::{Ranked, put_merged};
+use crate::new_octets::octets_of;
+use crate::octets::{after_mark, body_in, mark_in, number_in, set_mark};
 use std::alloc::Global;
 use std::cmp::Ordering;
 use std::marker::Model;
@@ -21,37 +24,24 @@ use wot_signature::SigFacts;
 use wot_types::{Memory, SigNumber};
 use wot_verdict::Numbering;
 
-/// What a signature holds.
-#[derive(Drop)]
-struct Held {
-    body: Vec<u8>,
-    number: SigNumber,
-    facts: KeptFacts,
-    admitted: bool,
-}
-
-// A keyring may hold a million of them, each in a chunk of memory of its own. One of 96 octets is enough for 88.
-const _: () = prove!(size_of::<Held>() <= 88);
-
-/// A signature of a certificate. The value itself is small, since an insertion moves all signatures after it.
+/// A signature of a certificate. All that it has is in one piece of memory: a keyring may hold a million of them.
 #[derive(Drop)]
 pub struct Sig {
-    held: Box<Held>,
+    octets: Vec<u8>,
 }
+
+// An insertion into a list moves all signatures after it, so it matters that each takes 24 octets there.
+const _: () = prove!(size_of::<Sig>() <= 24);
 
 impl Model for Sig {
     ghost use Rattle.wot_part.specs.Certificate.{Signature};
-    ghost use Rattle.wot_part.specs.KeptFacts.{AreFactsOf};
+    ghost use Rattle.wot_part.specs.KeptFacts.{signature_in, IsWhole};
 
     ghost Value = { Signature };
 
-    ghost view = { λ a. record {
-      body = a.held.value.body.items;
-      number = a.held.value.number;
-      admitted = a.held.value.admitted;
-    } };
+    ghost view = { λ a. signature_in a.octets.items };
 
-    ghost invariant = { λ a. AreFactsOf a.held.value.body.items a.held.value.facts };
+    ghost invariant = { λ a. IsWhole a.octets.items };
 }
 
 /// Whether copies keep their marks.
@@ -66,14 +56,14 @@ impl Sig {
     pub fn body(&self) -> &[u8]
         ensures body { result.now ≡ self.now.body }
     {
-        &self.held.body
+        body_in(after_mark(&self.octets))
     }
 
     /// Its number, by which verdicts are kept.
     pub fn number(&self) -> SigNumber
         ensures number { result ≡ self.now.number }
     {
-        self.held.number
+        number_in(after_mark(&self.octets))
     }
 
     /// What it says; `None` if it can't be parsed.
@@ -81,15 +71,14 @@ impl Sig {
     pub fn facts(&self) -> Option<SigFacts>
         ensures said { result ≡ said_by self.now }
     {
-        let held = &*self.held;
-        held.facts.completed(&held.body)
+        facts_in(after_mark(&self.octets))
     }
 
     /// Whether the policy admitted it.
     pub fn admitted(&self) -> bool
         ensures mark { result ≡ self.now.admitted }
     {
-        self.held.admitted
+        mark_in(&self.octets)
     }
 
     /// The signature with this body on the component that `numbering` was made for, without a mark.
@@ -98,33 +87,17 @@ impl Sig {
         ensures fresh { IfOk result (IsFreshBy numbering.now body.now) }
     {
         let number = numbering.number(body);
-        let facts = KeptFacts::read(alloc, body)?;
-        let body = Vec::from_slice(alloc, body)?;
-        let held = Held {
-            body,
-            number,
-            facts,
-            admitted: false,
-        };
-        let held = Box::new(alloc, held)?;
-        Ok(Sig { held })
+        let octets = octets_of(alloc, &number.0, body)?;
+        Ok(Sig { octets })
     }
 
     /// A copy with this mark.
     pub(crate) fn marked(&self, alloc: Global, mark: bool) -> Result<Sig, Memory>
         ensures marked { IfOk result (λ s. s ≡ record self.now { admitted = mark }) }
     {
-        let here = &*self.held;
-        let body = Vec::from_slice(alloc, &here.body)?;
-        let facts = here.facts.again(alloc)?;
-        let held = Held {
-            body,
-            number: here.number,
-            facts,
-            admitted: mark,
-        };
-        let held = Box::new(alloc, held)?;
-        Ok(Sig { held })
+        let mut octets = Vec::from_slice(alloc, &self.octets)?;
+        set_mark(&mut octets, mark);
+        Ok(Sig { octets })
     }
 
     /// Sets the mark by the policy, which is asked only about a well-formed signature.
@@ -134,9 +107,9 @@ impl Sig {
         ensures asked { policy.new ≡ asked_more (if_sound self.old) policy.old }
         ensures faithful { IsFaithful F.Fn policy.new }
     {
-        let held = &mut *self.held;
-        let facts = held.facts.completed(&held.body);
-        held.admitted = judge_facts(facts, policy);
+        let facts = facts_in(after_mark(&self.octets));
+        let mark = judge_facts(facts, policy);
+        set_mark(&mut self.octets, mark);
     }
 }
 
