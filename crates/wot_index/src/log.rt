@@ -36,14 +36,14 @@ impl Log {
     }
 }
 
-/// Reserves room for this many more entries and one for each certificate, unless the log already has room for twice as
-/// many. If out of memory, the log just restarts sooner.
+/// Reserves room for this many more entries and one for each certificate, unless the log already has so much. If out of
+/// memory, the log just restarts sooner.
 pub fn make_room(log: &mut Log, more: usize, kept: usize)
     ensures from { log.new.from ≡ log.old.from }
     ensures entries { log.new.entries.items ≡ log.old.entries.items }
 {
     let wanted = more.max(kept).max(LEAST);
-    if log.entries.capacity() / 2 < wanted {
+    if log.entries.capacity() < wanted {
         let _ = log.entries.reserve(wanted);
     }
 }
