@@ -4,7 +4,7 @@
 //! leaves the other alone.
 ghost use Rattle.std.specs.Prelude.{◌≡◌, ◌<◌, ◌+◌, ◌-◌, ◌^◌, OnOk, OnErr, Some, None, is_some, cond, true};
 ghost use Rattle.std.specs.Option.{IfNone, IfSome};
-ghost use Rattle.wot_slots.specs.Near.{held_of, Puts};
+ghost use Rattle.wot_slots.specs.Near.{held_of, HoldsSame, Puts};
 ghost use Rattle.wot_verdict.specs.Kept.{said_in, verdicts_in, IsKept, KeepsCount, SameShorts, ShortsAt};
 ghost use Rattle.wot_verdict.specs.Verdicts.{with_verdict as with_it, without_verdict as without_it, ChangesAt};
 
@@ -42,6 +42,25 @@ fn count_without(count: usize, there: bool) -> usize
     }
 }
 
+/// Keeps this for a number for which that was noted. Replacing it doesn't allocate. On `Memory` nothing changed.
+fn keep(
+    held: &mut Slots<Noted>,
+    number: SigNumber,
+    old: Option<Noted>,
+    noted: Noted,
+) -> Result<(), Memory>
+    requires old { old ≡ held_of held.old number }
+    ensures put { OnOk result (Puts number (Some noted) held.old held.new) }
+    ensures kept { OnErr result (HoldsSame held.old held.new) }
+    ensures was_absent { OnErr result (held_of held.old number ≡ None) }
+{
+    let Some(_) = old else {
+        return held.put(number, noted);
+    };
+    held.replace(number, noted);
+    Ok(())
+}
+
 /// Keeps what is left for a number, which is nothing if nothing was noted for it. Doesn't allocate.
 fn keep_left(held: &mut Slots<Noted>, number: &SigNumber, left: Option<Noted>)
     requires less { is_some left ≡ true → is_some (held_of held.old number.now) ≡ true }
@@ -74,7 +93,7 @@ pub(crate) fn set_counted(
     let Some(counted) = count_with(*count, verdict_of(old)) else {
         return Err(Memory);
     };
-    held.set(number, with_verdict(old, verdict))?;
+    keep(held, number, old, with_verdict(old, verdict))?;
     *count = counted;
     Ok(())
 }
@@ -108,7 +127,7 @@ pub(crate) fn hold_short(
 {
     number_is_whole(&number);
     let old = held.get(&number);
-    held.set(number, with_holder(old, short))
+    keep(held, number, old, with_holder(old, short))
 }
 
 /// Notes that the signature of a number is on no certificate of version 4. Doesn't allocate.

@@ -7,20 +7,20 @@ use Rattle.wot_verdict.proofs.keeping.hold_short.Goals as goal
 pub returns-clause-verdicts : goal.returns-clause-verdicts
 returns-clause-verdicts c =
     let old = c.args.held.now in
-    let new = c.set.new.self in
-    either_way _ _ _ c.set.result
+    let new = c.keep.new.held in
+    either_way _ _ _ c.keep.result
     (λ put. entries_same old new (says_same old new c.args.number (Some c.with_holder.result) put
     (c.with_holder.ensures.verdict ∙ ap verdict_in c.get-old.ensures.held)))
     (λ same. entries_same old new (said_still old new same))
-    c.set.ensures.put c.set.ensures.kept
+    c.keep.ensures.put c.keep.ensures.kept
 
 pub returns-clause-kept : goal.returns-clause-kept
 returns-clause-kept c =
     let old = c.args.held.now in
-    let new = c.set.new.self in
-    either_way _ _ _ c.set.result
+    let new = c.keep.new.held in
+    either_way _ _ _ c.keep.result
     (λ put. kept_same old new (says_same old new c.args.number (Some c.with_holder.result) put
     (c.with_holder.ensures.verdict ∙ ap verdict_in c.get-old.ensures.held))
     (numbers_still old new c.args.number (Some c.with_holder.result) put (λ there. c.number_is_whole.ensures.whole)))
     (λ same. kept_same old new (said_still old new same) (numbers_kept old new same))
-    c.set.ensures.put c.set.ensures.kept
+    c.keep.ensures.put c.keep.ensures.kept
