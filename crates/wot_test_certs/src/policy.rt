@@ -1,7 +1,6 @@
-//! Tests of wot_policy: the standard policy by hash algorithm, signature type and time, and how often it is asked.
+//! Tests of wot_policy: the standard policy by hash algorithm, signature type and time.
 use crate::assertion::expect_that;
-use std::cell::Cell;
-use wot_policy::{Ask, Policy, PolicyRows, Row, admits, standard_rows};
+use wot_policy::{Ask, PolicyRows, admits, standard_rows};
 
 /// The time from which SHA-1 and RIPEMD-160 aren't admitted.
 const END: u32 = 1_359_676_800;
@@ -71,33 +70,5 @@ fn standard_rows_by_kind_and_around_their_end(rt: HostRuntime) {
     let rows = standard_rows();
     for hash in 0..=u8::MAX {
         expect_that(&rt, is_admitted_so(&rows, hash));
-    }
-}
-
-#[test]
-fn each_question_asks_the_closure_once(rt: HostRuntime) {
-    let rows = PolicyRows {
-        plain: [Row::Before(7); 256],
-        revoking: [Row::Never; 256],
-    };
-    let calls = Cell::new(0u64);
-    let mut policy = Policy::new(rows, |ask| {
-        calls.set(calls.get().wrapping_add(1));
-        admits(&rows, ask)
-    });
-    expect_that(&rt, policy.asked() == 0);
-    expect_that(&rt, policy.judge(made_at(6)));
-    expect_that(&rt, policy.asked() == 1 && calls.get() == 1);
-    expect_that(&rt, !policy.judge(made_at(7)));
-    expect_that(&rt, policy.asked() == 2 && calls.get() == 2);
-    expect_that(&rt, !policy.judge(made_at(u32::MAX)));
-    expect_that(&rt, policy.asked() == 3 && calls.get() == 3);
-}
-
-fn made_at(made: u32) -> Ask {
-    Ask {
-        kind: 0x10,
-        hash: 1,
-        made,
     }
 }

@@ -16,6 +16,52 @@ const ISSUER: Fpr = Fpr::V4([
     1, 2, 3, 4, 5, 6, 7, 8, 9, 10, 11, 12, 13, 14, 15, 16, 17, 18, 19, 20,
 ]);
 
+/// Each type with its number of octets and what it says with these; with one less or one more it is unknown. A reason
+/// has at least one octet.
+static TYPES: [(u8, u8, Option<SigFacts>); 12] = [
+    (2, 3, None),
+    (
+        2,
+        4,
+        Some(SigFacts {
+            made: 0x04010203,
+            ..PLAIN
+        }),
+    ),
+    (2, 5, None),
+    (5, 1, None),
+    (
+        5,
+        2,
+        Some(SigFacts {
+            depth: 4,
+            amount: 1,
+            ..PLAIN
+        }),
+    ),
+    (5, 3, None),
+    (29, 0, None),
+    (
+        29,
+        1,
+        Some(SigFacts {
+            reason: Some(4),
+            ..PLAIN
+        }),
+    ),
+    (33, 20, None),
+    (
+        33,
+        21,
+        Some(SigFacts {
+            issuer: Some(ISSUER),
+            ..PLAIN
+        }),
+    ),
+    (33, 22, None),
+    (33, 33, None),
+];
+
 /// Whether a certification created at 2000 with one more hashed subpacket says this.
 fn says_more(rt: &impl Abort, alloc: Global, kind: u8, size: u8, expected: SigFacts) -> bool {
     let mut hashed = MADE_2000.to_vec(alloc).expect(rt, "memory");
@@ -27,70 +73,19 @@ fn says_more(rt: &impl Abort, alloc: Global, kind: u8, size: u8, expected: SigFa
     says(rt, alloc, &hashed, &[], Some(expected))
 }
 
-/// Whether a subpacket says this, critical or not; `None` if it is unknown.
-fn is_type(rt: &impl Abort, alloc: Global, kind: u8, size: u8, known: Option<SigFacts>) -> bool {
+/// Critical or not, a known subpacket says the same. An unknown one that is critical makes its signature unsound.
+#[test]
+fn types_have_their_number_of_octets(rt: HostRuntime) {
     let unsound = SigFacts {
         sound: false,
         ..PLAIN
     };
-    says_more(rt, alloc, kind, size, known.unwrap_or(PLAIN))
-        && says_more(rt, alloc, kind | 0x80, size, known.unwrap_or(unsound))
-}
-
-/// What each type says with its number of octets; with one less or one more it is unknown.
-static TYPES: [(u8, u8, SigFacts); 3] = [
-    (
-        2,
-        4,
-        SigFacts {
-            made: 0x04010203,
-            ..PLAIN
-        },
-    ),
-    (
-        5,
-        2,
-        SigFacts {
-            depth: 4,
-            amount: 1,
-            ..PLAIN
-        },
-    ),
-    (
-        33,
-        21,
-        SigFacts {
-            issuer: Some(ISSUER),
-            ..PLAIN
-        },
-    ),
-];
-
-/// A reason has at least one octet.
-const REASON: Option<SigFacts> = Some(SigFacts {
-    reason: Some(4),
-    ..PLAIN
-});
-
-static LONG_TYPES: [(u8, u8, Option<SigFacts>); 3] = [
-    (29, 0, None),
-    (29, 1, REASON),
-    (33, 33, None),
-];
-
-/// Whether it says this, and is unknown with one octet less and with one more.
-fn is_type_alone(rt: &impl Abort, alloc: Global, kind: u8, size: u8, known: SigFacts) -> bool {
-    is_type(rt, alloc, kind, size, Some(known))
-        && is_type(rt, alloc, kind, size.saturating_sub(1), None)
-        && is_type(rt, alloc, kind, size.saturating_add(1), None)
-}
-
-#[test]
-fn types_have_their_number_of_octets(rt: HostRuntime) {
-    for (kind, size, expected) in &TYPES {
-        expect_that(&rt, is_type_alone(&rt, rt.alloc(), *kind, *size, *expected));
-    }
-    for (kind, size, expected) in &LONG_TYPES {
-        expect_that(&rt, is_type(&rt, rt.alloc(), *kind, *size, *expected));
+    for (kind, size, known) in &TYPES {
+        let (plain, critical) = (known.unwrap_or(PLAIN), known.unwrap_or(unsound));
+        expect_that(&rt, says_more(&rt, rt.alloc(), *kind, *size, plain));
+        expect_that(
+            &rt,
+            says_more(&rt, rt.alloc(), *kind | 0x80, *size, critical),
+        );
     }
 }
