@@ -1,4 +1,4 @@
-"""Scripts that are made: clients interleaved in every way, the longest lines, and the longest entries."""
+"""Scripts that are made: clients interleaved in every way, the longest lines and entries, and a full keyring."""
 
 import sys
 import tempfile
@@ -88,3 +88,21 @@ class Long(unittest.TestCase):
 
     def test_longer_than_an_entry_may_be(self):
         self.stores(b"\xc6" * (LONGEST_ENTRY + 1), b"refused long\n", b"refused long\n")
+
+
+class Full(unittest.TestCase):
+    """As many certificates as may be held."""
+
+    KEYS = [write_packet(KEY, bytes.fromhex("04000003e81b") + number.to_bytes(3, "big")) for number in range(65537)]
+
+    def test_certificates(self):
+        """One more is refused, with the others, alone or beside one that is held. One that is held is taken again."""
+        exchanges = [
+            (self.KEYS, b"refused full certificates\n"),
+            (self.KEYS[:-1], b"ok taken 65536 skipped 0 new 65536\n"),
+            (self.KEYS[-1:], b"refused full certificates\n"),
+            (self.KEYS[-2:], b"refused full certificates\n"),
+            (self.KEYS[:1], b"ok taken 1 skipped 0 new 0\n"),
+        ]
+        script = b"".join(b"import " + b"".join(keys).hex().encode() + b"\n" for keys, _ in exchanges)
+        self.assertEqual(plain.run_program(script), (0, b"".join(reply for _, reply in exchanges)))
