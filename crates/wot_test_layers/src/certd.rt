@@ -1,11 +1,11 @@
-//! Tests of wot_certd: the file names of entries, and the directory in memory and on disk, with calls that fail early
-//! and late. It writes only below a new temporary directory.
+//! Tests of wot_certd: the directory in memory and on disk, with calls that fail early and late. It writes only below a
+//! new temporary directory.
 use crate::assertion::expect_that;
 use std::alloc::Global;
 use std::process::Abort;
 use std::rt::{Env, Files};
 use std::{env, fs};
-use wot_certd::{FolderShelf, Given, MemoryShelf, Shelf, ShelfFault, fpr_of, name_of};
+use wot_certd::{FolderShelf, Given, MemoryShelf, Shelf, ShelfFault};
 use wot_types::{Fpr, Name};
 
 const CERT: Name = Name::Cert(Fpr::V4(
@@ -13,38 +13,6 @@ const CERT: Name = Name::Cert(Fpr::V4(
 ));
 
 const PLACE: &str = "c9/59bdbafa32a2f89a153b678cfde12197965a9a";
-
-/// The fingerprint of RFC 9580, appendix A.3.
-const SIX: Name = Name::Cert(Fpr::V6(
-    *b"\xcb\x18\x6c\x4f\x06\x09\xa6\x97\xe4\xd5\x2d\xfa\x6c\x72\x2b\x0c\
-      \x1f\x1e\x27\xc1\x8a\x56\x70\x8f\x65\x25\xec\x27\xba\xd9\xac\xc9",
-));
-
-static PLACES: [(Name, &str); 3] = [
-    (CERT, PLACE),
-    (
-        SIX,
-        "cb/186c4f0609a697e4d52dfa6c722b0c1f1e27c18a56708f6525ec27bad9acc9",
-    ),
-    (Name::TrustRoot, "trust-root"),
-];
-
-/// Whether an entry has this path, in both directions.
-fn is_its_place(rt: &impl Abort, alloc: Global, name: &Name, place: &str) -> bool {
-    let text = name_of(alloc, name).expect(rt, "memory");
-    text.as_str() == place && fpr_of(place) == Some(*name)
-}
-
-#[test]
-fn names_are_their_places(rt: HostRuntime) {
-    for (name, place) in &PLACES {
-        expect_that(&rt, is_its_place(&rt, rt.alloc(), name, place));
-    }
-    expect_that(
-        &rt,
-        fpr_of("c959bdbafa32a2f89a153b678cfde12197965a9a").is_none(),
-    );
-}
 
 /// What a read should return. The result is dropped here only, so that the drop is proved once.
 #[derive(Clone, Copy)]

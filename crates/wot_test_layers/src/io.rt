@@ -1,8 +1,5 @@
 //! Tests of wot_io: the lines of an input in all sizes, reads and writes that fail, and what each call was offered.
-ghost use Rattle.std.specs.Prelude.{◌≡◌, ◌<◌, ◌∷◌, [], length, IsErr, None};
-ghost use Rattle.std.specs.Prelude.{codes, ◌++◌};
-ghost use Rattle.wot_io.specs.Input.{lines_of, whole_lines_of};
-ghost use Rattle.wot_io.specs.Memory.{room_left};
+ghost use Rattle.std.specs.Prelude.{None};
 
 use crate::assertion::expect_that;
 use std::alloc::Global;
@@ -59,15 +56,6 @@ fn tell_text(rt: &impl Abort, text: &[u8], seen: &mut Vec<u8>) {
     seen.push(b'|').expect(rt, "memory");
 }
 
-/// The definition of lines, worked out on "a", a lone carriage return, nothing, and "b".
-fn rows()
-    ensures lines { lines_of (97 ∷ 10 ∷ 13 ∷ 10 ∷ 10 ∷ 98 ∷ [])
-        ≡ (97 ∷ []) ∷ (13 ∷ []) ∷ [] ∷ (98 ∷ []) ∷ [] }
-    ensures whole { whole_lines_of (97 ∷ 10 ∷ 13 ∷ 10 ∷ 10 ∷ 98 ∷ [])
-        ≡ (97 ∷ []) ∷ (13 ∷ []) ∷ [] ∷ [] }
-    ensures feed_at_the_end { lines_of (codes "keys" ++ 10 ∷ []) ≡ codes "keys" ∷ [] }
-{}
-
 static PARTS: [(&[u8], &[u8]); 9] = [
     (b"", b"."),
     (b"\n", b"t|."),
@@ -93,7 +81,6 @@ fn told(rt: &impl Abort, alloc: Global, input: &[u8], piece: usize, failing: u64
 
 #[test]
 fn lines_are_the_parts_between_line_feeds(rt: HostRuntime) {
-    rows();
     for (input, want) in &PARTS {
         for piece in [1, 5, 65536] {
             expect_that(
@@ -285,24 +272,6 @@ fn a_write_fault_leaves_a_prefix(rt: HostRuntime) {
     for (room, failing, want, written) in &PREFIXES {
         expect_that(&rt, takes(&rt, rt.alloc(), *room, *failing, *want, written));
     }
-}
-
-/// The second read fails if its number is the only one that should.
-fn second_read(source: &mut MemorySource, to: &mut [u8]) -> Result<usize, Failed>
-    requires calls { source.old.calls ≡ 1 }
-    requires fails { source.old.fails ≡ 2 ∷ [] }
-    ensures { IsErr result }
-{
-    source.read(to)
-}
-
-/// A write to a full sink fails.
-fn write_to_full(sink: &mut MemorySink, piece: &[u8]) -> Result<usize, Failed>
-    requires full { room_left sink.old ≡ 0 }
-    requires some { 0 < length piece.now }
-    ensures { IsErr result }
-{
-    sink.write(piece)
 }
 
 #[test]
