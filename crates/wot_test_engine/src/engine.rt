@@ -48,11 +48,6 @@ pub(crate) fn status_of<S: Source, K: Sink, D: Shelf>(
     run_words(alloc, words, input, output, shelf, &mut policy)
 }
 
-/// An empty certificate directory.
-pub(crate) fn empty_shelf(alloc: Global) -> MemoryShelf {
-    MemoryShelf::new(alloc, Vec::new(alloc), Vec::new(alloc))
-}
-
 /// An entry: its name, and its packets.
 pub(crate) type Row = (Name, &'static [Packet]);
 

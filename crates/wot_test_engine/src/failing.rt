@@ -1,34 +1,60 @@
-//! Tests of runs over devices that fail, and over inputs without an end: the exit status, and what was written.
+//! Tests of runs over devices that fail, and over inputs without an end: the exit status, what was written, and what is
+//! left of a directory's entry.
 ghost use Rattle.std.specs.Prelude.{None};
 
 use crate::assertion::expect_that;
-use crate::engine::{Row, empty_shelf, owned, shelf_of, sink_of, source_of, status_of};
-use crate::script::{FIELD, FIELD_FPR};
+use crate::engine::{Row, owned, shelf_of, sink_of, source_of, status_of};
 use std::alloc::Global;
 use std::process::Abort;
+use wot_certd::{Given, MemoryShelf, Shelf};
 use wot_io::{Failed, Sink, Source};
-use wot_sample::{KEY_R, T};
-use wot_types::Name;
+use wot_sample::{KEY, KEY_R, KEY_T, Packet, T};
+use wot_types::{Fpr, Name};
 
-/// A script with the numbers of the reads, writes and directory calls that fail, and the result: the status, and what
-/// is written. The source returns five octets a read, the sink takes three a write.
+/// A script with the numbers of the reads, writes and directory calls that fail, and of those calls that fail late. The
+/// result: the status, what is written, and what is left under T's name, which is nothing if there is no entry. The
+/// source returns five octets a read, the sink takes three a write.
 #[derive(Clone, Copy)]
 struct Case {
     script: &'static str,
     reads: &'static [u64],
     writes: &'static [u64],
+    entries: &'static [Row],
     calls: &'static [u64],
+    late: &'static [u64],
     status: u8,
     written: &'static str,
+    left: &'static [Packet],
 }
+
+const T_NAME: Name = Name::Cert(T);
+
+/// The Ed25519 key of RFC 9580, appendix A.1, under its fingerprint.
+const FIELD: Row = (
+    Name::Cert(Fpr::V4(
+        *b"\xc9\x59\xbd\xba\xfa\x32\xa2\xf8\x9a\x15\x3b\x67\x8c\xfd\xe1\x21\x97\x96\x5a\x9a",
+    )),
+    &[Packet::Other(
+        KEY,
+        b"\x04\x53\xf3\x5f\x0b\x16\x09\x2b\x06\x01\x04\x01\xda\x47\x0f\x01\x01\x07\x40\x3f\x09\x89\x94\xbd\
+          \xd9\x16\xed\x40\x53\x19\x79\x34\xe4\xa8\x7c\x80\x73\x3a\x12\x80\xd6\x2f\x80\x10\x99\x2e\x43\xee\
+          \x3b\x24\x06",
+    )],
+);
+
+/// Another key under T's name.
+const MISFILED: Row = (T_NAME, &[KEY_R]);
 
 const KEYS: Case = Case {
     script: "keys\n",
     reads: &[],
     writes: &[],
+    entries: &[FIELD, MISFILED],
     calls: &[],
+    late: &[],
     status: 0,
     written: "keys 0\n",
+    left: &[KEY_R],
 };
 
 const TWICE: Case = Case {
@@ -51,7 +77,7 @@ key c959bdbafa32a2f89a153b678cfde12197965a9a 0 0
 };
 
 /// Each stop leaves a prefix of what the same script writes if nothing fails. A directory that fails stops nothing.
-static CASES: [Case; 19] = [
+static CASES: [Case; 22] = [
     KEYS,
     TWICE,
     LOAD,
@@ -169,19 +195,57 @@ load c959bdbafa32a2f89a153b678cfde12197965a9a
         written: "keys 0\nfault shelf\nok taken 1 skipped 0 new 1\n",
         ..LOAD
     },
+    // The replacement of an entry fails, and puts nothing; or it fails late, and puts its octets.
+    Case {
+        script: "import c60704000003e81b04\nstore 3c98b8180e0fcaca1032499082a5de8fa5d98232\nkeys\n",
+        entries: &[],
+        calls: &[2],
+        written: "ok taken 1 skipped 0 new 1\nfault shelf\nkeys 1\nkey 3c98b8180e0fcaca1032499082a5de8fa5d98232 0 0\n",
+        left: &[],
+        ..KEYS
+    },
+    Case {
+        script: "import c60704000003e81b04\nstore 3c98b8180e0fcaca1032499082a5de8fa5d98232\n",
+        entries: &[],
+        calls: &[2],
+        late: &[2],
+        written: "ok taken 1 skipped 0 new 1\nfault shelf\n",
+        left: &[KEY_T],
+        ..KEYS
+    },
+    // If the certificate isn't there, `store` makes no call, so the first call is that of `load`.
+    Case {
+        script: "store 3c98b8180e0fcaca1032499082a5de8fa5d98232
+load 3c98b8180e0fcaca1032499082a5de8fa5d98232
+load 3c98b8180e0fcaca1032499082a5de8fa5d98232
+",
+        entries: &[(T_NAME, &[KEY_T])],
+        calls: &[1],
+        written: "refused absent\nfault shelf\nok taken 1 skipped 0 new 1\n",
+        left: &[KEY_T],
+        ..KEYS
+    },
 ];
 
-/// The certificate directory of all cases: a certificate, and another's key under a name.
-static ENTRIES: [Row; 2] = [(Name::Cert(FIELD_FPR), &[FIELD]), (Name::Cert(T), &[KEY_R])];
+/// Whether T's entry has these octets, or is missing if none are given.
+fn is_left(shelf: &mut MemoryShelf, wanted: &[u8]) -> bool {
+    match shelf.read(&T_NAME) {
+        Ok(Given::Bytes(octets)) => octets.as_slice() == wanted && !wanted.is_empty(),
+        Ok(Given::Absent) => wanted.is_empty(),
+        _ => false,
+    }
+}
 
 /// Whether a case ends as it should.
 fn ends_so(rt: &impl Abort, alloc: Global, case: &Case) -> bool {
     let words = owned(rt, alloc, &["run", "folder"]);
     let mut input = source_of(rt, alloc, case.script.as_bytes(), case.reads);
     let mut output = sink_of(rt, alloc, case.writes);
-    let mut shelf = shelf_of(rt, alloc, &ENTRIES, case.calls, &[]);
+    let mut shelf = shelf_of(rt, alloc, case.entries, case.calls, case.late);
     let status = status_of(alloc, &words, &mut input, &mut output, &mut shelf);
-    status == case.status && output.written() == case.written.as_bytes()
+    let left = wot_sample::text(alloc, case.left).expect(rt, "memory");
+    let replied = status == case.status && output.written() == case.written.as_bytes();
+    replied && is_left(&mut shelf, &left)
 }
 
 #[test]
@@ -242,7 +306,7 @@ fn endless_comments(rt: HostRuntime) {
     let words = owned(&rt, rt.alloc(), &["run"]);
     let mut input = Endless { given: 0 };
     let mut output = sink_of(&rt, rt.alloc(), &[]);
-    let mut shelf = empty_shelf(rt.alloc());
+    let mut shelf = shelf_of(&rt, rt.alloc(), &[], &[], &[]);
     expect_that(
         &rt,
         status_of(rt.alloc(), &words, &mut input, &mut output, &mut shelf) == 6,
@@ -259,7 +323,7 @@ fn a_sink_that_takes_nothing(rt: HostRuntime) {
     let words = owned(&rt, rt.alloc(), &["run"]);
     let mut input = source_of(&rt, rt.alloc(), KEYS.script.as_bytes(), &[]);
     let mut output = Refusing { faults: 0 };
-    let mut shelf = empty_shelf(rt.alloc());
+    let mut shelf = shelf_of(&rt, rt.alloc(), &[], &[], &[]);
     expect_that(
         &rt,
         status_of(rt.alloc(), &words, &mut input, &mut output, &mut shelf) == 4,

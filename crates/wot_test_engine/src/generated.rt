@@ -1,10 +1,10 @@
 //! Tests of a generated run: its three lines, as the plain model prints them, and writes that fail.
 use crate::assertion::expect_that;
-use crate::engine::{owned, sink_of, source_of, status_of};
+use crate::engine::{owned, shelf_of, sink_of, source_of, status_of};
 use std::alloc::Global;
 use std::process::Abort;
-use wot_certd::{MemoryShelf, Shelf};
-use wot_io::{MemorySink, MemorySource, Source};
+use wot_certd::Shelf;
+use wot_io::Source;
 use wot_types::Name;
 
 /// What is printed about the script of the start 7 and of 12 keys, as the plain model prints it.
@@ -14,30 +14,17 @@ static TOLD: &[u8] = b"gen 7 12 lines 90\namounts 2161\n\
 /// Writes that fail, the status, and how much of the text is written.
 static ENDS: [(&[u64], u8, usize); 3] = [(&[], 0, 107), (&[1], 4, 0), (&[3], 4, 6)];
 
-/// A certificate directory whose first call fails.
-fn failing_shelf(rt: &impl Abort, alloc: Global) -> MemoryShelf {
-    let fails = [1].to_vec(alloc).expect(rt, "memory");
-    MemoryShelf::new(alloc, fails, Vec::new(alloc))
-}
-
-/// Whether this many octets of the text are written.
-fn is_told(output: &MemorySink, size: usize) -> bool {
-    output.written().len() == size && TOLD.starts_with(output.written())
-}
-
-/// Whether neither the source nor the directory was called.
-fn are_untouched(input: &mut MemorySource, shelf: &mut MemoryShelf) -> bool {
-    input.read(&mut [0; 5]) == Ok(5) && shelf.read(&Name::TrustRoot).is_err()
-}
-
-/// Whether the run ends as it should, with writes that fail.
+/// Whether the run ends as it should, with writes that fail: with this status, and with this many octets of the text
+/// written. Neither the source nor the directory, whose first call fails, is called.
 fn ends_so(rt: &impl Abort, alloc: Global, fails: &[u64], wanted: u8, size: usize) -> bool {
     let words = owned(rt, alloc, &["gen", "7", "12"]);
     let mut input = source_of(rt, alloc, b"keys\n", &[]);
     let mut output = sink_of(rt, alloc, fails);
-    let mut shelf = failing_shelf(rt, alloc);
+    let mut shelf = shelf_of(rt, alloc, &[], &[1], &[]);
     let status = status_of(alloc, &words, &mut input, &mut output, &mut shelf);
-    status == wanted && are_untouched(&mut input, &mut shelf) && is_told(&output, size)
+    let untouched = input.read(&mut [0; 5]) == Ok(5) && shelf.read(&Name::TrustRoot).is_err();
+    let written = output.written();
+    status == wanted && untouched && written.len() == size && TOLD.starts_with(written)
 }
 
 #[test]

@@ -1,15 +1,11 @@
-//! Tests of the keyring, the views over it, lists and explanations, and the machine. No part of the product. They run
-//! whole scripts in memory; the suites in tests/ run the built program.
+//! Tests of the keyring, the engine, the machine and whole runs, for what neither a contract says nor a script shows:
+//! devices that fail, counts of questions, edges and writes. No part of the product.
 #![tactic(auto)]
 
 #[cfg(test)]
 mod assertion;
 #[cfg(test)]
-mod cache;
-#[cfg(test)]
 mod engine;
-#[cfg(test)]
-mod explain;
 #[cfg(test)]
 mod failing;
 #[cfg(test)]
@@ -19,12 +15,6 @@ mod keyring;
 #[cfg(test)]
 mod made;
 #[cfg(test)]
-mod network;
-#[cfg(test)]
-mod rows;
-#[cfg(test)]
-mod script;
-#[cfg(test)]
-mod storing;
+mod roads;
 #[cfg(test)]
 mod together;

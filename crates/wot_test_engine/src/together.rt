@@ -2,7 +2,7 @@
 ghost use Rattle.std.specs.Prelude.{None};
 
 use crate::assertion::expect_that;
-use crate::engine::{empty_shelf, owned, status_of};
+use crate::engine::{owned, shelf_of, status_of};
 use std::alloc::Global;
 use std::process::Abort;
 use wot_io::{Failed, MemorySource, Sink, Source};
@@ -40,41 +40,29 @@ fn lines_of(rt: &impl Abort, alloc: Global, count: usize, piece: usize) -> Memor
     MemorySource::new(script, piece, Vec::new(alloc))
 }
 
-/// How many lines there are, how many octets a read returns, and the writes in turn: how many, and of how many octets.
-/// The reply to each line has seven.
-type Case = (usize, usize, &'static [(usize, usize)]);
+/// How many lines there are, how many octets a read returns, and how many octets each write is offered. The reply to
+/// each line has seven.
+type Case = (usize, usize, &'static [usize]);
 
 static CASES: [Case; 3] = [
-    (1000, 65_536, &[(1, 7000)]),
-    (6, 7, &[(2, 7), (1, 14), (2, 7)]),
+    (1000, 65_536, &[7000]),
+    (6, 7, &[7, 7, 14, 7, 7]),
     // 9,363 replies have more than 65,536 octets. They are written before the line after theirs is answered.
-    (10_000, 65_536, &[(1, 65_541), (1, 4459)]),
+    (10_000, 65_536, &[65_541, 4459]),
 ];
 
-/// The sizes of the writes of a case.
-fn sizes_of(rt: &impl Abort, alloc: Global, runs: &[(usize, usize)]) -> Vec<usize> {
-    let mut sizes = Vec::new(alloc);
-    for (times, size) in runs {
-        for _ in 0..*times {
-            sizes.push(*size).expect(rt, "memory");
-        }
-    }
-    sizes
-}
-
-/// Whether the writes of a run over an empty shelf are those of the case.
+/// Whether the writes of a run over an empty certificate directory are those of the case.
 fn is_written(rt: &impl Abort, alloc: Global, case: &Case) -> bool {
-    let (count, piece, runs) = *case;
-    let want = sizes_of(rt, alloc, runs);
+    let (count, piece, sizes) = *case;
     let words = owned(rt, alloc, &["run"]);
     let mut input = lines_of(rt, alloc, count, piece);
     let mut output = Counting {
         offered: Vec::new(alloc),
         faults: 0,
     };
-    let mut shelf = empty_shelf(alloc);
+    let mut shelf = shelf_of(rt, alloc, &[], &[], &[]);
     let status = status_of(alloc, &words, &mut input, &mut output, &mut shelf);
-    status == 0 && output.offered == want
+    status == 0 && output.offered.as_slice() == sizes
 }
 
 #[test]

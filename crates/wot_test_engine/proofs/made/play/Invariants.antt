@@ -1,7 +1,7 @@
 use Rattle.std.specs.Prelude.{◌≤◌}
 use Rattle.wot_policy.specs.Kept.{IsFaithful, rows_of}
 use Rattle.wot_held.specs.Kept.{IsJudgedBy}
-use Rattle.wot_test_engine.proofs.rows.first_other.Given as goal
+use Rattle.wot_test_engine.proofs.made.play.Given as goal
 
 abbrev pub invariant-loop-number : goal.invariant-loop-number
 invariant-loop-number g l = record {

@@ -3,7 +3,7 @@ use Rattle.wot_policy.specs.declared.rows.PolicyRows.{PolicyRows}
 use Rattle.wot_held.specs.Import.{IsOneChange}
 use Rattle.wot_held.specs.Keyring.{Keyring}
 use Rattle.wot_held.specs.Kept.{IsJudgedBy}
-use Rattle.wot_test_engine.proofs.rows.first_other.Goals as goal
+use Rattle.wot_test_engine.proofs.made.play.Goals as goal
 
 one_more : (old new : Keyring) → IsOneChange old new → new.changes ≤ old.changes + 1
 one_more old new (inl same) = let e = ap (λ (k : Keyring). k.changes) same in omega (arith, e)

@@ -1,9 +1,0 @@
-use Rattle.wot_policy.specs.Kept.{IsFaithful, rows_of}
-use Rattle.wot_held.specs.Kept.{IsJudgedBy}
-use Rattle.wot_test_engine.proofs.keyring.arriving.import_each.Given as goal
-
-abbrev pub invariant-loop-case : goal.invariant-loop-case
-invariant-loop-case g l = record {
-  judged : IsJudgedBy (rows_of l.policy) l.keyring;
-  faithful : IsFaithful g.F.Fn l.policy;
-}
