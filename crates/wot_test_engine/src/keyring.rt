@@ -148,7 +148,7 @@ static CHANGES: [(Change, State); 17] = [
     (Change::Import(WITH_UNSOUND), (true, 2, 1)),
     (Change::Import(WITH_OLD_HASH), (true, 3, 1)),
     (Change::Remove, (true, 3, 1)),
-    (Change::Import(THREE_TIMES), (true, 4, 3)),
+    (Change::Import(THREE_TIMES), (true, 4, 1)),
 ];
 
 #[test]
