@@ -19,19 +19,13 @@ pub const KEY_REVOCATION: u8 = 0x20;
 pub const CERTIFICATION_REVOCATION: u8 = 0x30;
 
 /// Packet types (RFC 9580, section 5).
-pub const SIGNATURE: u8 = 2;
-
 pub const KEY: u8 = 6;
-
-pub const MARKER: u8 = 10;
 
 pub const TRUST: u8 = 12;
 
 pub const SUBKEY: u8 = 14;
 
 pub const ATTRIBUTE: u8 = 17;
-
-pub const PADDING: u8 = 21;
 
 /// Keys with different key material. Each was created at 1000.
 pub const KEY_R: Packet = Packet::Key(1);

@@ -16,8 +16,6 @@ pub enum Says {
     Trust(u8, u8),
     /// The scope of trust: a regular expression.
     Scope(&'static [u8]),
-    /// It can't be revoked.
-    Final,
     /// Its user ID is the primary one.
     Primary,
     /// The reason of a revocation, without a text.
@@ -61,7 +59,6 @@ fn put_subpacket(area: &mut Vec<u8>, said: &Says) -> Option<()> {
         Says::KeyLasts(seconds) => put_number(area, 9, *seconds),
         Says::Trust(depth, amount) => put(area, 5, &[*depth, *amount], &[]),
         Says::Scope(pattern) => put(area, 6, pattern, &[0]),
-        Says::Final => put(area, 7, &[0], &[]),
         Says::Primary => put(area, 25, &[1], &[]),
         Says::Reason(code) => put(area, 29, &[*code], &[]),
         Says::By(fpr) => put_issuer(area, fpr),
