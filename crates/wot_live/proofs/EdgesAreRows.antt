@@ -69,7 +69,7 @@ any_place uid a (suc n) h l = by (a == uid) refl (λ more. any_place uid (a + 1)
     by false e rest = rest (unlike a uid e h)
 
 module _ (verdicts : Entries) (c : Certificate) (t : ℕ) where
-  edge_is : (issuer : Fpr) (uid : ℕ) (e : EdgeFacts) → edge_of verdicts c t issuer uid ≡ Some e →
+  pub edge_is : (issuer : Fpr) (uid : ℕ) (e : EdgeFacts) → edge_of verdicts c t issuer uid ≡ Some e →
       IsEdge issuer (own c) uid e
   edge_is issuer uid e h = by (slice_get c.user_ids uid) h
     where

@@ -7,5 +7,6 @@ pub mod IssuersInOrder
 pub mod EdgesAreRows
 pub mod EdgesBounded
 pub mod Places
+pub mod SelfEdges
 pub mod Through
 pub mod Worked

@@ -14,10 +14,10 @@ use Rattle.wot_edge.specs.declared.edge.EdgeFacts.{EdgeFacts}
 use Rattle.wot_live.specs.Edge.{signature_place, edge_facts, edge_by}
 use Rattle.wot_live.specs.Found.{edge_at_place}
 
-sig_total : IsTotalOrder sig_cmp
+pub sig_total : IsTotalOrder sig_cmp
 sig_total = on_total (λ s. s.body) nat_list_cmp_total
 
-not_tied : (a b : Signature) → sig_cmp a b ≡ Less → is_eq (sig_cmp b a) ≡ false
+pub not_tied : (a b : Signature) → sig_cmp a b ≡ Less → is_eq (sig_cmp b a) ≡ false
 not_tied a b h = ap is_eq (sig_total.antisymm b a) ∙ ap (λ o. is_eq (ordering_reverse o)) h
 
 below_at : (x s : Signature) (ss : List Signature) (k : ℕ) → IsBelow sig_cmp x ss → slice_get ss k ≡ Some s →

@@ -1,3 +1,4 @@
 pub mod Edge
 pub mod Rows
+pub mod SelfCertified
 pub mod Found

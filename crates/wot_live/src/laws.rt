@@ -3,10 +3,12 @@
 ghost use Rattle.std.specs.Prelude.{◌≡◌, ℕ};
 ghost use Rattle.wot_verdict.specs.Verdicts.{Entries};
 ghost use Rattle.wot_part.specs.Certificate.{Certificate};
-ghost use Rattle.wot_standing.specs.Standing.{own};
+ghost use Rattle.wot_standing.specs.Standing.{own, primary_among};
 ghost use Rattle.wot_live.specs.Found.{found_edges};
 ghost use Rattle.wot_live.specs.Rows.{AreInto, AreRows, edges_of};
+ghost use Rattle.wot_live.specs.SelfCertified.{primary_by};
 
+use wot_cert::Cert;
 use wot_standing::laws::certifications_count;
 
 /// The edges into a certificate are sorted by issuer and user ID, and are exactly the edges of each issuer and user ID.
@@ -22,4 +24,13 @@ pub(crate) fn found_are_edges()
     ensures all { (verdicts : Entries) (c : Certificate) (t : ℕ) → found_edges verdicts c t ≡ edges_of verdicts c t }
 {
     certifications_count();
+}
+
+/// The primary self-certification of this certificate is the greatest of those that make its edges.
+pub(crate) fn self_edges(cert: &Cert)
+    ensures primary { (verdicts : Entries) (t : ℕ)
+        → primary_by cert.now (edges_of verdicts cert.now t) ≡ primary_among verdicts (own cert.now) t cert.now.user_ids }
+{
+    certifications_count();
+    let _ = cert.user_ids().len();
 }

@@ -1,5 +1,5 @@
-//! Makes the line of one certificate from wot_live's edges and wot_standing's standing. `refreshing` calls it for each
-//! stale certificate, and it is the only place where edges of the network are made.
+//! Makes the line of one certificate from wot_live's edges and the standing that they give. `refreshing` calls it for
+//! each stale certificate, and it is the only place where edges of the network are made.
 ghost use Rattle.std.specs.Prelude.{◌<◌, ◌≤◌, ◌+◌, ◌^◌, min, length, IfOk, OnOk};
 ghost use Rattle.wot_part.specs.Counts.{signatures_of};
 ghost use Rattle.wot_part.specs.Text.{size_of};
@@ -9,8 +9,7 @@ ghost use Rattle.wot_network.specs.Refreshing.{IsMade};
 use crate::line::NetLine;
 use std::alloc::Global;
 use wot_cert::Cert;
-use wot_live::rows;
-use wot_standing::standing_at;
+use wot_live::{rows, standing_by_edges};
 use wot_types::{Memory, Steps};
 use wot_verdict::Verdicts;
 
@@ -31,7 +30,7 @@ pub(crate) fn make(
     ensures never_less { steps.old.made ≤ steps.new.made }
 {
     let (rows, span) = rows(alloc, cert, verdicts, t, steps)?;
-    let standing = standing_at(cert, verdicts, t);
+    let standing = standing_by_edges(cert, verdicts, t, &rows.edges);
     Ok(NetLine {
         stamp,
         edges: rows.edges,

@@ -5,7 +5,7 @@
 ghost use Rattle.std.specs.Prelude.{◌≡◌};
 ghost use Rattle.std.specs.Option.{option_copied};
 ghost use Rattle.wot_cert.specs.Span.{span_of, created_of};
-ghost use Rattle.wot_standing.specs.Standing.{standing_of, governing as governing_spec, end_by};
+ghost use Rattle.wot_standing.specs.Standing.{standing_of, governing as governing_spec, end_by, own, primary_among};
 ghost use Rattle.wot_standing.specs.Throughout.{IsThroughout};
 
 use crate::Standing;
@@ -46,12 +46,12 @@ fn created(cert: &Cert) -> u32
     cert.key().created
 }
 
-/// Computes the standing alone, as `standing` does, for a caller that has the span already.
-pub fn standing_at(cert: &Cert, verdicts: &Verdicts, t: u32) -> Standing
-    ensures standing { result ≡ standing_of verdicts.now.entries cert.now t }
+/// The standing, given the signature that governs.
+fn governed(cert: &Cert, verdicts: &Verdicts, t: u32, by: Option<&Sig>) -> Standing
+    requires by { option_copied by ≡ governing_spec verdicts.now.entries cert.now t }
+    ensures { result ≡ standing_of verdicts.now.entries cert.now t }
 {
     let fpr = cert.fpr();
-    let by = governing(cert, verdicts, t);
     let created = created(cert);
     Standing {
         has: by.is_some(),
@@ -60,6 +60,28 @@ pub fn standing_at(cert: &Cert, verdicts: &Verdicts, t: u32) -> Standing
         hard: has_hard(cert.direct(), verdicts, &fpr),
         soft: soft_moment(cert.direct(), verdicts, &fpr, t),
     }
+}
+
+/// Computes the standing alone, as `standing` does, for a caller that has the span already.
+pub fn standing_at(cert: &Cert, verdicts: &Verdicts, t: u32) -> Standing
+    ensures standing { result ≡ standing_of verdicts.now.entries cert.now t }
+{
+    governed(cert, verdicts, t, governing(cert, verdicts, t))
+}
+
+/// Computes the standing as `standing_at` does, for a caller that has the primary self-certification already: only the
+/// signatures on the key itself are looked at.
+pub fn standing_with(cert: &Cert, verdicts: &Verdicts, t: u32, primary: Option<&Sig>) -> Standing
+    requires primary { option_copied primary
+        ≡ primary_among verdicts.now.entries (own cert.now) t cert.now.user_ids }
+    ensures standing { result ≡ standing_of verdicts.now.entries cert.now t }
+{
+    let fpr = cert.fpr();
+    let by = match newest_valid(cert.direct(), verdicts, &fpr, t, Binding::DirectKey) {
+        Some(sig) => Some(sig),
+        None => primary,
+    };
+    governed(cert, verdicts, t, by)
 }
 
 /// Computes the standing of a certificate at a time, and the span of times throughout which it doesn't change.

@@ -17,7 +17,8 @@ mod steady;
 mod usable;
 
 pub use certifiers::Certifiers;
-pub use governing::{standing, standing_at};
+pub use governing::{standing, standing_at, standing_with};
+pub use newest::more_primary;
 pub use own::is_own_revoked;
 pub use status::Standing;
 pub use steady::steady_span;

@@ -4,7 +4,7 @@
 //! decide by it.
 ghost use Rattle.std.specs.Prelude.{◌≡◌, filter};
 ghost use Rattle.std.specs.Option.{option_copied};
-ghost use Rattle.wot_part.specs.Ranked.{greatest, higher as higher_of};
+ghost use Rattle.wot_part.specs.Ranked.{greatest, higher as higher_spec, higher_of};
 ghost use Rattle.wot_cert.specs.Time.{newness};
 ghost use Rattle.wot_standing.specs.Latest.{is_valid_after as is_valid_after_spec, stays as stays_spec};
 ghost use Rattle.wot_standing.specs.Standing.{primacy, primary_among};
@@ -42,7 +42,7 @@ fn compare_primacy(a: &Sig, b: &Sig) -> Ordering
 
 /// The greater of two signatures.
 fn higher<'a>(order: Ordering, a: &'a Sig, b: &'a Sig) -> &'a Sig
-    ensures { result.now ≡ higher_of order a.now b.now }
+    ensures { result.now ≡ higher_spec order a.now b.now }
 {
     match order {
         Ordering::Less => b,
@@ -111,6 +111,16 @@ pub(crate) fn newest_valid<'a>(
     newest_after(sigs, verdicts, fpr, t, binding, revoked)
 }
 
+/// The greater of a signature and the best so far, if there is one, by the primary mark and then by newness.
+pub fn more_primary<'a>(sig: &'a Sig, best: Option<&'a Sig>) -> Option<&'a Sig>
+    ensures greater { option_copied result ≡ higher_of primacy sig.now (option_copied best.entry) }
+{
+    match best {
+        Some(other) => Some(higher(compare_primacy(sig, other), sig, other)),
+        None => Some(sig),
+    }
+}
+
 /// The greatest of all user IDs' newest self-certifications, by the primary mark and then by newness.
 pub(crate) fn primary<'a>(
     user_ids: &'a [Part],
@@ -125,10 +135,7 @@ pub(crate) fn primary<'a>(
     'back: while let Some((uid, prefix)) = rest.split_last() {
         rest = prefix;
         if let Some(sig) = newest_valid(uid.sigs(), verdicts, fpr, t, Binding::Certification) {
-            best = match best {
-                None => Some(sig),
-                Some(other) => Some(higher(compare_primacy(sig, other), sig, other)),
-            };
+            best = more_primary(sig, best);
         }
     }
     best

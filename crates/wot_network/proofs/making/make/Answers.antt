@@ -13,7 +13,7 @@ returns-clause-made c =
           (in_its_span c.args.cert.now c.args.t c.ranges.t.fits);
       tells = λ u h. record {
         edges = e.throughout u h;
-        standing = e.standing u h ∙ sym c.standing_at-standing.ensures.standing;
+        standing = e.standing u h ∙ sym c.standing_by_edges-standing.ensures.standing;
         revoked = e.revoked_throughout u h;
       };
       rows = record { into = e.into; order = e.order };

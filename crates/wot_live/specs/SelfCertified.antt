@@ -1,0 +1,19 @@
+-- The primary self-certification of a certificate, found by its edges.
+use Rattle.std.specs.Prelude.{if◌then◌else◌, List, Option, None}
+use Rattle.std.specs.List.{filter_map, slice_get}
+use Rattle.std.specs.Option.{option_and_then}
+use Rattle.wot_types.specs.Fpr.{same_fpr}
+use Rattle.wot_part.specs.Certificate.{Signature, Certificate}
+use Rattle.wot_part.specs.Ranked.{greatest}
+use Rattle.wot_edge.specs.declared.edge.EdgeFacts.{EdgeFacts}
+use Rattle.wot_standing.specs.Standing.{own, primacy}
+
+-- the self-certification that makes this edge; none if the issuer is another key
+abbrev pub self_certification : Certificate → EdgeFacts → Option Signature
+self_certification c e =
+    if same_fpr (own c) e.issuer then option_and_then (λ p. slice_get p.sigs e.sig) (slice_get c.user_ids e.uid)
+    else None
+
+-- the greatest of those that make these edges
+abbrev pub primary_by : Certificate → List EdgeFacts → Option Signature
+primary_by c edges = greatest primacy (filter_map (self_certification c) edges)
