@@ -15,4 +15,3 @@ pub mod Assemblies
 pub mod NewTotals
 pub mod AllPlaces
 pub mod Grown
-pub mod Uncounted

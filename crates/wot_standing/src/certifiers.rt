@@ -1,23 +1,20 @@
 //! The newest valid certification of every issuer on a user ID, found in one walk over its signatures.
 //!
 //! It stands on `latest`, `newest` and `kinds`, and on `specs/Certifiers.antt`. `wot_live` makes one edge of each.
-ghost use Rattle.std.specs.Prelude.{◌≡◌, ◌<◌, ◌^◌, length, map, Some, OnOk, IfOk, if◌then◌else◌};
+ghost use Rattle.std.specs.Prelude.{◌≡◌, ◌<◌, ◌^◌, length, map, Some, OnOk, IfOk};
 ghost use Rattle.std.specs.List.{slice_get};
 ghost use Rattle.std.specs.List.Sorted.{IsStrictlySortedBy};
 ghost use Rattle.std.specs.Map.{keys_of};
 ghost use Rattle.std.specs.Option.{option_copied, option_flatten};
 ghost use Rattle.wot_types.specs.Fpr.{fpr_cmp};
-ghost use Rattle.wot_part.specs.Ranked.{higher_of};
-ghost use Rattle.wot_cert.specs.Time.{newness};
 ghost use Rattle.wot_standing.specs.Certifiers.{certifier_of, number_for, revoker_of, AreNewestAmong};
 ghost use Rattle.wot_standing.specs.Certifiers.{KeepsLatest, KeepsNewest, KeepsNumber};
 ghost use Rattle.wot_standing.specs.Certifiers.{TakesLatest, TakesValid};
 
 use crate::kinds::{CERTIFICATION_REVOCATION, has_kind, is_certification, is_live, made};
 use crate::latest::later;
-use crate::newest::{compare_newness, stays};
+use crate::newest::{is_newest, stays};
 use std::alloc::Global;
-use std::cmp::Ordering;
 use std::collections::BTreeMap;
 use std::collections::btree_map::Iter;
 use std::marker::Model;
@@ -243,15 +240,4 @@ fn sig_at(sigs: &[Sig], place: u32) -> Option<&Sig>
     ensures { option_copied result ≡ slice_get sigs.now place }
 {
     sigs.get(place as usize)
-}
-
-/// Whether a signature is newer than the other one, if there is one.
-fn is_newest(sig: &Sig, other: Option<&Sig>) -> bool
-    ensures { higher_of newness sig.now (option_copied other.entry)
-        ≡ (if result then Some sig.now else option_copied other.entry) }
-{
-    match other {
-        Some(other) => compare_newness(sig, other) != Ordering::Less,
-        None => true,
-    }
 }

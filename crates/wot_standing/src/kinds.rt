@@ -152,5 +152,5 @@ pub(crate) fn counts(sig: &Sig, verdicts: &Verdicts, fpr: &Fpr) -> bool
 pub fn revokes(sig: &Sig, verdicts: &Verdicts, fpr: &Fpr, t: u32) -> bool
     ensures { result ≡ revokes_by verdicts.now.entries fpr.now t sig.now }
 {
-    has_kind(sig, CERTIFICATION_REVOCATION) && counts(sig, verdicts, fpr) && is_live(sig, t)
+    has_kind(sig, CERTIFICATION_REVOCATION) && is_live(sig, t) && counts(sig, verdicts, fpr)
 }

@@ -5,12 +5,13 @@ ghost use Rattle.std.specs.Prelude.{◌≡◌, max};
 ghost use Rattle.std.specs.Option.{option_map_or};
 ghost use Rattle.wot_standing.specs.Latest.{revoked_at, outlives as outlives_spec};
 
-use crate::kinds::{made, revokes};
+use crate::kinds::{CERTIFICATION_REVOCATION, counts, has_kind, is_live, made};
 use wot_cert::Sig;
 use wot_types::Fpr;
 use wot_verdict::Verdicts;
 
-/// When the latest live revocation by this key among these signatures was created.
+/// When the latest live revocation by this key among these signatures was created. Only one that is later than those
+/// behind it needs a look at the verdicts.
 pub(crate) fn latest_revocation(sigs: &[Sig], verdicts: &Verdicts, fpr: &Fpr, t: u32) -> Option<u32>
     ensures { result ≡ revoked_at verdicts.now.entries fpr.now t sigs.now }
 {
@@ -18,8 +19,12 @@ pub(crate) fn latest_revocation(sigs: &[Sig], verdicts: &Verdicts, fpr: &Fpr, t:
     let mut rest = sigs;
     'back: while let Some((sig, prefix)) = rest.split_last() {
         rest = prefix;
-        if revokes(sig, verdicts, fpr, t) {
-            best = Some(later(made(sig), best));
+        if has_kind(sig, CERTIFICATION_REVOCATION)
+            && is_live(sig, t)
+            && outlives(best, made(sig))
+            && counts(sig, verdicts, fpr)
+        {
+            best = Some(made(sig));
         }
     }
     best

@@ -2,10 +2,11 @@
 //!
 //! It stands on `kinds` and `latest`, and on `specs/Valid.antt` and `specs/Standing.antt`. `governing` and `certifiers`
 //! decide by it.
-ghost use Rattle.std.specs.Prelude.{◌≡◌, filter};
+ghost use Rattle.std.specs.Prelude.{◌≡◌, ◌&&◌, filter, Some, if◌then◌else◌};
 ghost use Rattle.std.specs.Option.{option_copied};
 ghost use Rattle.wot_part.specs.Ranked.{greatest, higher as higher_spec, higher_of};
-ghost use Rattle.wot_cert.specs.Time.{newness};
+ghost use Rattle.wot_cert.specs.Time.{newness, is_live as is_live_spec};
+ghost use Rattle.wot_standing.specs.Kinds.{is_binding as is_binding_spec};
 ghost use Rattle.wot_standing.specs.Latest.{is_valid_after as is_valid_after_spec, stays as stays_spec};
 ghost use Rattle.wot_standing.specs.Standing.{primacy, primary_among};
 ghost use Rattle.wot_standing.specs.Valid.{newest_valid as newest_valid_spec};
@@ -18,7 +19,7 @@ use wot_types::{Fpr, compare_numbers};
 use wot_verdict::Verdicts;
 
 /// Compares by creation time, then by number, then by body.
-pub(crate) fn compare_newness(a: &Sig, b: &Sig) -> Ordering
+fn compare_newness(a: &Sig, b: &Sig) -> Ordering
     ensures { result ≡ newness a.now b.now }
 {
     match made(a).cmp(&made(b)) {
@@ -51,27 +52,33 @@ fn higher<'a>(order: Ordering, a: &'a Sig, b: &'a Sig) -> &'a Sig
     }
 }
 
-pub(crate) fn is_valid_after(
-    sig: &Sig,
-    verdicts: &Verdicts,
-    fpr: &Fpr,
-    t: u32,
-    binding: Binding,
-    revoked: Option<u32>,
-) -> bool
-    ensures { result ≡ is_valid_after_spec verdicts.now.entries fpr.now t binding revoked sig.now }
+/// Whether a signature is newer than the other one, if there is one.
+pub(crate) fn is_newest(sig: &Sig, other: Option<&Sig>) -> bool
+    ensures { higher_of newness sig.now (option_copied other.entry)
+        ≡ (if result then Some sig.now else option_copied other.entry) }
 {
-    is_binding(sig, binding) && counts(sig, verdicts, fpr) && is_live(sig, t) && stays(sig, revoked)
+    match other {
+        Some(other) => compare_newness(sig, other) != Ordering::Less,
+        None => true,
+    }
+}
+
+/// Whether it is valid if it counts as the issuer's.
+fn may_be_valid(sig: &Sig, t: u32, binding: Binding, revoked: Option<u32>) -> bool
+    ensures { result ≡ (is_binding_spec binding sig.now && (is_live_spec t sig.now && stays_spec revoked sig.now)) }
+{
+    is_binding(sig, binding) && is_live(sig, t) && stays(sig, revoked)
 }
 
 /// Whether it isn't revoked, given when the latest revocation was created.
 pub(crate) fn stays(sig: &Sig, revoked: Option<u32>) -> bool
     ensures { result ≡ stays_spec revoked sig.now }
 {
-    !is_revocable(sig) || outlives(revoked, made(sig))
+    revoked.is_none() || !is_revocable(sig) || outlives(revoked, made(sig))
 }
 
-/// The newest of the valid signatures, given when the latest revocation was created.
+/// The newest of the valid signatures, given when the latest revocation was created. Only a signature that would be the
+/// newest so far needs a look at the verdicts.
 fn newest_after<'a>(
     sigs: &'a [Sig],
     verdicts: &Verdicts,
@@ -87,11 +94,11 @@ fn newest_after<'a>(
     let mut rest = sigs;
     'back: while let Some((sig, prefix)) = rest.split_last() {
         rest = prefix;
-        if is_valid_after(sig, verdicts, fpr, t, binding, revoked) {
-            best = match best {
-                None => Some(sig),
-                Some(other) => Some(higher(compare_newness(sig, other), sig, other)),
-            };
+        if may_be_valid(sig, t, binding, revoked)
+            && is_newest(sig, best)
+            && counts(sig, verdicts, fpr)
+        {
+            best = Some(sig);
         }
     }
     best

@@ -18,7 +18,7 @@ fn has_revocation(sigs: &[Sig], verdicts: &Verdicts, fpr: &Fpr, t: u32) -> bool
     let mut rest = sigs;
     'back: while let Some((sig, prefix)) = rest.split_last() {
         rest = prefix;
-        found = revokes(sig, verdicts, fpr, t) || found;
+        found = found || revokes(sig, verdicts, fpr, t);
     }
     found
 }
