@@ -1,5 +1,5 @@
 -- The facts about an accepted import in the shape that the code has them, for any stamp, limit and list.
-use Rattle.std.proofs.Common.{◌≡◌, ◌≤◌, ◌+◌, inl, ℕ, Bool, true, false, if◌then◌else◌, nat_lt, List, length, Ok, sym}
+use Rattle.std.proofs.Common.{◌≡◌, ◌≤◌, ◌+◌, inl, ℕ, false, if◌then◌else◌, nat_lt, List, Ok, sym}
 use Rattle.std.proofs.Common.{ap, ◌∙◌, subst}
 use Rattle.std.specs.List.{AllByRecursion}
 use Rattle.wot_policy.specs.declared.rows.PolicyRows.{PolicyRows}
@@ -7,21 +7,16 @@ use Rattle.wot_part.specs.Certificate.{Certificate, unite}
 use Rattle.wot_part.specs.Counts.{items_of}
 use Rattle.wot_part.specs.Judged.{judged, sound_of}
 use Rattle.wot_part.specs.Whole.{IsCertificate}
-use Rattle.wot_merge.specs.declared.staging.Fault.{Fault}
-use Rattle.wot_merge.specs.declared.staging.Fault.TheVariants.{Clash}
 use Rattle.wot_merge.specs.declared.tally.Weight.{Weight}
-use Rattle.wot_held.specs.Import.{with_certs, holding, IsOneChange}
-use Rattle.wot_held.specs.Importing.{MayUnite, AnswersUnited, asked_for}
+use Rattle.wot_held.specs.Import.{with_certs, holding, IsNext, IsOneChange}
+use Rattle.wot_held.specs.Importing.{MayUnite, asked_for}
 use Rattle.wot_held.specs.Later.{IsLater}
 use Rattle.wot_held.specs.Keyring.{Entries, Keyring, certificates_in}
 use Rattle.wot_held.specs.Kept.{AreSortedByFpr, IsKeyring, AreTotals}
-use Rattle.wot_merge.specs.Staging.{kept_all, clash_in, weigh_kept, IsTally, IsClashTold}
+use Rattle.wot_merge.specs.Staging.{kept_all, clash_in, weigh_kept, IsTally}
+use Rattle.wot_keyring.specs.Merging.{counted_as, AnswersCounting}
 use Rattle.wot_keyring.proofs.ImportEffects.{answered, held, changed_once, keyring_after, totals_after, asked_all}
 use Rattle.wot_keyring.proofs.ImportEffects.{asked_some}
-use Rattle.wot_merge.proofs.Clashes.{clashes_told}
-
-true_false : (b : Bool) → b ≡ true → b ≡ false → ⊥
-true_false b h k = let e : true ≡ false = sym h ∙ k in cc
 
 module _ (rows : PolicyRows) (k now : Keyring) (v : k ≡ now) (stamp : ℕ) (st : stamp ≡ now.changes + 1)
     (list cs : List Certificate) (ls : list ≡ cs) (h : IsKeyring k) where
@@ -46,11 +41,6 @@ module _ (rows : PolicyRows) (k now : Keyring) (v : k ≡ now) (stamp : ℕ) (st
       (asked_some rows (k.changes + 1) k.certs cs n
       (subst (λ (es : Entries). n + weigh_kept sound_of k.certs ≤ weigh_kept sound_of es) steps e))
 
-  pub no_clash : MayUnite now.limits (certificates_in now) cs → (fault : Fault) → fault ≡ Clash →
-      IsClashTold fault (clash_in rows stamp k.certs list) → ⊥
-  no_clash may fault is told = true_false _ (subst (λ (f : Fault). IsClashTold f (clash_in rows stamp k.certs list)) is
-      told) (clashes ∙ sym (clashes_told rows (k.changes + 1) k.certs cs h.named h.sorted) ∙ (may_before may).clash)
-
   module _ (new : Entries) (fresh changes : ℕ) (put : new ≡ kept_all rows stamp k.certs list)
       (more : fresh + weigh_kept items_of k.certs ≡ weigh_kept items_of new) (grows : (a b : Certificate) →
       items_of a ≤ items_of (unite a b))
@@ -61,20 +51,19 @@ module _ (rows : PolicyRows) (k now : Keyring) (v : k ≡ now) (stamp : ℕ) (st
     abbrev with_changes : ℕ → Keyring
     with_changes n = record { limits = k.limits; certs = new; verdicts = k.verdicts; changes = n }
 
-    pub answered_now : (skipped : ℕ) → MayUnite now.limits (certificates_in now) cs →
-        AnswersUnited (Ok (record { taken = length list; skipped = skipped; fresh = fresh })) rows now cs skipped
-    answered_now skipped may =
-        subst (λ (z : Keyring). AnswersUnited (Ok (record { taken = length list; skipped = skipped; fresh = fresh }))
-        rows z cs skipped) v
-        (inl (ap (λ (xs : List Certificate). Ok (record { taken = length xs; skipped = skipped; fresh = fresh })) ls
-        ∙ answered rows k cs new fresh h put_now more grows skipped (may_before may)))
+    pub answered_now : (taken skipped : ℕ) → MayUnite now.limits (certificates_in now) cs →
+        AnswersCounting taken (Ok (record { taken = taken; skipped = skipped; fresh = fresh })) rows now cs skipped
+    answered_now taken skipped may =
+        subst (λ (z : Keyring). AnswersCounting taken
+        (Ok (record { taken = taken; skipped = skipped; fresh = fresh })) rows z cs skipped) v
+        (inl (ap (counted_as taken) (answered rows k cs new fresh h put_now more grows skipped (may_before may))))
 
     pub held_now : with_changes changes ≡ holding now (with_certs rows (certificates_in now) cs)
     held_now = ap with_changes raised ∙ held rows k cs new fresh h put_now more grows
         ∙ ap (λ (z : Keyring). holding z (with_certs rows (certificates_in z) cs)) v
 
     module _ (still : (a b : Certificate) → items_of (unite a b) ≡ items_of a → unite a b ≡ a) where
-      pub counted_now : IsLater now (with_changes changes) → IsOneChange now (with_changes changes)
+      counted_now : IsLater now (with_changes changes) → IsOneChange now (with_changes changes)
       counted_now later =
           let before : IsLater k (with_changes (if nat_lt 0 fresh then k.changes + 1 else k.changes)) =
           subst (λ n. IsLater k (with_changes n)) raised (subst (λ (z : Keyring). IsLater z (with_changes changes))
@@ -82,6 +71,9 @@ module _ (rows : PolicyRows) (k now : Keyring) (v : k ≡ now) (stamp : ℕ) (st
           subst (λ (z : Keyring). IsOneChange z (with_changes changes)) v
           (subst (λ n. IsOneChange k (with_changes n)) (sym raised) (changed_once rows k cs new fresh h put_now more
           grows still before))
+
+      pub next_now : IsLater now (with_changes changes) → IsNext now (with_changes changes)
+      next_now later = record { counted = counted_now later; later = later; limits = ap (λ (z : Keyring). z.limits) v }
 
       pub keyring_now : ((a b : Certificate) → IsCertificate a → IsCertificate b → a.key ≡ b.key →
           IsCertificate (unite a b)) → ((rows : PolicyRows) (c : Certificate) → IsCertificate c →

@@ -7,7 +7,7 @@ use Rattle.std.specs.Ordering.{match_ordering}
 use Rattle.std.specs.Cmp.{IsTotalOrder}
 use Rattle.std.specs.Cmp.Lexicographic.{on_texts}
 use Rattle.std.specs.BTreeMap.{insert_entry, is_at}
-use Rattle.std.specs.Prelude.{is_some}
+use Rattle.std.specs.Prelude.{◌&&◌, is_none, is_some}
 use Rattle.std.specs.Map.{lookup, remove_entry}
 use Rattle.std.specs.Option.{option_map}
 use Rattle.std.proofs.lemmas.Cmp.{tied_itself}
@@ -110,6 +110,16 @@ removed_once k now fpr x es seen h found out = rw (out, ← seen) (inr (record {
   kept = inr (more_than (length (remove_entry (is_fpr fpr) k.certs)) (length k.certs)
       (removed_one (is_fpr fpr) k.certs x (sym found)));
 }))
+
+-- a new verdict exceeds no limit if there is one on the number
+pub not_over : (o : Option Verdict) (v : Verdict) (full : Bool) → o ≡ Some v → is_none o && full ≡ false
+not_over None v full is = absurd cc
+not_over (Some w) v full is = refl
+
+pub set_now : (k now new : Keyring) (number : SigNumber) (v : Verdict) (said : verdicts.Entries) → k ≡ now
+    → said ≡ verdicts.with_verdict k.verdicts number v → new ≡ counted_at number (record k { verdicts = said })
+    → new ≡ with_verdict_on number v now
+set_now k now new number v said seen set counted = rw (counted, set, ← seen) refl
 
 pub set_once : (k now new : Keyring) (number : SigNumber) (v : Verdict) (said : verdicts.Entries) → k ≡ now →
     verdict_on now number ≢ Some v

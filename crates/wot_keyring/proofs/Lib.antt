@@ -17,3 +17,4 @@ pub mod DumpSize
 pub mod UnionNoted
 pub mod Imports
 pub mod Adopted
+pub mod Undone

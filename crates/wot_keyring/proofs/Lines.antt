@@ -2,6 +2,7 @@
 use Rattle.std.proofs.Common.{◌≡◌, ℕ, ◌≤◌, List, [], ◌∷◌, ◌++◌, map, refl, sym, ap, subst, ◌∙◌, append_assoc, arith}
 use Rattle.std.specs.List.{AllByRecursion}
 use Rattle.std.proofs.lemmas.Grind.{flat_map-append}
+use Rattle.std.proofs.lemmas.List.{append-nil}
 use Rattle.wot_words.specs.StateLine.{IsPrinted, most_octets}
 use Rattle.wot_words.specs.declared.state_line.StateLine.{StateLine}
 use Rattle.wot_types.specs.declared.fpr.Fpr.{Fpr}
@@ -31,6 +32,26 @@ pub record PutSoFar (before now : List ℕ) (all rest : List StateLine) : Type 0
   pub text : now ≡ before ++ made
   pub left : made ++ lines_of rest ≡ lines_of all
   pub lined : AreLines rest → AreLines all
+
+-- nothing was appended
+pub none_put : (before : List ℕ) (all rest : List StateLine) → rest ≡ all → PutSoFar before before all rest
+none_put before all rest same = record {
+  made = [];
+  text = sym (append-nil before);
+  left = ap lines_of same;
+  lined = λ h. subst AreLines same h;
+}
+
+pub all_put : (before now : List ℕ) (all rest : List StateLine) → PutSoFar before now all rest → rest ≡ [] →
+    now ≡ before ++ lines_of all
+all_put before now all rest so_far none =
+    so_far.text
+    ∙ ap (λ text. before ++ text)
+    (sym (append-nil so_far.made) ∙ ap (λ cs. so_far.made ++ lines_of cs) (sym none) ∙ so_far.left)
+
+pub all_lined : (before now : List ℕ) (all rest : List StateLine) → PutSoFar before now all rest → rest ≡ [] →
+    AreLines all
+all_lined before now all rest so_far none = so_far.lined (subst AreLines (sym none) tt)
 
 pub one_put : (before now next : List ℕ) (all : List StateLine) (c : StateLine) (rest : List StateLine) →
     PutSoFar before now all (c ∷ rest)

@@ -12,7 +12,9 @@ use Rattle.wot_held.specs.declared.imported.Imported.{Imported}
 use Rattle.wot_held.specs.declared.kept.Kept.{Kept}
 use Rattle.wot_held.specs.declared.refusal.Refusal.{Refusal}
 use Rattle.wot_held.specs.declared.refusal.Refusal.TheVariants.{Packet, Cert, Clash, Full, Misfiled, Memory}
-use Rattle.wot_merge.specs.Gather.{clashes_with, taken_all, AreAllWhole, DoTheSame, ComeToNothing}
+use Rattle.wot_merge.specs.declared.staging.Fault.{Fault}
+use Rattle.wot_merge.specs.declared.staging.Fault.TheVariants as faults
+use Rattle.wot_merge.specs.Gather.{clashes_with, taken_all, AreAllWhole, DoTheSame, ComeToNothing, IsNothingTold}
 use Rattle.wot_part.specs.Judged.{sound_of}
 use Rattle.wot_held.specs.Import.{any_clash, weigh, with_cert, with_certs, first_full, fresh_in, holding, answer_united}
 use Rattle.wot_held.specs.Import.{◌>>◌, refuse_if}
@@ -20,6 +22,7 @@ use Rattle.wot_held.specs.Importing.{alone, TellsUnion, AnswersUnited, asked_for
 use Rattle.wot_held.specs.Keyring.{Entries, Certificates, Keyring, is_fpr, stripped, certificates_in}
 use Rattle.wot_held.specs.Kept.{AreWhole, IsKeyring}
 use Rattle.wot_merge.specs.Staging.{found_for, kept_with, clash_at, clash_in}
+use Rattle.wot_keyring.specs.Merging.{counted_as, refused, AnswersCounting}
 use Rattle.wot_merge.proofs.Clashes.{clashes_told}
 use Rattle.wot_merge.proofs.MergedInTurn.{none_stays}
 use Rattle.wot_merge.proofs.Transport.{certs_all}
@@ -75,11 +78,6 @@ none_of : (a : Bool) (x : Certificates) → cond a None (Some x) ≡ None → a 
 none_of true x e = refl
 none_of false x e = absurd cc
 
--- with this number of certificates read
-abbrev pub counted_as : ℕ → Result Imported Refusal → Result Imported Refusal
-counted_as taken (Ok done) = Ok (record { taken = taken; skipped = done.skipped; fresh = done.fresh })
-counted_as taken (Err refusal) = Err refusal
-
 -- the counts, unless a limit is exceeded
 abbrev unless_full : Option Limit → Imported → Result Imported Refusal
 unless_full o counts = option_map Full o >> Ok counts
@@ -128,6 +126,13 @@ module _ (rows : PolicyRows) (k : Keyring) (h : IsKeyring k) where
         fresh = fresh_in (certificates_in k) (with_certs rows (certificates_in k) list);
       })) clash))
 
+  pub nothing_refused : (fault : Fault) (r : Refusal) (list : List Certificate) (skipped : ℕ) → r ≡ refused fault →
+      IsNothingTold fault list → AnswersUnited (Err r) rows k list skipped
+  nothing_refused faults.Clash r list skipped is told =
+      subst (λ (x : Refusal). AnswersUnited (Err x) rows k list skipped) (sym is) (nothing_answered list skipped told)
+  nothing_refused faults.Memory r list skipped is told =
+      subst (λ (x : Refusal). AnswersUnited (Err x) rows k list skipped) (sym is) (inr refl)
+
   module _ (list other : List Certificate) (same : DoTheSame list other) where
     both : cond (any_clash (alone (certificates_in k)) list) None
         (Some (with_certs rows (certificates_in k) list)) ≡ cond (any_clash (alone (certificates_in k)) other) None
@@ -148,26 +153,27 @@ module _ (rows : PolicyRows) (k : Keyring) (h : IsKeyring k) where
         (first_full k.limits) (fresh_in (certificates_in k)) (with_certs rows (certificates_in k) list)
         (with_certs rows (certificates_in k) other) (length list) (length other) skipped same_clash same_held
 
-    refused : (skipped : ℕ) (r : Refusal) → answer_united rows k.limits (certificates_in k) other skipped ≡ Err r →
+    same_error : (skipped : ℕ) (r : Refusal) → answer_united rows k.limits (certificates_in k) other skipped ≡ Err r →
         Err r ≡ answer_united rows k.limits (certificates_in k) list skipped
-    refused skipped r told = sym (same_answer skipped ∙ ap (counted_as (length list)) told)
+    same_error skipped r told = sym (same_answer skipped ∙ ap (counted_as (length list)) told)
 
     -- a refusal of the first list is one of the second
     pub same_refusal : (r : Refusal) (skipped : ℕ) → TellsUnion (Some r) k.limits (certificates_in k) other →
         AnswersUnited (Err r) rows k list skipped
-    same_refusal (Packet f) skipped told = inl (refused skipped (Packet f) (told rows skipped))
-    same_refusal (Cert f) skipped told = inl (refused skipped (Cert f) (told rows skipped))
-    same_refusal Clash skipped told = inl (refused skipped Clash (told rows skipped))
-    same_refusal (Full limit) skipped told = inl (refused skipped (Full limit) (told rows skipped))
-    same_refusal Misfiled skipped told = inl (refused skipped Misfiled (told rows skipped))
+    same_refusal (Packet f) skipped told = inl (same_error skipped (Packet f) (told rows skipped))
+    same_refusal (Cert f) skipped told = inl (same_error skipped (Cert f) (told rows skipped))
+    same_refusal Clash skipped told = inl (same_error skipped Clash (told rows skipped))
+    same_refusal (Full limit) skipped told = inl (same_error skipped (Full limit) (told rows skipped))
+    same_refusal Misfiled skipped told = inl (same_error skipped Misfiled (told rows skipped))
     same_refusal Memory skipped told = inr refl
 
-    -- the counts, except how many were read
+    -- the counts, as many read as the first list has
     pub same_counts : (done : Result Imported Refusal) (taken skipped : ℕ) → taken ≡ length list →
-        AnswersUnited done rows k other skipped → AnswersUnited (counted_as taken done) rows k list skipped
-    same_counts done taken skipped n (inl e) = inl (ap (λ m. counted_as m done) n ∙ ap (counted_as (length list)) e
+        AnswersCounting taken done rows k other skipped → AnswersUnited done rows k list skipped
+    same_counts done taken skipped n (inl e) =
+        inl (e ∙ ap (λ m. counted_as m (answer_united rows k.limits (certificates_in k) other skipped)) n
         ∙ sym (same_answer skipped))
-    same_counts done taken skipped n (inr e) = inr (ap (counted_as taken) e)
+    same_counts done taken skipped n (inr e) = inr e
 
     pub same_holding : any_clash (alone (certificates_in k)) other ≡ false →
         holding k (with_certs rows (certificates_in k) other) ≡ holding k (with_certs rows (certificates_in k) list)

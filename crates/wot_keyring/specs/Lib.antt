@@ -2,3 +2,4 @@ pub mod Dump
 pub mod Parts
 pub mod Behind
 pub mod Uniting
+pub mod Merging

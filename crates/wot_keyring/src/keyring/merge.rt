@@ -6,13 +6,13 @@ ghost use Rattle.std.specs.Prelude.{true, Ok, OnOk, OnErr};
 ghost use Rattle.std.specs.List.{AllByRecursion};
 ghost use Rattle.wot_part.specs.Whole.{IsCertificate};
 ghost use Rattle.wot_held.specs.Keyring.{certificates_in};
-ghost use Rattle.wot_held.specs.Kept.{IsJudgedBy};
 ghost use Rattle.wot_held.specs.Kept.{IsKeyring};
-ghost use Rattle.wot_policy.specs.Kept.{IsFaithful, rows_of};
-ghost use Rattle.wot_held.specs.Import.{Asked, IsOneChange, with_united};
-ghost use Rattle.wot_held.specs.Later.{IsLater};
+ghost use Rattle.wot_policy.specs.Kept.{rows_of};
+ghost use Rattle.wot_held.specs.Import.{Asked, IsNext, with_united};
+ghost use Rattle.wot_held.specs.Judging.{IsJudging, StaysJudging};
 ghost use Rattle.wot_held.specs.Importing.{asked_for, AnswersUnited, MayUnite, TellsUnion};
 ghost use Rattle.wot_merge.specs.Staging.{IsTally};
+ghost use Rattle.wot_keyring.specs.Merging.{refused, AnswersCounting};
 
 use crate::Keyring;
 use crate::uniting::unite_all;
@@ -35,16 +35,13 @@ impl Keyring {
         policy: &mut Policy<F>,
     ) -> Result<Imported, Refusal>
         requires countable { self.old.changes < 2 ^ 64 - 1 }
-        requires judged { IsJudgedBy (rows_of policy.old) self.old }
-        requires faithful { IsFaithful F.Fn policy.old }
+        requires judging { IsJudging F.Fn policy.old self.old }
         ensures answer { AnswersUnited result (rows_of policy.old) self.old read.certs read.skipped }
         ensures united { OnOk result (self.new ≡ with_united (rows_of policy.old) self.old read.certs) }
         ensures kept { OnErr result (self.new ≡ self.old) }
         ensures asked { Asked result (asked_for (rows_of policy.old) self.old read.certs) policy.old policy.new }
-        ensures counted { IsOneChange self.old self.new }
-        ensures later { IsLater self.old self.new }
-        ensures judged { IsJudgedBy (rows_of policy.old) self.new }
-        ensures faithful { IsFaithful F.Fn policy.new }
+        ensures next { IsNext self.old self.new }
+        ensures judging { StaysJudging F.Fn policy.old policy.new self.new }
     {
         self.lawful();
         let Assembled { certs, skipped } = read;
@@ -52,20 +49,12 @@ impl Keyring {
         let taken = certs.len();
         let list = match gathered(alloc, certs) {
             Ok(list) => list,
-            Err(Fault::Clash) => return Err(Refusal::Clash),
-            Err(Fault::Memory) => return Err(Refusal::Memory),
+            Err(fault) => return Err(refused(fault)),
         };
         if let Some(refusal) = self.refusal(alloc, list.as_slice()) {
             return Err(refusal);
         }
-        match self.accept(alloc, list, skipped, policy) {
-            Ok(done) => Ok(Imported {
-                taken: taken as u64,
-                skipped: done.skipped,
-                fresh: done.fresh,
-            }),
-            Err(refusal) => Err(refusal),
-        }
+        self.accept(alloc, list, taken as u64, skipped, policy)
     }
 
     /// Whether these certificates fit even if everything in them is new. Only answered for a single certificate.
@@ -99,34 +88,31 @@ impl Keyring {
         }
     }
 
-    /// Merges certificates that clash with nothing and exceed no limit.
+    /// Merges certificates that clash with nothing and exceed no limit. The counts say that this many were read.
     fn accept<F: Fn(Ask) -> bool>(
         &mut self,
         alloc: Global,
         list: Vec<Cert>,
+        taken: u64,
         skipped: u64,
         policy: &mut Policy<F>,
     ) -> Result<Imported, Refusal>
         requires countable { self.old.changes < 2 ^ 64 - 1 }
-        requires judged { IsJudgedBy (rows_of policy.old) self.old }
-        requires faithful { IsFaithful F.Fn policy.old }
+        requires judging { IsJudging F.Fn policy.old self.old }
         requires whole { AllByRecursion IsCertificate list.items }
         requires may { MayUnite self.old.limits (certificates_in self.old) list.items }
-        ensures answer { AnswersUnited result (rows_of policy.old) self.old list.items skipped }
+        ensures answer { AnswersCounting taken result (rows_of policy.old) self.old list.items skipped }
         ensures united { OnOk result (self.new ≡ with_united (rows_of policy.old) self.old list.items) }
         ensures kept { OnErr result (self.new ≡ self.old) }
         ensures asked { Asked result (asked_for (rows_of policy.old) self.old list.items) policy.old policy.new }
-        ensures counted { IsOneChange self.old self.new }
-        ensures later { IsLater self.old self.new }
-        ensures judged { IsJudgedBy (rows_of policy.old) self.new }
-        ensures faithful { IsFaithful F.Fn policy.new }
+        ensures next { IsNext self.old self.new }
+        ensures judging { StaysJudging F.Fn policy.old policy.new self.new }
     {
         united_grows();
         united_whole();
         nothing_added();
         let terms = self.terms();
-        let taken = list.len();
-        log::make_room(&mut self.log, taken, self.certs.len());
+        log::make_room(&mut self.log, list.len(), self.certs.len());
         match unite_all(
             alloc,
             &mut self.certs,
@@ -141,13 +127,13 @@ impl Keyring {
                 self.signatures = tally.total.signatures;
                 self.changes = raised(self.changes, tally.fresh);
                 Ok(Imported {
-                    taken: taken as u64,
+                    taken,
                     skipped,
                     fresh: tally.fresh,
                 })
             }
-            Err(Fault::Clash) => Err(Refusal::Clash),
-            Err(Fault::Memory) => Err(Refusal::Memory),
+            // Nothing clashes, so memory ran out.
+            Err(_) => Err(Refusal::Memory),
         }
     }
 
@@ -184,6 +170,16 @@ impl Keyring {
             signatures: self.signatures,
             long: 0,
         }
+    }
+}
+
+/// The refusal for a fault.
+fn refused(fault: Fault) -> Refusal
+    ensures refused { result ≡ refused fault }
+{
+    match fault {
+        Fault::Clash => Refusal::Clash,
+        Fault::Memory => Refusal::Memory,
     }
 }
 

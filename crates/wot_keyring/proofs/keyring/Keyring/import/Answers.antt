@@ -1,13 +1,12 @@
 use Rattle.wot_policy.specs.Kept.{rows_of}
 use Rattle.wot_keyring.proofs.HeldChanges.{imported_in_place}
-use Rattle.wot_keyring.proofs.Imports.{judging_asked, judging_still, next_itself, next_united}
+use Rattle.wot_keyring.proofs.Imports.{judging_still, next_itself}
 use Rattle.wot_keyring.proofs.keyring.Keyring.import.Goals as goal
 
 pub take-requires : goal.take-requires
 take-requires g c = record {
   countable = c.requires.countable;
-  judged = c.requires.judging.judged;
-  faithful = c.requires.judging.faithful;
+  judging = c.requires.judging;
 }
 
 pub returns-clause-held : goal.returns-clause-held
@@ -17,14 +16,10 @@ returns-clause-held g c =
     c.take.ensures.united c.in-Ok.ensures.read.spelled
 
 pub returns-clause-next : goal.returns-clause-next
-returns-clause-next g c =
-    next_united c.take.result (rows_of c.args.policy.now) c.args.self.now c.take.new.self c.in-Ok.read.certs
-    c.take.ensures.united c.take.ensures.kept c.take.ensures.counted c.take.ensures.later
+returns-clause-next g c = c.take.ensures.next
 
 pub returns-clause-judging : goal.returns-clause-judging
-returns-clause-judging g c =
-    judging_asked _ c.args.policy.now c.take.ensures.asked.0 c.take.new.policy c.take.new.self c.take.ensures.asked.1
-    c.take.ensures.judged c.take.ensures.faithful
+returns-clause-judging g c = c.take.ensures.judging
 
 pub returns-in-Err-clause-next : goal.returns-in-Err-clause-next
 returns-in-Err-clause-next g c = next_itself c.args.self.now

@@ -1,11 +1,13 @@
-use Rattle.std.proofs.Common.{◌≡◌, false, refl, sym, subst}
-use Rattle.wot_verdict.specs.Verdicts.{AreSortedByNumber}
-use Rattle.wot_held.specs.Keyring.{Keyring}
+use Rattle.std.proofs.Common.{◌≡◌, ◌∙◌, false, inl, length, nat_le, refl, sym, ap, subst}
+use Rattle.wot_verdict.specs.Verdicts.{AreSortedByNumber, ByNumber}
+use Rattle.wot_held.specs.Keyring.{Keyring, verdict_on}
 use Rattle.wot_held.specs.Kept.{IsJudgedBy}
+use Rattle.wot_held.specs.Later.{IsLater}
 use Rattle.wot_held.specs.Verdict.{is_over}
-use Rattle.wot_keyring.proofs.Altered.{set_once}
+use Rattle.wot_keyring.proofs.Altered.{not_over, set_now, set_once}
 use Rattle.wot_keyring.proofs.HeldChanges.{held_said, set_in_place}
 use Rattle.wot_keyring.proofs.InvariantKept.{judged_keyring, set_few}
+use Rattle.wot_keyring.proofs.Undone.{same_parts}
 use Rattle.wot_index.proofs.Later.{later_itself, set_later_now}
 use Rattle.wot_index.proofs.Logged.{logged_again}
 use Rattle.wot_index.proofs.Noted.{indexed_same}
@@ -81,3 +83,99 @@ returns-in-Ok-clause-held c =
     }) c.args.self.now c.altered_at.new.self
     c.args.number c.args.verdict _ c.self.view_is c.if-says.ensures.says c.in-Ok.ensures.set
     c.altered_at.ensures.counted
+
+-- ---- nothing to set
+
+pub returns-then-says-clause-same : goal.returns-then-says-clause-same
+returns-then-says-clause-same c = λ said. (refl, refl)
+
+pub returns-then-says-clause-set : goal.returns-then-says-clause-set
+returns-then-says-clause-set c = λ unsaid. absurd (unsaid c.if-says.ensures.says)
+
+pub returns-then-says-clause-full : goal.returns-then-says-clause-full
+returns-then-says-clause-full c =
+    not_over (verdict_on c.args.self.now c.args.number) c.args.verdict
+    (nat_le c.args.self.now.limits.verdicts (length c.args.self.now.verdicts)) c.if-says.ensures.says
+
+pub returns-then-says-clause-counted : goal.returns-then-says-clause-counted
+returns-then-says-clause-counted c = inl refl
+
+pub returns-then-says-clause-judged : goal.returns-then-says-clause-judged
+returns-then-says-clause-judged c = λ rows all. all
+
+-- ---- full
+
+pub returns-then-would_pass-clause-same : goal.returns-then-would_pass-clause-same
+returns-then-would_pass-clause-same c = λ said. absurd (c.if-says.ensures.says said)
+
+pub returns-then-would_pass-clause-full : goal.returns-then-would_pass-clause-full
+returns-then-would_pass-clause-full c = sym c.if-would_pass.ensures.passes
+
+pub returns-then-would_pass-clause-counted : goal.returns-then-would_pass-clause-counted
+returns-then-would_pass-clause-counted c = inl refl
+
+pub returns-then-would_pass-clause-judged : goal.returns-then-would_pass-clause-judged
+returns-then-would_pass-clause-judged c = λ rows all. all
+
+-- ---- set
+
+pub returns-in-Ok-clause-same : goal.returns-in-Ok-clause-same
+returns-in-Ok-clause-same c = λ said. absurd (c.if-says.ensures.says said)
+
+pub returns-in-Ok-clause-set : goal.returns-in-Ok-clause-set
+returns-in-Ok-clause-set c = λ unsaid.
+    set_now (record {
+      limits = c.self.inside.limits;
+      certs = c.self.inside.certs.entries;
+      verdicts = c.self.inside.index.verdicts.entries;
+      changes = c.self.inside.changes;
+    }) c.args.self.now c.altered_at.new.self
+    c.args.number c.args.verdict _ c.self.view_is c.in-Ok.ensures.set c.altered_at.ensures.counted
+
+pub returns-in-Ok-clause-full : goal.returns-in-Ok-clause-full
+returns-in-Ok-clause-full c = sym c.if-would_pass.ensures.passes
+
+pub returns-in-Ok-clause-limits : goal.returns-in-Ok-clause-limits
+returns-in-Ok-clause-limits c =
+    ap (λ (k : Keyring). k.limits) c.altered_at.ensures.counted ∙ ap (λ (k : Keyring). k.limits) c.self.view_is
+
+-- ---- out of memory
+
+pub invariant_of-self-in-Err : goal.invariant_of-self-in-Err
+invariant_of-self-in-Err c = rw c.in-Err.ensures.kept (
+  c.self.invariant.0,
+  c.self.invariant.1,
+  c.self.invariant.2,
+  logged_again c.self.inside.log c.make_room.new.log c.self.inside.certs.entries c.self.inside.changes
+      c.make_room.ensures.from c.make_room.ensures.entries c.self.invariant.3,
+)
+
+pub returns-in-Err-clause-same : goal.returns-in-Err-clause-same
+returns-in-Err-clause-same c = λ said. absurd (c.if-says.ensures.says said)
+
+pub returns-in-Err-clause-full : goal.returns-in-Err-clause-full
+returns-in-Err-clause-full c = sym c.if-would_pass.ensures.passes
+
+pub returns-in-Err-clause-limits : goal.returns-in-Err-clause-limits
+returns-in-Err-clause-limits c = ap (λ (k : Keyring). k.limits) c.self.view_is
+
+pub returns-in-Err-clause-kept : goal.returns-in-Err-clause-kept
+returns-in-Err-clause-kept c =
+    same_parts _ _ _ _ _ _ c.args.self.now c.self.view_is refl
+    (ap (λ (v : ByNumber). v.entries) c.in-Err.ensures.kept)
+
+pub returns-in-Err-clause-counted : goal.returns-in-Err-clause-counted
+returns-in-Err-clause-counted c =
+    inl (same_parts _ _ _ _ _ _ c.args.self.now c.self.view_is refl
+    (ap (λ (v : ByNumber). v.entries) c.in-Err.ensures.kept))
+
+pub returns-in-Err-clause-later : goal.returns-in-Err-clause-later
+returns-in-Err-clause-later c =
+    subst (λ (k : Keyring). IsLater c.args.self.now k) (sym (same_parts _ _ _ _ _ _ c.args.self.now c.self.view_is refl
+    (ap (λ (v : ByNumber). v.entries) c.in-Err.ensures.kept)))
+    (later_itself c.args.self.now)
+
+pub returns-in-Err-clause-judged : goal.returns-in-Err-clause-judged
+returns-in-Err-clause-judged c = λ rows all.
+    subst (λ (k : Keyring). IsJudgedBy rows k) (sym (same_parts _ _ _ _ _ _ c.args.self.now c.self.view_is refl
+    (ap (λ (v : ByNumber). v.entries) c.in-Err.ensures.kept))) all
