@@ -16,7 +16,8 @@ use Rattle.std.proofs.lemmas.Map.Keys.{IsDistinct-from_sorted, sorted_head, sort
 use Rattle.wot_types.specs.declared.number.SigNumber.{SigNumber}
 use Rattle.wot_types.specs.SigNumber.{number_cmp}
 use Rattle.wot_slots.specs.Above.{listed, numbers_in, with_value}
-use Rattle.wot_slots.specs.Near.{Slot, Rest, holder_in, is_number, near_in, place_in}
+use Rattle.wot_slots.specs.Near.{Rest, holder_in, is_number, near_in, place_in}
+use Rattle.wot_slots.specs.Row.{Slot}
 use Rattle.wot_slots.proofs.Numbers.{numbers_total, same_number, itself, turned}
 use Rattle.wot_slots.proofs.Rows.{slot_found}
 

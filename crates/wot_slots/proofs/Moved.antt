@@ -1,16 +1,16 @@
 -- Values in a row and a tree: what they have after a change of one of them, and after a move to a longer row.
-use Rattle.std.proofs.Common.{◌≡◌, ◌<◌, ◌≤◌, ◌+◌, ◌++◌, ◌⊎◌, inl, inr, ℕ, suc, zero, Bool, true, false, cond, List, []}
-use Rattle.std.proofs.Common.{Result, Ok, Err, OnOk, OnErr, length, take, Option, Some, None, is_some, sym, ap, ◌∙◌}
+use Rattle.std.proofs.Common.{◌≡◌, ◌<◌, ◌≤◌, ◌+◌, ◌⊎◌, inl, inr, ℕ, Bool, true, false, cond, List, []}
+use Rattle.std.proofs.Common.{Result, Ok, Err, IfOk, OnOk, OnErr, length, Option, Some, None, is_some, sym, ap, ◌∙◌}
 use Rattle.std.proofs.Common.{subst, refl, arith}
-use Rattle.std.specs.Prelude.{replicate}
-use Rattle.std.specs.Option.{option_or}
-use Rattle.std.specs.List.{slice_index_or}
+use Rattle.std.specs.Option.{option_map, option_or}
+use Rattle.std.specs.List.{slice_get, slice_index_or}
 use Rattle.std.specs.Map.{lookup}
 use Rattle.std.proofs.lemmas.Bool.{cases_lt}
-use Rattle.std.proofs.lemmas.List.{get_or_past}
+use Rattle.std.proofs.lemmas.Option.{slice_get_within}
 use Rattle.wot_types.specs.declared.number.SigNumber.{SigNumber}
-use Rattle.wot_slots.specs.Near.{Slot, Rest, is_number, place_in, held_for, near_in, holder_in, DiffersAt, IsOf}
+use Rattle.wot_slots.specs.Near.{Rest, is_number, place_in, held_for, near_in, holder_in, DiffersAt, IsOf}
 use Rattle.wot_slots.specs.Near.{Moves, HasMoved, SaysSame}
+use Rattle.wot_slots.specs.Row.{RowOf, Slot, HasEntries}
 use Rattle.wot_slots.proofs.Numbers.{same_number, itself}
 use Rattle.wot_slots.proofs.Rows.{found_nothing, slot_found}
 
@@ -153,11 +153,11 @@ module _ {T : Type 0} where
                 ∙ sym found ∙ e;
           })
 
-  -- ---- all slots moved
+  -- ---- all entries moved
 
-  pub moved_nothing : (near longer : List (Slot T)) (before : Rest T) → ((n : SigNumber) → near_in longer n ≡ None) →
-      HasMoved 0 near longer before before
-  moved_nothing near longer before vacant = record {
+  pub moved_nothing : (came : List (SigNumber × T)) (near longer : List (Slot T)) (before : Rest T) →
+      ((n : SigNumber) → near_in longer n ≡ None) → HasMoved 0 came near longer before before
+  moved_nothing came near longer before vacant = record {
     sound = λ q. inl (vacant q);
     none = λ q e. refl;
     held = λ q i other value lt slot found. absurd (none i lt);
@@ -166,24 +166,9 @@ module _ {T : Type 0} where
       none : (i : ℕ) → i < 0 → ⊥
       none i lt = omega arith
 
-  pub moved_past : (at : ℕ) (near longer : List (Slot T)) (before rest : Rest T) → slice_index_or near at None ≡ None →
-      HasMoved at near longer before rest → HasMoved (at + 1) near longer before rest
-  moved_past at near longer before rest empty h = record {
-    sound = h.sound;
-    none = h.none;
-    held = λ q i other value lt slot found. by q i other value lt slot found (cases_lt i at);
-  }
-    where
-      by : (q : SigNumber) (i : ℕ) (other value : T) → i < at + 1 → slice_index_or near i None ≡ Some (q, other) →
-          near_in near q ≡ Some value → (i < at) ⊎ (at ≤ i) → holder_in longer rest q ≡ Some value
-      by q i other value lt slot found (inl before) = h.held q i other value before slot found
-      by q i other value lt slot found (inr past) =
-          let e : at ≡ i = omega (arith, lt, past) in
-          absurd (none_some (sym empty ∙ ap (λ k. slice_index_or near k None) e ∙ slot))
-
-  module _ (at : ℕ) (near longer new : List (Slot T)) (before rest rest' : Rest T) (number : SigNumber) (there : T)
-      (is : slice_index_or near at None ≡ Some (number, there)) (h : HasMoved at near longer before rest)
-      (m : Moves number near longer rest new rest') where
+  module _ (at : ℕ) (came : List (SigNumber × T)) (near longer new : List (Slot T)) (before rest rest' : Rest T)
+      (number : SigNumber) (is : option_map (λ e. e.0) (slice_get came at) ≡ Some number)
+      (h : HasMoved at came near longer before rest) (m : Moves number near longer rest new rest') where
     moved_sound : (q : SigNumber) (b : Bool) → is_number number q ≡ b → IsOf near new q
     moved_sound q true t = subst (IsOf near new) (same_number number q t) (m.sound (h.sound number))
     moved_sound q false t =
@@ -197,8 +182,8 @@ module _ {T : Type 0} where
     moved_none q false t = λ e. (m.others q t).1 ∙ h.none q e
 
     moved_held : (q : SigNumber) (i : ℕ) (other value : T) → i < at + 1 →
-        slice_index_or near i None ≡ Some (q, other) → near_in near q ≡ Some value → (b : Bool) →
-        is_number number q ≡ b → (i < at) ⊎ (at ≤ i) → holder_in new rest' q ≡ Some value
+        slice_get came i ≡ Some (q, other) → near_in near q ≡ Some value → (b : Bool) → is_number number q ≡ b →
+        (i < at) ⊎ (at ≤ i) → holder_in new rest' q ≡ Some value
     moved_held q i other value lt slot found true t place =
         subst (λ (x : SigNumber). near_in near x ≡ Some value → holder_in new rest' x ≡ Some value)
         (same_number number q t) (m.held (h.sound number) value) found
@@ -207,18 +192,17 @@ module _ {T : Type 0} where
         ∙ h.held q i other value before slot found
     moved_held q i other value lt slot found false t (inr past) =
         let e : at ≡ i = omega (arith, lt, past) in
-        let pair : Some (number, there) ≡ Some (q, other) =
-        sym is ∙ ap (λ k. slice_index_or near k None) e ∙ slot in
-        absurd (apart (sym (itself number) ∙ ap (is_number number) (numbers pair) ∙ t))
+        let same : Some number ≡ Some q =
+        sym is ∙ ap (option_map (λ e. e.0)) (ap (slice_get came) e ∙ slot) in
+        absurd (apart (sym (itself number) ∙ ap (is_number number) (numbers same) ∙ t))
       where
         apart : true ≡ false → ⊥
         apart h = cc
 
-        numbers : {x y : SigNumber} {a b : T} → ◌≡◌ {A = Slot T} (Some (x, a)) (Some (y, b)) → x ≡ y
-        numbers {x} {y} {a} {b} h =
-            let pair : ◌≡◌ {A = SigNumber × T} (x, a) (y, b) = cc in ap (λ (p : SigNumber × T). p.0) pair
+        numbers : {x y : SigNumber} → ◌≡◌ {A = Option SigNumber} (Some x) (Some y) → x ≡ y
+        numbers h = cc
 
-    pub moved_on : HasMoved (at + 1) near new before rest'
+    pub moved_on : HasMoved (at + 1) came near new before rest'
     moved_on = record {
       sound = λ q. moved_sound q (is_number number q) refl;
       none = λ q. moved_none q (is_number number q) refl;
@@ -226,27 +210,22 @@ module _ {T : Type 0} where
           (cases_lt i at);
     }
 
-  module _ (at : ℕ) (near longer : List (Slot T)) (before rest : Rest T) (h : HasMoved at near longer before rest) where
-    -- All slots were moved.
-    pub moved_all : length near ≤ at → SaysSame near before longer rest
-    moved_all past n = by (near_in near n) refl
+  module _ (at : ℕ) (came : List (SigNumber × T)) (near longer : List (Slot T)) (before rest : Rest T)
+      (h : HasMoved at came near longer before rest) where
+    -- All entries were moved.
+    pub moved_all : HasEntries near came → length came ≤ at → SaysSame near before longer rest
+    moved_all entries past n = by (near_in near n) refl
       where
         nothing : near_in near n ≡ None → IsOf near longer n → near_in longer n ≡ None
         nothing e (inl none) = none
         nothing e (inr same) = same ∙ e
 
-        within : (i : ℕ) (e : SigNumber × T) → slice_index_or near i None ≡ Some e → i < length near
-        within i e slot = by (cases_lt i (length near))
-          where
-            by : (i < length near) ⊎ (length near ≤ i) → i < length near
-            by (inl lt) = lt
-            by (inr out) = absurd (none_some (sym (get_or_past near i None out) ∙ slot))
-
         there : (value : T) → near_in near n ≡ Some value →
             (i : ℕ) × (slice_index_or near i None ≡ Some (n, value)) → holder_in longer rest n ≡ Some value
         there value e slot =
-            let lt = within slot.0 (n, value) slot.1 in
-            h.held n slot.0 value value (omega (arith, lt, past)) slot.1 e
+            let came = entries slot.0 (n, value) slot.1 in
+            let lt = slice_get_within _ came.0 (n, value) came.1 in
+            h.held n came.0 value value (omega (arith, lt, past)) came.1 e
 
         by : (o : Option T) → near_in near n ≡ o → holder_in longer rest n ≡ holder_in near before n
         by None e =
@@ -288,28 +267,15 @@ module _ {T : Type 0} where
 
   -- ---- empty slots
 
-  abbrev vacant : Slot T
-  vacant = None
-
-  none_there : (n i : ℕ) → slice_index_or (replicate n vacant) i None ≡ None
-  none_there zero i = refl
-  none_there (suc n) zero = refl
-  none_there (suc n) (suc i) = none_there n i
-
-  none_taken : (n : ℕ) → take {A = Slot T} n [] ≡ []
-  none_taken zero = refl
-  none_taken (suc n) = refl
-
   pub nothing_near : (slots : List (Slot T)) → ((i : ℕ) → slice_index_or slots i None ≡ None) → (n : SigNumber) →
       near_in slots n ≡ None
   nothing_near slots none n = found_nothing slots n (place_in (length slots) n) 8 (λ i lo hi. ap (held_for n) (none i))
 
-  pub vacant_row : (slots old : List (Slot T)) (n m : ℕ) → old ≡ [] → slots ≡ take n old ++ replicate m vacant →
-      (q : SigNumber) → near_in slots q ≡ None
-  vacant_row slots old n m none e = nothing_near slots (λ i.
-      ap (λ (xs : List (Slot T)). slice_index_or xs i None) (e
-      ∙ ap (λ (xs : List (Slot T)). take n xs ++ replicate m vacant) none
-      ∙ ap (λ (xs : List (Slot T)). xs ++ replicate m vacant) (none_taken n)) ∙ none_there m i)
+  pub vacant_row : {E : Type 0} (r : Result (RowOf T) E) →
+      IfOk r (λ made. (i : ℕ) → slice_index_or made.items i None ≡ None) →
+      IfOk r (λ made. (n : SigNumber) → near_in made.items n ≡ None)
+  vacant_row (Ok made) none = nothing_near made.items none
+  vacant_row (Err fault) none = none
 
   -- There are no values if both are empty.
   pub nothing_held : (near : List (Slot T)) (rest : Rest T) → near ≡ [] → rest ≡ [] → (n : SigNumber) →

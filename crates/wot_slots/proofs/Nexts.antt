@@ -13,7 +13,8 @@ use Rattle.wot_types.specs.declared.number.SigNumber.{SigNumber}
 use Rattle.wot_types.specs.SigNumber.{number_cmp}
 use Rattle.wot_slots.specs.Above.{IsBetter, IsCandidate, IsNext, IsNextEntry, IsNumber, IsRead}
 use Rattle.wot_slots.specs.Above.{bound_above, is_above, is_below}
-use Rattle.wot_slots.specs.Near.{Slot, Rest, found_from, held_for, holder_in, is_number, near_in, place_in}
+use Rattle.wot_slots.specs.Near.{Rest, found_from, held_for, holder_in, is_number, near_in, place_in}
+use Rattle.wot_slots.specs.Row.{Slot}
 use Rattle.wot_slots.proofs.Numbers.{numbers_total, same_number}
 use Rattle.wot_slots.proofs.Rises.{less_apart, less_is, less_on, places_rise}
 use Rattle.wot_slots.proofs.Rows.{found_nothing, past_end}

@@ -1,15 +1,22 @@
 -- Rows of slots: what is found in one after a slot was set or emptied.
-use Rattle.std.proofs.Common.{◌≡◌, ◌<◌, ◌≤◌, ◌+◌, ◌-◌, ◌⊎◌, inl, inr, ℕ, suc, zero, Bool, true, false, cond, List}
-use Rattle.std.proofs.Common.{length, Option, Some, None, is_some, sym, ap, ◌∙◌, subst, refl, arith}
+use Rattle.std.proofs.Common.{◌≡◌, ◌<◌, ◌≤◌, ◌+◌, ◌⊎◌, inl, inr, ℕ, suc, zero, Bool, true, false, cond, List}
+use Rattle.std.proofs.Common.{length, MatchBool, Option, Some, None, is_some, sym, ap, ◌∙◌, subst, refl, arith}
 use Rattle.std.specs.Prelude.{not}
 use Rattle.std.specs.Option.{option_or}
 use Rattle.std.specs.List.{slice_index_or, slice_set}
 use Rattle.std.proofs.lemmas.Bool.{cases_eq, cases_lt}
 use Rattle.std.proofs.lemmas.List.{length-set, get_or-set_same, get_or-set_other, get_or_past}
 use Rattle.wot_types.specs.declared.number.SigNumber.{SigNumber}
-use Rattle.wot_slots.specs.Near.{Slot, is_number, place_in, held_for, found_from, near_in, DiffersAt, HasLess}
+use Rattle.wot_slots.specs.Near.{is_number, place_in, held_for, found_from, near_in, DiffersAt, HasLess}
 use Rattle.wot_slots.specs.Near.{HasNoneIn, IsFirstOf}
+use Rattle.wot_slots.specs.Row.{RowOf, Slot}
 use Rattle.wot_slots.proofs.Numbers.{same_number, itself, turned}
+
+-- The slot is empty if a test says so.
+pub empty_slot : {A : Type 0} (slot : Option A) (b : Bool) → is_some slot ≡ not b → b ≡ true → slot ≡ None
+empty_slot None b is empty = refl
+empty_slot (Some e) true is empty = absurd cc
+empty_slot (Some e) false is empty = absurd cc
 
 module _ {T : Type 0} where
   -- ---- one slot
@@ -27,10 +34,10 @@ module _ {T : Type 0} where
           ap Some (λ i. (number i, same i))
       by false t k = absurd cc
 
-  held_own : (n : SigNumber) (value : T) → held_for n (Some (n, value)) ≡ Some value
+  pub held_own : (n : SigNumber) (value : T) → held_for n (Some (n, value)) ≡ Some value
   held_own n value = ap (λ b. cond b (Some value) None) (itself n)
 
-  held_other : (n q : SigNumber) (value : T) → is_number n q ≡ false → held_for q (Some (n, value)) ≡ None
+  pub held_other : (n q : SigNumber) (value : T) → is_number n q ≡ false → held_for q (Some (n, value)) ≡ None
   held_other n q value other = ap (λ b. cond b (Some value) None) (turned q n ∙ other)
 
   pub past_end : (slots : List (Slot T)) (n : SigNumber) (i : ℕ) → length slots ≤ i →
@@ -40,12 +47,6 @@ module _ {T : Type 0} where
   none_of : (o : Option T) → is_some o ≡ false → o ≡ None
   none_of None h = refl
   none_of (Some value) h = absurd cc
-
-  -- The slot is empty if a test says so.
-  pub empty_slot : (slot : Slot T) (b : Bool) → is_some slot ≡ not b → b ≡ true → slot ≡ None
-  empty_slot None b is empty = refl
-  empty_slot (Some e) true is empty = absurd cc
-  empty_slot (Some e) false is empty = absurd cc
 
   -- ---- several slots
 
@@ -87,50 +88,37 @@ module _ {T : Type 0} where
         held_is n (slice_index_or slots at None) value (e ∙ ap Some same),
       )
 
-  -- ---- a search, slot by slot
+  -- ---- the first slot that has a number
 
-  module _ (slots : List (Slot T)) (n : SigNumber) (place : ℕ) where
-    -- What is found from this place on is what is found from the first slot on.
-    abbrev pub FindsFrom : ℕ → Type 0
-    FindsFrom at = (count : ℕ) → at + count ≡ place + 8 → found_from slots n at count ≡ found_from slots n place 8
+  some_or : (o rest : Option T) → is_some o ≡ true → option_or o rest ≡ o
+  some_or None rest h = absurd cc
+  some_or (Some value) rest h = refl
 
-    pub finds_first : FindsFrom place
-    finds_first count e = let same : count ≡ 8 = omega (arith, e) in ap (found_from slots n place) same
+  first_found : (slots : List (Slot T)) (n : SigNumber) (j : ℕ) →
+      is_some (held_for n (slice_index_or slots j None)) ≡ true → (at count : ℕ) → at ≤ j → j < at + count →
+      HasNoneIn n at j slots → found_from slots n at count ≡ held_for n (slice_index_or slots j None)
+  first_found slots n j held at zero from to none = absurd (omega (arith, from, to))
+  first_found slots n j held at (suc count) from to none =
+      by (cases_lt at j) (first_found slots n j held (at + 1) count)
+    where
+      by : (at < j) ⊎ (j ≤ at) →
+          (at + 1 ≤ j → j < at + 1 + count → HasNoneIn n (at + 1) j slots →
+          found_from slots n (at + 1) count ≡ held_for n (slice_index_or slots j None)) →
+          option_or (held_for n (slice_index_or slots at None)) (found_from slots n (at + 1) count)
+          ≡ held_for n (slice_index_or slots j None)
+      by (inl before) more =
+          ap (λ o. option_or o (found_from slots n (at + 1) count)) (none at (omega arith) before)
+          ∙ more (omega (arith, before)) (omega (arith, to)) (λ i lo hi. none i (omega (arith, lo)) hi)
+      by (inr there) more =
+          let e : at ≡ j = omega (arith, from, there) in
+          ap (λ k. option_or (held_for n (slice_index_or slots k None)) (found_from slots n (at + 1) count)) e
+          ∙ some_or (held_for n (slice_index_or slots j None)) (found_from slots n (at + 1) count) held
 
-    pub finds_on : (at : ℕ) → held_for n (slice_index_or slots at None) ≡ None → FindsFrom at → FindsFrom (at + 1)
-    finds_on at none finds count e =
-        sym (ap (λ o. option_or o (found_from slots n (at + 1) count)) none) ∙ finds (suc count) (omega (arith, e))
-
-    pub finds_here : (at : ℕ) (value : T) → at < place + 8 →
-        held_for n (slice_index_or slots at None) ≡ Some value → FindsFrom at → found_from slots n place 8 ≡ Some value
-    finds_here at value near held finds = by (left at place near)
-      where
-        left : (at place : ℕ) → at < place + 8 → (count : ℕ) × (at + suc count ≡ place + 8)
-        left at place near = (place + 8 - suc at, omega (arith, near))
-
-        by : (count : ℕ) × (at + suc count ≡ place + 8) → found_from slots n place 8 ≡ Some value
-        by count = sym (finds (suc count.0) count.1)
-            ∙ ap (λ o. option_or o (found_from slots n (at + 1) count.0)) held
-
-    -- There is no slot left.
-    pub finds_nothing : (at end total : ℕ) → total ≡ length slots → place ≤ at → at ≤ end → end ≤ at →
-        end ≤ place + 8 → ((i : ℕ) → i < place + 8 → i < total → i < end) → FindsFrom at →
-        found_from slots n place 8 ≡ None
-    finds_nothing at end total counted from to over near whole finds = by (left at end place to near)
-      where
-        left : (at end place : ℕ) → at ≤ end → end ≤ place + 8 → (count : ℕ) × (at + count ≡ place + 8)
-        left at end place to near = (place + 8 - at, omega (arith, to, near))
-
-        past : (i : ℕ) → at ≤ i → i < place + 8 → length slots ≤ i
-        past i lo hi = by (cases_lt i total)
-          where
-            by : (i < total) ⊎ (total ≤ i) → length slots ≤ i
-            by (inl within) = let before = whole i hi within in absurd (omega (arith, before, over, lo))
-            by (inr out) = subst (λ k. k ≤ i) counted out
-
-        by : (count : ℕ) × (at + count ≡ place + 8) → found_from slots n place 8 ≡ None
-        by count = sym (finds count.0 count.1)
-            ∙ found_nothing slots n at count.0 (λ i lo hi. past_end slots n i (past i lo (omega (arith, hi, count.1))))
+  -- What a row has for a number is in the first slot that has it.
+  pub near_first : (slots : List (Slot T)) (n : SigNumber) (at : ℕ) → IsFirstOf n at slots →
+      near_in slots n ≡ held_for n (slice_index_or slots at None)
+  near_first slots n at first =
+      first_found slots n at first.held (place_in (length slots) n) 8 first.from first.near first.none
 
   -- ---- a slot that was set
 
@@ -204,31 +192,37 @@ module _ {T : Type 0} where
           (like_before slots at (Some (number, value)) within q
           (held_other number q value t ∙ sym (ap (held_for q) vacant)))
 
-  -- A slot was set again for the number that it has: it is the first one that has it.
-  found_over : (slots : List (Slot T)) (j : ℕ) (n : SigNumber) (value : T) → j < length slots → (at count : ℕ) →
-      at ≤ j → j < at + count → HasNoneIn n at j slots →
-      found_from (slice_set slots j (Some (n, value))) n at count ≡ Some value
-  found_over slots j n value within at zero from to none = absurd (omega (arith, from, to))
-  found_over slots j n value within at (suc count) from to none =
-      by (cases_lt at j) (found_over slots j n value within (at + 1) count)
-    where
-      new : List (Slot T)
-      new = slice_set slots j (Some (n, value))
+  -- The row could fill the slot, or it is as it was.
+  pub kept_slot : (old new : RowOf T) (number : SigNumber) (value : T) (place at count : ℕ) →
+      count ≡ length old.items → place ≡ place_in count number → place ≤ at → at < place + 8 → at < length old.items →
+      slice_index_or old.items at None ≡ None → near_in old.items number ≡ None → (b : Bool) →
+      MatchBool b (new.items ≡ slice_set old.items at (Some (number, value))) (new ≡ old) →
+      MatchBool b (DiffersAt number (Some value) old.items new.items) (new.items ≡ old.items)
+  kept_slot old new number value place at count counted there from near within vacant absent true filled =
+      subst (DiffersAt number (Some value) old.items) (sym filled)
+      (kept_near old.items number value place at count counted there from near within vacant absent)
+  kept_slot old new number value place at count counted there from near within vacant absent false same =
+      ap (λ (r : RowOf T). r.items) same
 
+  -- The slot at this place is the first one that has the number.
+  found_over : (slots : List (Slot T)) (j : ℕ) (n : SigNumber) (value : T) →
+      slice_index_or slots j None ≡ Some (n, value) → (at count : ℕ) → at ≤ j → j < at + count →
+      HasNoneIn n at j slots → found_from slots n at count ≡ Some value
+  found_over slots j n value is at zero from to none = absurd (omega (arith, from, to))
+  found_over slots j n value is at (suc count) from to none =
+      by (cases_lt at j) (found_over slots j n value is (at + 1) count)
+    where
       by : (at < j) ⊎ (j ≤ at) →
           (at + 1 ≤ j → j < at + 1 + count → HasNoneIn n (at + 1) j slots →
-          found_from new n (at + 1) count ≡ Some value) →
-          option_or (held_for n (slice_index_or new at None)) (found_from new n (at + 1) count) ≡ Some value
+          found_from slots n (at + 1) count ≡ Some value) →
+          option_or (held_for n (slice_index_or slots at None)) (found_from slots n (at + 1) count) ≡ Some value
       by (inl before) more =
-          ap (λ o. option_or o (found_from new n (at + 1) count))
-          (ap (held_for n) (get_or-set_other slots j at (Some (n, value)) None (λ e. omega (arith, before, e)))
-          ∙ none at (omega arith) before)
+          ap (λ o. option_or o (found_from slots n (at + 1) count)) (none at (omega arith) before)
           ∙ more (omega (arith, before)) (omega (arith, to)) (λ i lo hi. none i (omega (arith, lo)) hi)
       by (inr there) more =
           let e : at ≡ j = omega (arith, from, there) in
-          ap (λ o. option_or o (found_from new n (at + 1) count))
-          (ap (λ k. held_for n (slice_index_or new k None)) e
-          ∙ ap (held_for n) (get_or-set_same slots j (Some (n, value)) None within) ∙ held_own n value)
+          ap (λ o. option_or o (found_from slots n (at + 1) count))
+          (ap (λ k. held_for n (slice_index_or slots k None)) e ∙ ap (held_for n) is ∙ held_own n value)
 
   -- ---- slots that were emptied
 
@@ -266,26 +260,21 @@ module _ {T : Type 0} where
         ap (λ k. held_for number (slice_index_or (slice_set slots at None) k None)) e
         ∙ ap (held_for number) (get_or-set_same slots at None None within)
 
-  -- The value of a number was replaced in its first slot.
-  pub replaced_near : (slots : List (Slot T)) (number : SigNumber) (value : T) (at : ℕ) → IsFirstOf number at slots →
-      DiffersAt number (Some value) slots (slice_set slots at (Some (number, value)))
-  replaced_near slots number value at first q = by (is_number number q) refl
+  -- The value of a number was replaced in its first slot, and in others that have the same entry.
+  pub replaced_near : (slots new : List (Slot T)) (number : SigNumber) (value : T) (at : ℕ) →
+      IsFirstOf number at slots → slice_index_or new at None ≡ Some (number, value) → HasLess number slots new →
+      DiffersAt number (Some value) slots new
+  replaced_near slots new number value at first is less q = by (is_number number q) refl
     where
-      new : List (Slot T)
-      new = slice_set slots at (Some (number, value))
-
       own : near_in new number ≡ Some value
       own =
-          ap (λ k. found_from new number (place_in k number) 8) (length-set slots at (Some (number, value)))
-          ∙ found_over slots at number value first.within (place_in (length slots) number) 8 first.from first.near
-          first.none
+          ap (λ k. found_from new number (place_in k number) 8) less.as_many
+          ∙ found_over new at number value is (place_in (length slots) number) 8 first.from first.near
+          (λ i lo hi. less.still i (first.none i lo hi))
 
       by : (b : Bool) → is_number number q ≡ b → near_in new q ≡ cond b (Some value) (near_in slots q)
       by true t = ap (near_in new) (sym (same_number number q t)) ∙ own
-      by false t =
-          near_like slots new q (length-set slots at (Some (number, value)))
-          (like_before slots at (Some (number, value)) first.within q
-          (held_other number q value t ∙ sym (nothing_else slots at number first.within first.held q t)))
+      by false t = near_like slots new q less.as_many (λ i. less.others q i t)
 
   -- The slot had nothing for the number.
   pub not_there : (slots : List (Slot T)) (at : ℕ) (number : SigNumber) →
@@ -358,9 +347,3 @@ module _ {T : Type 0} where
   pub near_nothing : (slots : List (Slot T)) (n : SigNumber) → length slots ≡ 0 → near_in slots n ≡ None
   near_nothing slots n none = found_nothing slots n (place_in (length slots) n) 8 (λ i lo hi. past_end slots n i
       (subst (λ k. k ≤ i) (sym none) (omega arith)))
-
-  pub near_by : (slots : List (Slot T)) (n : SigNumber) (place count : ℕ) → count ≡ length slots →
-      place ≡ place_in count n →
-      found_from slots n place 8 ≡ near_in slots n
-  near_by slots n place count counted there =
-      ap (λ p. found_from slots n p 8) (there ∙ ap (λ k. place_in k n) counted)

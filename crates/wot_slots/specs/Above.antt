@@ -11,7 +11,8 @@ use Rattle.std.specs.declared.ops.Bound.TheVariants.{Excluded, Unbounded}
 use Rattle.wot_types.specs.declared.number.SigNumber.{SigNumber}
 use Rattle.wot_types.specs.SigNumber.{number_cmp}
 use Rattle.wot_slots.specs.declared.slots.Slots.{Slots}
-use Rattle.wot_slots.specs.Near.{Slot, Rest, held_for, held_of, near_in, place_in}
+use Rattle.wot_slots.specs.Near.{Rest, held_for, held_of, near_in, place_in}
+use Rattle.wot_slots.specs.Row.{Slot}
 
 -- The number has 32 octets, as every number has that a program reads.
 pub record IsNumber (n : SigNumber) : Type 0 where

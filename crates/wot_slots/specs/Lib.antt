@@ -1,2 +1,3 @@
 pub mod Above
 pub mod Near
+pub mod Row

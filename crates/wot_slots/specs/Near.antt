@@ -3,20 +3,17 @@ use Rattle.std.specs.Prelude.{◌≡◌, ◌≤◌, ◌<◌, ◌+◌, ◌*◌, �
 use Rattle.std.specs.Prelude.{[], ◌∷◌, length, slice_index, Option, Some, None, is_some, MatchBool}
 use Rattle.std.specs.BTreeMap.{is_at}
 use Rattle.std.specs.Int.{w32, from_be_bytes}
-use Rattle.std.specs.List.{slice_index_or}
+use Rattle.std.specs.List.{slice_get, slice_index_or}
 use Rattle.std.specs.Map.{lookup}
 use Rattle.std.specs.Option.{option_or}
 use Rattle.wot_types.specs.declared.number.SigNumber.{SigNumber}
 use Rattle.wot_types.specs.SigNumber.{number_cmp}
 use Rattle.wot_slots.specs.declared.slots.Slots.{Slots}
+use Rattle.wot_slots.specs.Row.{RowOf, Slot}
 
 -- whether this is the number
 abbrev pub is_number : SigNumber → SigNumber → Bool
 is_number number = is_at (number_cmp number)
-
--- a slot: a number with its value, or nothing
-abbrev pub Slot : Type 0 → Type 0
-Slot T = Option (SigNumber × T)
 
 -- the entries of the tree
 abbrev pub Rest : Type 0 → Type 0
@@ -57,7 +54,7 @@ abbrev pub HasNoneIn : {T : Type 0} → SigNumber → ℕ → ℕ → List (Slot
 HasNoneIn number from to slots =
     (i : ℕ) → from ≤ i → i < to → held_for number (slice_index_or slots i None) ≡ None
 
--- Some slots of this number were emptied.
+-- Some slots of this number were changed. Those that had nothing for it still have nothing.
 pub record HasLess {T : Type 0} (number : SigNumber) (old new : List (Slot T)) : Type 0 where
   pub as_many : length new ≡ length old
   pub others :
@@ -106,18 +103,21 @@ pub record Moves {T : Type 0} (number : SigNumber) (near old : List (Slot T)) (r
       IsOf near old number → (value : T) → near_in near number ≡ Some value
       → holder_in new rest' number ≡ Some value
 
--- What the slots before this place have was moved to the longer row or to the tree, which had this before.
-pub record HasMoved {T : Type 0} (at : ℕ) (near longer : List (Slot T)) (before rest : Rest T) : Type 0 where
+-- What the row has of the entries before this place was moved to the longer row or to the tree, which had this before.
+pub record HasMoved {T : Type 0} (at : ℕ) (came : List (SigNumber × T)) (near longer : List (Slot T))
+    (before rest : Rest T) : Type 0 where
   pub sound : (q : SigNumber) → IsOf near longer q
   pub none : (q : SigNumber) → near_in near q ≡ None → lookup (is_number q) rest ≡ lookup (is_number q) before
   pub held :
-      (q : SigNumber) (i : ℕ) (other value : T) → i < at → slice_index_or near i None ≡ Some (q, other)
+      (q : SigNumber) (i : ℕ) (other value : T) → i < at → slice_get came i ≡ Some (q, other)
       → near_in near q ≡ Some value → holder_in longer rest q ≡ Some value
 
--- What the slot at this place has was moved, after what those before it have.
-abbrev pub MovesOn : {T : Type 0} → ℕ → List (Slot T) → List (Slot T) → Rest T → List (Slot T) → Rest T → Type 0
+-- What the row has of the entry at this place was moved, after those before it.
+abbrev pub MovesOn :
+    {T : Type 0} → ℕ → RowOf T → List (Slot T) → Rest T → List (Slot T) → Rest T → Type 0
 MovesOn {T} at near old rest new rest' =
-    (before : Rest T) → HasMoved at near old before rest → HasMoved (at + 1) near new before rest'
+    (before : Rest T) → HasMoved at near.came near.items old before rest
+    → HasMoved (at + 1) near.came near.items new before rest'
 
 -- ---- the whole
 

@@ -1,9 +1,9 @@
 //! Which number comes next above another one, in a row of slots and in a tree.
 //!
-//! It stands on `near`, on std's map and on `specs/Above.antt`. Slots rise with the numbers, so a search in the row
-//! begins at the place of the last number. It ends eight slots from the place of the best number so far, which is at
-//! first the next one in the tree. So a walk over all numbers reads the row once, and some eight slots more for each
-//! number, whatever the numbers are. Nothing here allocates, and nothing is kept from one search to the next.
+//! It stands on `near`, on `row`, on std's map and on `specs/Above.antt`. Slots rise with the numbers, so a search in
+//! the row begins at the place of the last number. It ends eight slots from the place of the best number so far, which
+//! is at first the next one in the tree. So a walk over all numbers reads the row once, and some eight slots more for
+//! each number, whatever the numbers are. Nothing here allocates, and nothing is kept from one search to the next.
 ghost use Rattle.std.specs.Prelude.{◌≡◌, ◌<◌, ◌≤◌, ◌+◌, ℕ, length, slice_index, true, false};
 ghost use Rattle.std.specs.Map.{lookup};
 ghost use Rattle.std.specs.Option.{IfSome};
@@ -12,7 +12,8 @@ ghost use Rattle.wot_slots.specs.Above.{bound_above, is_above as above_it, is_be
 ghost use Rattle.wot_slots.specs.Above.{IsNumber, IsRead};
 ghost use Rattle.wot_slots.specs.Near.{holder_in, is_number, place_in};
 
-use crate::near::{Slot, end_of, place_of};
+use crate::near::{end_of, place_of};
+use crate::row::Row;
 use std::alloc::Global;
 use std::cmp::Ordering;
 use std::collections::BTreeMap;
@@ -107,18 +108,18 @@ fn is_better(
 
 /// The best number, after a look at the slot at this place.
 fn better<T: Copy>(
-    slots: &[Slot<T>],
+    row: &Row<T>,
     at: usize,
     last: Option<SigNumber>,
     best: Option<SigNumber>,
 ) -> Option<SigNumber>
-    requires within { at < length slots.now }
-    ensures better { IsBetter at slots.now last best result }
+    requires within { at < length row.now.items }
+    ensures better { IsBetter at row.now.items last best result }
 {
-    let Some((number, _)) = &slots[at] else {
+    let Some((number, _)) = row.slot(at) else {
         return best;
     };
-    if is_better(number, at, slots.len(), last, best) {
+    if is_better(number, at, row.len(), last, best) {
         number_is_whole(number);
         Some(*number)
     } else {
@@ -156,14 +157,14 @@ fn next_far<T: Copy>(
 
 /// The least number above the last one that the row or the tree has.
 pub(crate) fn next_number<T: Copy>(
-    slots: &[Slot<T>],
+    row: &Row<T>,
     rest: &BTreeMap<SigNumber, T, Global>,
     last: Option<SigNumber>,
 ) -> Option<SigNumber>
-    ensures next { IsNext (holder_in slots.now rest.now.entries) last result }
+    ensures next { IsNext (holder_in row.now.items rest.now.entries) last result }
 {
     let far = next_far(rest, last);
-    let count = slots.len();
+    let count = row.len();
     if count == 0 {
         return far;
     }
@@ -171,7 +172,7 @@ pub(crate) fn next_number<T: Copy>(
     let mut at = start_of(last, count);
     let mut end = end_for(far, count);
     'slots: while at < end {
-        best = better(slots, at, last, best);
+        best = better(row, at, last, best);
         end = end_for(best, count);
         at += 1;
     }

@@ -7,8 +7,9 @@
 mod above;
 mod moving;
 mod near;
+mod row;
 mod slots;
 
 pub use above::number_is_whole;
-pub use near::Slot;
+pub use row::Row;
 pub use slots::Slots;

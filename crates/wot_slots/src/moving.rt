@@ -1,24 +1,28 @@
 //! Moves what a row of slots has into a longer row, or into the tree if there is no empty slot, and what is in the tree
 //! into empty slots. `slots` calls it when its row is full. The old row stays whole until the caller replaces it.
+//!
+//! It stands on `row`, on `near` and on std's map. It walks over the entries of the old row, so that they stand in the
+//! longer one in the order in which they came. A left-over entry, which no slot has any more, isn't taken over.
 ghost use Rattle.std.specs.Prelude.{◌≡◌, ◌<◌, length, None, IfOk, OnOk, OnErr};
 ghost use Rattle.std.specs.Option.{IfNone, IfSome};
 ghost use Rattle.wot_types.specs.declared.number.SigNumber.{SigNumber as TheNumber};
 ghost use Rattle.wot_slots.specs.Near.{near_in, Moves, MovesOn, SaysSame};
 
-use crate::near::{Slot, keep_near, near_at};
+use crate::near::{keep_near, near_at};
+use crate::row::Row;
 use std::alloc::Global;
 use std::collections::BTreeMap;
 use wot_types::{Memory, SigNumber};
 
 /// Moves what the row has for a number.
 fn move_number<T: Copy>(
-    near: &[Slot<T>],
+    near: &Row<T>,
     number: &SigNumber,
-    longer: &mut Vec<Slot<T>>,
+    longer: &mut Row<T>,
     rest: &mut BTreeMap<SigNumber, T, Global>,
 ) -> Result<(), Memory>
     ensures moved { OnOk result
-        (Moves number.now near.now longer.old.items rest.old.entries longer.new.items rest.new.entries) }
+        (Moves number.now near.now.items longer.old.items rest.old.entries longer.new.items rest.new.entries) }
     ensures kept { OnErr result (rest.new.entries ≡ rest.old.entries) }
 {
     let Some(value) = near_at(near, number) else {
@@ -36,37 +40,36 @@ fn move_number<T: Copy>(
     }
 }
 
-/// Moves what the slot at this place has.
-fn move_slot<T: Copy>(
-    near: &[Slot<T>],
+/// Moves what the row has for the number of the entry at this place.
+fn move_entry<T: Copy>(
+    near: &Row<T>,
     at: usize,
-    longer: &mut Vec<Slot<T>>,
+    longer: &mut Row<T>,
     rest: &mut BTreeMap<SigNumber, T, Global>,
 ) -> Result<(), Memory>
-    requires within { at < length near.now }
+    requires within { at < length near.now.came }
     ensures moved { OnOk result
         (MovesOn at near.now longer.old.items rest.old.entries longer.new.items rest.new.entries) }
     ensures kept { OnErr result (rest.new.entries ≡ rest.old.entries) }
 {
-    let Some((number, _)) = &near[at] else {
-        return Ok(());
-    };
+    let (number, _) = near.entry(at);
     move_number(near, number, longer, rest)
 }
 
-/// Moves what all slots have.
+/// Moves what all entries have.
 fn move_all<T: Copy>(
-    near: &[Slot<T>],
-    longer: &mut Vec<Slot<T>>,
+    near: &Row<T>,
+    longer: &mut Row<T>,
     rest: &mut BTreeMap<SigNumber, T, Global>,
 ) -> Result<(), Memory>
     requires vacant { (n : TheNumber) → near_in longer.old.items n ≡ None }
-    ensures moved { OnOk result (SaysSame near.now rest.old.entries longer.new.items rest.new.entries) }
-    ensures kept { OnErr result (SaysSame near.now rest.old.entries near.now rest.new.entries) }
+    ensures moved { OnOk result (SaysSame near.now.items rest.old.entries longer.new.items rest.new.entries) }
+    ensures kept { OnErr result (SaysSame near.now.items rest.old.entries near.now.items rest.new.entries) }
 {
+    near.slots_are_entries();
     let mut at = 0;
-    'slots: while at < near.len() {
-        move_slot(near, at, longer, rest)?;
+    'entries: while at < near.entries_len() {
+        move_entry(near, at, longer, rest)?;
         at += 1;
     }
     Ok(())
@@ -74,7 +77,7 @@ fn move_all<T: Copy>(
 
 /// Moves a number from the tree to an empty slot, if there is one.
 fn bring<T: Copy>(
-    longer: &mut Vec<Slot<T>>,
+    longer: &mut Row<T>,
     rest: &mut BTreeMap<SigNumber, T, Global>,
     number: &SigNumber,
 )
@@ -93,7 +96,7 @@ fn bring<T: Copy>(
 
 /// Moves these numbers from the tree to empty slots.
 fn bring_all<T: Copy>(
-    longer: &mut Vec<Slot<T>>,
+    longer: &mut Row<T>,
     rest: &mut BTreeMap<SigNumber, T, Global>,
     numbers: &[SigNumber],
 )
@@ -121,7 +124,7 @@ fn numbers_in<T: Copy>(
 /// Moves from the tree what finds an empty slot now. Without memory it stays in the tree.
 fn bring_back<T: Copy>(
     alloc: Global,
-    longer: &mut Vec<Slot<T>>,
+    longer: &mut Row<T>,
     rest: &mut BTreeMap<SigNumber, T, Global>,
 )
     ensures same { SaysSame longer.old.items rest.old.entries longer.new.items rest.new.entries }
@@ -133,24 +136,22 @@ fn bring_back<T: Copy>(
 }
 
 /// This many empty slots.
-fn vacant<T: Copy>(alloc: Global, count: usize) -> Result<Vec<Slot<T>>, Memory>
+fn vacant<T: Copy>(alloc: Global, count: usize) -> Result<Row<T>, Memory>
     ensures vacant { IfOk result (λ made. (n : TheNumber) → near_in made.items n ≡ None) }
 {
-    let mut made: Vec<Slot<T>> = Vec::new(alloc);
-    made.resize(count, None)?;
-    Ok(made)
+    Row::vacant(alloc, count)
 }
 
 /// A row of this many slots that has what the row and the tree have, but for what stays in the tree. Without memory
 /// there is none, and the row is still whole.
 pub(crate) fn longer<T: Copy>(
     alloc: Global,
-    near: &[Slot<T>],
+    near: &Row<T>,
     rest: &mut BTreeMap<SigNumber, T, Global>,
     count: usize,
-) -> Option<Vec<Slot<T>>>
-    ensures longer { IfSome result (λ made. SaysSame near.now rest.old.entries made.items rest.new.entries) }
-    ensures whole { IfNone result (SaysSame near.now rest.old.entries near.now rest.new.entries) }
+) -> Option<Row<T>>
+    ensures longer { IfSome result (λ made. SaysSame near.now.items rest.old.entries made.items rest.new.entries) }
+    ensures whole { IfNone result (SaysSame near.now.items rest.old.entries near.now.items rest.new.entries) }
 {
     let Ok(mut made) = vacant(alloc, count) else {
         return None;

@@ -1,7 +1,7 @@
 //! A value for each signature number: most in a row of slots, others in a tree.
 //!
-//! It stands on `near`, on `above`, on `moving` and on std's map. Whoever chooses numbers can't make a lookup slow: it
-//! reads eight slots, and if the number isn't there, the tree.
+//! It stands on `row`, on `near`, on `above`, on `moving` and on std's map. Whoever chooses numbers can't make a lookup
+//! slow: it reads eight slots, and if the number isn't there, the tree.
 ghost use Rattle.std.specs.Prelude.{◌≡◌, true, None, Some, is_some, OnOk, OnErr};
 ghost use Rattle.wot_types.specs.declared.number.SigNumber.{SigNumber as TheNumber};
 ghost use Rattle.wot_slots.specs.Above.{IsNextEntry};
@@ -9,7 +9,8 @@ ghost use Rattle.wot_slots.specs.Near.{held_of, HoldsSame, Puts};
 
 use crate::above::next_number;
 use crate::moving::longer;
-use crate::near::{Slot, forget_near, keep_near, near_at, replace_near};
+use crate::near::{forget_near, keep_near, near_at, replace_near};
+use crate::row::Row;
 use std::alloc::Global;
 use std::collections::BTreeMap;
 use wot_types::{Memory, SigNumber};
@@ -21,12 +22,12 @@ const LEAST: usize = 64;
 #[derive(Drop)]
 pub struct Slots<T> {
     /// Most values.
-    pub near: Vec<Slot<T>>,
+    pub near: Row<T>,
     /// The values that aren't in a slot.
     pub rest: BTreeMap<SigNumber, T, Global>,
     /// How many numbers have a value.
     pub count: usize,
-    /// When there are so many, the row gets longer.
+    /// When the row has so many entries, it gets longer.
     pub until: usize,
     pub alloc: Global,
 }
@@ -36,7 +37,7 @@ impl<T: Copy> Slots<T> {
     pub fn new(alloc: Global) -> Slots<T>
         ensures empty { (n : TheNumber) → held_of result n ≡ None }
     {
-        let near = Vec::new(alloc);
+        let near = Row::new(alloc);
         let rest = BTreeMap::new(alloc);
         Slots {
             near,
@@ -136,17 +137,21 @@ impl<T: Copy> Slots<T> {
         }
     }
 
-    /// Makes the row twice as long once there are as many values as slots. Without memory it stays as it is.
+    /// Makes a new row with four slots for each value once there are half as many entries as slots. Entries that are
+    /// left over count too, and the new row is without them. Without memory the row stays as it is until there are
+    /// half as many entries more, which take three quarters of its slots.
     fn make_room(&mut self)
         ensures same { HoldsSame self.old self.new }
     {
-        if self.count < self.until {
+        let entries = self.near.entries_len();
+        if entries < self.until {
             return;
         }
-        let wanted = LEAST.max(self.count.saturating_add(self.count));
-        self.until = wanted;
+        self.until = entries.saturating_add(entries / 2);
+        let wanted = LEAST.max(self.count.saturating_mul(4));
         if let Some(made) = longer(self.alloc, &self.near, &mut self.rest, wanted) {
             self.near = made;
+            self.until = wanted / 2;
         }
     }
 }

@@ -8,12 +8,12 @@ use Rattle.wot_slots.proofs.above.next_number.Given as goal
 
 abbrev pub invariant-slots : goal.invariant-slots
 invariant-slots g l = record {
-  within : l.end ≤ length l.slots;
-  candidate : IfSome l.best (IsCandidate (holder_in l.slots l.rest.entries) l.last);
-  ends : EndsAt l.slots l.best l.end;
+  within : l.end ≤ length l.row.items;
+  candidate : IfSome l.best (IsCandidate (holder_in l.row.items l.rest.entries) l.last);
+  ends : EndsAt l.row.items l.best l.end;
   lower : (q : SigNumber) → is_below l.best q ≡ true → is_below l.initial.best q ≡ true;
-  none : NoneBefore l.slots l.last l.best l.at;
+  none : NoneBefore l.row.items l.last l.best l.at;
 }
 
 abbrev pub decreases-slots : goal.decreases-slots
-decreases-slots g l = length l.slots - l.at
+decreases-slots g l = length l.row.items - l.at

@@ -4,8 +4,8 @@ use Rattle.wot_slots.proofs.near.empty_all.Goals as goal
 
 pub near-init : goal.near-init
 near-init g c = record {
-  less = as_it_was c.args.number.now c.args.slots.now.items;
-  gone = none_yet c.args.number.now c.args.from c.args.slots.now.items;
+  less = as_it_was c.args.number.now c.args.row.now.items;
+  gone = none_yet c.args.number.now c.args.from c.args.row.now.items;
 }
 
 pub empty_if-requires : goal.empty_if-requires
@@ -15,9 +15,9 @@ empty_if-requires g c = record {
 
 pub near-preserved : goal.near-preserved
 near-preserved g c = record {
-  less = less_still c.args.number.now c.args.slots.now.items c.near.slots.items c.empty_if.new.slots.items
+  less = less_still c.args.number.now c.args.row.now.items c.near.row.items c.empty_if.new.row.items
       c.near.invariant.less c.empty_if.ensures.less;
-  gone = none_more c.args.number.now c.args.from c.near.at c.near.slots.items c.empty_if.new.slots.items
+  gone = none_more c.args.number.now c.args.from c.near.at c.near.row.items c.empty_if.new.row.items
       c.empty_if.ensures.less c.near.invariant.gone c.empty_if.ensures.gone;
 }
 

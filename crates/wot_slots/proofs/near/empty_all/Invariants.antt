@@ -4,8 +4,8 @@ use Rattle.wot_slots.proofs.near.empty_all.Given as goal
 
 abbrev pub invariant-near : goal.invariant-near
 invariant-near g l = record {
-  less : HasLess l.number l.initial.slots.items l.slots.items;
-  gone : HasNoneIn l.number l.from l.at l.slots.items;
+  less : HasLess l.number l.initial.row.items l.row.items;
+  gone : HasNoneIn l.number l.from l.at l.row.items;
 }
 
 abbrev pub decreases-near : goal.decreases-near

@@ -1,8 +1,17 @@
 use Rattle.std.proofs.Common.{Some, ap, ◌∙◌}
 use Rattle.wot_verdict.specs.Kept.{verdict_in}
 use Rattle.wot_verdict.proofs.Changed.{either_way, entries_same, kept_same, numbers_kept, numbers_still, said_still}
-use Rattle.wot_verdict.proofs.Changed.{says_same}
+use Rattle.wot_verdict.proofs.Changed.{on_err_of, on_ok, says_same, shorts_at, shorts_still}
 use Rattle.wot_verdict.proofs.keeping.hold_short.Goals as goal
+
+pub returns-clause-held : goal.returns-clause-held
+returns-clause-held c =
+    on_ok _ _ c.keep.result (λ put. shorts_at c.args.held.now c.keep.new.held c.args.number (Some c.with_holder.result)
+    put (Some c.args.short) c.with_holder.ensures.holder) c.keep.ensures.put
+
+pub returns-clause-same : goal.returns-clause-same
+returns-clause-same c =
+    on_err_of _ _ c.keep.result (λ same. shorts_still c.args.held.now c.keep.new.held same) c.keep.ensures.kept
 
 pub returns-clause-verdicts : goal.returns-clause-verdicts
 returns-clause-verdicts c =

@@ -11,7 +11,7 @@ keep_near-requires g c = record {
 
 pub returns-then-keep_near-clause-put : goal.returns-then-keep_near-clause-put
 returns-then-keep_near-clause-put g c =
-    put_in_slot c.args.self.now.near.items c.keep_near.new.slots.items c.args.self.now.rest.entries c.args.number
+    put_in_slot c.args.self.now.near.items c.keep_near.new.row.items c.args.self.now.rest.entries c.args.number
     c.args.value c.if-keep_near.ensures.kept
 
 pub returns-in-Ok-clause-put : goal.returns-in-Ok-clause-put

@@ -6,7 +6,7 @@ use Rattle.wot_slots.proofs.slots.Slots.replace.Goals as goal
 
 pub returns-then-replace_near : goal.returns-then-replace_near
 returns-then-replace_near g c = record {
-  put = put_in_slot c.args.self.now.near.items c.replace_near.new.slots.items c.args.self.now.rest.entries
+  put = put_in_slot c.args.self.now.near.items c.replace_near.new.row.items c.args.self.now.rest.entries
       c.args.number c.args.value c.if-replace_near.ensures.replaced;
 }
 
