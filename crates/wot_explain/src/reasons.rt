@@ -9,7 +9,7 @@ ghost use Rattle.wot_explain.specs.Explaining.{reasons_on};
 ghost use Rattle.wot_explain.specs.Reasons.{reason_with, step_by, told_reason};
 ghost use Rattle.wot_held.specs.Keyring.{certificates_in};
 ghost use Rattle.wot_live.specs.Found.{HasFew};
-ghost use Rattle.wot_standing.specs.Certifiers.{KeepsNewest};
+ghost use Rattle.wot_standing.specs.Certifiers.{KeepsNewest, place_for};
 
 use crate::words::{Certification, reason_word};
 use crate::{Reason, ReasonList};
@@ -71,7 +71,8 @@ fn reason_told(sig: &Sig, word: u8, step: Option<Step>) -> Reason
 }
 
 fn reason(on: &Certification<'_>, target: Fpr, place: u32) -> Reason
-    requires newest { KeepsNewest on.now.keyring.now.verdicts on.now.t on.now.uid.now on.now.certifiers.now }
+    requires newest { KeepsNewest on.now.keyring.now.verdicts on.now.t on.now.uid.now
+        (place_for on.now.certifiers.now 0) }
     ensures { result ≡ told_reason on.now target place }
 {
     let word = reason_word(on);
@@ -92,7 +93,8 @@ pub(crate) fn reasons(
     ensures reasons { IfOk result (λ list. list
         ≡ reasons_on keyring.now.verdicts (certificates_in keyring.now) t target place uid.now) }
 {
-    let certifiers = Certifiers::new(alloc, uid, keyring.verdicts(), t)?;
+    let mut certifiers = Certifiers::new(alloc);
+    certifiers.add(alloc, 0, uid, keyring.verdicts(), t)?;
     let mut items = Vec::new(alloc);
     let mut rest = uid.sigs();
     'rest: while let Some((sig, others)) = rest.split_first() {

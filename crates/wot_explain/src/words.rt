@@ -7,7 +7,7 @@ ghost use Rattle.wot_explain.specs.Reasons.{counted_words, good_words, issuer_wo
 ghost use Rattle.wot_explain.specs.Reasons.{word_of};
 ghost use Rattle.wot_explain.specs.Words.{first_word, is_so};
 ghost use Rattle.wot_held.specs.Keyring.{certificates_in};
-ghost use Rattle.wot_standing.specs.Certifiers.{KeepsNewest, kept_for};
+ghost use Rattle.wot_standing.specs.Certifiers.{KeepsNewest, kept_for, place_for};
 ghost use Rattle.wot_standing.specs.Standing.{standing_of};
 
 use crate::moments::{ends_after, is_after};
@@ -22,7 +22,7 @@ use wot_types::Fpr;
 use wot_verdict::{Verdict, Verdicts};
 
 /// A certification on a user ID, and what its reason depends on: the keyring, the time, and each issuer's newest
-/// certification there.
+/// certification there, kept for the user ID at place 0 whatever its place is.
 #[derive(Clone, Copy)]
 pub(crate) struct Certification<'a> {
     pub(crate) sig: &'a Sig,
@@ -71,9 +71,9 @@ fn issuer_word(made: u32, issuer: Option<Standing>) -> u8
 /// Whether an issuer's newest certification on a user ID is a different one.
 fn is_older(sig: &Sig, uid: &Part, certifiers: &Certifiers, issuer: &Fpr) -> bool
     ensures { result ≡ not (is_so (λ newest. is_eq (sig_cmp sig.now newest))
-        (kept_for certifiers.now uid.now.sigs issuer.now)) }
+        (kept_for (place_for certifiers.now 0) uid.now.sigs issuer.now)) }
 {
-    let Some(place) = certifiers.place(issuer) else {
+    let Some(place) = certifiers.place(0, issuer) else {
         return true;
     };
     match uid.sigs().get(place as usize) {
@@ -84,7 +84,8 @@ fn is_older(sig: &Sig, uid: &Part, certifiers: &Certifiers, issuer: &Fpr) -> boo
 
 /// The word of a certification that counts for its issuer.
 fn counting_word(on: &Certification<'_>, issuer: &Fpr) -> u8
-    requires newest { KeepsNewest on.now.keyring.now.verdicts on.now.t on.now.uid.now on.now.certifiers.now }
+    requires newest { KeepsNewest on.now.keyring.now.verdicts on.now.t on.now.uid.now
+        (place_for on.now.certifiers.now 0) }
     ensures { result ≡ first_word (counted_words on.now.keyring.now on.now.t on.now.uid.now on.now.sig.now issuer.now) }
 {
     let Certification {
@@ -111,7 +112,8 @@ fn counting_word(on: &Certification<'_>, issuer: &Fpr) -> u8
 
 /// The word of a valid certification whose verdict is good by this issuer.
 fn good_word(on: &Certification<'_>, issuer: &Fpr) -> u8
-    requires newest { KeepsNewest on.now.keyring.now.verdicts on.now.t on.now.uid.now on.now.certifiers.now }
+    requires newest { KeepsNewest on.now.keyring.now.verdicts on.now.t on.now.uid.now
+        (place_for on.now.certifiers.now 0) }
     ensures { result ≡ first_word (good_words on.now.keyring.now on.now.t on.now.uid.now on.now.sig.now issuer.now) }
 {
     if names_other(on.sig, issuer) {
@@ -126,7 +128,8 @@ fn good_word(on: &Certification<'_>, issuer: &Fpr) -> u8
 /// The number of the word of a certification on a user ID: the first reason why it isn't a usable edge, or 0 if it is
 /// one.
 pub(crate) fn reason_word(on: &Certification<'_>) -> u8
-    requires newest { KeepsNewest on.now.keyring.now.verdicts on.now.t on.now.uid.now on.now.certifiers.now }
+    requires newest { KeepsNewest on.now.keyring.now.verdicts on.now.t on.now.uid.now
+        (place_for on.now.certifiers.now 0) }
     ensures word { result ≡ word_of on.now }
 {
     if !is_sound(on.sig) {

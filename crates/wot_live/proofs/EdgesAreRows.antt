@@ -1,4 +1,4 @@
--- The edges of each issuer and each user ID are all edges into a certificate, and so they are those that are found.
+-- The edges of each issuer and each user ID are all edges into a certificate.
 use Rattle.std.proofs.Common.{◌≡◌, ℕ, zero, suc, ◌+◌, Bool, true, false, cond, ◌&&◌, ◌||◌, List, [], ◌∷◌, ◌++◌, Option}
 use Rattle.std.proofs.Common.{Some, None, Ordering, inl, inr, ◌≤◌, ◌<◌, length, refl, sym, ap, subst, ◌∙◌, arith}
 use Rattle.std.specs.declared.cmp.Ordering.TheVariants.{Less}
@@ -23,13 +23,11 @@ use Rattle.wot_edge.specs.Order.{edge_cmp}
 use Rattle.wot_edge.specs.Record.{Has}
 use Rattle.wot_standing.specs.Standing.{own, newest_certification}
 use Rattle.wot_live.specs.Edge.{edge_by, edge_of, edge_on}
-use Rattle.wot_live.specs.Found.{found_edges}
 use Rattle.wot_live.specs.Rows.{AreInto, AreRows, edge_at, edges_by, edges_of, is_edge_of, issuers_of, user_id_places}
 use Rattle.wot_live.proofs.Exact.{IsEdge, OnlyCounting, all_append, all_filter_map, all_then, at_append, edge_by-is}
-use Rattle.wot_live.proofs.Exact.{equal-true, found_rows, none_of}
-use Rattle.wot_live.proofs.EdgesInserted.{IsBelow}
+use Rattle.wot_live.proofs.Exact.{equal-true, none_of}
 use Rattle.wot_live.proofs.IssuersInOrder.{IsLeast, any_in_order, any_issuer, none_on, sorted_in_order}
-use Rattle.wot_live.proofs.OneList.{Sorted, none_sorted, one_list, sorted_more}
+use Rattle.wot_live.proofs.OneList.{IsBelow, Sorted, none_sorted, sorted_more}
 
 -- ---- cases
 
@@ -271,12 +269,3 @@ module _ (verdicts : Entries) (c : Certificate) (t : ℕ) where
 
   pub edges_into : AreInto (own c) (edges_of verdicts c t)
   edges_into e i = all_has (λ x. x.target ≡ own c) (edges_of verdicts c t) (all_into (issuers_of verdicts c)) e i
-
-  -- ---- what is found
-
-  pub found_is : OnlyCounting verdicts t → found_edges verdicts c t ≡ edges_of verdicts c t
-  found_is only =
-      let found = found_rows verdicts c t only in
-      let each = edges_rows only in
-      one_list (found_edges verdicts c t) (edges_of verdicts c t) found.sorted each.sorted
-      (λ issuer uid. found.exact issuer uid ∙ sym (each.exact issuer uid))

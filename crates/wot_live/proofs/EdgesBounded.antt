@@ -1,50 +1,24 @@
--- The number of edges is bounded, and places fit.
-use Rattle.std.proofs.Common.{◌≡◌, ℕ, ◌+◌, ◌≤◌, ◌<◌, ◌^◌, List, [], ◌∷◌, ◌++◌, length, Option, Some, None, refl, ap}
-use Rattle.std.proofs.Common.{◌∙◌, arith, length-append}
-use Rattle.std.specs.List.{AllByRecursion, cons_option, filter_map}
-use Rattle.wot_types.specs.declared.fpr.Fpr.{Fpr}
-use Rattle.wot_verdict.specs.Verdicts.{Entries}
+-- The number of certifications that are found is bounded, and places fit.
+use Rattle.std.proofs.Common.{◌≡◌, ℕ, ◌+◌, ◌≤◌, ◌<◌, ◌^◌, List, [], ◌∷◌, ◌++◌, length, refl}
+use Rattle.std.proofs.Common.{arith, length-append}
+use Rattle.std.specs.List.{AllByRecursion}
 use Rattle.wot_packet.specs.Writing.{written}
 use Rattle.wot_part.specs.Certificate.{Signature, Component, Certificate}
-use Rattle.wot_part.specs.Counts.{sum_of, part_weight, signatures_of}
+use Rattle.wot_part.specs.Counts.{sum_of, part_weight}
 use Rattle.wot_part.specs.Text.{sigs_text, part_text, parts_text, size_of}
-use Rattle.wot_edge.specs.declared.edge.EdgeFacts.{EdgeFacts}
-use Rattle.wot_standing.specs.Standing.{own}
-use Rattle.wot_live.specs.declared.found.EdgePlace.{EdgePlace}
-use Rattle.wot_live.specs.Found.{HasFew, by_place, edge_with, edges_on, edges_from, found_edges}
-use Rattle.wot_live.proofs.EdgesInserted.{length_united}
+use Rattle.wot_live.specs.Found.{HasFew}
 
--- ---- edges
-
-length_filter_map : {A B : Type 0} (f : A → Option B) (xs : List A) → length (filter_map f xs) ≤ length xs
-length_filter_map f [] = omega arith
-length_filter_map f (x ∷ xs) = by (f x) (length_filter_map f xs)
-  where
-    by : (o : Option _) → length (filter_map f xs) ≤ length xs → length (cons_option o (filter_map f xs)) ≤ length
-        (x ∷ xs)
-    by None h = omega arith
-    by (Some y) h = omega arith
+-- ---- signatures
 
 sum_ones : (ss : List Signature) → sum_of (λ _. 1) ss ≡ length ss
 sum_ones [] = refl
 sum_ones (s ∷ ss) = let h = sum_ones ss in omega (arith, h)
 
-length_from : (verdicts : Entries) (target : Fpr) (t uid : ℕ) (ps : List Component) →
-    length (edges_from verdicts target t uid ps) ≤ sum_of (part_weight (λ _. 1) (λ _. 0)) ps
-length_from verdicts target t uid [] = omega arith
-length_from verdicts target t uid (p ∷ ps) =
-    let all = length-append (edges_on verdicts target t uid p) (edges_from verdicts target t (uid + 1) ps) in
-    let here = length_filter_map (edge_with verdicts target t uid p) p.sigs in
-    let later = length_from verdicts target t (uid + 1) ps in
-    let ones = sum_ones p.sigs in
-    omega (arith, all, here, later, ones)
-
--- There are at most as many edges as signatures.
-pub few_edges : (verdicts : Entries) (c : Certificate) (t : ℕ) → length (found_edges verdicts c t) ≤ signatures_of c
-few_edges verdicts c t =
-    let ordered = length_united (edges_from verdicts (own c) t 0 c.user_ids) in
-    let all = length_from verdicts (own c) t 0 c.user_ids in
-    omega (arith, ordered, all)
+-- one more user ID, with at most one place for each signature on it
+pub count_more : (part : Component) (seen : List Component) (old new : ℕ) →
+    old ≤ sum_of (part_weight (λ _. 1) (λ _. 0)) seen → new ≤ old + length part.sigs
+    → new ≤ sum_of (part_weight (λ _. 1) (λ _. 0)) (part ∷ seen)
+count_more part seen old new h more = let ones = sum_ones part.sigs in omega (arith, h, more, ones)
 
 -- ---- places
 
@@ -85,16 +59,3 @@ has_few c h = let fit = uids_fit c in few_fit c.user_ids (omega (arith, fit, h))
 
 pub few_user_ids : (c : Certificate) → size_of c < 2 ^ 32 → length c.user_ids < 2 ^ 32
 few_user_ids c h = let fit = uids_fit c in let count = count_fits c.user_ids in omega (arith, fit, count, h)
-
-length_by_place : (es : List EdgeFacts) → length (by_place es) ≡ length es
-length_by_place [] = refl
-length_by_place (e ∷ es) = let more = length_by_place es in omega (arith, more)
-
--- At most one edge is made for each signature.
-pub made_within : (verdicts : Entries) (c : Certificate) (t old new : ℕ) (entries : List (EdgePlace × EdgeFacts)) →
-    entries ≡ by_place (found_edges verdicts c t) → new ≤ old + length entries → new ≤ old + signatures_of c
-made_within verdicts c t old new entries e h =
-    let few = few_edges verdicts c t in
-    let same : length entries ≡ length (found_edges verdicts c t) =
-    ap length e ∙ length_by_place (found_edges verdicts c t) in
-    omega (arith, few, same, h)

@@ -1,8 +1,8 @@
 pub mod Orders
-pub mod EdgesInserted
 pub mod Exact
 pub mod OneList
-pub mod EdgesKept
+pub mod FoundEdges
+pub mod Finding
 pub mod IssuersInOrder
 pub mod EdgesAreRows
 pub mod EdgesBounded

@@ -16,7 +16,15 @@ use Rattle.wot_edge.specs.Order.{edge_cmp}
 use Rattle.wot_live.specs.Rows.{edge_at, is_edge_of}
 use Rattle.wot_live.proofs.Exact.{equal-refl, tied}
 use Rattle.wot_live.proofs.Orders.{edge_exact, edge_total}
-use Rattle.wot_live.proofs.EdgesInserted.{IsBelow, below_below}
+
+-- ---- in order
+
+abbrev pub IsBelow : EdgeFacts → List EdgeFacts → Type 0
+IsBelow e es = AllByRecursion (λ y. edge_cmp e y ≡ Less) es
+
+below_below : (e y : EdgeFacts) (ys : List EdgeFacts) → edge_cmp e y ≡ Less → IsBelow y ys → IsBelow e ys
+below_below e y [] l h = tt
+below_below e y (z ∷ zs) l h = (edge_total.trans e y z l h.0, below_below e y zs l h.1)
 
 abbrev pub Sorted : {K : Type 0} → (K → K → Ordering) → List K → Type 0
 Sorted cmp = IsStrictlySortedBy cmp

@@ -1,12 +1,14 @@
 -- The primary self-certification of a certificate, found by its edges.
-use Rattle.std.specs.Prelude.{if◌then◌else◌, List, Option, None}
+use Rattle.std.specs.Prelude.{◌≡◌, ℕ, if◌then◌else◌, List, Option, None}
 use Rattle.std.specs.List.{filter_map, slice_get}
 use Rattle.std.specs.Option.{option_and_then}
 use Rattle.wot_types.specs.Fpr.{same_fpr}
+use Rattle.wot_verdict.specs.Verdicts.{Entries}
 use Rattle.wot_part.specs.Certificate.{Signature, Certificate}
 use Rattle.wot_part.specs.Ranked.{greatest}
 use Rattle.wot_edge.specs.declared.edge.EdgeFacts.{EdgeFacts}
-use Rattle.wot_standing.specs.Standing.{own, primacy}
+use Rattle.wot_standing.specs.Standing.{own, primacy, primary_among}
+use Rattle.wot_live.specs.Rows.{edges_of}
 
 -- the self-certification that makes this edge; none if the issuer is another key
 abbrev pub self_certification : Certificate → EdgeFacts → Option Signature
@@ -17,3 +19,7 @@ self_certification c e =
 -- the greatest of those that make these edges
 abbrev pub primary_by : Certificate → List EdgeFacts → Option Signature
 primary_by c edges = greatest primacy (filter_map (self_certification c) edges)
+
+-- It is the primary one of the certificate.
+abbrev pub IsPrimary : Entries → Certificate → ℕ → Type 0
+IsPrimary verdicts c t = primary_by c (edges_of verdicts c t) ≡ primary_among verdicts (own c) t c.user_ids

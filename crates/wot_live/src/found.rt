@@ -1,57 +1,20 @@
-//! Finds the edges of all issuers into one certificate, in the order of issuer and user ID. wot_standing walks over the
-//! signatures of a user ID once and lists each issuer with its newest certification, which makes an edge. What is found
-//! is `found_edges`, and by the law `found_are_edges` it is `edges_of`.
-ghost use Rattle.std.specs.Prelude.{◌≡◌, ◌<◌, ◌^◌, [], length, OnOk, IfOk};
-ghost use Rattle.std.specs.List.{AllByRecursion, cons_option};
-ghost use Rattle.std.specs.List.Sorted.{IsStrictlySortedBy};
-ghost use Rattle.std.specs.Map.{keys_of};
-ghost use Rattle.wot_live.specs.Found.{Becomes, Gains, HasFew, by_place, edges_on, found_edges, place_cmp, with_edge};
-ghost use Rattle.wot_live.specs.Found.{edge_at_place as edge_at_place_spec};
+//! Finds the edges of all issuers into one certificate. wot_standing walks over the signatures of each user ID once and
+//! keeps the place of each issuer's newest certification there, in the order of issuer and user ID. Each place makes an
+//! edge, and by the law `found_are_edges` these are `edges_of`.
+ghost use Rattle.std.specs.Prelude.{◌≡◌, ◌<◌, ◌≤◌, ◌^◌, length, IfOk};
+ghost use Rattle.std.specs.List.{AllByRecursion};
+ghost use Rattle.wot_part.specs.Counts.{signatures_of};
+ghost use Rattle.wot_standing.specs.Standing.{own};
+ghost use Rattle.wot_live.specs.Found.{AreFound, HasFew};
+ghost use Rattle.wot_live.specs.Found.{edge_at_place as edge_at_place_spec, found_edge as found_edge_spec};
 
 use crate::terms::terms;
 use std::alloc::Global;
-use std::collections::BTreeMap;
 use wot_cert::{Cert, Part};
 use wot_edge::EdgeFacts;
-use wot_standing::Certifiers;
-use wot_standing::laws::certifications_count;
+use wot_standing::{Certified, Certifiers};
 use wot_types::{Fpr, Memory};
 use wot_verdict::Verdicts;
-
-/// The issuer of an edge, and the place of its user ID.
-#[derive(Clone, Copy, PartialEq, Eq, PartialOrd, Ord)]
-pub(crate) struct EdgePlace {
-    issuer: Fpr,
-    uid: u32,
-}
-
-/// The certificate into which edges lead, and what decides about them.
-#[derive(Clone, Copy)]
-struct Target<'a> {
-    fpr: Fpr,
-    verdicts: &'a Verdicts,
-    t: u32,
-}
-
-pub(crate) type Found = BTreeMap<EdgePlace, EdgeFacts, Global>;
-
-/// A law: the places rise.
-fn in_order(found: &Found)
-    ensures { IsStrictlySortedBy place_cmp (keys_of found.now.entries) }
-{
-    let _ = found.len();
-}
-
-fn put_edge(found: &mut Found, edge: EdgeFacts) -> Result<(), Memory>
-    ensures { OnOk result (Becomes (with_edge edge) found.old.entries found.new.entries) }
-{
-    let place = EdgePlace {
-        issuer: edge.issuer,
-        uid: edge.uid,
-    };
-    found.insert(place, edge)?;
-    Ok(())
-}
 
 /// The edge of the signature at this place on a user ID.
 fn edge_at_place(part: &Part, place: u32, issuer: Fpr, target: Fpr, uid: u32) -> Option<EdgeFacts>
@@ -62,58 +25,34 @@ fn edge_at_place(part: &Part, place: u32, issuer: Fpr, target: Fpr, uid: u32) ->
     Some(terms(issuer, target, uid, place, said))
 }
 
-fn put_some(found: &mut Found, edge: Option<EdgeFacts>) -> Result<(), Memory>
-    ensures { OnOk result (Gains (cons_option edge []) found.old.entries found.new.entries) }
+/// The edge of an issuer on a user ID, by the place of the certification there. `target` is the certificate's own key.
+pub(crate) fn found_edge(cert: &Cert, target: Fpr, by: Certified, place: u32) -> Option<EdgeFacts>
+    requires target { target ≡ own cert.now }
+    ensures { result ≡ found_edge_spec cert.now (by, place) }
 {
-    match edge {
-        Some(edge) => put_edge(found, edge),
-        None => Ok(()),
-    }
+    let part = cert.user_ids().get(by.uid as usize)?;
+    edge_at_place(part, place, by.issuer, target, by.uid)
 }
 
-/// Adds the edges of all issuers on the user ID at this place.
-fn put_edges_on(
-    alloc: Global,
-    found: &mut Found,
-    part: &Part,
-    uid: u32,
-    to: &Target<'_>,
-) -> Result<(), Memory>
-    requires few { HasFew part.now }
-    ensures { OnOk result (Gains (edges_on to.now.verdicts.now.entries to.now.fpr to.now.t uid part.now)
-        found.old.entries found.new.entries) }
-{
-    let certifiers = Certifiers::new(alloc, part, to.verdicts, to.t)?;
-    certifications_count();
-    in_order(found);
-    'issuers: for (issuer, place) in certifiers.iter() {
-        let edge = edge_at_place(part, *place, *issuer, to.fpr, uid);
-        put_some(found, edge)?;
-    }
-    Ok(())
-}
-
-/// The edges into a certificate, by issuer and user ID.
-pub(crate) fn find_edges(
+/// The newest certification of each issuer on each user ID.
+pub(crate) fn find(
     alloc: Global,
     cert: &Cert,
     verdicts: &Verdicts,
     t: u32,
-) -> Result<Found, Memory>
+) -> Result<Certifiers, Memory>
     requires few { AllByRecursion HasFew cert.now.user_ids }
     requires count { length cert.now.user_ids < 2 ^ 32 }
-    ensures { IfOk result (λ found. found.entries ≡ by_place (found_edges verdicts.now.entries cert.now t)) }
+    ensures found { IfOk result (λ found. AreFound verdicts.now.entries cert.now t found) }
+    ensures count { IfOk result (λ found. length found ≤ signatures_of cert.now) }
 {
-    let mut found = BTreeMap::new(alloc);
-    let target = Target {
-        fpr: cert.fpr(),
-        verdicts,
-        t,
-    };
+    let mut found = Certifiers::new(alloc);
     let mut rest = cert.user_ids();
     'back: while let Some((part, prefix)) = rest.split_last() {
         rest = prefix;
-        put_edges_on(alloc, &mut found, part, prefix.len() as u32, &target)?;
+        found.add(alloc, prefix.len() as u32, part, verdicts, t)?;
     }
+    // Its clause says that they are in order.
+    let _ = found.len();
     Ok(found)
 }

@@ -1,12 +1,12 @@
 //! Laws of the definitions. Each function does nothing: its contract is the law. wot_network calls it to know that a
 //! certificate's edges are sorted and complete.
-ghost use Rattle.std.specs.Prelude.{◌≡◌, ℕ};
+ghost use Rattle.std.specs.Prelude.{ℕ};
 ghost use Rattle.wot_verdict.specs.Verdicts.{Entries};
 ghost use Rattle.wot_part.specs.Certificate.{Certificate};
-ghost use Rattle.wot_standing.specs.Standing.{own, primary_among};
-ghost use Rattle.wot_live.specs.Found.{found_edges};
+ghost use Rattle.wot_standing.specs.Standing.{own};
+ghost use Rattle.wot_live.specs.Found.{FoundAreAll};
 ghost use Rattle.wot_live.specs.Rows.{AreInto, AreRows, edges_of};
-ghost use Rattle.wot_live.specs.SelfCertified.{primary_by};
+ghost use Rattle.wot_live.specs.SelfCertified.{IsPrimary};
 
 use wot_cert::Cert;
 use wot_standing::laws::certifications_count;
@@ -19,17 +19,16 @@ pub fn edges_are_rows()
     certifications_count();
 }
 
-/// The edges that are found signature by signature are all edges into the certificate.
+/// The edges of the newest certifications that are found are all edges into the certificate.
 pub(crate) fn found_are_edges()
-    ensures all { (verdicts : Entries) (c : Certificate) (t : ℕ) → found_edges verdicts c t ≡ edges_of verdicts c t }
+    ensures all { (verdicts : Entries) (c : Certificate) (t : ℕ) → FoundAreAll verdicts c t }
 {
     certifications_count();
 }
 
 /// The primary self-certification of this certificate is the greatest of those that make its edges.
 pub(crate) fn self_edges(cert: &Cert)
-    ensures primary { (verdicts : Entries) (t : ℕ)
-        → primary_by cert.now (edges_of verdicts cert.now t) ≡ primary_among verdicts (own cert.now) t cert.now.user_ids }
+    ensures primary { (verdicts : Entries) (t : ℕ) → IsPrimary verdicts cert.now t }
 {
     certifications_count();
     let _ = cert.user_ids().len();

@@ -1,8 +1,8 @@
 //! `rows`, the one call of this crate: edges and revoked user IDs of a certificate at a time, and the span of times in
 //! which they hold. Its contract is what the network above is proved from. A rule about edges changes in `terms` or in
 //! wot_standing, not here.
-ghost use Rattle.std.specs.Prelude.{◌≡◌, ◌<◌, ◌≤◌, ◌+◌, ◌^◌, min, length, IfOk};
-ghost use Rattle.std.specs.BTreeMap.{btree_map_len, values};
+ghost use Rattle.std.specs.Prelude.{◌≡◌, ◌<◌, ◌≤◌, ◌+◌, ◌^◌, ◌++◌, [], min, length, OnOk, IfOk};
+ghost use Rattle.std.specs.List.{cons_option};
 ghost use Rattle.std.specs.List.Sorted.{IsStrictlySortedBy};
 ghost use Rattle.wot_part.specs.Counts.{signatures_of};
 ghost use Rattle.wot_cert.specs.Span.{span_of};
@@ -10,31 +10,54 @@ ghost use Rattle.wot_part.specs.Text.{size_of};
 ghost use Rattle.wot_edge.specs.Order.{edge_cmp};
 ghost use Rattle.wot_standing.specs.Standing.{own};
 ghost use Rattle.wot_standing.specs.Throughout.{IsThroughout};
+ghost use Rattle.wot_live.specs.Found.{found_edges};
 ghost use Rattle.wot_live.specs.Rows.{AreInto, AreRows, StandsThroughout, edges_of, revoked_of};
 
 use crate::Rows;
-use crate::found::{Found, find_edges};
+use crate::found::{find, found_edge};
 use crate::laws::{edges_are_rows, found_are_edges};
 use crate::revoked::revoked_places;
 use std::alloc::Global;
 use wot_cert::{Cert, Span};
-use wot_edge::Edge;
-use wot_standing::steady_span;
+use wot_edge::{Edge, EdgeFacts};
+use wot_standing::{Certifiers, steady_span};
 use wot_types::{Memory, Steps};
 use wot_verdict::Verdicts;
 
-/// Creates the edges that were found, and counts them.
-fn make_edges(alloc: Global, found: &Found, steps: &mut Steps) -> Result<Vec<Edge>, Memory>
-    ensures edges { IfOk result (λ edges. edges.items ≡ values found.now) }
-    ensures made { IfOk result (λ edges. min (steps.old.made + length edges.items) u64.MAX ≤ steps.new.made) }
-    ensures made_most { steps.new.made ≤ steps.old.made + btree_map_len found.now }
+/// Appends an edge, if there is one, and counts it.
+fn push(edges: &mut Vec<Edge>, facts: Option<EdgeFacts>, steps: &mut Steps) -> Result<(), Memory>
+    ensures pushed { OnOk result (edges.new.items ≡ edges.old.items ++ cons_option facts []) }
+    ensures made { OnOk result
+        (min (steps.old.made + length (cons_option facts [])) u64.MAX ≤ steps.new.made) }
+    ensures made_most { steps.new.made ≤ steps.old.made + 1 }
     ensures never_less { steps.old.made ≤ steps.new.made }
 {
     // Reading the count brings its range into the proof.
     let _made = steps.made;
+    if let Some(facts) = facts {
+        edges.push(Edge::make(facts, steps))?;
+    }
+    Ok(())
+}
+
+/// Creates the edges that were found, and counts them.
+fn make_edges(
+    alloc: Global,
+    cert: &Cert,
+    found: &Certifiers,
+    steps: &mut Steps,
+) -> Result<Vec<Edge>, Memory>
+    ensures edges { IfOk result (λ edges. edges.items ≡ found_edges cert.now found.now) }
+    ensures made { IfOk result (λ edges. min (steps.old.made + length edges.items) u64.MAX ≤ steps.new.made) }
+    ensures made_most { steps.new.made ≤ steps.old.made + length found.now }
+    ensures never_less { steps.old.made ≤ steps.new.made }
+{
+    // Reading the count brings its range into the proof.
+    let _made = steps.made;
+    let target = cert.fpr();
     let mut edges = Vec::with_capacity(alloc, found.len())?;
-    for facts in found.values() {
-        edges.push(Edge::make(*facts, steps))?;
+    'entries: for (by, place) in found.iter() {
+        push(&mut edges, found_edge(cert, target, *by, *place), steps)?;
     }
     Ok(edges)
 }
@@ -68,9 +91,9 @@ pub fn rows(
     ensures made_most { steps.new.made ≤ steps.old.made + signatures_of cert.now }
     ensures never_less { steps.old.made ≤ steps.new.made }
 {
-    let found = find_edges(alloc, cert, verdicts, t)?;
+    let found = find(alloc, cert, verdicts, t)?;
     let revoked = revoked_places(alloc, cert, verdicts, t)?;
-    let edges = make_edges(alloc, &found, steps)?;
+    let edges = make_edges(alloc, cert, &found, steps)?;
     edges_are_rows();
     found_are_edges();
     Ok((Rows { edges, revoked }, steady_span(cert, t)))

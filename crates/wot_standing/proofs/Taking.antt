@@ -10,7 +10,7 @@ use Rattle.wot_part.specs.Certificate.{Signature}
 use Rattle.wot_part.specs.Ranked.{higher_of}
 use Rattle.wot_cert.specs.Time.{newness}
 use Rattle.wot_standing.specs.Latest.{revoked_at, stays}
-use Rattle.wot_standing.specs.Certifiers.{certifier_of, kept_for, newer_by, number_for, KeepsNumber, TakesNewest}
+use Rattle.wot_standing.specs.Certifiers.{certifier_of, kept_for, newer_by, ByIssuer, KeepsNumber, TakesNewest}
 use Rattle.wot_standing.proofs.NumbersByIssuer.{changed, found_at, is_newer, others_newer, valid_by}
 
 -- ---- by whom the signature is that stands behind these
@@ -26,7 +26,7 @@ twice : (b : Bool) (x y o : Option ℕ) → cond b x (cond b y o) ≡ cond b x o
 twice true x y o = refl
 twice false x y o = refl
 
-module _ (verdicts : Entries) (t : ℕ) (sigs : List Signature) (s : Signature) (issuer : Fpr) (old : List (Fpr × ℕ))
+module _ (verdicts : Entries) (t : ℕ) (sigs : List Signature) (s : Signature) (issuer : Fpr) (old : ByIssuer)
     (revoked : Option ℕ) (by : Some issuer ≡ certifier_of verdicts t s)
     (latest : revoked ≡ revoked_at verdicts issuer t sigs) (stay : true ≡ stays revoked s) where
   -- the signature or an older one is kept, by which of them is newer
@@ -36,27 +36,27 @@ module _ (verdicts : Entries) (t : ℕ) (sigs : List Signature) (s : Signature) 
       sym (is_newer verdicts issuer t sigs s (kept_for old sigs issuer) kept then revoked latest
       (valid_by verdicts issuer t revoked s true by stay) k e)
 
-  kept_at : (place : ℕ) (new : List (Fpr × ℕ)) → KeepsNumber old new issuer place
+  kept_at : (place : ℕ) (new : ByIssuer) → KeepsNumber old new issuer place
       → slice_get sigs place ≡ newer_by verdicts issuer t sigs s (kept_for old sigs issuer)
       → TakesNewest verdicts t sigs s old new
   kept_at place new keeps e =
       changed issuer (λ q. kept_for old sigs q) (λ q best. newer_by verdicts q t sigs s best)
       (others_newer verdicts t sigs s issuer by) (λ q. kept_for new sigs q) (slice_get sigs place)
       (λ q. ap (option_and_then (slice_get sigs)) (keeps q)
-      ∙ found_at (slice_get sigs) (same_fpr issuer q) place (number_for old q)) e
+      ∙ found_at (slice_get sigs) (same_fpr issuer q) place (old q)) e
 
   -- it is the issuer's first one, or newer
-  pub takes : (at : ℕ) (new : List (Fpr × ℕ)) (kept : Option Signature) → slice_get sigs at ≡ Some s
+  pub takes : (at : ℕ) (new : ByIssuer) (kept : Option Signature) → slice_get sigs at ≡ Some s
       → KeepsNumber old new issuer at → kept ≡ kept_for old sigs issuer → higher_of newness s kept ≡ Some s
       → TakesNewest verdicts t sigs s old new
   takes at new kept here keeps k e = kept_at at new keeps (here ∙ becomes kept (Some s) k e)
 
   -- the other one is newer
-  pub comes_back : (at other : ℕ) (mid new : List (Fpr × ℕ)) → number_for old issuer ≡ Some other
+  pub comes_back : (at other : ℕ) (mid new : ByIssuer) → old issuer ≡ Some other
       → KeepsNumber old mid issuer at → KeepsNumber mid new issuer other
       → higher_of newness s (slice_get sigs other) ≡ slice_get sigs other → TakesNewest verdicts t sigs s old new
   comes_back at other mid new was first back e =
       kept_at other new
       (λ q. back q ∙ ap (cond (same_fpr issuer q) (Some other)) (first q)
-      ∙ twice (same_fpr issuer q) (Some other) (Some at) (number_for old q))
+      ∙ twice (same_fpr issuer q) (Some other) (Some at) (old q))
       (becomes (slice_get sigs other) (slice_get sigs other) (sym (ap (option_and_then (slice_get sigs)) was)) e)

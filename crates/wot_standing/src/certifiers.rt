@@ -1,19 +1,20 @@
-//! The newest valid certification of every issuer on a user ID, found in one walk over its signatures.
+//! The newest valid certification of every issuer on each user ID, found in one walk over its signatures.
 //!
-//! It stands on `latest`, `newest` and `kinds`, and on `specs/Certifiers.antt`. `wot_live` makes one edge of each.
-ghost use Rattle.std.specs.Prelude.{◌≡◌, ◌<◌, ◌^◌, length, map, Some, OnOk, IfOk};
+//! It stands on `latest`, `newest`, `kinds` and `places`, and on `specs/Certifiers.antt`. `wot_live` makes one edge of
+//! each.
+ghost use Rattle.std.specs.Prelude.{◌≡◌, ◌<◌, ◌≤◌, ◌+◌, ◌^◌, [], length, map, Some, OnOk, IfOk};
 ghost use Rattle.std.specs.List.{slice_get};
 ghost use Rattle.std.specs.List.Sorted.{IsStrictlySortedBy};
 ghost use Rattle.std.specs.Map.{keys_of};
 ghost use Rattle.std.specs.Option.{option_copied, option_flatten};
-ghost use Rattle.wot_types.specs.Fpr.{fpr_cmp};
-ghost use Rattle.wot_standing.specs.Certifiers.{certifier_of, number_for, revoker_of, AreNewestAmong};
-ghost use Rattle.wot_standing.specs.Certifiers.{KeepsLatest, KeepsNewest, KeepsNumber};
-ghost use Rattle.wot_standing.specs.Certifiers.{TakesLatest, TakesValid};
+ghost use Rattle.wot_standing.specs.Certifiers.{certified_cmp, certifier_of, number_for, place_for, revoker_of};
+ghost use Rattle.wot_standing.specs.Certifiers.{ArePlaced, HasNone, KeepsLatest, KeepsNewest, KeepsNumber};
+ghost use Rattle.wot_standing.specs.Certifiers.{StaysElsewhere, TakesLatest, TakesValid};
 
 use crate::kinds::{CERTIFICATION_REVOCATION, has_kind, is_certification, is_live, made};
 use crate::latest::later;
 use crate::newest::{is_newest, stays};
+use crate::places::{Certified, Places, count, keep_place, place};
 use std::alloc::Global;
 use std::collections::BTreeMap;
 use std::collections::btree_map::Iter;
@@ -24,58 +25,86 @@ use wot_verdict::Verdicts;
 
 type Numbers = BTreeMap<Fpr, u32, Global>;
 
-/// What decides whether a certification is valid: the verdicts, the time, and each issuer's latest revocation.
+/// What decides whether a certification on the user ID at this place is valid: the verdicts, the time, and each
+/// issuer's latest revocation there.
 #[derive(Clone, Copy)]
 struct Validity<'a> {
+    uid: u32,
     verdicts: &'a Verdicts,
     t: u32,
     latest: &'a Numbers,
 }
 
-/// The newest certification of each issuer on one user ID, by its place there.
+/// The newest certification of each issuer on each user ID that was added, by its place there.
 #[derive(Drop)]
 pub struct Certifiers {
-    places: BTreeMap<Fpr, u32, Global>,
+    places: Places,
 }
 
 impl Model for Certifiers {
     ghost use Rattle.std.specs.Prelude.{List, ℕ};
-    ghost use Rattle.wot_types.specs.declared.fpr.Fpr.{Fpr};
+    ghost use Rattle.wot_standing.specs.declared.places.Certified.{Certified};
 
-    ghost Value = { List (Fpr × ℕ) };
+    ghost Value = { List (Certified × ℕ) };
 
     ghost view = { λ certifiers. certifiers.places.entries };
 }
 
 impl Certifiers {
-    /// For each issuer, the newest certification on the user ID that counts as the issuer's, is live at `t` and
-    /// unrevoked.
-    pub fn new(alloc: Global, uid: &Part, verdicts: &Verdicts, t: u32) -> Result<Certifiers, Memory>
+    /// None yet.
+    pub fn new(alloc: Global) -> Certifiers
+        ensures empty { result ≡ [] }
+    {
+        Certifiers {
+            places: BTreeMap::new(alloc),
+        }
+    }
+
+    /// Adds, for each issuer, the newest certification on the user ID that counts as the issuer's, is live at `t` and
+    /// unrevoked. `place` is the place of the user ID, which has none yet.
+    pub fn add(
+        &mut self,
+        alloc: Global,
+        place: u32,
+        uid: &Part,
+        verdicts: &Verdicts,
+        t: u32,
+    ) -> Result<(), Memory>
         requires few { length uid.now.sigs < 2 ^ 32 }
-        ensures newest { IfOk result (λ found. KeepsNewest verdicts.now.entries t uid.now found) }
+        requires none { HasNone place self.old }
+        ensures newest { OnOk result (KeepsNewest verdicts.now.entries t uid.now (place_for self.new place)) }
+        ensures elsewhere { OnOk result (StaysElsewhere place self.old self.new) }
+        ensures count { OnOk result (length self.new ≤ length self.old + length uid.now.sigs) }
     {
         let latest = latest_revocations(alloc, uid.sigs(), verdicts, t)?;
         let issuers = certifiers_in(alloc, uid.sigs(), verdicts, t)?;
         let validity = Validity {
+            uid: place,
             verdicts,
             t,
             latest: &latest,
         };
-        let places = newest_places(alloc, uid.sigs(), &issuers, &validity)?;
-        Ok(Certifiers { places })
+        add_places(&mut self.places, uid.sigs(), &issuers, &validity)
     }
 
-    /// The place of an issuer's certification among the signatures on the user ID.
-    pub fn place(&self, issuer: &Fpr) -> Option<u32>
-        ensures place { result ≡ number_for self.now issuer.now }
+    /// The place of an issuer's certification among the signatures on the user ID at this place.
+    pub fn place(&self, uid: u32, issuer: &Fpr) -> Option<u32>
+        ensures place { result ≡ place_for self.now uid issuer.now }
     {
-        number(&self.places, issuer)
+        place(&self.places, *issuer, uid)
     }
 
-    /// The issuers in order, each with the place of its certification.
-    pub fn iter(&self) -> Iter<'_, Fpr, u32>
+    /// How many certifications there are. They are in the order of issuer and user ID.
+    pub fn len(&self) -> usize
+        ensures count { result ≡ length self.now }
+        ensures sorted { IsStrictlySortedBy certified_cmp (keys_of self.now) }
+    {
+        count(&self.places)
+    }
+
+    /// Issuers and user IDs in order, each with the place of the certification there.
+    pub fn iter(&self) -> Iter<'_, Certified, u32>
         ensures places { result ≡ self.now }
-        ensures sorted { IsStrictlySortedBy fpr_cmp (keys_of self.now) }
     {
         self.places.iter()
     }
@@ -87,13 +116,12 @@ fn number(numbers: &Numbers, issuer: &Fpr) -> Option<u32>
     numbers.get(issuer).copied()
 }
 
-/// Keeps a number for an issuer, in place of the one that is returned.
-fn keep(numbers: &mut Numbers, issuer: Fpr, number: u32) -> Result<Option<u32>, Memory>
-    ensures old { IfOk result (λ old. old ≡ number_for numbers.old.entries issuer) }
-    ensures keeps { OnOk result (KeepsNumber numbers.old.entries numbers.new.entries issuer number) }
+fn keep(numbers: &mut Numbers, issuer: Fpr, number: u32) -> Result<(), Memory>
+    ensures { OnOk result
+        (KeepsNumber (number_for numbers.old.entries) (number_for numbers.new.entries) issuer number) }
 {
-    let old = numbers.insert(issuer, number)?;
-    Ok(old)
+    numbers.insert(issuer, number)?;
+    Ok(())
 }
 
 /// By whom a signature is a live revocation. What costs a look at the verdicts is asked last.
@@ -118,8 +146,8 @@ fn certifier(sig: &Sig, verdicts: &Verdicts, t: u32) -> Option<Fpr>
     }
 }
 
-/// By whom each of these signatures is a live certification. Nothing else is done between the looks at the verdicts:
-/// these lie far apart in memory, and so the processor fetches several at once.
+/// By whom each of these signatures is a live certification. Nothing else is done between the lookups of the verdicts,
+/// so that the processor fetches several at once.
 fn certifiers_in(
     alloc: Global,
     sigs: &[Sig],
@@ -144,7 +172,7 @@ fn latest_revocations(
     verdicts: &Verdicts,
     t: u32,
 ) -> Result<Numbers, Memory>
-    ensures { IfOk result (λ latest. KeepsLatest verdicts.now.entries t sigs.now latest.entries) }
+    ensures { IfOk result (λ latest. KeepsLatest verdicts.now.entries t sigs.now (number_for latest.entries)) }
 {
     let mut latest = BTreeMap::new(alloc);
     let mut rest = sigs;
@@ -162,38 +190,40 @@ fn note_revocation(
     verdicts: &Verdicts,
     t: u32,
 ) -> Result<(), Memory>
-    ensures { OnOk result (TakesLatest verdicts.now.entries t sig.now latest.old.entries latest.new.entries) }
+    ensures { OnOk result
+        (TakesLatest verdicts.now.entries t sig.now (number_for latest.old.entries) (number_for latest.new.entries)) }
 {
     let Some(issuer) = revoker(sig, verdicts, t) else {
         return Ok(());
     };
     let best = later(made(sig), number(latest, &issuer));
-    let _ = keep(latest, issuer, best)?;
+    keep(latest, issuer, best)?;
     Ok(())
 }
 
-/// The place of each issuer's newest valid certification, given by whom each signature is one.
-fn newest_places(
-    alloc: Global,
+/// Adds the place of each issuer's newest valid certification on the user ID, given by whom each signature is one.
+fn add_places(
+    places: &mut Places,
     sigs: &[Sig],
     issuers: &[Option<Fpr>],
     validity: &Validity<'_>,
-) -> Result<Numbers, Memory>
+) -> Result<(), Memory>
     requires few { length sigs.now < 2 ^ 32 }
+    requires none { HasNone validity.now.uid places.old.entries }
     requires issuers { issuers.now ≡ map (certifier_of validity.now.verdicts.now.entries validity.now.t) sigs.now }
     requires latest { KeepsLatest validity.now.verdicts.now.entries validity.now.t sigs.now
-        validity.now.latest.now.entries }
-    ensures { IfOk result
-        (λ places. AreNewestAmong validity.now.verdicts.now.entries validity.now.t sigs.now places.entries) }
+        (number_for validity.now.latest.now.entries) }
+    ensures newest { OnOk result (ArePlaced validity.now sigs.now places.new.entries) }
+    ensures elsewhere { OnOk result (StaysElsewhere validity.now.uid places.old.entries places.new.entries) }
+    ensures count { OnOk result (length places.new.entries ≤ length places.old.entries + length sigs.now) }
 {
-    let mut places = BTreeMap::new(alloc);
     let mut rest = sigs;
     'back: while let Some((sig, prefix)) = rest.split_last() {
         rest = prefix;
         let by = issuer_at(issuers, prefix.len());
-        note_certification(&mut places, sigs, prefix.len() as u32, sig, by, validity)?;
+        note_certification(places, sigs, prefix.len() as u32, sig, by, validity)?;
     }
-    Ok(places)
+    Ok(())
 }
 
 fn issuer_at(issuers: &[Option<Fpr>], at: usize) -> Option<Fpr>
@@ -208,7 +238,7 @@ fn issuer_at(issuers: &[Option<Fpr>], at: usize) -> Option<Fpr>
 /// Adds the signature at this place to the newest certifications, if it is one by somebody. Most issuers have no other
 /// one, so the place is kept first, and what it replaced comes back if it is newer.
 fn note_certification(
-    places: &mut Numbers,
+    places: &mut Places,
     sigs: &[Sig],
     at: u32,
     sig: &Sig,
@@ -218,21 +248,23 @@ fn note_certification(
     requires here { slice_get sigs.now at ≡ Some sig.now }
     requires by { by ≡ certifier_of validity.now.verdicts.now.entries validity.now.t sig.now }
     requires latest { KeepsLatest validity.now.verdicts.now.entries validity.now.t sigs.now
-        validity.now.latest.now.entries }
-    ensures { OnOk result
+        (number_for validity.now.latest.now.entries) }
+    ensures takes { OnOk result
         (TakesValid validity.now sigs.now sig.now places.old.entries places.new.entries) }
+    ensures elsewhere { OnOk result (StaysElsewhere validity.now.uid places.old.entries places.new.entries) }
+    ensures count { OnOk result (length places.new.entries ≤ length places.old.entries + 1) }
 {
     let Some(issuer) = by else { return Ok(()) };
     if !stays(sig, number(validity.latest, &issuer)) {
         return Ok(());
     }
-    let Some(other) = keep(places, issuer, at)? else {
+    let Some(other) = keep_place(places, issuer, validity.uid, at)? else {
         return Ok(());
     };
     if is_newest(sig, sig_at(sigs, other)) {
         return Ok(());
     }
-    let _ = keep(places, issuer, other)?;
+    let _ = keep_place(places, issuer, validity.uid, other)?;
     Ok(())
 }
 

@@ -5,15 +5,9 @@ use Rattle.wot_types.specs.declared.fpr.Fpr.{Fpr}
 use Rattle.wot_types.specs.FprLaws.{same_cmp}
 use Rattle.wot_standing.proofs.certifiers.keep.Goals as goal
 
-pub returns-clause-old : goal.returns-clause-old
-returns-clause-old c =
-    let P : (Fpr → Fpr → Ordering) → Type 0 =
-    λ cmp. c.in_ok-old.old ≡ lookup (is_at (cmp c.args.issuer)) c.args.numbers.now.entries in
-    subst P same_cmp c.in_ok-old.ensures.old
-
-pub returns-clause-keeps : goal.returns-clause-keeps
-returns-clause-keeps c q =
+pub returns : goal.returns
+returns c q =
     let P : (Fpr → Fpr → Ordering) → Type 0 =
     λ cmp. lookup (is_at (cmp q)) c.insert.new.self.entries ≡ cond (is_at (cmp c.args.issuer) q)
     (Some c.args.number) (lookup (is_at (cmp q)) c.args.numbers.now.entries) in
-    subst P same_cmp (c.in_ok-old.ensures.updates.0 q)
+    subst P same_cmp (c.in_ok-insert.ensures.updates.0 q)

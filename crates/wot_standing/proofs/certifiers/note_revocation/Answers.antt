@@ -16,6 +16,6 @@ returns c =
     let issuer = c.in-Some.issuer in
     changed issuer old (λ q best. later_by a.verdicts.now.entries q a.t a.sig.now best)
     (others_later a.verdicts.now.entries a.t a.sig.now issuer c.in-Some.ensures)
-    (λ q. number_for c.keep.new.numbers.entries q) (Some c.later-best.result) c.in_ok-keep.ensures.keeps
+    (λ q. number_for c.keep.new.numbers.entries q) (Some c.later-best.result) c.in_ok-keep.ensures
     (is_later a.verdicts.now.entries issuer a.t a.sig.now (old issuer) c.number.result c.made.result c.later-best.result
     c.in-Some.ensures c.made.ensures c.number.ensures c.later-best.ensures)

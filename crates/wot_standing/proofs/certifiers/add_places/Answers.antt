@@ -1,4 +1,4 @@
-use Rattle.std.proofs.Common.{◌≡◌, ◌++◌, ◌∷◌, length, map, ap, sym, ◌∙◌}
+use Rattle.std.proofs.Common.{◌≡◌, ◌++◌, ◌∷◌, length, map, ap, sym, ◌∙◌, arith}
 use Rattle.std.proofs.lemmas.List.{nil_from_length}
 use Rattle.std.specs.Prelude.{filter}
 use Rattle.std.specs.List.{slice_get}
@@ -12,7 +12,7 @@ use Rattle.wot_standing.specs.Latest.{revoked_at, is_valid_after}
 use Rattle.wot_standing.proofs.NumbersByIssuer.{greatest_more}
 use Rattle.wot_standing.proofs.RevokedByNumber.{newest-latest}
 use Rattle.wot_standing.proofs.Taking.{mapped_behind}
-use Rattle.wot_standing.proofs.certifiers.newest_places.Goals as goal
+use Rattle.wot_standing.proofs.certifiers.add_places.Goals as goal
 
 pub note_certification-requires-clause-by : goal.note_certification-requires-clause-by
 note_certification-requires-clause-by c =
@@ -34,16 +34,20 @@ back-preserved c =
       seen = c.in-Some.sig.now ∷ c.back.invariant.seen;
       all = seam a.sigs.now c.back.rest.now c.in-Some.prefix.now c.back.invariant.seen c.in-Some.sig.now
           c.back.invariant.all c.in-Some.ensures.cases.0;
-      newest = λ q. c.in_ok-note_certification.ensures q
+      newest = λ q. c.in_ok-note_certification.ensures.takes q
           ∙ ap (newer_by v.verdicts.now.entries q v.t a.sigs.now c.in-Some.sig.now) (c.back.invariant.newest q)
           ∙ greatest_more
           (is_valid_after v.verdicts.now.entries q v.t Certification
           (revoked_at v.verdicts.now.entries q v.t a.sigs.now))
           c.in-Some.sig.now c.back.invariant.seen;
+      elsewhere = λ at q apart. c.in_ok-note_certification.ensures.elsewhere at q apart
+          ∙ c.back.invariant.elsewhere at q apart;
+      count = let more = c.in_ok-note_certification.ensures.count in let before = c.back.invariant.count in
+          omega (arith, more, before);
     }
 
-pub returns : goal.returns
-returns c q =
+pub returns-clause-newest : goal.returns-clause-newest
+returns-clause-newest c q =
     let a = c.args in
     let v = a.validity.now in
     let e : c.back.invariant.seen ≡ a.sigs.now =
