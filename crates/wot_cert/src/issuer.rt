@@ -2,7 +2,9 @@
 //!
 //! It stands on `sig` and the verdicts, and on `specs/Issuer.antt`. Every rule about certifications, revocations and
 //! self-signatures above starts with it.
-ghost use Rattle.std.specs.Prelude.{◌≡◌};
+ghost use Rattle.std.specs.Prelude.{◌≡◌, false};
+ghost use Rattle.std.specs.Option.{option_map_or};
+ghost use Rattle.wot_part.specs.Certificate.{said_by};
 ghost use Rattle.wot_cert.specs.Issuer.{issuer_of as issuer_in, allows};
 
 use crate::Sig;
@@ -20,21 +22,39 @@ fn allowed(issuer: &Option<Fpr>, fpr: &Fpr) -> bool
     }
 }
 
+/// Whether it can be parsed and is well-formed.
+fn is_sound(sig: &Sig) -> bool
+    ensures { result ≡ option_map_or (λ f. f.sound) (said_by sig.now) false }
+{
+    match sig.facts() {
+        Some(facts) => facts.sound,
+        None => false,
+    }
+}
+
+/// Whether this key may be its issuer.
+fn may_be_by(sig: &Sig, fpr: &Fpr) -> bool
+    ensures { result ≡ option_map_or (λ f. allows f.issuer fpr.now) (said_by sig.now) false }
+{
+    match sig.facts() {
+        Some(facts) => allowed(&facts.issuer, fpr),
+        None => false,
+    }
+}
+
 /// The key whose signature this counts as: the signature can be parsed, is well-formed and admitted by the policy, its
 /// verdict is good with that key, and its hashed issuer fingerprint is absent or that key's.
 pub fn issuer_of(sig: &Sig, verdicts: &Verdicts) -> Option<Fpr>
     ensures issuer { result ≡ issuer_in verdicts.now.entries sig.now }
 {
-    let Some(facts) = sig.facts() else {
-        return None;
-    };
-    if !(facts.sound && sig.admitted()) {
+    // Each look at the facts reads one of them. Facts that are kept beyond the lookup would all be copied.
+    if !(is_sound(sig) && sig.admitted()) {
         return None;
     }
     let Some(Verdict::Good(fpr)) = verdicts.get(&sig.number()) else {
         return None;
     };
-    if allowed(&facts.issuer, &fpr) {
+    if may_be_by(sig, &fpr) {
         Some(fpr)
     } else {
         None

@@ -137,9 +137,9 @@ impl<T: Copy> Slots<T> {
         }
     }
 
-    /// Makes a new row with four slots for each value once there are half as many entries as slots. Entries that are
+    /// Makes a new row with eight slots for each value once a quarter of the slots would be taken. Entries that are
     /// left over count too, and the new row is without them. Without memory the row stays as it is until there are
-    /// half as many entries more, which take three quarters of its slots.
+    /// half as many entries more.
     fn make_room(&mut self)
         ensures same { HoldsSame self.old self.new }
     {
@@ -148,10 +148,10 @@ impl<T: Copy> Slots<T> {
             return;
         }
         self.until = entries.saturating_add(entries / 2);
-        let wanted = LEAST.max(self.count.saturating_mul(4));
+        let wanted = LEAST.max(self.count.saturating_mul(8));
         if let Some(made) = longer(self.alloc, &self.near, &mut self.rest, wanted) {
             self.near = made;
-            self.until = wanted / 2;
+            self.until = wanted / 4;
         }
     }
 }
