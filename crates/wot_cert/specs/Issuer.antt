@@ -23,6 +23,10 @@ abbrev pub issuer_with : Option SigFacts → Bool → Option Fpr → Option Fpr
 issuer_with (Some facts) true (Some fpr) = if facts.sound && allows facts.issuer fpr then Some fpr else None
 issuer_with _ _ _ = None
 
+-- It can be parsed and is well-formed, and the policy admitted it.
+abbrev pub may_count : Signature → Bool
+may_count s = option_map_or (λ f. f.sound) (said_by s) false && s.admitted
+
 -- The key whose signature this counts as: it can be parsed and is well-formed, its verdict is good with that key, its
 -- hashed issuer fingerprint is absent or that key's, and the policy admitted it.
 abbrev pub issuer_of : Entries → Signature → Option Fpr

@@ -2,10 +2,11 @@
 //!
 //! It stands on `sig` and the verdicts, and on `specs/Issuer.antt`. Every rule about certifications, revocations and
 //! self-signatures above starts with it.
-ghost use Rattle.std.specs.Prelude.{◌≡◌, false};
+ghost use Rattle.std.specs.Prelude.{◌≡◌, true, false};
 ghost use Rattle.std.specs.Option.{option_map_or};
 ghost use Rattle.wot_part.specs.Certificate.{said_by};
-ghost use Rattle.wot_cert.specs.Issuer.{issuer_of as issuer_in, allows};
+ghost use Rattle.wot_cert.specs.Issuer.{issuer_of as issuer_in, may_count as may_count_in};
+ghost use Rattle.wot_cert.specs.Issuer.{allows, good_by, issuer_with};
 
 use crate::Sig;
 use std::cmp::Ordering;
@@ -42,16 +43,20 @@ fn may_be_by(sig: &Sig, fpr: &Fpr) -> bool
     }
 }
 
-/// The key whose signature this counts as: the signature can be parsed, is well-formed and admitted by the policy, its
-/// verdict is good with that key, and its hashed issuer fingerprint is absent or that key's.
-pub fn issuer_of(sig: &Sig, verdicts: &Verdicts) -> Option<Fpr>
-    ensures issuer { result ≡ issuer_in verdicts.now.entries sig.now }
+/// Whether it can be a signature that counts: it can be parsed, is well-formed, and the policy admitted it.
+fn may_count(sig: &Sig) -> bool
+    ensures { result ≡ may_count_in sig.now }
 {
     // Each look at the facts reads one of them. Facts that are kept beyond the lookup would all be copied.
-    if !(is_sound(sig) && sig.admitted()) {
-        return None;
-    }
-    let Some(Verdict::Good(fpr)) = verdicts.get(&sig.number()) else {
+    is_sound(sig) && sig.admitted()
+}
+
+/// The key whose signature this counts as if it may count and this is its verdict.
+fn issuer_by(sig: &Sig, verdict: Option<Verdict>) -> Option<Fpr>
+    requires may { may_count_in sig.now ≡ true }
+    ensures issuer { result ≡ issuer_with (said_by sig.now) sig.now.admitted (good_by verdict) }
+{
+    let Some(Verdict::Good(fpr)) = verdict else {
         return None;
     };
     if may_be_by(sig, &fpr) {
@@ -59,4 +64,27 @@ pub fn issuer_of(sig: &Sig, verdicts: &Verdicts) -> Option<Fpr>
     } else {
         None
     }
+}
+
+/// The key whose signature this counts as: the signature can be parsed, is well-formed and admitted by the policy, its
+/// verdict is good with that key, and its hashed issuer fingerprint is absent or that key's.
+pub fn issuer_of(sig: &Sig, verdicts: &Verdicts) -> Option<Fpr>
+    ensures issuer { result ≡ issuer_in verdicts.now.entries sig.now }
+{
+    if !may_count(sig) {
+        return None;
+    }
+    issuer_by(sig, verdicts.get(&sig.number()))
+}
+
+/// The key whose signature this counts as, and where to look first for the verdict on the next signature. It looks at
+/// `from` first. Any place gives the same key; begin with 0.
+pub fn issuer_from(sig: &Sig, verdicts: &Verdicts, from: usize) -> (Option<Fpr>, usize)
+    ensures issuer { result.0 ≡ issuer_in verdicts.now.entries sig.now }
+{
+    if !may_count(sig) {
+        return (None, from);
+    }
+    let (verdict, next) = verdicts.get_from(&sig.number(), from);
+    (issuer_by(sig, verdict), next)
 }

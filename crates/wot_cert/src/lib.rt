@@ -25,7 +25,7 @@ pub use cert::Cert;
 pub use cert_list::CertList;
 pub use fault::{CertFault, MergeFault};
 pub use growth::Growth;
-pub use issuer::issuer_of;
+pub use issuer::{issuer_from, issuer_of};
 pub use moments::Span;
 pub use spans::span;
 pub use wot_part::{Adds, Part, Sig};

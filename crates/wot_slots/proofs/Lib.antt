@@ -1,4 +1,5 @@
 pub mod Numbers
+pub mod Live
 pub mod Rises
 pub mod Rows
 pub mod Moved

@@ -3,10 +3,10 @@ use Rattle.std.proofs.Common.{◌≡◌, ◌<◌, ◌≤◌, ◌+◌, ◌⊎◌,
 use Rattle.std.proofs.Common.{Result, Ok, Err, IfOk, OnOk, OnErr, length, Option, Some, None, is_some, sym, ap, ◌∙◌}
 use Rattle.std.proofs.Common.{subst, refl, arith}
 use Rattle.std.specs.Option.{option_map, option_or}
-use Rattle.std.specs.List.{slice_get, slice_index_or}
+use Rattle.std.specs.List.{slice_index_or}
 use Rattle.std.specs.Map.{lookup}
 use Rattle.std.proofs.lemmas.Bool.{cases_lt}
-use Rattle.std.proofs.lemmas.Option.{slice_get_within}
+use Rattle.std.proofs.lemmas.List.{get_or_past}
 use Rattle.wot_types.specs.declared.number.SigNumber.{SigNumber}
 use Rattle.wot_slots.specs.Near.{Rest, is_number, place_in, held_for, near_in, holder_in, DiffersAt, IsOf}
 use Rattle.wot_slots.specs.Near.{Moves, HasMoved, SaysSame}
@@ -155,7 +155,7 @@ module _ {T : Type 0} where
 
   -- ---- all entries moved
 
-  pub moved_nothing : (came : List (SigNumber × T)) (near longer : List (Slot T)) (before : Rest T) →
+  pub moved_nothing : (came : List (Slot T)) (near longer : List (Slot T)) (before : Rest T) →
       ((n : SigNumber) → near_in longer n ≡ None) → HasMoved 0 came near longer before before
   moved_nothing came near longer before vacant = record {
     sound = λ q. inl (vacant q);
@@ -166,8 +166,28 @@ module _ {T : Type 0} where
       none : (i : ℕ) → i < 0 → ⊥
       none i lt = omega arith
 
-  module _ (at : ℕ) (came : List (SigNumber × T)) (near longer new : List (Slot T)) (before rest rest' : Rest T)
-      (number : SigNumber) (is : option_map (λ e. e.0) (slice_get came at) ≡ Some number)
+  -- There is no entry at this place.
+  pub moved_past : (at : ℕ) (came : List (Slot T)) (near longer : List (Slot T)) (before rest : Rest T) →
+      slice_index_or came at None ≡ None → HasMoved at came near longer before rest →
+      HasMoved (at + 1) came near longer before rest
+  moved_past at came near longer before rest none h = record {
+    sound = h.sound;
+    none = h.none;
+    held = λ q i other value lt slot found. by q i other value lt slot found (cases_lt i at);
+  }
+    where
+      no_slot : {x : SigNumber × T} → None ≡ Some x → ⊥
+      no_slot h = cc
+
+      by : (q : SigNumber) (i : ℕ) (other value : T) → i < at + 1 → slice_index_or came i None ≡ Some (q, other) →
+          near_in near q ≡ Some value → (i < at) ⊎ (at ≤ i) → holder_in longer rest q ≡ Some value
+      by q i other value lt slot found (inl before) = h.held q i other value before slot found
+      by q i other value lt slot found (inr past) =
+          let e : at ≡ i = omega (arith, lt, past) in
+          absurd (no_slot (sym none ∙ ap (λ k. slice_index_or came k None) e ∙ slot))
+
+  module _ (at : ℕ) (came : List (Slot T)) (near longer new : List (Slot T)) (before rest rest' : Rest T)
+      (number : SigNumber) (is : option_map (λ e. e.0) (slice_index_or came at None) ≡ Some number)
       (h : HasMoved at came near longer before rest) (m : Moves number near longer rest new rest') where
     moved_sound : (q : SigNumber) (b : Bool) → is_number number q ≡ b → IsOf near new q
     moved_sound q true t = subst (IsOf near new) (same_number number q t) (m.sound (h.sound number))
@@ -182,7 +202,7 @@ module _ {T : Type 0} where
     moved_none q false t = λ e. (m.others q t).1 ∙ h.none q e
 
     moved_held : (q : SigNumber) (i : ℕ) (other value : T) → i < at + 1 →
-        slice_get came i ≡ Some (q, other) → near_in near q ≡ Some value → (b : Bool) → is_number number q ≡ b →
+        slice_index_or came i None ≡ Some (q, other) → near_in near q ≡ Some value → (b : Bool) → is_number number q ≡ b →
         (i < at) ⊎ (at ≤ i) → holder_in new rest' q ≡ Some value
     moved_held q i other value lt slot found true t place =
         subst (λ (x : SigNumber). near_in near x ≡ Some value → holder_in new rest' x ≡ Some value)
@@ -193,7 +213,7 @@ module _ {T : Type 0} where
     moved_held q i other value lt slot found false t (inr past) =
         let e : at ≡ i = omega (arith, lt, past) in
         let same : Some number ≡ Some q =
-        sym is ∙ ap (option_map (λ e. e.0)) (ap (slice_get came) e ∙ slot) in
+        sym is ∙ ap (option_map (λ e. e.0)) (ap (λ k. slice_index_or came k None) e ∙ slot) in
         absurd (apart (sym (itself number) ∙ ap (is_number number) (numbers same) ∙ t))
       where
         apart : true ≡ false → ⊥
@@ -210,7 +230,7 @@ module _ {T : Type 0} where
           (cases_lt i at);
     }
 
-  module _ (at : ℕ) (came : List (SigNumber × T)) (near longer : List (Slot T)) (before rest : Rest T)
+  module _ (at : ℕ) (came : List (Slot T)) (near longer : List (Slot T)) (before rest : Rest T)
       (h : HasMoved at came near longer before rest) where
     -- All entries were moved.
     pub moved_all : HasEntries near came → length came ≤ at → SaysSame near before longer rest
@@ -220,11 +240,21 @@ module _ {T : Type 0} where
         nothing e (inl none) = none
         nothing e (inr same) = same ∙ e
 
+        no_slot : {x : SigNumber × T} → None ≡ Some x → ⊥
+        no_slot h = cc
+
+        slot_within : (i : ℕ) (e : SigNumber × T) → slice_index_or came i None ≡ Some e → i < length came
+        slot_within i e slot = by (cases_lt i (length came))
+          where
+            by : (i < length came) ⊎ (length came ≤ i) → i < length came
+            by (inl lt) = lt
+            by (inr out) = absurd (no_slot (sym (get_or_past came i None out) ∙ slot))
+
         there : (value : T) → near_in near n ≡ Some value →
             (i : ℕ) × (slice_index_or near i None ≡ Some (n, value)) → holder_in longer rest n ≡ Some value
         there value e slot =
             let came = entries slot.0 (n, value) slot.1 in
-            let lt = slice_get_within _ came.0 (n, value) came.1 in
+            let lt = slot_within came.0 (n, value) came.1 in
             h.held n came.0 value value (omega (arith, lt, past)) came.1 e
 
         by : (o : Option T) → near_in near n ≡ o → holder_in longer rest n ≡ holder_in near before n

@@ -1,15 +1,15 @@
 -- Rows of slots: what is found in one after a slot was set or emptied.
 use Rattle.std.proofs.Common.{◌≡◌, ◌<◌, ◌≤◌, ◌+◌, ◌⊎◌, inl, inr, ℕ, suc, zero, Bool, true, false, cond, List}
-use Rattle.std.proofs.Common.{length, MatchBool, Option, Some, None, is_some, sym, ap, ◌∙◌, subst, refl, arith}
+use Rattle.std.proofs.Common.{length, Option, Some, None, is_some, sym, ap, ◌∙◌, subst, refl, arith}
 use Rattle.std.specs.Prelude.{not}
 use Rattle.std.specs.Option.{option_or}
 use Rattle.std.specs.List.{slice_index_or, slice_set}
 use Rattle.std.proofs.lemmas.Bool.{cases_eq, cases_lt}
 use Rattle.std.proofs.lemmas.List.{length-set, get_or-set_same, get_or-set_other, get_or_past}
 use Rattle.wot_types.specs.declared.number.SigNumber.{SigNumber}
-use Rattle.wot_slots.specs.Near.{is_number, place_in, held_for, found_from, near_in, DiffersAt, HasLess}
+use Rattle.wot_slots.specs.Near.{is_number, place_in, held_for, found_from, near_in, DiffersAt}
 use Rattle.wot_slots.specs.Near.{HasNoneIn, IsFirstOf}
-use Rattle.wot_slots.specs.Row.{RowOf, Slot}
+use Rattle.wot_slots.specs.Row.{Slot}
 use Rattle.wot_slots.proofs.Numbers.{same_number, itself, turned}
 
 -- The slot is empty if a test says so.
@@ -192,90 +192,6 @@ module _ {T : Type 0} where
           (like_before slots at (Some (number, value)) within q
           (held_other number q value t ∙ sym (ap (held_for q) vacant)))
 
-  -- The row could fill the slot, or it is as it was.
-  pub kept_slot : (old new : RowOf T) (number : SigNumber) (value : T) (place at count : ℕ) →
-      count ≡ length old.items → place ≡ place_in count number → place ≤ at → at < place + 8 → at < length old.items →
-      slice_index_or old.items at None ≡ None → near_in old.items number ≡ None → (b : Bool) →
-      MatchBool b (new.items ≡ slice_set old.items at (Some (number, value))) (new ≡ old) →
-      MatchBool b (DiffersAt number (Some value) old.items new.items) (new.items ≡ old.items)
-  kept_slot old new number value place at count counted there from near within vacant absent true filled =
-      subst (DiffersAt number (Some value) old.items) (sym filled)
-      (kept_near old.items number value place at count counted there from near within vacant absent)
-  kept_slot old new number value place at count counted there from near within vacant absent false same =
-      ap (λ (r : RowOf T). r.items) same
-
-  -- The slot at this place is the first one that has the number.
-  found_over : (slots : List (Slot T)) (j : ℕ) (n : SigNumber) (value : T) →
-      slice_index_or slots j None ≡ Some (n, value) → (at count : ℕ) → at ≤ j → j < at + count →
-      HasNoneIn n at j slots → found_from slots n at count ≡ Some value
-  found_over slots j n value is at zero from to none = absurd (omega (arith, from, to))
-  found_over slots j n value is at (suc count) from to none =
-      by (cases_lt at j) (found_over slots j n value is (at + 1) count)
-    where
-      by : (at < j) ⊎ (j ≤ at) →
-          (at + 1 ≤ j → j < at + 1 + count → HasNoneIn n (at + 1) j slots →
-          found_from slots n (at + 1) count ≡ Some value) →
-          option_or (held_for n (slice_index_or slots at None)) (found_from slots n (at + 1) count) ≡ Some value
-      by (inl before) more =
-          ap (λ o. option_or o (found_from slots n (at + 1) count)) (none at (omega arith) before)
-          ∙ more (omega (arith, before)) (omega (arith, to)) (λ i lo hi. none i (omega (arith, lo)) hi)
-      by (inr there) more =
-          let e : at ≡ j = omega (arith, from, there) in
-          ap (λ o. option_or o (found_from slots n (at + 1) count))
-          (ap (λ k. held_for n (slice_index_or slots k None)) e ∙ ap (held_for n) is ∙ held_own n value)
-
-  -- ---- slots that were emptied
-
-  pub as_it_was : (number : SigNumber) (slots : List (Slot T)) → HasLess number slots slots
-  as_it_was number slots = record { as_many = refl; others = λ q i other. refl; still = λ i none. none }
-
-  -- The slot of a number was emptied.
-  module _ (slots : List (Slot T)) (at : ℕ) (number : SigNumber) (within : at < length slots)
-      (found : is_some (held_for number (slice_index_or slots at None)) ≡ true) where
-    nothing_else : (q : SigNumber) → is_number number q ≡ false → held_for q (slice_index_or slots at None) ≡ None
-    nothing_else q other = by (held_for number (slice_index_or slots at None)) refl found
-      where
-        by : (o : Option T) → held_for number (slice_index_or slots at None) ≡ o → is_some o ≡ true →
-            held_for q (slice_index_or slots at None) ≡ None
-        by None e h = absurd cc
-        by (Some value) e h = ap (held_for q) (held_is number (slice_index_or slots at None) value e)
-            ∙ held_other number q value other
-
-    pub emptied : HasLess number slots (slice_set slots at None)
-    emptied = record {
-      as_many = length-set slots at None;
-      others = λ q i other. like_before slots at None within q (sym (nothing_else q other)) i;
-      still = λ i none. by i none (cases_eq i at);
-    }
-      where
-        by : (i : ℕ) → held_for number (slice_index_or slots i None) ≡ None → (i ≡ at) ⊎ (i ≡ at → ⊥) →
-            held_for number (slice_index_or (slice_set slots at None) i None) ≡ None
-        by i none (inl e) = ap (λ k. held_for number (slice_index_or (slice_set slots at None) k None)) e
-            ∙ ap (held_for number) (get_or-set_same slots at None None within)
-        by i none (inr away) = ap (held_for number) (get_or-set_other slots at i None None away) ∙ none
-
-    pub emptied_there : HasNoneIn number at (at + 1) (slice_set slots at None)
-    emptied_there i from to =
-        let e : i ≡ at = omega (arith, from, to) in
-        ap (λ k. held_for number (slice_index_or (slice_set slots at None) k None)) e
-        ∙ ap (held_for number) (get_or-set_same slots at None None within)
-
-  -- The value of a number was replaced in its first slot, and in others that have the same entry.
-  pub replaced_near : (slots new : List (Slot T)) (number : SigNumber) (value : T) (at : ℕ) →
-      IsFirstOf number at slots → slice_index_or new at None ≡ Some (number, value) → HasLess number slots new →
-      DiffersAt number (Some value) slots new
-  replaced_near slots new number value at first is less q = by (is_number number q) refl
-    where
-      own : near_in new number ≡ Some value
-      own =
-          ap (λ k. found_from new number (place_in k number) 8) less.as_many
-          ∙ found_over new at number value is (place_in (length slots) number) 8 first.from first.near
-          (λ i lo hi. less.still i (first.none i lo hi))
-
-      by : (b : Bool) → is_number number q ≡ b → near_in new q ≡ cond b (Some value) (near_in slots q)
-      by true t = ap (near_in new) (sym (same_number number q t)) ∙ own
-      by false t = near_like slots new q less.as_many (λ i. less.others q i t)
-
   -- The slot had nothing for the number.
   pub not_there : (slots : List (Slot T)) (at : ℕ) (number : SigNumber) →
       is_some (held_for number (slice_index_or slots at None)) ≡ false → HasNoneIn number at (at + 1) slots
@@ -284,21 +200,12 @@ module _ {T : Type 0} where
       ap (λ k. held_for number (slice_index_or slots k None)) e
       ∙ none_of (held_for number (slice_index_or slots at None)) none
 
-  pub less_still : (number : SigNumber) (old mid new : List (Slot T)) → HasLess number old mid →
-      HasLess number mid new →
-      HasLess number old new
-  less_still number old mid new a b = record {
-    as_many = b.as_many ∙ a.as_many;
-    others = λ q i other. b.others q i other ∙ a.others q i other;
-    still = λ i none. b.still i (a.still i none);
-  }
-
-  pub none_more : (number : SigNumber) (from at : ℕ) (mid new : List (Slot T)) → HasLess number mid new →
-      HasNoneIn number from at mid → HasNoneIn number at (at + 1) new → HasNoneIn number from (at + 1) new
-  none_more number from at mid new less before here i lo hi = by (cases_lt i at)
+  pub none_more : (number : SigNumber) (from at : ℕ) (slots : List (Slot T)) → HasNoneIn number from at slots →
+      HasNoneIn number at (at + 1) slots → HasNoneIn number from (at + 1) slots
+  none_more number from at slots before here i lo hi = by (cases_lt i at)
     where
-      by : (i < at) ⊎ (at ≤ i) → held_for number (slice_index_or new i None) ≡ None
-      by (inl lt) = less.still i (before i lo lt)
+      by : (i < at) ⊎ (at ≤ i) → held_for number (slice_index_or slots i None) ≡ None
+      by (inl lt) = before i lo lt
       by (inr past) = here i past hi
 
   pub none_yet : (number : SigNumber) (from : ℕ) (slots : List (Slot T)) → HasNoneIn number from from slots
@@ -319,31 +226,16 @@ module _ {T : Type 0} where
           by (inl lt) = none i lo (whole i hi lt)
           by (inr past) = past_end slots n i (subst (λ k. k ≤ i) counted past)
 
-  -- All slots of a number were emptied.
-  pub forgot_near : (old new : List (Slot T)) (number : SigNumber) (place end count : ℕ) →
-      count ≡ length old → place ≡ place_in count number → ((i : ℕ) → i < place + 8 → i < count → i < end) →
-      HasLess number old new → HasNoneIn number place end new → DiffersAt number None old new
-  forgot_near old new number place end count counted there whole less none q = by (is_number number q) refl
+  -- A number that the row doesn't have was removed.
+  pub stays_without : (slots : List (Slot T)) (number : SigNumber) → near_in slots number ≡ None →
+      DiffersAt number None slots slots
+  stays_without slots number none q = by (is_number number q) refl
     where
-      own : near_in new number ≡ None
-      own = none_near new number place end count (counted ∙ sym less.as_many) there whole none
-
-      by : (b : Bool) → is_number number q ≡ b → near_in new q ≡ cond b None (near_in old q)
-      by true t = ap (near_in new) (sym (same_number number q t)) ∙ own
-      by false t = near_like old new q less.as_many (λ i. less.others q i t)
+      by : (b : Bool) → is_number number q ≡ b → near_in slots q ≡ cond b None (near_in slots q)
+      by true t = ap (near_in slots) (sym (same_number number q t)) ∙ none
+      by false t = refl
 
   -- There are no slots.
-  pub forgot_empty : (slots : List (Slot T)) (number : SigNumber) → length slots ≡ 0 → DiffersAt number None slots slots
-  forgot_empty slots number none q = nothing ∙ by (is_number number q)
-    where
-      nothing : near_in slots q ≡ None
-      nothing = found_nothing slots q (place_in (length slots) q) 8 (λ i lo hi. past_end slots q i
-          (subst (λ k. k ≤ i) (sym none) (omega arith)))
-
-      by : (b : Bool) → None ≡ cond b None (near_in slots q)
-      by true = refl
-      by false = sym nothing
-
   pub near_nothing : (slots : List (Slot T)) (n : SigNumber) → length slots ≡ 0 → near_in slots n ≡ None
   near_nothing slots n none = found_nothing slots n (place_in (length slots) n) 8 (λ i lo hi. past_end slots n i
       (subst (λ k. k ≤ i) (sym none) (omega arith)))

@@ -1,3 +1,5 @@
 pub mod Above
+pub mod Found
+pub mod Live
 pub mod Near
 pub mod Row

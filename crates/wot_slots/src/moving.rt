@@ -2,8 +2,8 @@
 //! into empty slots. `slots` calls it when its row is full. The old row stays whole until the caller replaces it.
 //!
 //! It stands on `row`, on `near` and on std's map. It walks over the entries of the old row, so that they stand in the
-//! longer one in the order in which they came. A left-over entry, which no slot has any more, isn't taken over.
-ghost use Rattle.std.specs.Prelude.{◌≡◌, ◌<◌, length, None, IfOk, OnOk, OnErr};
+//! longer one in the order in which they came. The places of entries that were removed aren't taken over.
+ghost use Rattle.std.specs.Prelude.{◌≡◌, None, IfOk, OnOk, OnErr};
 ghost use Rattle.std.specs.Option.{IfNone, IfSome};
 ghost use Rattle.wot_types.specs.declared.number.SigNumber.{SigNumber as TheNumber};
 ghost use Rattle.wot_slots.specs.Near.{near_in, Moves, MovesOn, SaysSame};
@@ -40,19 +40,20 @@ fn move_number<T: Copy>(
     }
 }
 
-/// Moves what the row has for the number of the entry at this place.
+/// Moves what the row has for the number of the entry at this place, if there is one.
 fn move_entry<T: Copy>(
     near: &Row<T>,
     at: usize,
     longer: &mut Row<T>,
     rest: &mut BTreeMap<SigNumber, T, Global>,
 ) -> Result<(), Memory>
-    requires within { at < length near.now.came }
     ensures moved { OnOk result
         (MovesOn at near.now longer.old.items rest.old.entries longer.new.items rest.new.entries) }
     ensures kept { OnErr result (rest.new.entries ≡ rest.old.entries) }
 {
-    let (number, _) = near.entry(at);
+    let Some((number, _)) = near.entry(at) else {
+        return Ok(());
+    };
     move_number(near, number, longer, rest)
 }
 

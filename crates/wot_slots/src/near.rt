@@ -4,9 +4,8 @@
 //! `slots` keeps in its tree what finds no empty slot there. Only `keep_near` allocates, if an entry needs memory.
 ghost use Rattle.std.specs.Prelude.{◌≡◌, ◌<◌, ◌≤◌, ◌+◌, ℕ, length, true, Some, None, MatchBool};
 ghost use Rattle.std.specs.List.{slice_index_or};
-ghost use Rattle.std.specs.Option.{IfNone, IfSome};
-ghost use Rattle.wot_slots.specs.Near.{held_for, near_in, place_in, word_in, DiffersAt, HasLess, HasNoneIn, IsFirstOf};
-ghost use Rattle.wot_slots.specs.Near.{Replaces};
+ghost use Rattle.std.specs.Option.{option_copied, option_map, IfNone, IfSome};
+ghost use Rattle.wot_slots.specs.Near.{held_for, near_in, place_in, word_in, DiffersAt, IsFirstOf, Replaces};
 
 use crate::row::Row;
 use std::cmp::Ordering;
@@ -44,12 +43,11 @@ pub(crate) fn end_of(place: usize, count: usize) -> usize
     place.saturating_add(8).min(count)
 }
 
-/// The value in the slot at this place, if it is the slot of this number.
-fn held_at<T: Copy>(row: &Row<T>, at: usize, number: &SigNumber) -> Option<T>
-    requires within { at < length row.now.items }
-    ensures held { result ≡ held_for number.now (slice_index_or row.now.items at None) }
+/// The value of what was found, if it is of this number.
+fn held_by<T: Copy>(found: Option<&(SigNumber, T)>, number: &SigNumber) -> Option<T>
+    ensures held { result ≡ held_for number.now (option_copied found.entry) }
 {
-    let Some((other, value)) = row.slot(at) else {
+    let Some((other, value)) = found else {
         return None;
     };
     if compare_numbers(number, other) == Ordering::Equal {
@@ -57,6 +55,22 @@ fn held_at<T: Copy>(row: &Row<T>, at: usize, number: &SigNumber) -> Option<T>
     } else {
         None
     }
+}
+
+/// The value in the slot at this place, if it is the slot of this number.
+fn held_at<T: Copy>(row: &Row<T>, at: usize, number: &SigNumber) -> Option<T>
+    requires within { at < length row.now.items }
+    ensures held { result ≡ held_for number.now (slice_index_or row.now.items at None) }
+{
+    held_by(row.slot(at), number)
+}
+
+/// The value of the entry at this place, if it is the entry of this number.
+fn entry_at<T: Copy>(row: &Row<T>, at: usize, number: &SigNumber) -> Option<T>
+    ensures found { IfSome result (λ value. near_in row.now.items number.now ≡ Some value) }
+{
+    row.entries_are_found();
+    held_by(row.entry(at), number)
 }
 
 /// The first slot of a number, with the value there.
@@ -90,6 +104,24 @@ pub(crate) fn near_at<T: Copy>(row: &Row<T>, number: &SigNumber) -> Option<T>
         return None;
     };
     Some(value)
+}
+
+/// The value that the row has for a number, with the place after its entry. It looks at the entry at `from` first.
+pub(crate) fn near_from<T: Copy>(
+    row: &Row<T>,
+    number: &SigNumber,
+    from: usize,
+) -> Option<(T, usize)>
+    ensures found { option_map (λ found. found.0) result ≡ near_in row.now.items number.now }
+{
+    if let Some(value) = entry_at(row, from, number) {
+        return Some((value, from.saturating_add(1)));
+    }
+    let Some(found) = find(row, number) else {
+        return None;
+    };
+    let next = row.place_after(found.0);
+    Some((found.1, next))
 }
 
 /// Whether the slot at this place is empty.
@@ -147,39 +179,12 @@ pub(crate) fn replace_near<T: Copy>(row: &mut Row<T>, number: SigNumber, value: 
     true
 }
 
-/// Empties a slot if it is the slot of this number.
-fn empty_if<T: Copy>(row: &mut Row<T>, at: usize, number: &SigNumber)
-    requires within { at < length row.old.items }
-    ensures less { HasLess number.now row.old.items row.new.items }
-    ensures gone { HasNoneIn number.now at (at + 1) row.new.items }
-{
-    if held_at(row, at, number).is_some() {
-        row.empty(at);
-    }
-}
-
-/// Empties the slots that have a number.
-fn empty_all<T: Copy>(row: &mut Row<T>, number: &SigNumber, from: usize, end: usize)
-    requires within { end ≤ length row.old.items }
-    ensures less { HasLess number.now row.old.items row.new.items }
-    ensures gone { HasNoneIn number.now from end row.new.items }
-{
-    let mut at = from;
-    'near: while at < end {
-        empty_if(row, at, number);
-        at += 1;
-    }
-}
-
 /// Removes a number from the row.
 pub(crate) fn forget_near<T: Copy>(row: &mut Row<T>, number: &SigNumber)
     ensures forgotten { DiffersAt number.now None row.old.items row.new.items }
 {
-    let count = row.len();
-    if count == 0 {
+    let Some((at, _)) = find(row, number) else {
         return;
-    }
-    let place = place_of(number, count);
-    let end = end_of(place, count);
-    empty_all(row, number, place, end);
+    };
+    row.empty(at);
 }

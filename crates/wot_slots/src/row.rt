@@ -1,12 +1,14 @@
 //! A row of slots: each slot has the place of its entry, and the entries stand in the order in which they came.
 //!
-//! It stands on std's `Vec` and on `specs/Row.antt`. Whoever asks for values in the order in which they were put, as
-//! for the signatures of one certificate, reads memory from its beginning to its end. A slot takes four octets, so a
-//! row can have many empty ones.
-ghost use Rattle.std.specs.Prelude.{◌≡◌, ◌<◌, ◌++◌, [], ◌∷◌, ℕ, length, true, is_some, None, Some, IfOk, MatchBool};
-ghost use Rattle.std.specs.List.{slice_get, slice_index_or, slice_set};
-ghost use Rattle.std.specs.Option.{option_copied};
-ghost use Rattle.wot_slots.specs.Near.{held_for, HasLess};
+//! It stands on std's `Vec` and on `specs/{Live,Row}.antt`. Whoever asks for values in the order in which they were
+//! put, as for the signatures of one certificate, reads memory from its beginning to its end, and needs no slots for
+//! it: an entry that is there is what a lookup of its number finds. A slot takes four octets, so a row can have many
+//! empty ones.
+ghost use Rattle.std.specs.Prelude.{◌≡◌, ◌<◌, [], ℕ, length, true, is_some, None, Some, IfOk, MatchBool};
+ghost use Rattle.std.specs.List.{slice_index_or};
+ghost use Rattle.std.specs.Option.{option_copied, IfSome};
+ghost use Rattle.wot_slots.specs.Live.{AreFound};
+ghost use Rattle.wot_slots.specs.Found.{held_for, near_in, DiffersAt, IsSlotOf};
 ghost use Rattle.wot_slots.specs.Row.{HasEntries};
 
 use std::alloc::Global;
@@ -21,20 +23,20 @@ const NOWHERE: u32 = 4_294_967_295;
 pub struct Row<T> {
     /// For each slot the place of its entry. An empty slot has a place at which there is no entry (`NOWHERE`).
     places: Vec<u32>,
-    /// Numbers with their values, in the order in which they came. An entry that no slot has any more is left over
-    /// until the next longer row is made.
-    entries: Vec<(SigNumber, T)>,
+    /// Numbers with their values, in the order in which they came, each number once. The place of one whose slot was
+    /// emptied has nothing until the next longer row is made.
+    entries: Vec<Option<(SigNumber, T)>>,
 }
 
 impl<T> Model for Row<T> {
-    ghost use Rattle.std.specs.Prelude.{length};
-    ghost use Rattle.wot_slots.specs.Row.{slots_by, IsKeptBy, RowOf};
+    ghost use Rattle.wot_slots.specs.Live.{IsKeptBy};
+    ghost use Rattle.wot_slots.specs.Row.{slots_by, RowOf};
 
     ghost Value = { RowOf T };
 
     ghost view = { λ r. record { items = slots_by r.places.items r.entries.items; came = r.entries.items } };
 
-    ghost invariant = { λ r. IsKeptBy r.places.items (length r.entries.items) };
+    ghost invariant = { λ r. IsKeptBy r.places.items r.entries.items };
 }
 
 impl<T: Copy> Row<T> {
@@ -66,7 +68,7 @@ impl<T: Copy> Row<T> {
         self.places.len()
     }
 
-    /// How many entries there are, with those that are left over.
+    /// How many entries there are, with those whose slots were emptied.
     pub(crate) fn entries_len(&self) -> usize
         ensures { result ≡ length self.now.came }
     {
@@ -78,29 +80,37 @@ impl<T: Copy> Row<T> {
         requires within { at < length self.now.items }
         ensures slot { option_copied result ≡ slice_index_or self.now.items at None }
     {
-        self.entries.get(self.places[at] as usize)
+        entry_in(&self.entries, self.places[at] as usize)
     }
 
-    /// The entry at this place.
-    pub(crate) fn entry(&self, at: usize) -> &(SigNumber, T)
-        requires within { at < length self.now.came }
-        ensures entry { slice_get self.now.came at ≡ Some result.now }
+    /// The entry at this place, if there is one.
+    pub(crate) fn entry(&self, at: usize) -> Option<&(SigNumber, T)>
+        ensures entry { option_copied result ≡ slice_index_or self.now.came at None }
     {
-        &self.entries[at]
+        entry_in(&self.entries, at)
     }
 
-    /// Fills a slot with a new entry. Returns whether it could: without memory or a place for it nothing changes.
+    /// The place after the entry of this slot.
+    pub(crate) fn place_after(&self, at: usize) -> usize
+        requires within { at < length self.now.items }
+    {
+        (self.places[at] as usize).saturating_add(1)
+    }
+
+    /// Fills an empty slot of a number with a new entry. Returns whether it could: without memory or a place for it
+    /// nothing changes.
     pub(crate) fn fill(&mut self, at: usize, number: SigNumber, value: T) -> bool
-        requires within { at < length self.old.items }
-        ensures filled { MatchBool result
-            (self.new.items ≡ slice_set self.old.items at (Some (number, value))) (self.new ≡ self.old) }
-        ensures came { MatchBool result (self.new.came ≡ self.old.came ++ (number, value) ∷ []) (self.new ≡ self.old) }
+        requires here { IsSlotOf number at self.old.items }
+        requires vacant { slice_index_or self.old.items at None ≡ None }
+        requires absent { near_in self.old.items number ≡ None }
+        ensures filled { MatchBool result (DiffersAt number (Some value) self.old.items self.new.items)
+            (self.new.items ≡ self.old.items) }
     {
         let count = self.entries.len();
         if count >= NOWHERE as usize {
             return false;
         }
-        match self.entries.push((number, value)) {
+        match self.entries.push(Some((number, value))) {
             Ok(()) => {
                 self.places[at] = count as u32;
                 true
@@ -113,19 +123,21 @@ impl<T: Copy> Row<T> {
     pub(crate) fn replace(&mut self, at: usize, number: SigNumber, value: T)
         requires within { at < length self.old.items }
         requires held { is_some (held_for number (slice_index_or self.old.items at None)) ≡ true }
-        ensures set { slice_index_or self.new.items at None ≡ Some (number, value) }
-        ensures others { HasLess number self.old.items self.new.items }
+        ensures replaced { DiffersAt number (Some value) self.old.items self.new.items }
     {
         let place = self.places[at] as usize;
-        self.entries[place] = (number, value);
+        self.entries[place] = Some((number, value));
     }
 
-    /// Empties a slot. Doesn't allocate.
+    /// Empties a slot, and with it the entry. Doesn't allocate.
     pub(crate) fn empty(&mut self, at: usize)
         requires within { at < length self.old.items }
-        ensures emptied { self.new.items ≡ slice_set self.old.items at None }
-        ensures came { self.new.came ≡ self.old.came }
+        requires there { is_some (slice_index_or self.old.items at None) ≡ true }
+        ensures emptied { IfSome (slice_index_or self.old.items at None)
+            (λ e. DiffersAt e.0 None self.old.items self.new.items) }
     {
+        let place = self.places[at] as usize;
+        self.entries[place] = None;
         self.places[at] = NOWHERE;
     }
 
@@ -134,5 +146,22 @@ impl<T: Copy> Row<T> {
         ensures entries { HasEntries self.now.items self.now.came }
     {
         let _ = &self.entries;
+    }
+
+    /// A law: what an entry has for a number is what the slots have for it.
+    pub(crate) fn entries_are_found(&self)
+        ensures found { AreFound self.now.items self.now.came }
+    {
+        let _ = &self.entries;
+    }
+}
+
+/// The entry at this place, if there is one.
+fn entry_in<T>(entries: &[Option<(SigNumber, T)>], at: usize) -> Option<&(SigNumber, T)>
+    ensures entry { option_copied result ≡ slice_index_or entries.now at None }
+{
+    match entries.get(at) {
+        Some(Some(entry)) => Some(entry),
+        _ => None,
     }
 }

@@ -1,7 +1,8 @@
 //! A value for each signature number: most in a row of slots, others in a tree.
 //!
 //! It stands on `row`, on `near`, on `above`, on `moving` and on std's map. Whoever chooses numbers can't make a lookup
-//! slow: it reads eight slots, and if the number isn't there, the tree.
+//! slow: it reads eight slots, and if the number isn't there, the tree. Whoever looks numbers up in the order in which
+//! they came can begin each lookup after the entry of the last one, and then mostly reads one entry.
 ghost use Rattle.std.specs.Prelude.{◌≡◌, true, None, Some, is_some, OnOk, OnErr};
 ghost use Rattle.wot_types.specs.declared.number.SigNumber.{SigNumber as TheNumber};
 ghost use Rattle.wot_slots.specs.Above.{IsNextEntry};
@@ -9,7 +10,7 @@ ghost use Rattle.wot_slots.specs.Near.{held_of, HoldsSame, Puts};
 
 use crate::above::next_number;
 use crate::moving::longer;
-use crate::near::{forget_near, keep_near, near_at, replace_near};
+use crate::near::{forget_near, keep_near, near_at, near_from, replace_near};
 use crate::row::Row;
 use std::alloc::Global;
 use std::collections::BTreeMap;
@@ -55,6 +56,18 @@ impl<T: Copy> Slots<T> {
         match near_at(&self.near, number) {
             Some(value) => Some(value),
             None => self.rest.get(number).copied(),
+        }
+    }
+
+    /// The value of a number, and where to look first for the next one: after the number's entry, or at `from` if it
+    /// has none. It looks at the entry at `from` first. So lookups in the order in which values were put read one entry
+    /// each. Any place gives the same value.
+    pub fn get_from(&self, number: &SigNumber, from: usize) -> (Option<T>, usize)
+        ensures held { result.0 ≡ held_of self.now number.now }
+    {
+        match near_from(&self.near, number, from) {
+            Some((value, next)) => (Some(value), next),
+            None => (self.rest.get(number).copied(), from),
         }
     }
 
@@ -137,9 +150,9 @@ impl<T: Copy> Slots<T> {
         }
     }
 
-    /// Makes a new row with eight slots for each value once a quarter of the slots would be taken. Entries that are
-    /// left over count too, and the new row is without them. Without memory the row stays as it is until there are
-    /// half as many entries more.
+    /// Makes a new row with eight slots for each value once a quarter of the slots would be taken. Entries of numbers
+    /// that were removed count too, and the new row is without them. Without memory the row stays as it is until there
+    /// are half as many entries more.
     fn make_room(&mut self)
         ensures same { HoldsSame self.old self.new }
     {

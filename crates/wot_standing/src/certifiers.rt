@@ -19,7 +19,7 @@ use std::alloc::Global;
 use std::collections::BTreeMap;
 use std::collections::btree_map::Iter;
 use std::marker::Model;
-use wot_cert::{Part, Sig, issuer_of};
+use wot_cert::{Part, Sig, issuer_from, issuer_of};
 use wot_types::{Fpr, Memory};
 use wot_verdict::Verdicts;
 
@@ -135,19 +135,20 @@ fn revoker(sig: &Sig, verdicts: &Verdicts, t: u32) -> Option<Fpr>
     }
 }
 
-/// By whom a signature is a live certification.
-fn certifier(sig: &Sig, verdicts: &Verdicts, t: u32) -> Option<Fpr>
-    ensures { result ≡ certifier_of verdicts.now.entries t sig.now }
+/// By whom a signature is a live certification, and where to look first for the verdict on the next one.
+fn certifier(sig: &Sig, verdicts: &Verdicts, t: u32, from: usize) -> (Option<Fpr>, usize)
+    ensures { result.0 ≡ certifier_of verdicts.now.entries t sig.now }
 {
     if is_certification(sig) && is_live(sig, t) {
-        issuer_of(sig, verdicts)
+        issuer_from(sig, verdicts, from)
     } else {
-        None
+        (None, from)
     }
 }
 
-/// By whom each of these signatures is a live certification. Nothing else is done between the lookups of the verdicts,
-/// so that the processor fetches several at once.
+/// By whom each of these signatures is a live certification. Each verdict is looked for first after the last one, since
+/// those on one certificate's signatures mostly stand one after the other. Nothing else is done between the lookups, so
+/// that the processor fetches several at once.
 fn certifiers_in(
     alloc: Global,
     sigs: &[Sig],
@@ -157,9 +158,12 @@ fn certifiers_in(
     ensures { IfOk result (λ issuers. issuers.items ≡ map (certifier_of verdicts.now.entries t) sigs.now) }
 {
     let mut issuers = Vec::with_capacity(alloc, sigs.len())?;
+    let mut from = 0;
     let mut rest = sigs;
     'rest: while let Some((sig, others)) = rest.split_first() {
-        issuers.push(certifier(sig, verdicts, t))?;
+        let (issuer, next) = certifier(sig, verdicts, t, from);
+        issuers.push(issuer)?;
+        from = next;
         rest = others;
     }
     Ok(issuers)

@@ -64,6 +64,15 @@ impl Verdicts {
         verdict_of(self.held.get(number))
     }
 
+    /// The verdict on a number, and where to look first for the next one. It looks at `from` first. So lookups in the
+    /// order in which numbers were noted are quick. Any place gives the same verdict; begin with 0.
+    pub fn get_from(&self, number: &SigNumber, from: usize) -> (Option<Verdict>, usize)
+        ensures found { result.0 ≡ verdict_at self.now.entries number.now }
+    {
+        let (noted, next) = self.held.get_from(number, from);
+        (verdict_of(noted), next)
+    }
+
     /// Sets the verdict on a number, in place of an earlier one. Returns whether something changed. After `Memory`
     /// nothing did.
     pub fn set(&mut self, number: SigNumber, verdict: Verdict) -> Result<bool, Memory>

@@ -1,7 +1,7 @@
 use Rattle.std.proofs.Common.{◌≤◌, ◌<◌, ◌+◌, ℕ, sym, subst, ap, ◌∙◌, is_some, arith}
 use Rattle.std.proofs.lemmas.Bool.Decides.{nat_tests}
 use Rattle.wot_slots.specs.Near.{HasNoneIn, place_in}
-use Rattle.wot_slots.proofs.Rows.{as_it_was, near_nothing, none_more, none_near, none_yet, not_there}
+use Rattle.wot_slots.proofs.Rows.{near_nothing, none_more, none_near, none_yet, not_there}
 use Rattle.wot_slots.proofs.near.find.Goals as goal
 
 pub returns-then-count-eq0 : goal.returns-then-count-eq0
@@ -21,8 +21,7 @@ near-init g c = record {
 pub near-preserved : goal.near-preserved
 near-preserved g c = record {
   from = omega (arith, c.near.invariant.from);
-  none = none_more c.args.number.now c.place_of-place.result c.near.at c.args.row.now.items c.args.row.now.items
-      (as_it_was c.args.number.now c.args.row.now.items) c.near.invariant.none
+  none = none_more c.args.number.now c.place_of-place.result c.near.at c.args.row.now.items c.near.invariant.none
       (not_there c.args.row.now.items c.near.at c.args.number.now
       (ap is_some (sym c.held_at.ensures.held ∙ c.in_default.is)));
 }

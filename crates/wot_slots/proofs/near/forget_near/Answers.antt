@@ -1,17 +1,23 @@
-use Rattle.std.proofs.Common.{arith}
-use Rattle.std.proofs.lemmas.Bool.Decides.{nat_tests}
-use Rattle.wot_slots.proofs.Rows.{forgot_empty, forgot_near}
+use Rattle.std.proofs.Common.{None, is_some, ap, subst}
+use Rattle.std.specs.Option.{IfSome}
+use Rattle.wot_slots.specs.Near.{DiffersAt}
+use Rattle.wot_slots.proofs.Rows.{held_is, stays_without}
 use Rattle.wot_slots.proofs.near.forget_near.Goals as goal
 
-pub returns-then-count-eq0 : goal.returns-then-count-eq0
-returns-then-count-eq0 g c = record {
-  forgotten = forgot_empty c.args.row.now.items c.args.number.now
-      (grind (arith, nat_tests, c.len-count.ensures, c.if-count-eq0.true));
+pub returns-in_default : goal.returns-in_default
+returns-in_default g c = record {
+  forgotten = stays_without c.args.row.now.items c.args.number.now c.in_default.ensures.none;
+}
+
+pub empty-requires : goal.empty-requires
+empty-requires g c = record {
+  within = c.in-Some.ensures.first.within;
+  there = ap is_some (held_is c.args.number.now _ _ c.in-Some.ensures.value);
 }
 
 pub returns : goal.returns
 returns g c = record {
-  forgotten = forgot_near c.args.row.now.items c.empty_all.new.row.items c.args.number.now c.place_of-place.result
-      c.end_of-end.result c.len-count.result (omega (arith, c.len-count.ensures)) c.place_of-place.ensures.place
-      c.end_of-end.ensures.whole c.empty_all.ensures.less c.empty_all.ensures.gone;
+  forgotten =
+      subst (λ s. IfSome s (λ e. DiffersAt e.0 None c.args.row.now.items c.empty.new.self.items))
+      (held_is c.args.number.now _ _ c.in-Some.ensures.value) c.empty.ensures.emptied;
 }
