@@ -23,22 +23,12 @@ fn allowed(issuer: &Option<Fpr>, fpr: &Fpr) -> bool
     }
 }
 
-/// Whether it can be parsed and is well-formed.
-fn is_sound(sig: &Sig) -> bool
-    ensures { result ≡ option_map_or (λ f. f.sound) (said_by sig.now) false }
-{
-    match sig.facts() {
-        Some(facts) => facts.sound,
-        None => false,
-    }
-}
-
 /// Whether this key may be its issuer.
 fn may_be_by(sig: &Sig, fpr: &Fpr) -> bool
     ensures { result ≡ option_map_or (λ f. allows f.issuer fpr.now) (said_by sig.now) false }
 {
-    match sig.facts() {
-        Some(facts) => allowed(&facts.issuer, fpr),
+    match sig.issuer() {
+        Some(issuer) => allowed(&issuer, fpr),
         None => false,
     }
 }
@@ -47,8 +37,7 @@ fn may_be_by(sig: &Sig, fpr: &Fpr) -> bool
 fn may_count(sig: &Sig) -> bool
     ensures { result ≡ may_count_in sig.now }
 {
-    // Each look at the facts reads one of them. Facts that are kept beyond the lookup would all be copied.
-    is_sound(sig) && sig.admitted()
+    sig.is_sound() && sig.admitted()
 }
 
 /// The key whose signature this counts as if it may count and this is its verdict.

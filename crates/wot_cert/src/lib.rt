@@ -29,3 +29,4 @@ pub use issuer::{issuer_from, issuer_of};
 pub use moments::Span;
 pub use spans::span;
 pub use wot_part::{Adds, Part, Sig};
+pub use wot_sig::{Terms, Times};

@@ -5,13 +5,12 @@
 ghost use Rattle.std.specs.Prelude.{◌≡◌, ℕ, [], ◌∷◌};
 ghost use Rattle.std.specs.List.{flat_map};
 ghost use Rattle.wot_part.specs.Counts.{sigs_on};
-ghost use Rattle.wot_cert.specs.Narrowed.{Narrowed};
-ghost use Rattle.wot_cert.specs.Span.{span_of, sig_moments, facts_moments, unless_zero, created_of};
+ghost use Rattle.wot_cert.specs.Narrowed.{Narrowed, times_moments};
+ghost use Rattle.wot_cert.specs.Span.{span_of, sig_moments, unless_zero, created_of};
 ghost use Rattle.wot_cert.specs.Span.{InSpan, AreLiveAlike};
 ghost use Rattle.wot_cert.specs.Time.{live_at};
 
-use crate::{Cert, Part, Sig, Span};
-use wot_signature::SigFacts;
+use crate::{Cert, Part, Sig, Span, Times};
 
 /// The last moment so far that isn't after a time, and the first one after it.
 #[derive(Drop)]
@@ -39,16 +38,16 @@ fn narrow_unless_zero(bounds: &mut Bounds, said: u32, moment: u64, t: u32)
     }
 }
 
-fn narrow_facts(bounds: &mut Bounds, facts: SigFacts, created: u32, t: u32)
-    ensures { Narrowed bounds.old bounds.new (facts_moments created facts) t }
+fn narrow_times(bounds: &mut Bounds, times: Times, created: u32, t: u32)
+    ensures { Narrowed bounds.old bounds.new (times_moments created times) t }
 {
-    let made = facts.made as u64;
+    let made = times.made as u64;
     narrow(bounds, made, t);
-    narrow_unless_zero(bounds, facts.lasts, made + facts.lasts as u64, t);
+    narrow_unless_zero(bounds, times.lasts, made + times.lasts as u64, t);
     narrow_unless_zero(
         bounds,
-        facts.key_lasts,
-        created as u64 + facts.key_lasts as u64,
+        times.key_lasts,
+        created as u64 + times.key_lasts as u64,
         t,
     );
 }
@@ -56,8 +55,8 @@ fn narrow_facts(bounds: &mut Bounds, facts: SigFacts, created: u32, t: u32)
 fn narrow_sig(bounds: &mut Bounds, sig: &Sig, created: u32, t: u32)
     ensures { Narrowed bounds.old bounds.new (sig_moments created sig.now) t }
 {
-    match sig.facts() {
-        Some(facts) => narrow_facts(bounds, facts, created, t),
+    match sig.times() {
+        Some(times) => narrow_times(bounds, times, created, t),
         None => {}
     }
 }

@@ -1,12 +1,14 @@
 -- How the edges into a certificate are found: by the place of the newest certification of each issuer on each user ID.
 -- By the law `found_are_edges` they are all edges into the certificate.
-use Rattle.std.specs.Prelude.{◌≡◌, ℕ, ◌<◌, ◌^◌, List, length, Option, Some}
+use Rattle.std.specs.Prelude.{◌≡◌, ℕ, ◌<◌, ◌^◌, false, if◌then◌else◌, List, length, Option, Some}
 use Rattle.std.specs.List.{filter_map, slice_get}
 use Rattle.std.specs.List.Sorted.{IsStrictlySortedBy}
 use Rattle.std.specs.Map.{keys_of}
 use Rattle.std.specs.Option.{option_and_then}
 use Rattle.wot_types.specs.declared.fpr.Fpr.{Fpr}
+use Rattle.wot_types.specs.Fpr.{same_fpr}
 use Rattle.wot_verdict.specs.Verdicts.{Entries}
+use Rattle.wot_sig.specs.declared.said.Terms.{Terms}
 use Rattle.wot_part.specs.Certificate.{Component, Certificate}
 use Rattle.wot_edge.specs.declared.edge.EdgeFacts.{EdgeFacts}
 use Rattle.wot_standing.specs.declared.places.Certified.{Certified}
@@ -14,6 +16,19 @@ use Rattle.wot_standing.specs.Certifiers.{certified_cmp, place_for, KeepsNewest}
 use Rattle.wot_standing.specs.Standing.{own}
 use Rattle.wot_live.specs.Edge.{edge_by}
 use Rattle.wot_live.specs.Rows.{edges_of}
+
+-- the edge at these places by these terms: `edge_facts`, from the terms alone
+abbrev pub edge_with : Fpr → Fpr → ℕ → ℕ → Terms → EdgeFacts
+edge_with issuer target uid place said = record {
+  issuer = issuer;
+  target = target;
+  uid = uid;
+  sig = place;
+  made = said.made;
+  depth = (if same_fpr issuer target then 0 else said.depth);
+  amount = (if same_fpr issuer target then 120 else said.amount);
+  scoped = (if same_fpr issuer target then false else said.scoped);
+}
 
 -- few enough signatures for their indices
 abbrev pub HasFew : Component → Type 0

@@ -8,7 +8,7 @@ ghost use Rattle.wot_standing.specs.Standing.{own};
 ghost use Rattle.wot_live.specs.Found.{AreFound, HasFew};
 ghost use Rattle.wot_live.specs.Found.{edge_at_place as edge_at_place_spec, found_edge as found_edge_spec};
 
-use crate::terms::terms;
+use crate::terms::edge_with;
 use std::alloc::Global;
 use wot_cert::{Cert, Part};
 use wot_edge::EdgeFacts;
@@ -21,8 +21,8 @@ fn edge_at_place(part: &Part, place: u32, issuer: Fpr, target: Fpr, uid: u32) ->
     ensures { result ≡ edge_at_place_spec issuer target uid part.now place }
 {
     let sig = part.sigs().get(place as usize)?;
-    let said = sig.facts()?;
-    Some(terms(issuer, target, uid, place, said))
+    let said = sig.terms()?;
+    Some(edge_with(issuer, target, uid, place, said))
 }
 
 /// The edge of an issuer on a user ID, by the place of the certification there. `target` is the certificate's own key.

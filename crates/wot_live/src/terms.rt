@@ -1,16 +1,16 @@
 //! The terms of an edge: what a certification says about depth, amount and scope, with the rule for
 //! self-certifications. A change here changes every answer; `edge_facts` in specs/Edge.antt has to say the same.
 ghost use Rattle.std.specs.Prelude.{◌≡◌};
-ghost use Rattle.wot_live.specs.Edge.{edge_facts};
+ghost use Rattle.wot_live.specs.Found.{edge_with as edge_with_spec};
 
 use std::cmp::Ordering;
+use wot_cert::Terms;
 use wot_edge::EdgeFacts;
-use wot_signature::SigFacts;
 use wot_types::{Fpr, compare_fprs};
 
 /// The terms of the edge that this certification makes, at these places.
-pub fn terms(issuer: Fpr, target: Fpr, uid: u32, sig: u32, said: SigFacts) -> EdgeFacts
-    ensures { result ≡ edge_facts issuer target uid sig said }
+pub fn edge_with(issuer: Fpr, target: Fpr, uid: u32, sig: u32, said: Terms) -> EdgeFacts
+    ensures { result ≡ edge_with_spec issuer target uid sig said }
 {
     let own = compare_fprs(&issuer, &target) == Ordering::Equal;
     EdgeFacts {

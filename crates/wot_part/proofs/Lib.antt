@@ -22,4 +22,3 @@ pub mod Inserted
 pub mod Onward
 pub mod Changed
 pub mod Fresh
-pub mod NewOctets

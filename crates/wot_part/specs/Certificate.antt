@@ -1,20 +1,10 @@
 -- What a certificate is (RFC 9580, section 10.1), and how two are merged.
-use Rattle.std.specs.Prelude.{◌≡◌, ℕ, Bool, false, List, map, Option}
+use Rattle.std.specs.Prelude.{ℕ, false, List, map}
 use Rattle.std.specs.declared.cmp.Ordering.{Ordering}
 use Rattle.std.specs.Ordering.{nat_cmp}
 use Rattle.std.specs.Cmp.Lexicographic.{slice_cmp}
-use Rattle.wot_types.specs.declared.number.SigNumber.{SigNumber}
-use Rattle.wot_signature.specs.declared.facts.SigFacts.{SigFacts}
-use Rattle.wot_signature.specs.Signature.{facts_of}
-use Rattle.wot_verdict.specs.Number.{IsBegunOn, number_of}
-use Rattle.wot_verdict.specs.declared.number.Numbering.{Numbering}
+pub use Rattle.wot_sig.specs.Signature.{Signature, said_by, fresh, IsFreshBy}
 use Rattle.wot_part.specs.Ranked.{united}
-
--- a signature: its body, the number that its body has at its place, and whether the policy admitted it
-pub record Signature : Type 0 where
-  pub body : List ℕ
-  pub number : SigNumber
-  pub admitted : Bool
 
 -- a user ID, a user attribute or a subkey, and the signatures on it
 pub record Component : Type 0 where
@@ -34,10 +24,6 @@ abbrev pub of_parts : List ℕ → List Signature → List Component → List Co
 of_parts key direct user_ids attributes subkeys =
     record { key = key; direct = direct; user_ids = user_ids; attributes = attributes; subkeys = subkeys }
 
--- what a signature says; nothing if it can't be parsed
-abbrev pub said_by : Signature → Option SigFacts
-said_by s = facts_of s.body
-
 -- ---- places
 
 -- the kind of component that a signature is on, as in its number: the key, a user ID, a user attribute, a subkey
@@ -52,16 +38,6 @@ on_attribute = 2
 
 abbrev pub on_subkey : ℕ
 on_subkey = 3
-
--- the signature with this body at its place, without a mark
-abbrev pub fresh : List ℕ → ℕ → List ℕ → List ℕ → Signature
-fresh key kind component body = record { body = body; number = number_of key kind component body; admitted = false }
-
--- the signature with this body on the component that the numbering was made for, without a mark
-abbrev pub IsFreshBy : Numbering → List ℕ → Signature → Type 0
-IsFreshBy numbering body s =
-    (key : List ℕ) (kind : ℕ) (component : List ℕ) → IsBegunOn key kind component numbering
-    → s ≡ fresh key kind component body
 
 -- ---- merging
 

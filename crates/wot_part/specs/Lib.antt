@@ -13,5 +13,3 @@ pub mod Fitting
 pub mod Sizes
 pub mod Totals
 pub mod Growing
-pub mod KeptFacts
-pub mod KeptOctets

@@ -24,7 +24,7 @@ ghost use Rattle.wot_policy.specs.Kept.{IsFaithful, rows_of, asked_more};
 use crate::growth::PartStep;
 use crate::measure::{of_part, of_sig, with};
 use crate::part::order as order_parts;
-use crate::sig::{Marks, order};
+use crate::sig::{Marks, judge_sig, order};
 use crate::{Adds, Part, Sig};
 use std::alloc::Global;
 use wot_policy::{Ask, Policy};
@@ -73,7 +73,7 @@ fn settle<F: Fn(Ask) -> bool>(
     ensures faithful { IsFaithful F.Fn policy.new }
 {
     let mut judged = sig;
-    judged.judge(policy);
+    judge_sig(&mut judged, policy);
     put_in(sigs, at, judged);
     note(log, at);
 }

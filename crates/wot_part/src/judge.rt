@@ -10,7 +10,7 @@ ghost use Rattle.wot_part.specs.Certificate.{sig_cmp, part_cmp};
 ghost use Rattle.wot_part.specs.Lent.{met_seen, met_part_seen};
 
 use crate::part::order as order_parts;
-use crate::sig::order;
+use crate::sig::{judge_sig, order};
 use crate::{Part, Sig};
 use std::cmp::Ordering;
 use wot_policy::{Ask, Policy};
@@ -41,7 +41,7 @@ fn judge_one<'a, F: Fn(Ask) -> bool>(
     match meet(sig, old) {
         Some((_, others)) => others,
         None => {
-            sig.judge(policy);
+            judge_sig(sig, policy);
             old
         }
     }

@@ -1,48 +1,22 @@
-//! A signature in a certificate: its body, its number, its facts, and the policy's mark.
+//! Signatures as a list has them: in order, copied with their marks or without, marked by a policy, and merged.
 //!
-//! It stands on `octets`, `new_octets` and `kept_facts`, on `wot_verdict` and `wot_policy`, and on
-//! `specs/KeptFacts.antt`, `specs/Certificate.antt` and `specs/Judged.antt`. Lists of signatures are sorted by body and
-//! merged here.
-ghost use Rattle.std.specs.Prelude.{◌≡◌, ◌<◌, ◌^◌, OnOk, IfOk, [], ◌∷◌, ◌++◌, length, map, if◌then◌else◌};
-ghost use Rattle.wot_part.specs.Certificate.{IsFreshBy, kept, sig_cmp, unite_sigs, said_by};
+//! It stands on `Sig` of `wot_sig`, on `wot_policy`, and on `specs/Certificate.antt`, `specs/Copied.antt` and
+//! `specs/Judged.antt`.
+ghost use Rattle.std.specs.Prelude.{◌≡◌, OnOk, IfOk, [], ◌∷◌, ◌++◌, map, if◌then◌else◌};
+ghost use Rattle.wot_part.specs.Certificate.{kept, sig_cmp, unite_sigs};
 ghost use Rattle.wot_part.specs.Copied.{mark_under, copied};
 ghost use Rattle.wot_part.specs.Judged.{judged_sig, if_sound};
 ghost use Rattle.wot_part.specs.Marked.{mark_by, one_if_sound, is_admitted_as};
 ghost use Rattle.wot_part.specs.Ranked.{IsRising};
 ghost use Rattle.wot_policy.specs.Kept.{IsFaithful, rows_of, asked_more};
 
-use crate::kept_facts::facts_in;
 use crate::merging::{Ranked, put_merged};
-use crate::new_octets::octets_of;
-use crate::octets::{after_mark, body_in, mark_in, number_in, set_mark};
 use std::alloc::Global;
 use std::cmp::Ordering;
-use std::marker::Model;
-use std::mem::size_of;
 use wot_policy::{Ask, Policy};
+use wot_sig::Sig;
 use wot_signature::SigFacts;
-use wot_types::{Memory, SigNumber};
-use wot_verdict::Numbering;
-
-/// A signature of a certificate. All that it has is in one piece of memory: a keyring may hold a million of them.
-#[derive(Drop)]
-pub struct Sig {
-    octets: Vec<u8>,
-}
-
-// An insertion into a list moves all signatures after it, so it matters that each takes 24 octets there.
-const _: () = prove!(size_of::<Sig>() <= 24);
-
-impl Model for Sig {
-    ghost use Rattle.wot_part.specs.Certificate.{Signature};
-    ghost use Rattle.wot_part.specs.KeptFacts.{signature_in, IsWhole};
-
-    ghost Value = { Signature };
-
-    ghost view = { λ a. signature_in a.octets.items };
-
-    ghost invariant = { λ a. IsWhole a.octets.items };
-}
+use wot_types::Memory;
 
 /// Whether copies keep their marks.
 #[derive(Clone, Copy)]
@@ -51,66 +25,15 @@ pub enum Marks {
     Dropped,
 }
 
-impl Sig {
-    /// The octets of its packet's body.
-    pub fn body(&self) -> &[u8]
-        ensures body { result.now ≡ self.now.body }
-    {
-        body_in(after_mark(&self.octets))
-    }
-
-    /// Its number, by which verdicts are kept.
-    pub fn number(&self) -> SigNumber
-        ensures number { result ≡ self.now.number }
-    {
-        number_in(after_mark(&self.octets))
-    }
-
-    /// What it says; `None` if it can't be parsed.
-    #[inline(always)]
-    pub fn facts(&self) -> Option<SigFacts>
-        ensures said { result ≡ said_by self.now }
-    {
-        facts_in(after_mark(&self.octets))
-    }
-
-    /// Whether the policy admitted it.
-    pub fn admitted(&self) -> bool
-        ensures mark { result ≡ self.now.admitted }
-    {
-        mark_in(&self.octets)
-    }
-
-    /// The signature with this body on the component that `numbering` was made for, without a mark.
-    pub fn fresh(alloc: Global, numbering: &Numbering, body: &[u8]) -> Result<Sig, Memory>
-        requires body { length body.now < 2 ^ 32 }
-        ensures fresh { IfOk result (IsFreshBy numbering.now body.now) }
-    {
-        let number = numbering.number(body);
-        let octets = octets_of(alloc, &number.0, body)?;
-        Ok(Sig { octets })
-    }
-
-    /// A copy with this mark.
-    pub(crate) fn marked(&self, alloc: Global, mark: bool) -> Result<Sig, Memory>
-        ensures marked { IfOk result (λ s. s ≡ record self.now { admitted = mark }) }
-    {
-        let mut octets = Vec::from_slice(alloc, &self.octets)?;
-        set_mark(&mut octets, mark);
-        Ok(Sig { octets })
-    }
-
-    /// Sets the mark by the policy, which is asked only about a well-formed signature.
-    pub(crate) fn judge<F: Fn(Ask) -> bool>(&mut self, policy: &mut Policy<F>)
-        requires { IsFaithful F.Fn policy.old }
-        ensures judged { self.new ≡ judged_sig (rows_of policy.old) self.old }
-        ensures asked { policy.new ≡ asked_more (if_sound self.old) policy.old }
-        ensures faithful { IsFaithful F.Fn policy.new }
-    {
-        let facts = facts_in(after_mark(&self.octets));
-        let mark = judge_facts(facts, policy);
-        set_mark(&mut self.octets, mark);
-    }
+/// Sets the mark by the policy, which is asked only about a well-formed signature.
+pub(crate) fn judge_sig<F: Fn(Ask) -> bool>(sig: &mut Sig, policy: &mut Policy<F>)
+    requires { IsFaithful F.Fn policy.old }
+    ensures judged { sig.new ≡ judged_sig (rows_of policy.old) sig.old }
+    ensures asked { policy.new ≡ asked_more (if_sound sig.old) policy.old }
+    ensures faithful { IsFaithful F.Fn policy.new }
+{
+    let mark = judge_facts(sig.facts(), policy);
+    sig.mark(mark);
 }
 
 /// Whether a signature with these facts is well-formed and admitted.

@@ -3,6 +3,8 @@
 //! It stands on the facts of `wot_signature` and on `specs/Kinds.antt`. Everything else in this crate asks it.
 ghost use Rattle.std.specs.Prelude.{◌≡◌, ◌==◌, ◌&&◌, false};
 ghost use Rattle.std.specs.Option.{option_map_or};
+ghost use Rattle.wot_signature.specs.declared.facts.SigFacts.{SigFacts};
+ghost use Rattle.wot_sig.specs.SingleFacts.{times_in};
 ghost use Rattle.wot_part.specs.Certificate.{said_by};
 ghost use Rattle.wot_cert.specs.Issuer.{allows, counts_by};
 ghost use Rattle.wot_cert.specs.Revoked.{has_kind as has_kind_spec, is_revocable as is_revocable_spec, revokes_by};
@@ -12,8 +14,7 @@ ghost use Rattle.wot_standing.specs.Kinds.{is_soft as is_soft_spec};
 ghost use Rattle.wot_standing.specs.Kinds.{is_soft_reason as is_soft_reason_spec, is_primary as is_primary_spec};
 
 use std::cmp::Ordering;
-use wot_cert::{Sig, issuer_of};
-use wot_signature::SigFacts;
+use wot_cert::{Sig, Times, issuer_of};
 use wot_types::{Fpr, compare_fprs};
 use wot_verdict::Verdicts;
 
@@ -34,8 +35,8 @@ pub(crate) enum Binding {
 pub(crate) fn has_kind(sig: &Sig, kind: u8) -> bool
     ensures { result ≡ has_kind_spec kind sig.now }
 {
-    match sig.facts() {
-        Some(facts) => facts.kind == kind,
+    match sig.kind() {
+        Some(there) => there == kind,
         None => false,
     }
 }
@@ -44,8 +45,8 @@ pub(crate) fn has_kind(sig: &Sig, kind: u8) -> bool
 pub fn is_certification(sig: &Sig) -> bool
     ensures { result ≡ is_certification_spec sig.now }
 {
-    match sig.facts() {
-        Some(facts) => 0x10 <= facts.kind && facts.kind <= 0x13,
+    match sig.kind() {
+        Some(kind) => 0x10 <= kind && kind <= 0x13,
         None => false,
     }
 }
@@ -100,24 +101,24 @@ pub fn is_revocable(sig: &Sig) -> bool
 pub fn made(sig: &Sig) -> u32
     ensures { result ≡ made_of sig.now }
 {
-    match sig.facts() {
-        Some(facts) => facts.made,
+    match sig.times() {
+        Some(times) => times.made,
         None => 0,
     }
 }
 
-fn facts_are_live(facts: SigFacts, t: u32) -> bool
-    ensures { result ≡ facts_live t facts }
+fn are_live(times: Times, t: u32) -> bool
+    ensures { (facts : SigFacts) → times_in facts ≡ times → result ≡ facts_live t facts }
 {
-    facts.made <= t && (facts.lasts == 0 || (t as u64) < facts.made as u64 + facts.lasts as u64)
+    times.made <= t && (times.lasts == 0 || (t as u64) < times.made as u64 + times.lasts as u64)
 }
 
 /// Whether it is live at `t`.
 pub fn is_live(sig: &Sig, t: u32) -> bool
     ensures { result ≡ is_live_spec t sig.now }
 {
-    match sig.facts() {
-        Some(facts) => facts_are_live(facts, t),
+    match sig.times() {
+        Some(times) => are_live(times, t),
         None => false,
     }
 }
@@ -126,8 +127,8 @@ pub fn is_live(sig: &Sig, t: u32) -> bool
 fn may_be_by(sig: &Sig, fpr: &Fpr) -> bool
     ensures { result ≡ option_map_or (λ f. allows f.issuer fpr.now) (said_by sig.now) false }
 {
-    match sig.facts() {
-        Some(facts) => match facts.issuer {
+    match sig.issuer() {
+        Some(issuer) => match issuer {
             Some(issuer) => compare_fprs(&issuer, fpr) == Ordering::Equal,
             None => true,
         },

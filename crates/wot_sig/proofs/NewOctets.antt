@@ -7,10 +7,10 @@ use Rattle.std.proofs.lemmas.List.{take_at, drop_at}
 use Rattle.std.proofs.lemmas.Nat.{from_be_bytes-to_be_bytes_4}
 use Rattle.wot_signature.specs.declared.facts.SigFacts.{SigFacts}
 use Rattle.wot_signature.specs.Signature.{facts_of}
-use Rattle.wot_part.specs.Certificate.{Signature}
-use Rattle.wot_part.specs.KeptFacts.{IsPlain, StandIn, plain_facts, full_facts, issuer_at}
-use Rattle.wot_part.specs.KeptFacts.{head, others, flag, AreNew}
-use Rattle.wot_part.specs.declared.shape.Shape.TheVariants.{Plain, Full}
+use Rattle.wot_sig.specs.Signature.{Signature}
+use Rattle.wot_sig.specs.KeptFacts.{IsPlain, StandIn, plain_facts, full_facts, issuer_at}
+use Rattle.wot_sig.specs.KeptFacts.{head, others, flag, AreNew}
+use Rattle.wot_sig.specs.declared.shape.Shape.TheVariants.{Plain, Full}
 
 -- ---- a number and a body after a head
 

@@ -4,7 +4,7 @@
 //! is written here.
 ghost use Rattle.std.specs.Prelude.{◌≡◌, ◌<◌, ◌≤◌, ◌^◌, ◌+◌, ◌++◌, IfOk, Some, true, length};
 ghost use Rattle.wot_signature.specs.Signature.{facts_of};
-ghost use Rattle.wot_part.specs.KeptFacts.{AreNew, IsPlain, StandIn, head as head_spec, others as others_spec};
+ghost use Rattle.wot_sig.specs.KeptFacts.{AreNew, IsPlain, StandIn, head as head_spec, others as others_spec};
 
 use crate::issuer_place::{octet_at, place_of};
 use crate::shape::Shape;

@@ -3,9 +3,9 @@
 //! It stands on `shape` and on `specs/KeptOctets.antt`. `new_octets` makes them, and `kept_facts` reads the facts. The
 //! mark comes first, so that the rest is as it was when the mark is set.
 ghost use Rattle.std.specs.Prelude.{◌≡◌, ◌≤◌, ◌+◌, ◌==◌, drop, set, length, slice_index, vec_len};
-ghost use Rattle.wot_part.specs.KeptFacts.{flag};
-ghost use Rattle.wot_part.specs.KeptOctets.{ReachesBody, body_in as body_in_spec, number_in as number_in_spec};
-ghost use Rattle.wot_part.specs.KeptOctets.{shape_in as shape_in_spec};
+ghost use Rattle.wot_sig.specs.KeptFacts.{flag};
+ghost use Rattle.wot_sig.specs.KeptOctets.{ReachesBody, body_in as body_in_spec, number_in as number_in_spec};
+ghost use Rattle.wot_sig.specs.KeptOctets.{shape_in as shape_in_spec};
 
 use crate::shape::Shape;
 use wot_types::SigNumber;

@@ -8,10 +8,10 @@ use Rattle.wot_types.specs.declared.fpr.Fpr.TheVariants.{V4, V6}
 use Rattle.wot_types.specs.Fpr.{same_fpr}
 use Rattle.wot_signature.specs.declared.facts.SigFacts.{SigFacts}
 use Rattle.wot_signature.specs.Signature.{facts_of}
-use Rattle.wot_part.specs.declared.shape.Shape.{Shape}
-use Rattle.wot_part.specs.declared.shape.Shape.TheVariants.{Unparseable, Plain, Full, NotKept}
-use Rattle.wot_part.specs.Certificate.{Signature}
-use Rattle.wot_part.specs.KeptOctets.{shape_octet, shape_in, head_size, number_in, body_in}
+use Rattle.wot_sig.specs.declared.shape.Shape.{Shape}
+use Rattle.wot_sig.specs.declared.shape.Shape.TheVariants.{Unparseable, Plain, Full, NotKept}
+use Rattle.wot_sig.specs.Signature.{Signature}
+use Rattle.wot_sig.specs.KeptOctets.{shape_octet, shape_in, head_size, number_in, body_in}
 
 -- ---- the issuer
 

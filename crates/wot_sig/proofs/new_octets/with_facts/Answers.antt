@@ -1,6 +1,6 @@
 use Rattle.std.proofs.Common.{rules}
-use Rattle.wot_part.proofs.NewOctets.{not_kept}
-use Rattle.wot_part.proofs.new_octets.with_facts.Goals as goal
+use Rattle.wot_sig.proofs.NewOctets.{not_kept}
+use Rattle.wot_sig.proofs.new_octets.with_facts.Goals as goal
 
 pub assembled-requires-clause-new : goal.assembled-requires-clause-new
 assembled-requires-clause-new c = rw c.octet.ensures (not_kept c.args.number.now c.args.body.now (search rules))

@@ -4,8 +4,8 @@ use Rattle.std.proofs.lemmas.Bool.{false≢true}
 use Rattle.wot_types.specs.declared.fpr.Fpr.{Fpr}
 use Rattle.wot_types.specs.Fpr.{same_fpr}
 use Rattle.wot_types.specs.FprLaws.{same_fpr-true}
-use Rattle.wot_part.specs.KeptFacts.{issuer_at}
-use Rattle.wot_part.proofs.issuer_place.place_of.Goals as goal
+use Rattle.wot_sig.specs.KeptFacts.{issuer_at}
+use Rattle.wot_sig.proofs.issuer_place.place_of.Goals as goal
 
 -- what is equal to the issuer is the issuer
 is_issuer : (issuer : Fpr) (o : Option Fpr) → option_map_or (λ found. same_fpr found issuer) o false ≡ true

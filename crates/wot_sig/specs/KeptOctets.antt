@@ -2,8 +2,8 @@
 -- `KeptFacts` says what octets are which facts, and which signature.
 use Rattle.std.specs.Prelude.{ℕ, ◌+◌, ◌≤◌, ◌==◌, if◌then◌else◌, List, length, take, drop, slice_index}
 use Rattle.wot_types.specs.declared.number.SigNumber.{SigNumber}
-use Rattle.wot_part.specs.declared.shape.Shape.{Shape}
-use Rattle.wot_part.specs.declared.shape.Shape.TheVariants.{Unparseable, Plain, Full, NotKept}
+use Rattle.wot_sig.specs.declared.shape.Shape.{Shape}
+use Rattle.wot_sig.specs.declared.shape.Shape.TheVariants.{Unparseable, Plain, Full, NotKept}
 
 -- ---- shapes
 

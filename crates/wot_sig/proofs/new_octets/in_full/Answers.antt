@@ -1,6 +1,6 @@
 use Rattle.std.proofs.Common.{rules}
-use Rattle.wot_part.proofs.NewOctets.{full_kept}
-use Rattle.wot_part.proofs.new_octets.in_full.Goals as goal
+use Rattle.wot_sig.proofs.NewOctets.{full_kept}
+use Rattle.wot_sig.proofs.new_octets.in_full.Goals as goal
 
 pub assembled-requires-clause-new : goal.assembled-requires-clause-new
 assembled-requires-clause-new c =

@@ -3,7 +3,7 @@
 //! It stands on `specs/KeptFacts.antt`. `kept_facts` keeps this place instead of the fingerprint, and reads it there.
 ghost use Rattle.std.specs.Prelude.{◌≡◌, ◌≤◌, ◌^◌, slice_index, IfSome};
 ghost use Rattle.std.specs.Option.{option_map};
-ghost use Rattle.wot_part.specs.KeptFacts.{octets_from, issuer_at as issuer_at_spec, stands_at as stands_at_spec};
+ghost use Rattle.wot_sig.specs.KeptFacts.{octets_from, issuer_at as issuer_at_spec, stands_at as stands_at_spec};
 
 use wot_types::{Fpr, compare_fprs};
 

@@ -2,7 +2,7 @@
 //!
 //! It stands on `specs/KeptOctets.antt`. `new_octets` chooses the shape, and `kept_facts` has the facts of each.
 ghost use Rattle.std.specs.Prelude.{◌≡◌};
-ghost use Rattle.wot_part.specs.KeptOctets.{shape_octet, shape_of, head_size};
+ghost use Rattle.wot_sig.specs.KeptOctets.{shape_octet, shape_of, head_size};
 
 /// The shape of the facts of a signature.
 #[derive(Clone, Copy)]

@@ -1,6 +1,6 @@
 use Rattle.std.proofs.Common.{rules, sym, ◌∙◌}
-use Rattle.wot_part.proofs.NewOctets.{unparseable}
-use Rattle.wot_part.proofs.new_octets.octets_of.Goals as goal
+use Rattle.wot_sig.proofs.NewOctets.{unparseable}
+use Rattle.wot_sig.proofs.new_octets.octets_of.Goals as goal
 
 pub assembled-requires-clause-new : goal.assembled-requires-clause-new
 assembled-requires-clause-new c =

@@ -4,10 +4,10 @@
 //! million signatures, so most of them keep 10 octets of facts: what stands at a known place in the body isn't kept
 //! again. What reads them is inlined, since most callers use one fact: then the others aren't read.
 ghost use Rattle.std.specs.Prelude.{◌≡◌, ◌≤◌, ◌<◌, ◌+◌, length};
-ghost use Rattle.wot_part.specs.KeptOctets.{ReachesBody, head_size};
-ghost use Rattle.wot_part.specs.KeptFacts.{facts_kept, facts_by as facts_by_spec, plain_facts as plain_facts_spec};
-ghost use Rattle.wot_part.specs.KeptFacts.{full_facts as full_facts_spec, u32_at as u32_at_spec};
-ghost use Rattle.wot_part.specs.KeptFacts.{flag_at as flag_at_spec, reason_at as reason_at_spec};
+ghost use Rattle.wot_sig.specs.KeptOctets.{ReachesBody, head_size};
+ghost use Rattle.wot_sig.specs.KeptFacts.{facts_kept, facts_by as facts_by_spec, plain_facts as plain_facts_spec};
+ghost use Rattle.wot_sig.specs.KeptFacts.{full_facts as full_facts_spec, u32_at as u32_at_spec};
+ghost use Rattle.wot_sig.specs.KeptFacts.{flag_at as flag_at_spec, reason_at as reason_at_spec};
 
 use crate::issuer_place::{issuer_at, octet_at};
 use crate::octets::{body_in, shape_in};
@@ -82,7 +82,7 @@ fn full_facts(kept: &[u8], body: &[u8]) -> SigFacts
 }
 
 #[inline(always)]
-fn u32_at(kept: &[u8], at: usize) -> u32
+pub(crate) fn u32_at(kept: &[u8], at: usize) -> u32
     requires { at + 4 ≤ length kept.now }
     ensures { result ≡ u32_at_spec kept.now at }
 {
@@ -90,7 +90,7 @@ fn u32_at(kept: &[u8], at: usize) -> u32
 }
 
 #[inline(always)]
-fn flag_at(kept: &[u8], at: usize) -> bool
+pub(crate) fn flag_at(kept: &[u8], at: usize) -> bool
     requires { at < length kept.now }
     ensures { result ≡ flag_at_spec kept.now at }
 {

@@ -1,0 +1,4 @@
+pub mod Signature
+pub mod KeptOctets
+pub mod KeptFacts
+pub mod SingleFacts
