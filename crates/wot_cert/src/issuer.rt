@@ -67,12 +67,12 @@ pub fn issuer_of(sig: &Sig, verdicts: &Verdicts) -> Option<Fpr>
 }
 
 /// The key whose signature this counts as, and where to look first for the verdict on the next signature. It looks at
-/// `from` first. Any place gives the same key; begin with 0.
+/// `from` first, and passes over one place for what can't count. Any place gives the same key; begin with 0.
 pub fn issuer_from(sig: &Sig, verdicts: &Verdicts, from: usize) -> (Option<Fpr>, usize)
     ensures issuer { result.0 ≡ issuer_in verdicts.now.entries sig.now }
 {
     if !may_count(sig) {
-        return (None, from);
+        return (None, from.saturating_add(1));
     }
     let (verdict, next) = verdicts.get_from(&sig.number(), from);
     (issuer_by(sig, verdict), next)

@@ -94,7 +94,7 @@ pub(crate) fn reasons(
         ≡ reasons_on keyring.now.verdicts (certificates_in keyring.now) t target place uid.now) }
 {
     let mut certifiers = Certifiers::new(alloc);
-    certifiers.add(alloc, 0, uid, keyring.verdicts(), t)?;
+    certifiers.add(alloc, 0, uid, keyring.verdicts(), t, 0)?;
     let mut items = Vec::new(alloc);
     let mut rest = uid.sigs();
     'rest: while let Some((sig, others)) = rest.split_first() {

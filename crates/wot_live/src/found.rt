@@ -34,7 +34,8 @@ pub(crate) fn found_edge(cert: &Cert, target: Fpr, by: Certified, place: u32) ->
     edge_at_place(part, place, by.issuer, target, by.uid)
 }
 
-/// The newest certification of each issuer on each user ID.
+/// The newest certification of each issuer on each user ID. The verdicts on one user ID's signatures mostly stand just
+/// before those on the next one's, so they are looked for there first.
 pub(crate) fn find(
     alloc: Global,
     cert: &Cert,
@@ -47,10 +48,15 @@ pub(crate) fn find(
     ensures count { IfOk result (λ found. length found ≤ signatures_of cert.now) }
 {
     let mut found = Certifiers::new(alloc);
+    // Where the verdicts on the signatures of `rest` may end.
+    let mut end = 0usize;
     let mut rest = cert.user_ids();
     'back: while let Some((part, prefix)) = rest.split_last() {
         rest = prefix;
-        found.add(alloc, prefix.len() as u32, part, verdicts, t)?;
+        let count = part.sigs().len();
+        let from = end.saturating_sub(count);
+        let next = found.add(alloc, prefix.len() as u32, part, verdicts, t, from)?;
+        end = next.saturating_sub(count);
     }
     // Its clause says that they are in order.
     let _ = found.len();

@@ -19,7 +19,7 @@ use std::alloc::Global;
 use std::collections::BTreeMap;
 use std::collections::btree_map::Iter;
 use std::marker::Model;
-use wot_cert::{Part, Sig, issuer_from, issuer_of};
+use wot_cert::{Part, Sig, issuer_from};
 use wot_types::{Fpr, Memory};
 use wot_verdict::Verdicts;
 
@@ -61,7 +61,9 @@ impl Certifiers {
     }
 
     /// Adds, for each issuer, the newest certification on the user ID that counts as the issuer's, is live at `t` and
-    /// unrevoked. `place` is the place of the user ID, which has none yet.
+    /// unrevoked. `place` is the place of the user ID, which has none yet. The verdict on its first signature is looked
+    /// for at `from` first, and the result is where the one after its last signature's may be. Any place adds the same;
+    /// begin with 0.
     pub fn add(
         &mut self,
         alloc: Global,
@@ -69,22 +71,24 @@ impl Certifiers {
         uid: &Part,
         verdicts: &Verdicts,
         t: u32,
-    ) -> Result<(), Memory>
+        from: usize,
+    ) -> Result<usize, Memory>
         requires few { length uid.now.sigs < 2 ^ 32 }
         requires none { HasNone place self.old }
         ensures newest { OnOk result (KeepsNewest verdicts.now.entries t uid.now (place_for self.new place)) }
         ensures elsewhere { OnOk result (StaysElsewhere place self.old self.new) }
         ensures count { OnOk result (length self.new ≤ length self.old + length uid.now.sigs) }
     {
-        let latest = latest_revocations(alloc, uid.sigs(), verdicts, t)?;
-        let issuers = certifiers_in(alloc, uid.sigs(), verdicts, t)?;
+        let (latest, start) = latest_revocations(alloc, uid.sigs(), verdicts, t, from)?;
+        let (issuers, next) = certifiers_in(alloc, uid.sigs(), verdicts, t, start)?;
         let validity = Validity {
             uid: place,
             verdicts,
             t,
             latest: &latest,
         };
-        add_places(&mut self.places, uid.sigs(), &issuers, &validity)
+        add_places(&mut self.places, uid.sigs(), &issuers, &validity)?;
+        Ok(next)
     }
 
     /// The place of an issuer's certification among the signatures on the user ID at this place.
@@ -113,6 +117,10 @@ impl Certifiers {
 fn number(numbers: &Numbers, issuer: &Fpr) -> Option<u32>
     ensures { result ≡ number_for numbers.now.entries issuer.now }
 {
+    // Most user IDs have no revocation.
+    if numbers.is_empty() {
+        return None;
+    }
     numbers.get(issuer).copied()
 }
 
@@ -124,85 +132,92 @@ fn keep(numbers: &mut Numbers, issuer: Fpr, number: u32) -> Result<(), Memory>
     Ok(())
 }
 
-/// By whom a signature is a live revocation. What costs a look at the verdicts is asked last.
-fn revoker(sig: &Sig, verdicts: &Verdicts, t: u32) -> Option<Fpr>
-    ensures { result ≡ revoker_of verdicts.now.entries t sig.now }
+/// By whom a signature is a live revocation, and where to look first for the verdict on the next signature. What costs
+/// a look at the verdicts is asked last.
+fn revoker(sig: &Sig, verdicts: &Verdicts, t: u32, from: usize) -> (Option<Fpr>, usize)
+    ensures { result.0 ≡ revoker_of verdicts.now.entries t sig.now }
 {
     if has_kind(sig, CERTIFICATION_REVOCATION) && is_live(sig, t) {
-        issuer_of(sig, verdicts)
+        issuer_from(sig, verdicts, from)
     } else {
-        None
+        (None, from.saturating_add(1))
     }
 }
 
-/// By whom a signature is a live certification, and where to look first for the verdict on the next one.
+/// By whom a signature is a live certification, and where to look first for the verdict on the next signature.
 fn certifier(sig: &Sig, verdicts: &Verdicts, t: u32, from: usize) -> (Option<Fpr>, usize)
     ensures { result.0 ≡ certifier_of verdicts.now.entries t sig.now }
 {
     if is_certification(sig) && is_live(sig, t) {
         issuer_from(sig, verdicts, from)
     } else {
-        (None, from)
+        (None, from.saturating_add(1))
     }
 }
 
-/// By whom each of these signatures is a live certification. Each verdict is looked for first after the last one, since
-/// those on one certificate's signatures mostly stand one after the other. Nothing else is done between the lookups, so
-/// that the processor fetches several at once.
+/// By whom each of these signatures is a live certification, and where the verdict after theirs may be. Each verdict is
+/// looked for first after the last one, since those on one certificate's signatures mostly stand one after the other.
+/// Nothing else is done between the lookups, so that the processor fetches several at once.
 fn certifiers_in(
     alloc: Global,
     sigs: &[Sig],
     verdicts: &Verdicts,
     t: u32,
-) -> Result<Vec<Option<Fpr>>, Memory>
-    ensures { IfOk result (λ issuers. issuers.items ≡ map (certifier_of verdicts.now.entries t) sigs.now) }
+    from: usize,
+) -> Result<(Vec<Option<Fpr>>, usize), Memory>
+    ensures { IfOk result (λ found. found.0.items ≡ map (certifier_of verdicts.now.entries t) sigs.now) }
 {
     let mut issuers = Vec::with_capacity(alloc, sigs.len())?;
-    let mut from = 0;
+    let mut place = from;
     let mut rest = sigs;
     'rest: while let Some((sig, others)) = rest.split_first() {
-        let (issuer, next) = certifier(sig, verdicts, t, from);
+        let (issuer, next) = certifier(sig, verdicts, t, place);
         issuers.push(issuer)?;
-        from = next;
+        place = next;
         rest = others;
     }
-    Ok(issuers)
+    Ok((issuers, place))
 }
 
-/// When each issuer's latest live revocation among these signatures was created.
+/// When each issuer's latest live revocation among these signatures was created, and where the verdict on the first
+/// signature may be: at `from`, or as many places before a revocation's as the signatures before that.
 fn latest_revocations(
     alloc: Global,
     sigs: &[Sig],
     verdicts: &Verdicts,
     t: u32,
-) -> Result<Numbers, Memory>
-    ensures { IfOk result (λ latest. KeepsLatest verdicts.now.entries t sigs.now (number_for latest.entries)) }
+    from: usize,
+) -> Result<(Numbers, usize), Memory>
+    ensures { IfOk result (λ found. KeepsLatest verdicts.now.entries t sigs.now (number_for found.0.entries)) }
 {
     let mut latest = BTreeMap::new(alloc);
+    let mut start = from;
     let mut rest = sigs;
     'back: while let Some((sig, prefix)) = rest.split_last() {
         rest = prefix;
-        note_revocation(&mut latest, sig, verdicts, t)?;
+        let place = start.saturating_add(prefix.len());
+        let next = note_revocation(&mut latest, sig, verdicts, t, place)?;
+        start = next.saturating_sub(prefix.len()).saturating_sub(1);
     }
-    Ok(latest)
+    Ok((latest, start))
 }
 
-/// Adds a signature to the latest revocations.
+/// Adds a signature to the latest revocations, and returns where to look first for the verdict on the next one.
 fn note_revocation(
     latest: &mut Numbers,
     sig: &Sig,
     verdicts: &Verdicts,
     t: u32,
-) -> Result<(), Memory>
+    from: usize,
+) -> Result<usize, Memory>
     ensures { OnOk result
         (TakesLatest verdicts.now.entries t sig.now (number_for latest.old.entries) (number_for latest.new.entries)) }
 {
-    let Some(issuer) = revoker(sig, verdicts, t) else {
-        return Ok(());
-    };
+    let (by, next) = revoker(sig, verdicts, t, from);
+    let Some(issuer) = by else { return Ok(next) };
     let best = later(made(sig), number(latest, &issuer));
     keep(latest, issuer, best)?;
-    Ok(())
+    Ok(next)
 }
 
 /// Adds the place of each issuer's newest valid certification on the user ID, given by whom each signature is one.

@@ -12,7 +12,7 @@ back-preserved c =
     let part = c.in-Some.part.now in
     let prefix = c.in-Some.prefix.now in
     let before = c.back.invariant in
-    let added = c.in_ok-add.ensures in
+    let added = c.in_ok-next.ensures in
     record {
       seen = part ∷ before.seen;
       all = seam a.cert.now.user_ids c.back.rest.now prefix before.seen part before.all c.in-Some.ensures.cases.0;
