@@ -1,5 +1,6 @@
 //! The terms of an edge: what a certification says about depth, amount and scope, with the rule for
-//! self-certifications. A change here changes every answer; `edge_facts` in specs/Edge.antt has to say the same.
+//! self-certifications. A change here changes every answer; `edge_with` in specs/Found.antt and `edge_facts` in
+//! specs/Edge.antt have to say the same.
 ghost use Rattle.std.specs.Prelude.{◌≡◌};
 ghost use Rattle.wot_live.specs.Found.{edge_with as edge_with_spec};
 

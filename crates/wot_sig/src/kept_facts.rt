@@ -1,8 +1,8 @@
 //! The facts of a signature in its octets: what octets they are, and how they are read again.
 //!
-//! It stands on `read_signature`, on `octets` and `issuer_place`, and on `specs/KeptFacts.antt`. A keyring may hold a
-//! million signatures, so most of them keep 10 octets of facts: what stands at a known place in the body isn't kept
-//! again. What reads them is inlined, since most callers use one fact: then the others aren't read.
+//! It stands on `read_signature`, on `octets` and `issuer_place`, and on `specs/KeptFacts.antt`. `single_facts` reads
+//! one fact without the others. A keyring may hold a million signatures, so most of them keep 10 octets of facts: what
+//! stands at a known place in the body isn't kept again.
 ghost use Rattle.std.specs.Prelude.{◌≡◌, ◌≤◌, ◌<◌, ◌+◌, length};
 ghost use Rattle.wot_sig.specs.KeptOctets.{ReachesBody, head_size};
 ghost use Rattle.wot_sig.specs.KeptFacts.{facts_kept, facts_by as facts_by_spec, plain_facts as plain_facts_spec};

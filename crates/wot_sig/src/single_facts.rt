@@ -1,7 +1,7 @@
 //! Single facts of a signature in its octets.
 //!
 //! It stands on `kept_facts`, which reads all of them, and on `specs/SingleFacts.antt`. A question asks each signature
-//! for one fact after another. If all facts were read for each of them, that would take most of the question's time.
+//! for one fact after another, and shouldn't copy all of them each time.
 ghost use Rattle.std.specs.Prelude.{◌≡◌, ◌≤◌, false, length};
 ghost use Rattle.std.specs.Option.{option_map, option_map_or};
 ghost use Rattle.wot_sig.specs.KeptOctets.{ReachesBody, head_size};

@@ -180,7 +180,8 @@ fn certifiers_in(
 }
 
 /// When each issuer's latest live revocation among these signatures was created, and where the verdict on the first
-/// signature may be: at `from`, or as many places before a revocation's as the signatures before that.
+/// signature may be. That is `from`, unless the verdict on a revocation was found elsewhere: then it is as many places
+/// before that one as there are signatures before the revocation.
 fn latest_revocations(
     alloc: Global,
     sigs: &[Sig],
