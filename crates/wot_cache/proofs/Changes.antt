@@ -39,7 +39,7 @@ pub changes_keyring : {turns : Turns} {answers : AllAnswers} (old : Engine) (k n
     → ChangesKeyring old (shown new views networks turns answers)
 changes_keyring {turns = turns} {answers = answers} old k new views networks seen counted limits =
     subst (λ (e : Engine). ChangesKeyring e (shown new views networks turns answers)) seen
-    (record { counted = counted; limits = limits; views = refl; marks = refl; turns = refl })
+    (record { counted = counted; limits = limits; views = refl; marks = refl; turns = refl; answers = refl })
 
 -- the state with this held, and these views
 abbrev with_views : Views → Held → State

@@ -16,7 +16,7 @@ use Rattle.wot_types.specs.ViewName.{view_name_cmp}
 use Rattle.wot_held.specs.Keyring.{Keyring}
 use Rattle.wot_network.specs.Net.{Net, Marks, marks_of}
 use Rattle.wot_cache.specs.declared.view.View.{View}
-use Rattle.wot_kept.specs.Answers.{AllAnswers, KeepsFor}
+use Rattle.wot_kept.specs.Answers.{AllAnswers, OthersKept}
 use Rattle.wot_cache.specs.Inside.{AllFit, AreOfOpen, IsEngine, Networks, network_at}
 use Rattle.wot_cache.specs.Marks.{End, IsForgotten, IsMadeFor, IsRefreshed, OthersStay, end_at, end_in, marks_by}
 use Rattle.wot_cache.specs.Marks.{marks_in, marks_shown, shown}
@@ -110,12 +110,12 @@ refreshed_open views old new name others closed all other none = by (is_name nam
 -- an open view's answers are kept for an open view
 pub answered_open : (P : View → Type 0) (views : Views) (old new : AllAnswers) (name : List ℕ) →
     IsSomeAnd (view_at views name) P
-    → KeepsFor name old new → AreOfOpen views old → AreOfOpen views new
-answered_open P views old new name there keeps all other none = by (is_name other name) refl
+    → OthersKept name old new → AreOfOpen views old → AreOfOpen views new
+answered_open P views old new name there others all other none = by (is_name name other) refl
   where
-    by : (b : Bool) → is_name other name ≡ b → lookup (is_name other) new ≡ None
-    by true e = absurd (subst (λ (o : Option View). IsSomeAnd o P) (sym (found_by other name views e) ∙ none) there)
-    by false e = keeps other e (all other none)
+    by : (b : Bool) → is_name name other ≡ b → lookup (is_name other) new ≡ None
+    by true e = absurd (subst (λ (o : Option View). IsSomeAnd o P) (found_by name other views e ∙ none) there)
+    by false e = others other e ∙ all other none
 
 -- ---- the marks that networks show
 

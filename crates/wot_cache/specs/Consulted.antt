@@ -1,17 +1,16 @@
 -- What an engine keeps with its answers: the fingerprints that each was found by. No reply depends on them.
-use Rattle.std.specs.Prelude.{ℕ, List, []}
+use Rattle.std.specs.Prelude.{ℕ, List, IsSomeAnd}
 use Rattle.std.specs.List.{AllByRecursion}
-use Rattle.std.specs.Map.{lookup}
-use Rattle.std.specs.Option.{option_map_or}
+use Rattle.wot_types.specs.declared.fpr.Fpr.{Fpr}
 use Rattle.wot_kept.specs.declared.answers.KeptAnswer.{KeptAnswer}
-use Rattle.wot_kept.specs.Answers.{Entries, IsAmong, KeepsFor, OfView, RestsOnLeads}
+use Rattle.wot_kept.specs.Answers.{Entries, IsAmong, IsFoundBy, OthersKept, RestsOnLeads, WereKeptOr, answers_for}
+use Rattle.wot_cache.specs.declared.view.View.{View}
 use Rattle.wot_cache.specs.State.{Engine}
-use Rattle.wot_cache.specs.Views.{is_name}
+use Rattle.wot_cache.specs.Views.{view_at}
 
 -- the answers that are kept for a view, by the keys of their questions; none before its first question
 abbrev pub kept_for : Engine → List ℕ → Entries
-kept_for engine name =
-    option_map_or (λ (of_view : OfView). of_view.entries) (lookup (is_name name) engine.answers) []
+kept_for engine name = answers_for name engine.answers
 
 -- No answer that is kept for a view depends on more than its search had to look at: each fingerprint that was noted
 -- with it led to the target.
@@ -23,8 +22,15 @@ AllRestOnLeads engine name =
 abbrev pub IsKeptFor : Engine → List ℕ → KeptAnswer → Type 0
 IsKeptFor engine name kept = IsAmong (kept_for engine name) kept
 
--- What is kept after a question from a view. No answer of the view depends on more than its search had to look at. Only
--- this view may have answers that it didn't have before.
-pub record ConsultsLeads (name : List ℕ) (old new : Engine) : Type 0 where
+-- It answers this question from an open view, and was found now: each fingerprint that it depends on leads to the
+-- target in the engine's keyring at the view's time, and has the stamp there that was noted.
+abbrev pub IsFoundFrom : Engine → List ℕ → Fpr → ℕ → List ℕ → KeptAnswer → Type 0
+IsFoundFrom engine name target wanted uid kept =
+    IsSomeAnd (view_at engine.views name) (λ (v : View). IsFoundBy engine.keyring target wanted uid v.time kept)
+
+-- What is kept after a question from a view. An answer of the view that wasn't kept before was found now, by what leads
+-- to the target. None depends on more than its search had to look at. What is kept for other views is unchanged.
+pub record ConsultsLeads (name : List ℕ) (target : Fpr) (wanted : ℕ) (uid : List ℕ) (old new : Engine) : Type 0 where
+  pub found : WereKeptOr (IsFoundFrom old name target wanted uid) (kept_for old name) (kept_for new name)
   pub leads : AllRestOnLeads new name
-  pub others : KeepsFor name old.answers new.answers
+  pub others : OthersKept name old.answers new.answers

@@ -189,8 +189,8 @@ impl Engine {
             (λ v. AreWithinRoots v.roots a.paths)) }
         ensures open { TellsOpen result (view_at self.old.views view.now) }
         ensures refreshed { IsRefreshed result view.now self.old self.new steps.old.made steps.new.made }
-        // The search notes no more than what leads to the target.
-        ensures consulted { ConsultsLeads view.now self.old self.new }
+        // The search notes no more than what leads to the target now.
+        ensures consulted { ConsultsLeads view.now target.now wanted uid.now self.old self.new }
         ensures made_most { steps.new.made ≤ steps.old.made + signatures_in self.old.keyring }
         ensures never_less { steps.old.made ≤ steps.new.made }
     {

@@ -15,3 +15,4 @@ pub mod Assemblies
 pub mod NewTotals
 pub mod AllPlaces
 pub mod Grown
+mod OfBoth

@@ -11,3 +11,4 @@ pub mod Narrowed
 pub mod Drafting
 pub mod ReadBack
 pub mod Growing
+pub mod Both

@@ -1,10 +1,11 @@
 //! Laws of certificates. Each function does nothing: its contract is the law, and the crates above cite it by a call.
 //! They stand on `specs/Certificate.antt` and the definitions that it names.
-ghost use Rattle.std.specs.Prelude.{◌≡◌, ◌≤◌, ◌+◌, List};
+ghost use Rattle.std.specs.Prelude.{◌≡◌, ◌≤◌, ◌+◌, ℕ, List};
 ghost use Rattle.std.specs.List.{AllByRecursion};
 ghost use Rattle.wot_packet.specs.Spelling.{AreShort, Spelled};
 ghost use Rattle.wot_policy.specs.declared.rows.PolicyRows.{PolicyRows};
 ghost use Rattle.wot_cert.specs.Assembly.{bare, certificates_of};
+ghost use Rattle.wot_cert.specs.Both.{AreOfBoth, HasSig, IsOfBoth};
 ghost use Rattle.wot_part.specs.Certificate.{Certificate, unite, unmarked};
 ghost use Rattle.wot_part.specs.Counts.{items_of, signatures_of};
 ghost use Rattle.wot_part.specs.Judged.{IsJudged, judged, sound_of};
@@ -64,6 +65,15 @@ pub fn united_holds_both()
     ensures items { OfTwoOfOneKey (λ a b. items_of b ≤ items_of (unite a b)) }
     ensures signatures { OfTwoOfOneKey (λ a b. signatures_of b ≤ signatures_of (unite a b)) }
     ensures sizes { OfTwoOfOneKey (λ a b. size_of b ≤ size_of (unite a b)) }
+{}
+
+/// A merge has exactly what is in one of both: a component is in it if and only if one of both has it, and a signature
+/// is on the key or on a component if and only if it is there in one of both. They are told apart by their bodies.
+pub fn united_has_both()
+    ensures direct { (body : List ℕ) → IsOfBoth (λ c. HasSig body c.direct) }
+    ensures user_ids { AreOfBoth (λ c. c.user_ids) }
+    ensures attributes { AreOfBoth (λ c. c.attributes) }
+    ensures subkeys { AreOfBoth (λ c. c.subkeys) }
 {}
 
 /// Certificates of one key can be merged in any order, in any groups, and more than once: the result has the same

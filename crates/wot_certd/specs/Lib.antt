@@ -3,3 +3,4 @@ pub mod Names
 pub mod World
 pub mod Shelf
 pub mod Memory
+pub mod Stored

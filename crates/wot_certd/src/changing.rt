@@ -3,10 +3,10 @@
 //! The system's calls have no contract, so nothing is said of what these do. But each has a condition, which `writing`
 //! has to show: only a new file is moved or removed, it is moved only to the place of its entry, and only a folder that
 //! wasn't there before is removed. So a failed store leaves the old entry, and what isn't an entry stays. Nothing but
-//! `fill` makes a `Filled`, and nothing but `put_in_place` a `Stored`. So a store that reports success has written the
-//! whole file and renamed it.
+//! `fill` makes a `Filled`, and nothing but `put_in_place` a `Stored`, and both say which octets they are about. So a
+//! store that reports success has written all octets of its entry to a file, and renamed that over the entry.
 ghost use Rattle.std.specs.Io.KnownBytes.{Appends};
-ghost use Rattle.std.specs.Prelude.{◌≡◌, ◌<◌, OnOk, length};
+ghost use Rattle.std.specs.Prelude.{◌≡◌, ◌<◌, IfOk, OnOk, length};
 ghost use Rattle.wot_certd.specs.Names.{IsNoEntry, path_in, entry_place};
 
 use std::fs::{self, OpenFile};
@@ -14,37 +14,48 @@ use std::io::{self, Write};
 use std::rt::Files;
 use wot_types::Name;
 
-/// A new file has all octets of an entry, and the system has stored them.
+/// A new file has these octets, and the system has stored them.
 #[derive(Drop)]
-pub struct Filled(());
+pub struct Filled<'a> {
+    octets: &'a [u8],
+}
 
-/// An entry was replaced.
+/// The entry of this name was replaced by these octets.
 #[derive(Drop)]
-pub struct Stored(());
+pub struct Stored<'a> {
+    name: &'a Name,
+    octets: &'a [u8],
+}
 
 /// Writes all octets to a new file, and waits until the system has stored them.
-pub fn fill<F: Write + OpenFile>(out: &mut F, octets: &[u8]) -> io::Result<Filled>
+pub fn fill<'a, F: Write + OpenFile>(out: &mut F, octets: &'a [u8]) -> io::Result<Filled<'a>>
     ensures written { OnOk result (Appends (F.contents out.old) (F.contents out.new) octets.now) }
+    ensures octets { IfOk result (λ filled. filled.octets.now ≡ octets.now) }
 {
     out.write_all(octets)?;
     out.sync_all()?;
-    Ok(Filled(()))
+    Ok(Filled { octets })
 }
 
-/// Renames a new file over an entry. `_folder` and `_name` say which entry that is.
-pub fn put_in_place<R: Files>(
+/// Renames a new file over an entry. `_folder` and `name` say which entry that is.
+pub fn put_in_place<'a, R: Files>(
     files: &R,
     _folder: &str,
-    _name: &Name,
-    _filled: Filled,
+    name: &'a Name,
+    filled: Filled<'a>,
     from: &str,
     to: &str,
-) -> io::Result<Stored>
+) -> io::Result<Stored<'a>>
     requires new { IsNoEntry _folder.now from.now }
-    requires place { to.now ≡ path_in _folder.now (entry_place _name.now) }
+    requires place { to.now ≡ path_in _folder.now (entry_place name.now) }
+    ensures stored { IfOk result (λ stored.
+        (stored.name.now ≡ name.now) × (stored.octets.now ≡ filled.entry.octets.now)) }
 {
     fs::rename(files, from, to)?;
-    Ok(Stored(()))
+    Ok(Stored {
+        name,
+        octets: filled.octets,
+    })
 }
 
 /// Removes a new file. `_folder` is the directory, of which it must be no entry.

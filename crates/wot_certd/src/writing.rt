@@ -120,13 +120,15 @@ fn read_all<F: Read>(alloc: Global, file: &mut F) -> io::Result<Given>
 
 /// Replaces an entry's file: a new file is written next to the old one and renamed over it. Creates missing folders. On
 /// failure neither the new file nor a folder that was created for it is left.
-pub fn write_entry<R: Files>(
+pub fn write_entry<'a, R: Files>(
     files: &R,
     alloc: Global,
     folder: &str,
-    name: &Name,
-    octets: &[u8],
-) -> io::Result<Stored> {
+    name: &'a Name,
+    octets: &'a [u8],
+) -> io::Result<Stored<'a>>
+    ensures stored { IfOk result (λ stored. (stored.name.now ≡ name.now) × (stored.octets.now ≡ octets.now)) }
+{
     let path = path_of(alloc, folder, name)?;
     let Some((parent, _)) = path.rsplit_once('/') else {
         return Err(io::Error::from(ErrorKind::InvalidInput));
@@ -149,15 +151,16 @@ pub fn write_entry<R: Files>(
 }
 
 /// Writes a new file next to the old one, and renames it.
-fn write_beside<R: Files>(
+fn write_beside<'a, R: Files>(
     files: &R,
     alloc: Global,
     folder: &str,
-    name: &Name,
+    name: &'a Name,
     path: &str,
-    octets: &[u8],
-) -> io::Result<Stored>
+    octets: &'a [u8],
+) -> io::Result<Stored<'a>>
     requires place { path.now ≡ path_in folder.now (entry_place name.now) }
+    ensures stored { IfOk result (λ stored. (stored.name.now ≡ name.now) × (stored.octets.now ≡ octets.now)) }
 {
     let (beside, mut out) = open_beside(files, alloc, folder, name)?;
     let done = match fill(&mut out, octets) {

@@ -1,5 +1,5 @@
 -- The parts of a network that determine proofs of absence and their checks: what leads to the target step by step, and
--- what a check looks at. wot_machine turns both into certificates that a database can find.
+-- what a check looks at. wot_laws turns both into certificates that a database can find.
 use Rattle.std.specs.Prelude.{◌≡◌, ◌≤◌, ◌↔◌, ℕ, List, ◌∷◌, Some}
 use Rattle.wot_types.specs.declared.fpr.Fpr.{Fpr}
 use Rattle.wot_edge.specs.declared.path.Step.{Step}

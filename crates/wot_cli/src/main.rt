@@ -3,6 +3,10 @@
 //! arguments are decided here.
 #![tactic(auto)]
 
+ghost use Rattle.std.specs.Prelude.{◌≡◌, ◌⊎◌, ◌↔◌, map, string_bytes};
+ghost use Rattle.std.specs.IoError.{error_kind};
+ghost use Rattle.wot_cli.specs.Folder.{folder_named};
+
 use std::env;
 use std::io::{self, ErrorKind};
 use std::process::ExitCode;
@@ -22,7 +26,9 @@ fn words_of<R: Env + AllocGlobal>(rt: &R) -> io::Result<Vec<String>> {
 }
 
 /// The path of the certificate directory: the second argument, or `pgp.cert.d` in the current directory.
-fn folder_of(words: &[String]) -> &str {
+fn folder_of(words: &[String]) -> &str
+    ensures folder { result.now ≡ folder_named (map string_bytes words.now) }
+{
     match words {
         [_, folder, ..] => folder,
         _ => "pgp.cert.d",
@@ -30,7 +36,10 @@ fn folder_of(words: &[String]) -> &str {
 }
 
 /// The status if there are no arguments to run on: 5 if out of memory for them, and 2 if one isn't UTF-8.
-fn status_without_words(error: &io::Error) -> u8 {
+fn status_without_words(error: &io::Error) -> u8
+    ensures memory { (result ≡ 5) ↔ (error_kind error.now ≡ ErrorKind.OutOfMemory) }
+    ensures other { (result ≡ 5) ⊎ (result ≡ 2) }
+{
     if error.kind() == ErrorKind::OutOfMemory {
         5
     } else {

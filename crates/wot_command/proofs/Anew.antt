@@ -1,7 +1,7 @@
 -- The lines of a dump, answered by a fresh machine.
 use Rattle.std.proofs.Common.{◌≡◌, ℕ, suc, Bool, true, false, List, [], ◌∷◌, length, map, Option, Some, None, Result}
 use Rattle.std.proofs.Common.{Ok, Err, refl, sym, ap, ◌∙◌, subst, append_assoc}
-use Rattle.std.specs.Prelude.{if◌then◌else◌, IsSomeAnd}
+use Rattle.std.specs.Prelude.{◌<◌, ◌^◌, if◌then◌else◌, IsSomeAnd}
 use Rattle.std.specs.Option.{option_map}
 use Rattle.std.specs.List.{AllByRecursion}
 use Rattle.std.proofs.lemmas.Bool.{ne_eqb}
@@ -268,8 +268,9 @@ reached rows l s there = by (after_all (after rows l) (commands_of s) (Some star
     by (Some new) there = (new, there, refl)
 
 pub made_anew : (rows : PolicyRows) (engine : Engine) → engine.keyring.limits ≡ standard_limits → IsRestored rows engine
-    → AreLines (commands_of (state_of engine)) → IsMadeAnew rows (state_of engine)
-made_anew rows engine standard restored lines =
+    → AreLines (commands_of (state_of engine)) → length (lines_of (commands_of (state_of engine))) < 2 ^ 30
+    → IsMadeAnew rows (state_of engine)
+made_anew rows engine standard restored lines short =
     let s : State = state_of engine in
     let From : Limits → Type 0 = λ l. IsSomeAnd (after_all (after rows l) (commands_of s) (Some start))
     (CarriesOver rows s) in
@@ -288,4 +289,5 @@ made_anew rows engine standard restored lines =
       run = subst Ran cut all.run;
       each = all.each ∙ ap length cut;
       well = all.well;
+      size = short;
     }

@@ -19,7 +19,7 @@ use wot_cache::{Engine, NoView};
 use wot_keyring::Absent;
 use wot_policy::{Ask, Policy};
 use wot_script::Reply;
-use wot_step::{Refused, reply_to};
+use wot_step::{Missing, Refused, reply_to, reply_to_missing};
 use wot_types::{Fpr, Memory, SigNumber, ViewName};
 use wot_verdict::Verdict;
 
@@ -57,7 +57,7 @@ pub fn remove(engine: &mut Engine, fpr: &Fpr) -> Reply
 {
     match engine.remove(fpr) {
         Ok(()) => Reply::Done,
-        Err(Absent) => Reply::Absent,
+        Err(Absent) => reply_to_missing(Missing::Named),
     }
 }
 
@@ -92,7 +92,7 @@ pub fn clear_verdict(engine: &mut Engine, number: &SigNumber) -> Reply
 {
     match engine.clear_verdict(number) {
         Ok(()) => Reply::Done,
-        Err(Absent) => Reply::Absent,
+        Err(Absent) => reply_to_missing(Missing::Named),
     }
 }
 
@@ -145,6 +145,6 @@ pub fn close(engine: &mut Engine, view: &ViewName) -> Reply
 {
     match engine.view_close(view) {
         Ok(()) => Reply::Done,
-        Err(NoView) => Reply::View,
+        Err(NoView) => reply_to_missing(Missing::View),
     }
 }

@@ -18,6 +18,7 @@ use wot_cache::Engine;
 use wot_cert::Cert;
 use wot_keyring::CertsIter;
 use wot_script::{KeyLine, KeyLines, Octets, Reply};
+use wot_step::{Missing, reply_to_missing};
 use wot_types::{Fpr, Memory};
 
 /// A line for each of these certificates.
@@ -52,7 +53,7 @@ pub fn export(alloc: Global, engine: &Engine, fpr: &Fpr) -> Result<Reply, Memory
     ensures export { IfOk result (λ reply. reply ≡ (export_of (state_of engine.now) fpr.now).reply) }
 {
     let Some(cert) = cert_of(engine, fpr) else {
-        return Ok(Reply::Absent);
+        return Ok(reply_to_missing(Missing::Named));
     };
     let mut text = Vec::new(alloc);
     cert.export(&mut text)?;

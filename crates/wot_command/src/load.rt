@@ -15,7 +15,7 @@ use wot_cache::Engine;
 use wot_certd::{Given, Shelf};
 use wot_policy::{Ask, Policy};
 use wot_script::Reply;
-use wot_step::{Refused, reply_to};
+use wot_step::{Missing, Refused, reply_to, reply_to_missing};
 use wot_types::{Memory, Name};
 
 /// The reply to `load`: reads an entry of the certificate directory, and merges its one certificate with what is held.
@@ -42,7 +42,7 @@ pub fn load<D: Shelf, F: Fn(Ask) -> bool>(
 {
     match shelf.read(name) {
         Ok(Given::Bytes(octets)) => enter(engine, name, &octets, policy),
-        Ok(Given::Absent) => Ok(Reply::Absent),
+        Ok(Given::Absent) => Ok(reply_to_missing(Missing::Named)),
         Ok(Given::Long) => Ok(Reply::Long),
         Err(fault) => reply_to(Refused::from(fault)),
     }

@@ -16,7 +16,7 @@ use wot_cache::Engine;
 use wot_cert::Cert;
 use wot_certd::Shelf;
 use wot_script::Reply;
-use wot_step::{Refused, reply_to};
+use wot_step::{Missing, Refused, reply_to, reply_to_missing};
 use wot_stored::{Unwritten, text_for};
 use wot_types::{Fpr, Memory, Name};
 
@@ -38,7 +38,7 @@ pub fn store<D: Shelf>(
 {
     match cert_of(engine, fpr) {
         Some(kept) => store_kept(alloc, fpr, kept, shelf),
-        None => Ok(Reply::Absent),
+        None => Ok(reply_to_missing(Missing::Named)),
     }
 }
 

@@ -104,8 +104,8 @@ pub record IsLastTaken (lines : List (List ℕ)) (left : Option (List ℕ)) : Ty
   pub lines_are : lines ≡ line ∷ lines_of (behind ++ rest)
   pub few : length behind < 65536
 
--- The complete replies were written: those to the lines before the last one that was taken, or none if nothing was
--- taken. The next line wrote at most its own entry.
+-- The complete replies were written to all lines before one that was taken, or none if nothing was taken. That line
+-- wrote at most its own entry.
 pub record ReachedWhole (rows : PolicyRows) (contents : Contents) (left after : Option (List ℕ))
     (origin shelf : Option World) : Type 0 where
   pub count : ℕ

@@ -25,7 +25,7 @@ pub record Writes {Z : Type 0} (status : ℕ) (words : List (String Z)) (rows : 
   -- Whatever the status, what was written begins the replies to some first lines, and the directory is as these lines
   -- leave it. The line after them writes at most its own entry.
   pub reached : AreOfRun words → ReachesSome rows input output shelf
-  -- If memory runs out, no reply is cut short: all lines before the last one that was taken have complete replies.
+  -- If memory runs out, no reply is cut short: all lines before one of the last that were taken have complete replies.
   pub first : AreOfRun words → status ≡ 5 → WritesSome rows input output shelf
   -- After a failed read, and after 2 ^ 30 octets, all complete lines that were taken have their replies. Octets beyond
   -- 2 ^ 30 have no other status, unless memory ran out.

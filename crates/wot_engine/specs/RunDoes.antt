@@ -40,8 +40,8 @@ abbrev pub ReachesSome : PolicyRows → Octets → Octets → Worlds → Type 0
 ReachesSome rows input output shelf = OnContents input.old output.old shelf.old (λ contents.
     Reached rows contents output.new shelf.old shelf.new)
 
--- The replies to all lines before the last one that was taken were written completely. The directory is as these lines
--- leave it, except for what the last one writes.
+-- The replies to all lines before one that was taken were written completely. The directory is as these lines leave it,
+-- except for what that line writes.
 abbrev pub WritesSome : PolicyRows → Octets → Octets → Worlds → Type 0
 WritesSome rows input output shelf = OnContents input.old output.old shelf.old (λ contents.
     ReachedWhole rows contents input.new output.new shelf.old shelf.new)

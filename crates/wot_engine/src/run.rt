@@ -148,12 +148,6 @@ fn flush<K: Sink>(lines: &Lines, output: &mut K, out: &mut Vec<u8>) -> Result<()
     Ok(())
 }
 
-/// Nothing is done here. The condition says that all replies were written if more has to be read for the next line: a
-/// client that sends one line and waits gets its reply.
-fn may_read(lines: &Lines, out: &Vec<u8>)
-    requires written { HasNoFeed lines.now.held → out.now.items ≡ [] }
-{}
-
 /// Answers the lines of an input. The replies to all complete lines that are available are written together, before
 /// more is read. If memory runs out for a line, the replies to the lines before it are written. What the machine holds
 /// in the end is left to the process.
@@ -216,7 +210,6 @@ fn answer_lines<S: Source, K: Sink, D: Shelf, F: Fn(Ask) -> bool>(
     let mut out = Vec::new(alloc);
     'lines: loop {
         flush(lines, output, &mut out)?;
-        may_read(lines, &out);
         let line = match lines.next(input) {
             Ok(Line::End) => return Ok(()),
             Ok(line) => line,

@@ -16,7 +16,7 @@ use Rattle.wot_edge.specs.Leads.{Leads}
 use Rattle.wot_edge.specs.Record.{Has, Record}
 use Rattle.wot_held.specs.declared.kept.Kept.{Kept}
 use Rattle.wot_held.specs.Keyring.{Certificates, Keyring, certificates_in, is_fpr, kept_at, stamp_at}
-use Rattle.wot_held.specs.Kept.{AreStamped}
+use Rattle.wot_held.specs.Kept.{AreStamped, IsKeyring}
 use Rattle.wot_held.specs.Later.{IsLater, IsLaterAt, IsUnaltered, SaysSame}
 use Rattle.wot_reach.specs.Making.{IsMaking}
 use Rattle.wot_network.specs.Local.{AgreeAt, IsLocal}
@@ -27,8 +27,9 @@ use Rattle.wot_looked.specs.declared.looked.Looked.{Looked}
 use Rattle.wot_auth.specs.declared.answer.Answer.{Answer}
 use Rattle.wot_kept.specs.declared.asked.Asked.{Asked}
 use Rattle.wot_kept.specs.declared.parts.Parts.{Parts}
-use Rattle.wot_kept.specs.Answers.{AllLead, AllLed, AllStill, Grounds, IsTheAnswer, AreRight, Entries, IsFound}
-use Rattle.wot_kept.specs.Asked.{IsAnswered, IsConsulted, IsKeptNow, kept_by}
+use Rattle.wot_kept.specs.Answers.{AllLead, AllLeadIn, AllLed, AllStill, RestsOnLeadsIn}
+use Rattle.wot_kept.specs.Answers.{Grounds, IsTheAnswer, AreRight, Entries, IsFound}
+use Rattle.wot_kept.specs.Asked.{IsAnswered, IsConsulted, IsFoundOver, IsKeptNow, kept_by}
 use Rattle.wot_looked.specs.Looked.{Amounts, AreStill}
 use Rattle.wot_kept.specs.Answers.{IsGood, IsReaching, IsRight, IsSameBut, question_at}
 use Rattle.wot_looked.specs.Looked.{IsStill, look}
@@ -109,15 +110,20 @@ each_leads k roots told target (x ∷ xs) leads = (
 )
 
 -- the set leads to the target in the keyring that was consulted
-led_here : (k : Keyring) (roots : Amounts) (t : ℕ) (uid : List ℕ) (target : Fpr) (set : List Fpr) → IsLater k k
+lead_here : (k : Keyring) (roots : Amounts) (t : ℕ) (uid : List ℕ) (target : Fpr) (set : List Fpr)
     → AllLead (record_of (certificates_in k) k.verdicts t uid) target set
-    → AllLed k t uid target (map (look k roots) set)
-led_here k roots t uid target set itself leads = record {
-  before = k;
-  later = itself;
+    → AllLeadIn k t uid target (map (look k roots) set)
+lead_here k roots t uid target set leads = record {
   stamps = same_stamps k roots set;
   each = each_leads k roots (record_of (certificates_in k) k.verdicts t uid) target set leads;
 }
+
+led_here : (k : Keyring) (t : ℕ) (uid : List ℕ) (target : Fpr) (o : Grounds) → IsKeyring k → IsLater k k
+    → IfSome o (λ (ls : Vec Looked Global). AllLeadIn k t uid target ls.items)
+    → IfSome o (λ (ls : Vec Looked Global). AllLed k t uid target ls.items)
+led_here k t uid target None whole itself leads = tt
+led_here k t uid target (Some ls) whole itself leads =
+    record { before = k; whole = whole; later = itself; there = leads }
 
 -- the law that certificates and verdicts outside a set don't matter to it
 abbrev pub RecordsAgree : Type 0
@@ -127,14 +133,11 @@ right_made : RecordsAgree → (k : Keyring) (roots : List (Fpr × ℕ)) (a : Kep
     → AreStamped k.changes k.certs
     → (kept : Vec Looked Global) → a.looked ≡ Some kept → kept.items ≡ map (look k roots) set
     → a.answer.sum ≡ amount_of a.answer.paths
-    → IsAnswerAround (question_at k roots a) a.wanted a.answer.paths set → IsLater k k
-    → AllLead (record_of (certificates_in k) k.verdicts a.time a.uid) a.target set → IsRight k a
-right_made law k roots a set stamped kept there looked sum around itself leads = record {
+    → IsAnswerAround (question_at k roots a) a.wanted a.answer.paths set → IsLater k k → IsKeyring k
+    → RestsOnLeadsIn k a → IsRight k a
+right_made law k roots a set stamped kept there looked sum around itself whole leads = record {
   sum = sum;
-  leads = subst (λ (o : Option (Vec Looked Global)). IfSome o
-      (λ (ls : Vec Looked Global). AllLed k a.time a.uid a.target ls.items)) (sym there)
-      (subst (λ (ls : List Looked). AllLed k a.time a.uid a.target ls) (sym looked)
-      (led_here k roots a.time a.uid a.target set itself leads));
+  leads = led_here k a.time a.uid a.target a.looked whole itself leads;
   answer = λ later amounts is still.
       let these : AllStill later amounts (Some kept) = subst (AllStill later amounts) there still in
       let found : AreStill later amounts (map (look k roots) set) = subst (AreStill later amounts) looked these in
@@ -165,11 +168,35 @@ found_now p asked a looked kept is answered =
 pub right_with : RecordsAgree → (p : Parts) (asked : Asked) (a : Answer) (looked : Vec Looked Global) (set : List Fpr)
     (kept : KeptAnswer) → IsKeptNow p asked a (Some looked) kept → AreStamped p.keyring.now.changes p.keyring.now.certs
     → looked.items ≡ map (look p.keyring.now p.roots.now) set → IsLater p.keyring.now p.keyring.now
-    → IsAnswered p asked a → IsConsulted p asked a set → IsRight p.keyring.now kept
-right_with law p asked a looked set kept is stamped items itself answered consulted =
-    subst (IsRight p.keyring.now) (sym is)
-    (right_made law p.keyring.now p.roots.now (kept_by p asked a (Some looked) kept) set stamped looked refl items
-    answered.sum consulted.local itself consulted.leads)
+    → IsKeyring p.keyring.now → IsAnswered p asked a → IsConsulted p asked a set → IsRight p.keyring.now kept
+right_with law p asked a looked set kept is stamped items itself whole answered consulted =
+    let k = p.keyring.now in
+    subst (IsRight k) (sym is)
+    (right_made law k p.roots.now (kept_by p asked a (Some looked) kept) set stamped looked refl items
+    answered.sum consulted.local itself whole
+    (subst (λ (ls : List Looked). AllLeadIn k p.t asked.uid.now asked.target.now ls) (sym items)
+    (lead_here k p.roots.now p.t asked.uid.now asked.target.now set consulted.leads)))
+
+-- it was found by what leads to the target
+found_with : (p : Parts) (asked : Asked) (a : Answer) (o : Grounds) (kept : KeptAnswer) → IsKeptNow p asked a o kept
+    → IfSome o (λ (ls : Vec Looked Global). AllLeadIn p.keyring.now p.t asked.uid.now asked.target.now ls.items)
+    → IsFoundOver p asked kept
+found_with p asked a o kept is leads =
+    subst (IsFoundOver p asked) (sym is)
+    (record { of = record { target = refl; wanted = refl; uid = refl; time = refl }; leads = leads })
+
+pub found_by : (p : Parts) (asked : Asked) (a : Answer) (looked : Vec Looked Global) (set : List Fpr)
+    (kept : KeptAnswer) → IsKeptNow p asked a (Some looked) kept
+    → looked.items ≡ map (look p.keyring.now p.roots.now) set → IsConsulted p asked a set → IsFoundOver p asked kept
+found_by p asked a looked set kept is items consulted =
+    let k = p.keyring.now in
+    found_with p asked a (Some looked) kept is
+    (subst (λ (ls : List Looked). AllLeadIn k p.t asked.uid.now asked.target.now ls) (sym items)
+    (lead_here k p.roots.now p.t asked.uid.now asked.target.now set consulted.leads))
+
+pub found_by_all : (p : Parts) (asked : Asked) (a : Answer) (kept : KeptAnswer) → IsKeptNow p asked a None kept
+    → IsFoundOver p asked kept
+found_by_all p asked a kept is = found_with p asked a None kept is tt
 
 -- with the whole keyring
 pub right_without : (p : Parts) (asked : Asked) (a : Answer) (kept : KeptAnswer) → IsKeptNow p asked a None kept

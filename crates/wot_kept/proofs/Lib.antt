@@ -1,4 +1,4 @@
 mod ConsultedTotal
 mod Grounds
 mod Told
-mod KeepsFor
+pub mod WereKept

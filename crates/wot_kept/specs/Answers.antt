@@ -1,5 +1,5 @@
 -- Kept answers: what each depends on, and that it is right for as long as that is unchanged.
-use Rattle.std.specs.Prelude.{◌≡◌, ℕ, ◌≤◌, false, List, length, sum_by, Option, Some, None, IfSome, IsSomeAnd, Vec}
+use Rattle.std.specs.Prelude.{◌≡◌, ◌⊎◌, ℕ, ◌≤◌, false, List, [], length, sum_by, Option, Some, IfSome, IsSomeAnd, Vec}
 use Rattle.std.specs.declared.alloc.Global.{Global}
 use Rattle.std.specs.BTreeMap.{is_at}
 use Rattle.std.specs.List.{AllByRecursion}
@@ -12,6 +12,7 @@ use Rattle.wot_edge.specs.Leads.{Leads}
 use Rattle.wot_edge.specs.Path.{Question, asks}
 use Rattle.wot_edge.specs.Record.{Has, Record}
 use Rattle.wot_held.specs.Keyring.{Keyring, certificates_in, stamp_at}
+use Rattle.wot_held.specs.Kept.{IsKeyring}
 use Rattle.wot_held.specs.Later.{IsLater}
 use Rattle.wot_network.specs.Told.{record_of}
 use Rattle.wot_reach.specs.Making.{IsMaking}
@@ -35,13 +36,18 @@ AllStill k roots grounds = IsSomeAnd grounds (λ (looked : Vec Looked Global). A
 abbrev pub AllLead : Record → Fpr → List Fpr → Type 0
 AllLead told target set = (fpr : Fpr) → Has set fpr → Leads told target fpr
 
--- Each fingerprint led to the target in an earlier keyring, in which it had the stamp that was noted.
+-- Each fingerprint leads to the target in this keyring, and has the stamp in it that was noted.
+pub record AllLeadIn (k : Keyring) (t : ℕ) (uid : List ℕ) (target : Fpr) (looked : List Looked) : Type 0 where
+  pub stamps : AllByRecursion (λ (l : Looked). stamp_at k l.fpr ≡ l.stamp) looked
+  pub each :
+      AllByRecursion (λ (l : Looked). Leads (record_of (certificates_in k) k.verdicts t uid) target l.fpr) looked
+
+-- They did so in an earlier keyring, for which everything holds that holds for keyrings.
 pub record AllLed (k : Keyring) (t : ℕ) (uid : List ℕ) (target : Fpr) (looked : List Looked) : Type 0 where
   pub before : Keyring
+  pub whole : IsKeyring before
   pub later : IsLater before k
-  pub stamps : AllByRecursion (λ (l : Looked). stamp_at before l.fpr ≡ l.stamp) looked
-  pub each : AllByRecursion
-      (λ (l : Looked). Leads (record_of (certificates_in before) before.verdicts t uid) target l.fpr) looked
+  pub there : AllLeadIn before t uid target looked
 
 -- ---- one answer
 
@@ -63,6 +69,15 @@ IsTheAnswer k roots a = IsAnswer (question_at k roots a) a.wanted a.answer.paths
 -- An answer depends on no more than its search had to look at: every fingerprint led to the target.
 abbrev pub RestsOnLeads : Keyring → KeptAnswer → Type 0
 RestsOnLeads k a = IfSome a.looked (λ (looked : Vec Looked Global). AllLed k a.time a.uid a.target looked.items)
+
+-- In this very keyring, every fingerprint that the answer depends on leads to the target.
+abbrev pub RestsOnLeadsIn : Keyring → KeptAnswer → Type 0
+RestsOnLeadsIn k a = IfSome a.looked (λ (looked : Vec Looked Global). AllLeadIn k a.time a.uid a.target looked.items)
+
+-- It is for this question, and was found in this keyring by what leads to the target there.
+pub record IsFoundBy (k : Keyring) (asked : Fpr) (most : ℕ) (text : List ℕ) (t : ℕ) (a : KeptAnswer) : Type 0 where
+  pub of : IsOf a asked most text t
+  pub leads : RestsOnLeadsIn k a
 
 -- In this keyring and every later one, from any roots, this is the answer to its question as long as the fingerprints
 -- that it depends on are unchanged.
@@ -95,6 +110,22 @@ Entries = List (ℕ × KeptAnswer)
 -- this answer is kept under some key
 abbrev pub IsAmong : Entries → KeptAnswer → Type 0
 IsAmong entries kept = (key : ℕ) × (lookup (is_at (nat_cmp key)) entries ≡ Some kept)
+
+-- the answer that is kept under a key
+abbrev pub kept_under : Entries → ℕ → Option KeptAnswer
+kept_under entries key = lookup (is_at (nat_cmp key)) entries
+
+-- It was kept under this key.
+abbrev pub WasKept : Entries → ℕ → KeptAnswer → Type 0
+WasKept entries key a = IsSomeAnd (kept_under entries key) (λ (before : KeptAnswer). IsSameBut before a)
+
+-- Every answer that is kept now was kept before under its key.
+abbrev pub WereKept : Entries → Entries → Type 0
+WereKept old new = (key : ℕ) (a : KeptAnswer) → kept_under new key ≡ Some a → WasKept old key a
+
+-- Every answer that is kept now was kept before under its key, or this holds of it.
+abbrev pub WereKeptOr : (KeptAnswer → Type 0) → Entries → Entries → Type 0
+WereKeptOr Found old new = (key : ℕ) (a : KeptAnswer) → kept_under new key ≡ Some a → WasKept old key a ⊎ Found a
 
 -- Every kept answer is right, and valid if it was last found so at this turn of the roots.
 abbrev pub AreRight : Keyring → Amounts → ℕ → Entries → Type 0
@@ -157,11 +188,18 @@ pub record AreRightIn (k : Keyring) (of_view : OfView) : Type 0 where
 abbrev pub AllAnswers : Type 0
 AllAnswers = List (List ℕ × OfView)
 
--- only the named view may have answers that it didn't have before
-abbrev pub KeepsFor : List ℕ → AllAnswers → AllAnswers → Type 0
-KeepsFor name old new =
-    (other : List ℕ) → is_name other name ≡ false → lookup (is_name other) old ≡ None
-    → lookup (is_name other) new ≡ None
+-- the answers of the named view; none before its first question
+abbrev pub answers_for : List ℕ → AllAnswers → Entries
+answers_for name answers = option_map_or (λ (of_view : OfView). of_view.entries) (lookup (is_name name) answers) []
+
+-- Every answer that is kept now for the named view was kept for it before under its key, or this holds of it.
+abbrev pub AnswersKeptOr : (KeptAnswer → Type 0) → List ℕ → AllAnswers → AllAnswers → Type 0
+AnswersKeptOr Found name old new = WereKeptOr Found (answers_for name old) (answers_for name new)
+
+-- what is kept for other views is unchanged
+abbrev pub OthersKept : List ℕ → AllAnswers → AllAnswers → Type 0
+OthersKept name old new =
+    (other : List ℕ) → is_name name other ≡ false → lookup (is_name other) new ≡ lookup (is_name other) old
 
 abbrev pub AreAllRight : Keyring → AllAnswers → Type 0
 AreAllRight k views = AllByRecursion (λ (e : List ℕ × OfView). AreRightIn k e.1) views

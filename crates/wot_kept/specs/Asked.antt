@@ -9,7 +9,7 @@ use Rattle.wot_network.specs.Net.{told_of}
 use Rattle.wot_network.specs.Roads.{present_of}
 use Rattle.wot_kept.specs.declared.asked.Asked.{Asked}
 use Rattle.wot_kept.specs.declared.parts.Parts.{Parts}
-use Rattle.wot_kept.specs.Answers.{AllLead, AreRightIn, Grounds, IsOf, OfView}
+use Rattle.wot_kept.specs.Answers.{AllLead, AreRightIn, Grounds, IsFoundBy, IsOf, OfView}
 use Rattle.wot_kept.specs.declared.answers.KeptAnswer.{KeptAnswer}
 use Rattle.wot_kept.specs.Question.{IsAnswerAround, asked_of, present_in}
 
@@ -45,6 +45,10 @@ pub record IsAnswered (p : Parts) (asked : Asked) (a : Answer) : Type 0 where
 pub record IsConsulted (p : Parts) (asked : Asked) (a : Answer) (set : List Fpr) : Type 0 where
   pub local : IsAnswerAround (question_of p asked) asked.wanted a.paths set
   pub leads : AllLead (network_of p asked) asked.target.now set
+
+-- It is for this question, and was found in the keyring of the parts by what leads to the target there.
+abbrev pub IsFoundOver : Parts → Asked → KeptAnswer → Type 0
+IsFoundOver p asked a = IsFoundBy p.keyring.now asked.target.now asked.wanted asked.uid.now p.t a
 
 -- a kept answer with this question, this answer and what it depends on, found valid at the current count of changes
 abbrev pub kept_by : Parts → Asked → Answer → Grounds → KeptAnswer → KeptAnswer

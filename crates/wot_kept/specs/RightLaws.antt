@@ -44,9 +44,9 @@ led_later : LaterStill → (old new : Keyring) (t : ℕ) (uid : List ℕ) (targe
 led_later further old new t uid target None later led = tt
 led_later further old new t uid target (Some ls) later led = record {
   before = led.before;
+  whole = led.whole;
   later = further led.before old new led.later later;
-  stamps = led.stamps;
-  each = led.each;
+  there = led.there;
 }
 
 -- a right answer stays right in every later keyring

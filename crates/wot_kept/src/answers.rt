@@ -12,7 +12,7 @@ ghost use Rattle.wot_reach.specs.Reach.{IsReach};
 ghost use Rattle.wot_network.specs.Net.{told_of};
 ghost use Rattle.wot_kept.specs.Answers.{AllStill, AreFew, AreRight, AreRightIn, StayRight, StayRightWith};
 ghost use Rattle.wot_kept.specs.Answers.{IsAmong, IsTheAnswer, IsFound, IsGood, IsRight};
-ghost use Rattle.wot_kept.specs.Answers.{looked_by, looked_in, looked_of, IsSameBut};
+ghost use Rattle.wot_kept.specs.Answers.{looked_by, looked_in, looked_of, IsSameBut, WereKept, WereKeptOr};
 ghost use Rattle.wot_kept.specs.Asked.{AreSettled, IsAnswered, IsAskedIn};
 ghost use Rattle.wot_kept.specs.Question.{present_in};
 
@@ -157,6 +157,7 @@ fn make_room(table: &mut Table, looked: usize, count: usize) -> usize
     ensures room { length table.new.entries < 1024 }
     ensures fits { result + count ≤ 1048576 }
     ensures right { StayRight table.old.entries table.new.entries }
+    ensures kept { WereKept table.old.entries table.new.entries }
 {
     if table.len() < MOST && looked + count <= MOST_LOOKED {
         return looked;
@@ -172,6 +173,7 @@ fn add(table: &mut Table, looked: usize, answer: KeptAnswer) -> usize
     requires fits { looked + looked_in answer ≤ 1048576 }
     ensures few { AreFew table.new.entries result }
     ensures right { StayRightWith answer table.old.entries table.new.entries }
+    ensures kept { WereKeptOr (IsSameBut answer) table.old.entries table.new.entries }
 {
     let count = count_looked(&answer);
     match replace(table, answer) {
@@ -185,6 +187,7 @@ fn give(table: &mut Table, parts: &Parts<'_>, turn: u64, asked: &Asked<'_>) -> O
     requires right { AreRight parts.now.keyring.now parts.now.roots.now turn table.old.entries }
     ensures right { AreRight parts.now.keyring.now parts.now.roots.now turn table.new.entries }
     ensures few { (looked : ℕ) → AreFew table.old.entries looked → AreFew table.new.entries looked }
+    ensures kept { WereKept table.old.entries table.new.entries }
     ensures answered { IfSome result (IsAnswered parts.now asked.now) }
 {
     match table.get_mut(&key_of(asked)) {
@@ -238,6 +241,7 @@ impl Answers {
     pub fn settle(&mut self, alloc: Global, roots: &Roots) -> bool
         ensures roots { result ≡ true → self.new.roots ≡ roots.now }
         ensures right { (k : Held) → AreRightIn k self.old → AreRightIn k self.new }
+        ensures kept { self.new.entries ≡ self.old.entries }
     {
         if are_same(self.roots.as_slice(), roots) {
             return true;
@@ -258,6 +262,7 @@ impl Answers {
     pub fn give(&mut self, parts: &Parts<'_>, asked: &Asked<'_>) -> Option<Answer>
         requires settled { AreSettled parts.now self.old }
         ensures settled { AreSettled parts.now self.new }
+        ensures kept { WereKept self.old.entries self.new.entries }
         ensures answered { IfSome result (IsAnswered parts.now asked.now) }
     {
         give(&mut self.table, parts, self.turn, asked)
@@ -288,6 +293,7 @@ impl Answers {
         ensures right { (k : Held) → AreRightIn k self.old → IsRight k answer → IsFound k self.old.roots answer →
             AreRightIn k self.new }
         ensures roots { self.new.roots ≡ self.old.roots }
+        ensures kept { WereKeptOr (IsSameBut answer) self.old.entries self.new.entries }
     {
         let count = count_looked(&answer);
         if MOST_LOOKED < count {
@@ -314,6 +320,7 @@ impl Answers {
         requires making { IsMaking (told_of (present_in parts.now)) parts.now.roots.now making }
         requires settled { AreSettled parts.now self.old }
         ensures settled { AreSettled parts.now self.new }
+        ensures kept { self.new.entries ≡ self.old.entries }
     {
         self.budget.learn(&making);
         self.reach = Some(KeptReach::new(parts, self.turn, making));
@@ -324,6 +331,7 @@ impl Answers {
     pub fn take_making(&mut self, parts: &Parts<'_>) -> Option<Making>
         requires settled { AreSettled parts.now self.old }
         ensures settled { AreSettled parts.now self.new }
+        ensures kept { self.new.entries ≡ self.old.entries }
         ensures making { IfSome result (IsMaking (told_of (present_in parts.now)) parts.now.roots.now) }
     {
         match self.reach.take() {

@@ -6,8 +6,8 @@ ghost use Rattle.wot_edge.specs.Record.{IsRecord};
 ghost use Rattle.wot_network.specs.Net.{told_of};
 ghost use Rattle.wot_network.specs.Roads.{present_of};
 ghost use Rattle.wot_reach.specs.Reach.{IsReach};
-ghost use Rattle.wot_kept.specs.Answers.{AreAllRight, AreRightIn, KeepsFor};
-ghost use Rattle.wot_kept.specs.Asked.{question_of, AreSettled, IsAnswered, IsAskable};
+ghost use Rattle.wot_kept.specs.Answers.{AnswersKeptOr, AreAllRight, AreRightIn, OthersKept, WereKeptOr};
+ghost use Rattle.wot_kept.specs.Asked.{question_of, AreSettled, IsAnswered, IsAskable, IsFoundOver};
 ghost use Rattle.wot_kept.specs.Question.{present_in, IsTold};
 
 use crate::answers::Answers;
@@ -83,6 +83,7 @@ fn search_far(
     requires settled { AreSettled parts.now of_view.old }
     ensures answered { IfOk result (IsAnswered parts.now asked.now) }
     ensures right { AreRightIn parts.now.keyring.now of_view.new }
+    ensures kept { WereKeptOr (IsFoundOver parts.now asked.now) of_view.old.entries of_view.new.entries }
 {
     let reach = made_reach(alloc, parts)?;
     let answer = search_within(alloc, parts, &reach, asked)?;
@@ -106,6 +107,7 @@ fn search_near(
     requires settled { AreSettled parts.now of_view.old }
     ensures answered { IfOk result (IsAnswered parts.now asked.now) }
     ensures right { AreRightIn parts.now.keyring.now of_view.new }
+    ensures kept { WereKeptOr (IsFoundOver parts.now asked.now) of_view.old.entries of_view.new.entries }
 {
     let most = of_view.most_looks(parts);
     let mut metered = Metered::new(alloc, most);
@@ -145,6 +147,7 @@ fn recalled(
     requires settled { AreSettled parts.now of_view.old }
     ensures answered { IfSome result (IsAnswered parts.now asked.now) }
     ensures settled { AreSettled parts.now of_view.new }
+    ensures kept { WereKeptOr (IsFoundOver parts.now asked.now) of_view.old.entries of_view.new.entries }
 {
     if let Some(answer) = of_view.give(parts, asked) {
         return Some(answer);
@@ -169,6 +172,7 @@ fn find(
     ensures answered { IfOk result (IsAnswered parts.now asked.now) }
     ensures memory { OnErr result (result ≡ Err AskFault.Memory) }
     ensures right { AreRightIn parts.now.keyring.now of_view.new }
+    ensures kept { WereKeptOr (IsFoundOver parts.now asked.now) of_view.old.entries of_view.new.entries }
 {
     if !of_view.settle(alloc, parts.roots) {
         return Err(AskFault::Memory);
@@ -198,7 +202,9 @@ pub fn answer(
     ensures told { IfOk result (IsTold (question_of parts.now asked.now) asked.now.wanted) }
     ensures memory { OnErr result (result ≡ Err AskFault.Memory) }
     ensures right { AreAllRight parts.now.keyring.now answers.new.entries }
-    ensures others { KeepsFor view.now answers.old.entries answers.new.entries }
+    ensures found { AnswersKeptOr (IsFoundOver parts.now asked.now) view.now answers.old.entries
+        answers.new.entries }
+    ensures others { OthersKept view.now answers.old.entries answers.new.entries }
 {
     answer_is_one();
     zero_is_no_path();
@@ -208,7 +214,8 @@ pub fn answer(
         None => {
             let mut of_view = Answers::new(alloc);
             let found = find(alloc, &mut of_view, parts, asked, made);
-            begin(alloc, answers, view, of_view);
+            // When out of memory, nothing is kept.
+            let _kept = begin(alloc, answers, view, of_view);
             found
         }
     }

@@ -52,6 +52,7 @@ fn make_more(alloc: Global, of_view: &mut Answers, parts: &Parts<'_>, looks: u64
     requires present { present_of parts.now.roads ≡ present_in parts.now }
     requires settled { AreSettled parts.now of_view.old }
     ensures right { AreRightIn parts.now.keyring.now of_view.new }
+    ensures kept { of_view.new.entries ≡ of_view.old.entries }
 {
     let taken = of_view.take_making(parts);
     match advanced(alloc, parts, taken, looks) {
@@ -67,6 +68,7 @@ pub fn spend(alloc: Global, of_view: &mut Answers, parts: &Parts<'_>, looked: u6
     requires present { present_of parts.now.roads ≡ present_in parts.now }
     requires settled { AreSettled parts.now of_view.old }
     ensures right { AreRightIn parts.now.keyring.now of_view.new }
+    ensures kept { of_view.new.entries ≡ of_view.old.entries }
 {
     let left = of_view.looks(parts);
     if left > 0 {

@@ -1,11 +1,11 @@
 //! The kept answers of all views, by name, and the steps that keep or forget one. Running out of memory only means that
 //! an answer isn't kept.
-ghost use Rattle.std.specs.Prelude.{◌≡◌, IfOk};
-ghost use Rattle.std.specs.Map.{remove_entry};
+ghost use Rattle.std.specs.Prelude.{◌≡◌, IfOk, OnErr, OnOk, Some};
+ghost use Rattle.std.specs.Map.{lookup, remove_entry};
 ghost use Rattle.wot_held.specs.Keyring.{Keyring as Held};
-ghost use Rattle.wot_kept.specs.Answers.{AreAllRight, AreRightIn, IsFound, IsRight, KeepsFor};
+ghost use Rattle.wot_kept.specs.Answers.{AreAllRight, AreRightIn, IsFound, IsRight, OthersKept, WereKeptOr};
 ghost use Rattle.wot_kept.specs.Names.{IsForgotten, is_name};
-ghost use Rattle.wot_kept.specs.Asked.{AreSettled, IsAnswered, IsConsulted, IsKeptNow};
+ghost use Rattle.wot_kept.specs.Asked.{AreSettled, IsAnswered, IsConsulted, IsFoundOver, IsKeptNow};
 
 use crate::answers::{Answers, KeptAnswer};
 use crate::asked::Asked;
@@ -61,10 +61,11 @@ fn with_grounds(
     requires consulted { IsConsulted parts.now asked.now answer.now consulted.now }
     ensures right { IfOk result (λ kept. IsRight parts.now.keyring.now kept) }
     ensures found { IfOk result (λ kept. IsFound parts.now.keyring.now parts.now.roots.now kept) }
+    ensures by { IfOk result (IsFoundOver parts.now asked.now) }
 {
     records_agree();
     later_is_order();
-    // Its contract says that stamps are at most the count of changes.
+    // Its contract says what holds for every keyring.
     let _count = parts.keyring.len();
     let looked = look_at(alloc, consulted, parts.keyring, parts.roots)?;
     kept_now(alloc, parts, asked, answer, Some(looked))
@@ -80,6 +81,7 @@ fn without_grounds(
     requires answered { IsAnswered parts.now asked.now answer.now }
     ensures right { IfOk result (λ kept. IsRight parts.now.keyring.now kept) }
     ensures found { IfOk result (λ kept. IsFound parts.now.keyring.now parts.now.roots.now kept) }
+    ensures by { IfOk result (IsFoundOver parts.now asked.now) }
 {
     kept_now(alloc, parts, asked, answer, None)
 }
@@ -97,6 +99,7 @@ pub fn remember(
     requires consulted { IsConsulted parts.now asked.now answer.now consulted.now }
     requires settled { AreSettled parts.now of_view.old }
     ensures settled { AreSettled parts.now of_view.new }
+    ensures kept { WereKeptOr (IsFoundOver parts.now asked.now) of_view.old.entries of_view.new.entries }
 {
     match with_grounds(alloc, parts, asked, consulted, answer) {
         Ok(kept) => of_view.keep(kept),
@@ -115,6 +118,7 @@ pub fn remember_now(
     requires answered { IsAnswered parts.now asked.now answer.now }
     requires settled { AreSettled parts.now of_view.old }
     ensures settled { AreSettled parts.now of_view.new }
+    ensures kept { WereKeptOr (IsFoundOver parts.now asked.now) of_view.old.entries of_view.new.entries }
 {
     match without_grounds(alloc, parts, asked, answer) {
         Ok(kept) => of_view.keep(kept),
@@ -122,24 +126,35 @@ pub fn remember_now(
     }
 }
 
-fn put(answers: &mut AllAnswers, view: ViewName, of_view: Answers)
+fn put(answers: &mut AllAnswers, view: ViewName, of_view: Answers) -> Result<(), Memory>
     ensures right { (k : Held) → AreAllRight k answers.old.entries → AreRightIn k of_view →
         AreAllRight k answers.new.entries }
-    ensures others { KeepsFor view answers.old.entries answers.new.entries }
+    ensures put { OnOk result (lookup (is_name view) answers.new.entries ≡ Some of_view) }
+    ensures kept { OnErr result (answers.new.entries ≡ answers.old.entries) }
+    ensures others { OthersKept view answers.old.entries answers.new.entries }
 {
-    // When out of memory, nothing is kept.
-    let _ = answers.insert(view, of_view);
+    match answers.insert(view, of_view) {
+        Ok(_) => Ok(()),
+        Err(_) => Err(Memory),
+    }
 }
 
-/// Begins to keep the answers of a view, unless memory runs out.
-pub fn begin(alloc: Global, answers: &mut AllAnswers, view: &ViewName, of_view: Answers)
+/// Begins to keep the answers of a view.
+pub fn begin(
+    alloc: Global,
+    answers: &mut AllAnswers,
+    view: &ViewName,
+    of_view: Answers,
+) -> Result<(), Memory>
     ensures right { (k : Held) → AreAllRight k answers.old.entries → AreRightIn k of_view →
         AreAllRight k answers.new.entries }
-    ensures others { KeepsFor view.now answers.old.entries answers.new.entries }
+    ensures put { OnOk result (lookup (is_name view.now) answers.new.entries ≡ Some of_view) }
+    ensures kept { OnErr result (answers.new.entries ≡ answers.old.entries) }
+    ensures others { OthersKept view.now answers.old.entries answers.new.entries }
 {
     match view.duplicate(alloc) {
         Ok(name) => put(answers, name, of_view),
-        Err(Memory) => {}
+        Err(Memory) => Err(Memory),
     }
 }
 

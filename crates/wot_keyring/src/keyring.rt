@@ -12,7 +12,7 @@ ghost use Rattle.wot_part.specs.Text.{size_of, text_of};
 ghost use Rattle.wot_held.specs.declared.kept.Kept.{Kept as TheKept};
 ghost use Rattle.wot_held.specs.From.{entries_from};
 ghost use Rattle.wot_held.specs.Keyring.{empty, cert_at, stamp_at, verdict_on, TellsAbsent};
-ghost use Rattle.wot_held.specs.Kept.{AreSortedByFpr, AreNamed, AreSized, AreSmall, AreStamped, StaysJudged};
+ghost use Rattle.wot_held.specs.Kept.{AreSortedByFpr, AreNamed, AreSized, AreSmall, AreStamped, IsKeyring, StaysJudged};
 ghost use Rattle.wot_policy.specs.declared.rows.PolicyRows.{PolicyRows as Rows};
 ghost use Rattle.wot_keyring.specs.Dump.{commands_of, lines_of, most_dumped, AreLines, IsRestored};
 ghost use Rattle.wot_held.specs.Import.{IsOneChange};
@@ -122,6 +122,7 @@ impl Keyring {
         ensures named { AreNamed self.now.certs }
         ensures sorted { AreSortedByFpr self.now.certs }
         ensures stamped { AreStamped self.now.changes self.now.certs }
+        ensures whole { IsKeyring self.now }
     {
         self.certs.len()
     }

@@ -51,7 +51,7 @@ sum_back (path ∷ paths) =
 
 -- ---- replies
 
-missed_sum : (sum other : ℕ) (claims more : List ClaimLine) (labels rest : List LabelLine)
+pub missed_sum : (sum other : ℕ) (claims more : List ClaimLine) (labels rest : List LabelLine)
     → replies.Missed sum claims labels ≡ replies.Missed other more rest →
     (sum ≡ other) × (claims ≡ more) × (labels ≡ rest)
 missed_sum sum other claims more labels rest e = (ap sum_of e, ap claims_of e, ap labels_of e)

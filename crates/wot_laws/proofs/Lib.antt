@@ -17,6 +17,7 @@ mod Reached
 mod Refusals
 mod RefusedWatches
 pub mod Runs
+mod SentBack
 mod Slices
 mod SortedStates
 mod StaleTold

@@ -6,5 +6,6 @@ pub mod Judged
 pub mod Leading
 pub mod Numbers
 pub mod OneLine
+pub mod SentBack
 pub mod Slices
 pub mod TrueWatches

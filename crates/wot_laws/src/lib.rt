@@ -18,6 +18,7 @@ pub use lines::{
 };
 pub use questions::{
     absences_rest_on_slices, answers_depend_on_what_is_present, checks_rest_on_slices,
-    claims_of_absence_hold, explanations_rest_on_slices, questions_rest_on_slices,
+    claims_of_absence_hold, explanations_rest_on_slices, printed_claims_come_back,
+    questions_rest_on_slices,
 };
 pub use watches::watches_are_true;

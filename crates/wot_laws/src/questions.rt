@@ -3,11 +3,13 @@
 //!
 //! Their definitions are in `specs/Depends.antt`, `specs/Slices.antt` and `specs/Leading.antt`, and for claims of
 //! absence in wot_step. Their lemmas are in `proofs/Alike.antt`, `proofs/Slices.antt`, `proofs/Explained.antt`,
-//! `proofs/ProofsRestOnLeads.antt` and `proofs/ClaimsAccepted.antt`.
+//! `proofs/ProofsRestOnLeads.antt`, `proofs/ClaimsAccepted.antt` and `proofs/SentBack.antt`.
 ghost use Rattle.wot_policy.specs.declared.rows.PolicyRows.{PolicyRows};
+ghost use Rattle.wot_script.specs.Spelling.{HasSpelling};
 ghost use Rattle.wot_step.specs.Absent.{AreClaimsAccepted, DoClaimsLeaveNothing};
 ghost use Rattle.wot_laws.specs.Depends.{DependsOnWhatIsPresent};
 ghost use Rattle.wot_laws.specs.Leading.{DoAbsencesRestOnLeading, DoChecksRestOnLookedAt};
+ghost use Rattle.wot_laws.specs.SentBack.{AreClaimsSpelled, ComesBack};
 ghost use Rattle.wot_laws.specs.Slices.{DoAnswersRestOnSlices, DoExplanationsRestOnIssuers};
 ghost use Rattle.wot_laws.specs.Slices.{DoRepliesRestOnSlices};
 
@@ -15,12 +17,13 @@ use crate::lines::{each_line_has_one_outcome, reached_states_are_judged};
 use wot_auth::laws::{answers_rest_on_paths, answers_rest_on_slices};
 use wot_cert::laws::judging;
 use wot_check::laws::{
-    accepted_paths_leave_nothing, checks_rest_on_what_they_name, least_tables_are_accepted,
-    tables_rest_on_what_leads,
+    accepted_paths_leave_nothing, check_is_one, checks_rest_on_what_they_name,
+    least_tables_are_accepted, tables_rest_on_what_leads,
 };
 use wot_explain::laws::explanations_rest_on_issuers;
 use wot_network::laws::{edges_rest_on_trust, record_is_lawful, records_agree};
-use wot_script::laws::lines_spell_commands;
+use wot_script::Command;
+use wot_script::laws::{lines_spell_commands, printed_claim_is_read};
 
 /// Each answer depends only on the current certificates and verdicts, and on the roots and the time of the asking view.
 /// Whatever else two histories did, and whatever other views are open, equal questions get equal replies.
@@ -92,12 +95,27 @@ pub fn checks_rest_on_slices()
 }
 
 /// Claims of absence hold. A claim from a reply `absence missed` is accepted by `check` from the same view in the same
-/// state. After the paths of an accepted claim, no valid path of positive amount is left.
+/// state, and can be printed in such a line. After the paths of an accepted claim, no valid path of positive amount is
+/// left.
 pub fn claims_of_absence_hold()
     ensures accepted { AreClaimsAccepted }
+    ensures spelled { AreClaimsSpelled }
     ensures nothing { DoClaimsLeaveNothing }
 {
     least_tables_are_accepted();
     accepted_paths_leave_nothing();
+    record_is_lawful();
+}
+
+/// A printed claim comes back: what `absence` printed after `claim `, put into a line `check` with the same view,
+/// target and user ID, is read and accepted with the same sum, if that line isn't too long and the state is the same.
+/// The claim of each reply `absence missed` has a spelling (`spelled` of [`claims_of_absence_hold`]).
+pub fn printed_claims_come_back(check: &Command)
+    requires spelled { HasSpelling check.now }
+    ensures back { ComesBack check.now }
+{
+    printed_claim_is_read(check);
+    least_tables_are_accepted();
+    check_is_one();
     record_is_lawful();
 }

@@ -4,3 +4,4 @@ mod Removals
 mod Reported
 mod DumpLine
 mod Worded
+mod Due

@@ -1,5 +1,5 @@
 -- What contracts see of a machine.
-use Rattle.std.specs.Prelude.{◌≡◌, ◌≤◌, ◌+◌, ℕ, Bool, true, false}
+use Rattle.std.specs.Prelude.{◌≡◌, ◌≤◌, ◌+◌, ℕ, Bool, true, false, Option, None, Some}
 use Rattle.wot_types.specs.Limits.{standard_limits}
 use Rattle.wot_held.specs.Import.{IsOneChange}
 use Rattle.wot_cache.specs.State.{Engine, StaysButMarks, state_of}
@@ -7,10 +7,13 @@ use Rattle.wot_cursor.specs.Cursors.{Cursors}
 use Rattle.wot_watch.specs.Watches.{Watches}
 use Rattle.wot_command.specs.Lasting.{removes}
 use Rattle.wot_machine.specs.declared.dispatch.Parts.{Parts}
+use Rattle.wot_script.specs.declared.reply.Reply.{Reply}
 use Rattle.wot_step.specs.declared.class.Class.{Class}
 use Rattle.wot_step.specs.declared.class.Class.TheVariants.{State as OfState, Cursor as OfCursor, Watch as OfWatch}
 use Rattle.wot_step.specs.declared.class.CursorCommand.TheVariants as paces
 use Rattle.wot_step.specs.declared.class.WatchCommand.TheVariants as commands
+use Rattle.wot_step.specs.declared.draft.CursorMove.{CursorMove}
+use Rattle.wot_step.specs.Pacing.{Paces, settled}
 use Rattle.wot_step.specs.Session.{Session, watched, session_of}
 
 -- its engine, cursors and watches, and the number of edges made for all its questions
@@ -28,6 +31,12 @@ kept m = watched (session_of m.engine m.cursors) m.watches
 abbrev pub StaysKept : Machine → Machine → Type 0
 StaysKept old new =
     StaysButMarks old.engine new.engine × (new.cursors ≡ old.cursors) × (new.watches ≡ old.watches)
+
+-- There is no move; or some command, in just this state, leaves the cursors as they are after the move.
+abbrev pub IsDue : Machine → Option CursorMove → Type 0
+IsDue m None = Unit {0}
+IsDue m (Some moved) =
+    (class : Class) × (reply : Reply) × Paces (kept m) class reply (settled (Some moved) m.cursors)
 
 -- what contracts see of its parts
 abbrev pub machine_of : Parts → Machine

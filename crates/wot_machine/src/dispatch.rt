@@ -13,7 +13,7 @@ ghost use Rattle.wot_command.specs.Lasting.{CanRun, IsJudging, StaysJudging, Tou
 ghost use Rattle.wot_step.specs.Entry.{use_by, use_of};
 ghost use Rattle.wot_command.specs.CommandRun.{over};
 ghost use Rattle.wot_machine.specs.Stepped.{ClassRunsIn, PartsMake, RunsIn};
-ghost use Rattle.wot_machine.specs.Machine.{is_removal, machine_of, RunsOnce, StaysKept};
+ghost use Rattle.wot_machine.specs.Machine.{IsDue, is_removal, machine_of, RunsOnce, StaysKept};
 ghost use Rattle.wot_step.specs.Fresh.{IsDump, OnDump, IsMadeAnew};
 ghost use Rattle.wot_step.specs.Both.{ends};
 ghost use Rattle.wot_step.specs.Made.{Makes};
@@ -63,6 +63,7 @@ impl Parts {
         ensures edges { OnOk result (LineMarks self.old.engine (command_of line.now)) }
         ensures quiet { IfOk result (λ told.
             is_short told.reply ≡ false → StaysKept (machine_of self.old) (machine_of self.new)) }
+        ensures due { IfOk result (λ told. IsDue (machine_of self.new) told.moved) }
         ensures kept { OnErr result (StaysKept (machine_of self.old) (machine_of self.new)) }
         ensures makes { PartsMake result (command_of line.now) (ends machine_of self) }
         ensures once { RunsOnce self.old.engine self.new.engine }
@@ -84,8 +85,7 @@ impl Parts {
         shelf: &mut D,
         policy: &mut Policy<F>,
     ) -> Result<DraftReply, Memory>
-        requires fit { IsFit class }
-        requires small { IsSmall class }
+        requires read { IsFit class × IsSmall class }
         requires ready { CanRun self.old.engine }
         requires judging { IsJudging F.Fn policy.old self.old.engine.keyring }
         ensures ran { IfOk result (ClassRunsIn (rows_of policy.old) class
@@ -96,6 +96,7 @@ impl Parts {
         ensures edges { OnOk result (CommandMarks self.old.engine class) }
         ensures quiet { IfOk result (λ told.
             is_short told.reply ≡ false → StaysKept (machine_of self.old) (machine_of self.new)) }
+        ensures due { IfOk result (λ told. IsDue (machine_of self.new) told.moved) }
         ensures kept { OnErr result (StaysKept (machine_of self.old) (machine_of self.new)) }
         ensures sure { is_removal class ≡ true → is_ok result ≡ true }
         ensures makes { Makes result class self.old.cursors self.old.engine self.new.engine

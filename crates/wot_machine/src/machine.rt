@@ -22,7 +22,7 @@ ghost use Rattle.wot_step.specs.Both.{ends, itself};
 ghost use Rattle.wot_command.specs.CommandRun.{over};
 ghost use Rattle.wot_machine.specs.Stepped.{LineRun, PartsMake, Replies, TellsBehind};
 ghost use Rattle.wot_step.specs.Transcript.{octets_of};
-ghost use Rattle.wot_machine.specs.Machine.{kept, StaysKept};
+ghost use Rattle.wot_machine.specs.Machine.{IsDue, kept, StaysKept};
 ghost use Rattle.wot_step.specs.Pacing.{settled};
 ghost use Rattle.wot_step.specs.Fresh.{IsDump, IsMadeAnew};
 ghost use Rattle.wot_step.specs.Made.{LineMakes, TellingMakes, WatchesMake};
@@ -159,12 +159,13 @@ impl Machine {
             (ends itself self) (over D.world D.faults shelf)) }
         ensures directory { Touches result (state_of self.old.engine) (use_of (heard line.now))
             D.world D.faults shelf.old shelf.new }
-        ensures words { IfOk result (λ told. IfSome told (λ told. HasWords told.reply)) }
         ensures anew { OnOk result
             (IsDump line.now → (rows : PolicyRows) → IsMadeAnew rows (state_of self.old.engine)) }
         ensures edges { OnOk result (LineMarks self.old.engine (heard line.now)) }
         ensures quiet { IfOk result (λ told.
             IfSome told (λ told. is_short told.reply ≡ false → StaysKept self.old self.new)) }
+        ensures draft { IfOk result (λ told.
+            IfSome told (λ told. HasWords told.reply × IsDue self.new told.moved)) }
         ensures kept { OnErr result (StaysKept self.old self.new) }
         ensures unchanged { state_of self.new.engine ≡ state_of self.old.engine →
             StaysButMarks self.old.engine self.new.engine }
@@ -194,6 +195,7 @@ impl Machine {
     /// Appends a reply, and moves the cursor if the reply is its piece. After `Memory` nothing changed.
     fn put(&mut self, told: DraftReply, out: &mut Vec<u8>) -> Result<(), Memory>
         requires words { HasWords told.reply }
+        requires due { IsDue self.old told.moved }
         ensures appended { OnOk result (out.new.items ≡ out.old.items ++ reply_text told.reply) }
         ensures settled { OnOk result (self.new.cursors ≡ settled told.moved self.old.cursors) }
         ensures kept { OnErr result ((self.new.cursors ≡ self.old.cursors) × (out.new.items ≡ out.old.items)) }
@@ -209,8 +211,10 @@ impl Machine {
         Ok(())
     }
 
-    /// Moves the cursor whose piece was written.
+    /// Moves the cursor whose piece was written. The move is the one that came with the piece, and no line was run
+    /// since.
     pub fn settle(&mut self, moved: Option<CursorMove>)
+        requires due { IsDue self.old moved }
         ensures settled { self.new.cursors ≡ settled moved self.old.cursors }
         ensures engine { self.new.engine ≡ self.old.engine }
         ensures watches { self.new.watches ≡ self.old.watches }
@@ -276,8 +280,9 @@ impl Machine {
         Ok(lines)
     }
 
-    /// Marks these watch lines as reported.
+    /// Marks these watch lines as reported. They are all that there are to report.
     pub fn told(&mut self, lines: &[Reply])
+        requires due { AreLines (state_of self.old.engine) self.old.watches lines.now }
         ensures told { self.new.watches ≡ told_all self.old.watches lines.now }
         ensures engine { self.new.engine ≡ self.old.engine }
         ensures cursors { self.new.cursors ≡ self.old.cursors }

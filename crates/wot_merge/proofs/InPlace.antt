@@ -151,12 +151,3 @@ pub asked_found : (rows : PolicyRows) (es : Entries) (c : Certificate) (fpr : Fp
 asked_found rows es c fpr x k found e h =
     subst (λ (o : Option Kept). k + found_by sound_of o ≡ sound_of (joined rows o c))
     (found ∙ ap (λ (f : Fpr). lookup (is_fpr f) es) e) h
-
-none_yet : (n : ℕ) → 0 + 0 ≤ n
-none_yet n = omega arith
-
-pub asked_none : (rows : PolicyRows) (es : Entries) (c : Certificate) (fpr : Fpr) → None ≡ lookup (is_fpr fpr) es →
-    fpr ≡ fpr_of c.key → 0 + found_by sound_of (found_for es c) ≤ sound_of (joined rows (found_for es c) c)
-asked_none rows es c fpr found e =
-    subst (λ (o : Option Kept). 0 + found_by sound_of o ≤ sound_of (joined rows o c))
-    (found ∙ ap (λ (f : Fpr). lookup (is_fpr f) es) e) (none_yet (sound_of (joined rows None c)))

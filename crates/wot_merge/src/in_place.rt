@@ -1,7 +1,7 @@
 //! Merges a small certificate into a kept one in place, so that an import costs what it brings, however large the kept
 //! certificate is. `staging` calls it and undoes it through the log. It stands on wot_cert's `grow` and `shrink`; its
 //! contracts are those of the merge by a copy, so callers see no difference.
-ghost use Rattle.std.specs.Prelude.{◌≡◌, ◌<◌, vec_len, vec_capacity, IfOk, OnErr, Some};
+ghost use Rattle.std.specs.Prelude.{◌≡◌, ◌<◌, vec_len, vec_capacity, is_some, true, IfOk, OnErr, Some};
 ghost use Rattle.wot_policy.specs.Kept.{IsFaithful, rows_of};
 ghost use Rattle.wot_held.specs.Kept.{AreSortedByFpr};
 ghost use Rattle.wot_merge.specs.Staging.{clash_at, found_for, AsksToJoin, GrowsTo, IsMergedOn, StillLeadsBack};
@@ -23,7 +23,9 @@ use wot_types::Fpr;
 const LARGER: u64 = 16;
 
 /// Whether a certificate is small compared with the kept one of its fingerprint.
-pub(crate) fn is_small_beside(certs: &BTreeMap<Fpr, Kept, Global>, cert: &Cert) -> bool {
+pub(crate) fn is_small_beside(certs: &BTreeMap<Fpr, Kept, Global>, cert: &Cert) -> bool
+    ensures held { result ≡ true → is_some (found_for certs.now.entries cert.now) ≡ true }
+{
     match find(certs, &cert.fpr()) {
         Some(kept) => cert.size() < kept.cert.size() / LARGER,
         None => false,
@@ -82,8 +84,8 @@ fn grow_kept<F: Fn(Ask) -> bool>(
     }
 }
 
-/// Merges a certificate in place into the kept one of its fingerprint under a policy, and logs how that grew. The log
-/// has room. On an error it still undoes everything.
+/// Merges a certificate in place into the kept one of its fingerprint under a policy, and logs how that grew. There is
+/// one, and the log has room. On an error it still undoes everything.
 pub(crate) fn grow_at<F: Fn(Ask) -> bool>(
     alloc: Global,
     cert: &Cert,
@@ -95,6 +97,7 @@ pub(crate) fn grow_at<F: Fn(Ask) -> bool>(
     requires faithful { IsFaithful F.Fn policy.old }
     requires sorted { AreSortedByFpr certs.old.entries }
     requires room { vec_len log.old < vec_capacity log.old }
+    requires held { is_some (found_for certs.old.entries cert.now) ≡ true }
     ensures merged { IfOk result
         (IsMergedOn (rows_of policy.old) terms.now cert.now certs.old.entries certs.new.entries) }
     ensures log { StillLeadsBack log.old.items certs.old.entries log.new.items certs.new.entries }
@@ -129,6 +132,6 @@ pub(crate) fn grow_at<F: Fn(Ask) -> bool>(
             }
             Err(fault) => Err(fault),
         },
-        None => Err(Fault::Memory),
+        None => unreachable!(),
     }
 }

@@ -63,7 +63,8 @@ fn begin(alloc: Global, certs: &BTreeMap<Fpr, Kept, Global>, cert: &Cert) -> Res
         // The key of a certificate can always be parsed.
         None => match Cert::bare(alloc, cert.body()) {
             Ok(Some(cert)) => Ok(Start { cert, stamp: None }),
-            _ => Err(Memory),
+            Ok(None) => unreachable!(),
+            Err(Memory) => Err(Memory),
         },
     }
 }

@@ -1,7 +1,7 @@
 //! The `cursor` commands: `over`, `next` and `close`. A piece is listed from the cursor's place, and the cursor moves
 //! only once the piece was written. It stands on wot_cursor and wot_explain. wot_laws says that the pieces
 //! join to the list.
-ghost use Rattle.std.specs.Prelude.{◌≡◌, ◌≤◌, Some, false, true, length, IfOk, OnErr, is_ok, is_some};
+ghost use Rattle.std.specs.Prelude.{◌≡◌, ◌≤◌, None, Some, false, true, length, IfOk, OnErr, is_ok, is_some};
 ghost use Rattle.wot_script.specs.Replies.{is_short};
 ghost use Rattle.wot_cache.specs.State.{StaysButMarks};
 ghost use Rattle.wot_cache.specs.Views.{view_at};
@@ -17,7 +17,10 @@ use wot_cursor::{Age, Cursor, Cursors, Stamps, age};
 use wot_explain::laws::list_is_one;
 use wot_explain::{Bind, list_after};
 use wot_script::{BindLines, Reply};
-use wot_step::{CursorCommand, CursorMove, DraftReply, Refused, alone, bind_lines, reply_to};
+use wot_step::{
+    CursorCommand, CursorMove, DraftReply, Missing, Refused, alone, bind_lines, reply_to,
+    reply_to_missing,
+};
 use wot_types::{Memory, Place, Steps, UserId, ViewName};
 
 /// Runs a command about the cursor of this name. A cursor moves only once the reply is written. `close` takes no
@@ -36,6 +39,7 @@ pub fn pace(
     ensures makes { CursorMakes result (cursor_at cursors.old name.now) command.now engine.old engine.new
         steps.old.made steps.new.made }
     ensures quiet { IfOk result (λ told. is_short told.reply ≡ false → cursors.new ≡ cursors.old) }
+    ensures moves { IfOk result (λ told. is_some told.moved ≡ true → cursors.new ≡ cursors.old) }
     ensures kept { OnErr result (cursors.new ≡ cursors.old) }
     ensures sure { command.now ≡ paces.Close → is_ok result ≡ true }
 {
@@ -59,10 +63,11 @@ pub fn over(
     ensures begins { OnTold result cursors.new
         (PacesCursor (session_of engine.now cursors.old) name.now (paces.Over view.now wanted)) }
     ensures short { IfOk result (λ told. is_short told.reply ≡ true) }
+    ensures alone { IfOk result (λ told. told.moved ≡ None) }
     ensures kept { OnErr result (cursors.new ≡ cursors.old) }
 {
     let Some(turn) = engine.turn(view) else {
-        return Ok(alone(Reply::View));
+        return Ok(alone(reply_to_missing(Missing::View)));
     };
     let stamps = Stamps {
         keyring: engine.keyring().changes(),
@@ -81,10 +86,11 @@ pub fn close(engine: &Engine, cursors: &mut Cursors, name: &ViewName) -> DraftRe
     ensures ends { PacesCursor (session_of engine.now cursors.old) name.now paces.Close
         result.reply (settled result.moved cursors.new) }
     ensures short { is_short result.reply ≡ true }
+    ensures alone { result.moved ≡ None }
 {
     let _changes = engine.keyring().changes();
     if cursors.get(name).is_none() {
-        return alone(Reply::NoCursor);
+        return alone(reply_to_missing(Missing::Cursor));
     }
     let _ = cursors.end(name);
     alone(Reply::Done)
@@ -108,10 +114,10 @@ pub fn next(
         steps.old.made steps.new.made }
 {
     let Some(cursor) = cursors.get(name) else {
-        return Ok(alone(Reply::NoCursor));
+        return Ok(alone(reply_to_missing(Missing::Cursor)));
     };
     let Some(turn) = engine.turn(cursor.view()) else {
-        return Ok(alone(Reply::View));
+        return Ok(alone(reply_to_missing(Missing::View)));
     };
     let now = Stamps {
         keyring: engine.keyring().changes(),

@@ -1,5 +1,5 @@
-//! Laws of the grammar. Each function does nothing: its contract is the law, and `wot_machine` and tests cite it by a
-//! call. They stand on `specs/Grammar.antt` and `specs/Laws.antt`.
+//! Laws of the grammar. Each function does nothing: its contract is the law. They stand on `specs/Grammar.antt` and
+//! `specs/Laws.antt`. wot_laws uses the first one; the others are for readers.
 ghost use Rattle.std.specs.Prelude.{◌≡◌, ℕ, List, Some};
 ghost use Rattle.wot_script.specs.declared.command.Command.{Command as TheCommand};
 ghost use Rattle.wot_script.specs.Grammar.{command_of};

@@ -1,3 +1,4 @@
 pub mod Last
 pub mod Walk
 pub mod Slices
+mod ReadBefore

@@ -1,5 +1,5 @@
 -- What a dump does in a fresh machine.
-use Rattle.std.specs.Prelude.{◌≡◌, false, List, [], ℕ, length, codes}
+use Rattle.std.specs.Prelude.{◌≡◌, ◌<◌, ◌^◌, false, List, [], ℕ, length, codes}
 use Rattle.std.specs.List.{AllByRecursion}
 use Rattle.wot_io.specs.Input as inputs
 use Rattle.wot_policy.specs.declared.rows.PolicyRows.{PolicyRows}
@@ -33,7 +33,7 @@ dumped s = inputs.lines_of (lines_of (commands_of s))
 
 -- The lines of a dump of this state, answered by a fresh machine, restore everything that a dump carries over, with
 -- signatures judged by the policy rows, and no cursor. Each line has a reply and none is a refusal. No line uses the
--- certificate directory.
+-- certificate directory. They have fewer than 2^30 octets, so that one run reads them all.
 pub record IsMadeAnew (rows : PolicyRows) (s : State) : Type 0 where
   pub replies : List Reply
   pub new : Session
@@ -43,9 +43,10 @@ pub record IsMadeAnew (rows : PolicyRows) (s : State) : Type 0 where
   pub run : (world : World) → Run rows (opening world) (dumped s) replies (record { whole = new; world = world })
   pub each : length replies ≡ length (dumped s)
   pub well : AllByRecursion (λ reply. is_refusal reply ≡ false) replies
+  pub size : length (lines_of (commands_of s)) < 2 ^ 30
 
 -- For an engine with the standard limits, the contract of `Engine::dump` implies that its lines restore its state.
 abbrev pub DumpMakesAnew : PolicyRows → Engine → Type 0
 DumpMakesAnew rows engine =
     engine.keyring.limits ≡ standard_limits → IsRestored rows engine → AreLines (commands_of (state_of engine))
-    → IsMadeAnew rows (state_of engine)
+    → length (lines_of (commands_of (state_of engine))) < 2 ^ 30 → IsMadeAnew rows (state_of engine)

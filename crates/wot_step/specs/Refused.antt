@@ -15,18 +15,20 @@ use Rattle.wot_cache.specs.declared.view.ViewFault.TheVariants as faults
 use Rattle.wot_explain.specs.declared.explained.ExplainFault.{ExplainFault}
 use Rattle.wot_explain.specs.declared.explained.ExplainFault.TheVariants as explains
 use Rattle.wot_step.specs.declared.refusal.Refused.{Refused}
-use Rattle.wot_step.specs.declared.refusal.Refused.TheVariants.{Keyring, View, Closed, Absent, FullCursors}
+use Rattle.wot_step.specs.declared.refusal.Missing.{Missing as Named}
+use Rattle.wot_step.specs.declared.refusal.Missing.TheVariants as names
+use Rattle.wot_step.specs.declared.refusal.Refused.TheVariants.{Keyring, View, Missing, FullCursors}
 use Rattle.wot_step.specs.declared.refusal.Refused.TheVariants.{FullWatches, Shelf, Memory}
 use Rattle.wot_step.specs.Outcome.{refusal, view_refusal}
 
 -- ---- which of the joined errors is that of a layer
 
 abbrev pub asking : AskFault → Refused
-asking asks.View = Closed
+asking asks.View = Missing names.View
 asking asks.Memory = Memory
 
 abbrev pub explaining : ExplainFault → Refused
-explaining explains.Absent = Absent
+explaining explains.Absent = Missing names.Named
 explaining explains.Memory = Memory
 
 abbrev pub beginning : BeginFault → Refused
@@ -43,6 +45,13 @@ using_ shelves.Memory = Memory
 
 -- ---- the reply to each
 
+-- the reply if there is none of what is named
+abbrev pub missing_reply : Named → Reply
+missing_reply names.Named = replies.Absent
+missing_reply names.View = replies.View
+missing_reply names.Cursor = replies.NoCursor
+missing_reply names.Watch = replies.NoWatch
+
 -- the error is out of memory
 abbrev pub IsMemory : Refused → Type 0
 IsMemory (Keyring told) = told ≡ refusals.Memory
@@ -54,8 +63,7 @@ IsMemory refused = ⊥
 abbrev pub IsReplyTo : Refused → Reply → Type 0
 IsReplyTo (Keyring told) reply = (reply ≡ refusal told) × (told ≢ refusals.Memory)
 IsReplyTo (View fault) reply = (reply ≡ view_refusal fault) × (fault ≢ faults.Memory)
-IsReplyTo Closed reply = reply ≡ replies.View
-IsReplyTo Absent reply = reply ≡ replies.Absent
+IsReplyTo (Missing named) reply = reply ≡ missing_reply named
 IsReplyTo FullCursors reply = reply ≡ replies.FullCursors
 IsReplyTo FullWatches reply = reply ≡ replies.FullWatches
 IsReplyTo Shelf reply = reply ≡ replies.Shelf

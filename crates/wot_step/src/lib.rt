@@ -17,4 +17,4 @@ pub use class::{
     WatchCommand, sort,
 };
 pub use draft::{CursorMove, DraftReply, alone, plain, settle};
-pub use refusal::{Refused, reply_to};
+pub use refusal::{Missing, Refused, reply_to, reply_to_missing};

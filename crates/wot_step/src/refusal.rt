@@ -4,6 +4,7 @@ ghost use Rattle.std.specs.Prelude.{◌≡◌, true, IfOk, OnErr};
 ghost use Rattle.wot_script.specs.Replies.{is_short};
 ghost use Rattle.wot_step.specs.Outcome.{cert_refusal};
 ghost use Rattle.wot_step.specs.Refused.{IsReplyTo, IsMemory, asking, beginning, explaining, putting, using_};
+ghost use Rattle.wot_step.specs.Refused.{missing_reply};
 
 use thiserror::Error;
 use wot_cache::{AskFault, ViewFault};
@@ -16,6 +17,23 @@ use wot_script::Reply;
 use wot_types::Memory;
 use wot_watch::PutFault;
 
+/// What a command names, if there is none of it. The reply to it takes no memory.
+#[derive(Debug, Clone, Copy, PartialEq, Eq, Error)]
+pub enum Missing {
+    /// No certificate, no verdict, or no entry of the directory.
+    #[error("absent")]
+    Named,
+    /// The view isn't open.
+    #[error("view")]
+    View,
+    /// No cursor.
+    #[error("cursor")]
+    Cursor,
+    /// No watch.
+    #[error("watch")]
+    Watch,
+}
+
 /// Why a layer below doesn't do what a command asks for. The text of an error is the word that is printed for it, or
 /// the words of which one is.
 #[derive(Debug, Drop, Error)]
@@ -26,12 +44,9 @@ pub enum Refused {
     /// The views are unchanged.
     #[error("view, absent, or full and a limit")]
     View(ViewFault),
-    /// The view that is asked isn't open.
-    #[error("view")]
-    Closed,
-    /// What is to be explained isn't held.
-    #[error("absent")]
-    Absent,
+    /// There is none of what is named.
+    #[error("{0}")]
+    Missing(Missing),
     /// There are as many cursors as there may be.
     #[error("full cursors")]
     FullCursors,
@@ -51,7 +66,7 @@ impl From<AskFault> for Refused {
 
     fn from(fault: AskFault) -> Refused {
         match fault {
-            AskFault::View => Refused::Closed,
+            AskFault::View => Refused::Missing(Missing::View),
             AskFault::Memory => Refused::Memory,
         }
     }
@@ -62,7 +77,7 @@ impl From<ExplainFault> for Refused {
 
     fn from(fault: ExplainFault) -> Refused {
         match fault {
-            ExplainFault::Absent => Refused::Absent,
+            ExplainFault::Absent => Refused::Missing(Missing::Named),
             ExplainFault::Memory => Refused::Memory,
         }
     }
@@ -114,6 +129,19 @@ fn cert_fault(fault: CertFault) -> Reply
     }
 }
 
+/// The reply to a command that names something of which there is none.
+pub fn reply_to_missing(missing: Missing) -> Reply
+    ensures reply { result ≡ missing_reply missing }
+    ensures short { is_short result ≡ true }
+{
+    match missing {
+        Missing::Named => Reply::Absent,
+        Missing::View => Reply::View,
+        Missing::Cursor => Reply::NoCursor,
+        Missing::Watch => Reply::NoWatch,
+    }
+}
+
 /// The reply to a refused command.
 pub fn reply_to(refused: Refused) -> Result<Reply, Memory>
     ensures reply { IfOk result (IsReplyTo refused) }
@@ -129,8 +157,7 @@ pub fn reply_to(refused: Refused) -> Result<Reply, Memory>
         Refused::View(ViewFault::View) => Ok(Reply::View),
         Refused::View(ViewFault::Absent) => Ok(Reply::Absent),
         Refused::View(ViewFault::Full(limit)) => Ok(Reply::Full(limit)),
-        Refused::Closed => Ok(Reply::View),
-        Refused::Absent => Ok(Reply::Absent),
+        Refused::Missing(missing) => Ok(reply_to_missing(missing)),
         Refused::FullCursors => Ok(Reply::FullCursors),
         Refused::FullWatches => Ok(Reply::FullWatches),
         Refused::Shelf => Ok(Reply::Shelf),

@@ -19,7 +19,7 @@ use std::alloc::Global;
 use wot_cache::laws::{kept_on_is_order, rests_on};
 use wot_cache::{AskFault, Asked, Basis, Engine};
 use wot_script::Reply;
-use wot_step::{AskedBinding, Refused, WatchCommand, reply_to};
+use wot_step::{AskedBinding, Missing, Refused, WatchCommand, reply_to, reply_to_missing};
 use wot_types::{Memory, Steps, UserId, ViewName};
 use wot_watch::{Watch, Watches};
 
@@ -109,7 +109,7 @@ pub fn off(watches: &mut Watches, name: &ViewName) -> Reply
     ensures short { is_short result ≡ true }
 {
     if watches.get(name).is_none() {
-        return Reply::NoWatch;
+        return reply_to_missing(Missing::Watch);
     }
     let _was_there = watches.take(name);
     Reply::Done

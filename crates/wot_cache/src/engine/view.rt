@@ -4,6 +4,7 @@ ghost use Rattle.std.specs.Prelude.{◌≡◌, ◌≢◌, ◌<◌, ◌-◌, ◌^
 ghost use Rattle.std.specs.Prelude.{None, Err, is_ok, is_some, IfSome, OnOk, OnErr};
 ghost use Rattle.std.specs.Option.{option_copied, option_map};
 ghost use Rattle.wot_edge.specs.Roots.{IsRoots, root_amount};
+ghost use Rattle.wot_cache.specs.Marks.{IsForgotten};
 ghost use Rattle.wot_cache.specs.State.{marks_at, OtherMarksStay};
 ghost use Rattle.wot_cache.specs.Turns.{turn_at, IsOneTurn, IsOneClosing};
 ghost use Rattle.wot_cache.specs.Views.{view_at, with_time, time_fault, with_root, root_fault, without_view};
@@ -27,6 +28,7 @@ impl Engine {
         ensures kept { OnErr result (self.new ≡ self.old) }
         ensures keyring { self.new.keyring ≡ self.old.keyring }
         ensures marks { self.new.marks ≡ self.old.marks }
+        ensures answers { self.new.answers ≡ self.old.answers }
         // A view that is opened has no marks.
         ensures unmarked { view_at self.old.views view.now ≡ None → marks_at self.new view.now ≡ [] }
     {
@@ -53,6 +55,7 @@ impl Engine {
         ensures kept { OnErr result (self.new ≡ self.old) }
         ensures keyring { self.new.keyring ≡ self.old.keyring }
         ensures marks { self.new.marks ≡ self.old.marks }
+        ensures answers { self.new.answers ≡ self.old.answers }
     {
         self.turns.begin(view.duplicate(self.alloc)?)?;
         let opened = View {
@@ -80,6 +83,7 @@ impl Engine {
         ensures kept { OnErr result (self.new ≡ self.old) }
         ensures keyring { self.new.keyring ≡ self.old.keyring }
         ensures marks { self.new.marks ≡ self.old.marks }
+        ensures answers { self.new.answers ≡ self.old.answers }
     {
         if let Some(fault) = self.root_fault(view, fpr, amount) {
             return Err(fault);
@@ -139,6 +143,7 @@ impl Engine {
         ensures keyring { self.new.keyring ≡ self.old.keyring }
         ensures others { OtherMarksStay view.now self.old self.new }
         ensures forgotten { OnOk result (marks_at self.new view.now ≡ []) }
+        ensures answers { OnOk result (IsForgotten view.now self.old.answers self.new.answers) }
     {
         if views::find(&self.networked.views, view).is_none() {
             return Err(NoView);

@@ -29,8 +29,8 @@ pub returns-in-Ok-Absent-clause-did : goal.returns-in-Ok-Absent-clause-did
 returns-in-Ok-Absent-clause-did g c =
     ran_load (rows_of c.args.policy.now) c.args.name.now (state_of c.args.engine.now) (g.D.Shelf.world c.args.shelf.now)
     (g.D.Shelf.world c.read.new.self)
-    (g.D.Shelf.faults c.args.shelf.now) (g.D.Shelf.faults c.read.new.self) replies.Absent (state_of c.args.engine.now)
-    Answer.absent (refl, refl)
+    (g.D.Shelf.faults c.args.shelf.now) (g.D.Shelf.faults c.read.new.self) c.reply_to_missing.result
+    (state_of c.args.engine.now) Answer.absent (c.reply_to_missing.ensures.reply, refl)
     (told_so (g.D.Shelf.world c.args.shelf.now) c.args.name.now Answer.absent _ (λ a p. sym p)
     (rw c.in-Ok-Absent.field-0-is at c.in-Ok-Absent.ensures.answers))
     c.read.ensures.after (λ e. absurd (cc e))

@@ -23,9 +23,9 @@ returns-in-Some-clause-did g c rows =
 
 pub returns-in-None-clause-did : goal.returns-in-None-clause-did
 returns-in-None-clause-did g c rows =
-    ran_absent rows c.args.fpr.now (state_of c.args.engine.now)
+    rw c.reply_to_missing.ensures.reply (ran_absent rows c.args.fpr.now (state_of c.args.engine.now)
     (record { world = g.D.Shelf.world c.args.shelf.now; faults = g.D.Shelf.faults c.args.shelf.now })
-    (sym c.in-None.ensures.found)
+    (sym c.in-None.ensures.found))
 
 pub returns-in-Some-clause-untouched : goal.returns-in-Some-clause-untouched
 returns-in-Some-clause-untouched g c none = absurd (cc (c.in-Some.ensures.found, none))

@@ -1,4 +1,7 @@
+use Rattle.std.proofs.Common.{subst, sym}
+use Rattle.wot_kept.specs.Answers.{Entries, IsSameBut, WereKeptOr}
 use Rattle.wot_kept.proofs.ConsultedTotal.{few_put, fewer, right_put}
+use Rattle.wot_kept.proofs.WereKept.{kept_put}
 use Rattle.wot_kept.proofs.answers.add.Goals as goal
 
 pub overflow_sub-result : goal.overflow_sub-result
@@ -16,3 +19,8 @@ returns-in-Ok-clause-few c =
 pub returns-in-Ok-clause-right : goal.returns-in-Ok-clause-right
 returns-in-Ok-clause-right c k roots turn all right good =
     rw c.in-Ok.ensures.entries (right_put k roots turn c.args.table.now.entries c.args.answer all right good)
+
+pub returns-in-Ok-clause-kept : goal.returns-in-Ok-clause-kept
+returns-in-Ok-clause-kept c =
+    subst (λ (es : Entries). WereKeptOr (IsSameBut c.args.answer) c.args.table.now.entries es)
+    (sym c.in-Ok.ensures.entries) (kept_put c.args.table.now.entries c.args.answer.key c.args.answer)

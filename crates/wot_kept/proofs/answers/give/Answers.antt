@@ -2,6 +2,7 @@ use Rattle.std.proofs.Common.{sym}
 use Rattle.wot_kept.proofs.ConsultedTotal.{few_set}
 use Rattle.wot_kept.proofs.Grounds.{right_again}
 use Rattle.wot_kept.specs.RightLaws.{answer_found, answer_set}
+use Rattle.wot_kept.proofs.WereKept.{kept_set}
 use Rattle.wot_kept.proofs.answers.give.Goals as goal
 
 pub give-requires-clause-right : goal.give-requires-clause-right
@@ -31,3 +32,9 @@ returns-in-Some-clause-few c looked few =
     rw (c.get_mut.follows.holds c.give.new.self).0
     (few_set c.args.table.now.entries c.key_of.result c.in-Some.kept.now c.give.new.self looked
     (sym c.in-Some.ensures.value) c.give.ensures.same few)
+
+pub returns-in-Some-clause-kept : goal.returns-in-Some-clause-kept
+returns-in-Some-clause-kept c =
+    rw (c.get_mut.follows.holds c.give.new.self).0
+    (kept_set c.args.table.now.entries c.key_of.result c.in-Some.kept.now c.give.new.self
+    (sym c.in-Some.ensures.value) c.give.ensures.same)

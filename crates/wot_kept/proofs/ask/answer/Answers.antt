@@ -1,14 +1,15 @@
 use Rattle.std.specs.Prelude.{IfSome}
-use Rattle.std.proofs.Common.{Option, rules, sym, subst}
+use Rattle.std.proofs.Common.{◌≡◌, Option, rules, sym, subst}
 use Rattle.wot_edge.specs.Record.{IsRecord}
 use Rattle.wot_network.specs.Net.{Present, told_of}
 use Rattle.wot_kept.specs.declared.reach.KeptReach.{KeptReach}
-use Rattle.wot_kept.specs.Answers.{AreAllRight, AreRight, Entries, IsReaching}
+use Rattle.wot_kept.specs.Answers.{AllAnswers, AreAllRight, AreRight, Entries, IsReaching, WereKeptOr, answers_for}
 use Rattle.wot_kept.specs.Asked.{question_of}
 use Rattle.wot_kept.specs.CaseLaws.{if_ok}
 use Rattle.wot_kept.proofs.Told.{told_from}
 use Rattle.wot_kept.specs.RightLaws.{all_right_set, right_found}
-use Rattle.wot_kept.proofs.KeepsFor.{keeps_set}
+use Rattle.wot_kept.specs.Asked.{IsFoundOver}
+use Rattle.wot_kept.proofs.WereKept.{kept_first, kept_there}
 use Rattle.wot_kept.proofs.ask.answer.Goals as goal
 
 pub find-requires-clause-right : goal.find-requires-clause-right
@@ -30,11 +31,6 @@ returns-in-Some-clause-right c =
     rw (c.get_mut.follows.holds c.find.new.of_view).0
     (all_right_set c.args.parts.now.keyring.now c.args.answers.now.entries c.args.view.now c.find.new.of_view
     c.requires.right c.find.ensures.right)
-
-pub returns-in-Some-clause-others : goal.returns-in-Some-clause-others
-returns-in-Some-clause-others c =
-    rw (c.get_mut.follows.holds c.find.new.of_view).0 (keeps_set c.args.answers.now.entries c.args.view.now
-    c.find.new.of_view)
 
 pub find-found-requires-clause-right : goal.find-found-requires-clause-right
 find-found-requires-clause-right c =
@@ -59,4 +55,20 @@ pub returns-in-None-clause-right : goal.returns-in-None-clause-right
 returns-in-None-clause-right c =
     let k = c.args.parts.now.keyring.now in
     let before : AreAllRight k c.get_mut.follows.lender-at-none.entries = search rules in
-    c.begin.ensures.right k before c.find-found.ensures.right
+    c.begin-kept.ensures.right k before c.find-found.ensures.right
+
+pub returns-in-Some-clause-found : goal.returns-in-Some-clause-found
+returns-in-Some-clause-found c =
+    rw (c.get_mut.follows.holds c.find.new.of_view).0
+    (kept_there (IsFoundOver c.args.parts.now c.args.asked.now) c.args.view.now c.args.answers.now.entries
+    c.in-Some.of_view.now c.find.new.of_view (sym c.in-Some.ensures.value) c.find.ensures.kept)
+
+pub returns-in-None-clause-found : goal.returns-in-None-clause-found
+returns-in-None-clause-found c =
+    let before : AllAnswers = c.get_mut.follows.lender-at-none.entries in
+    let same : before ≡ c.args.answers.now.entries = search rules in
+    subst (λ (views : AllAnswers). WereKeptOr (IsFoundOver c.args.parts.now c.args.asked.now)
+    (answers_for c.args.view.now views) (answers_for c.args.view.now c.begin-kept.new.answers.entries)) same
+    (kept_first (IsFoundOver c.args.parts.now c.args.asked.now) c.args.view.now before
+    c.begin-kept.new.answers.entries c.new-of_view.result c.find-found.new.of_view c.begin-kept.result
+    c.begin-kept.ensures.put c.begin-kept.ensures.kept c.new-of_view.ensures.none c.find-found.ensures.kept)

@@ -1,12 +1,9 @@
-use Rattle.wot_kept.specs.RightLaws.{all_right_inserted}
-use Rattle.wot_kept.proofs.KeepsFor.{keeps_inserted}
+use Rattle.std.proofs.Common.{sym, subst}
+use Rattle.wot_kept.specs.Answers.{AllAnswers, AreAllRight}
+use Rattle.wot_kept.specs.RightLaws.{all_right_put}
 use Rattle.wot_kept.proofs.recall.put.Goals as goal
 
-pub returns : goal.returns
-returns c = record {
-  right = λ k all right.
-      all_right_inserted k c.args.answers.now.entries c.insert.new.self.entries c.args.view c.args.of_view
-      c.insert.result c.insert.ensures.entries c.insert.ensures.err all right;
-  others = keeps_inserted c.args.answers.now.entries c.insert.new.self.entries c.args.view c.args.of_view
-      c.insert.result c.insert.ensures.entries c.insert.ensures.err;
-}
+pub returns-in-Ok-clause-right : goal.returns-in-Ok-clause-right
+returns-in-Ok-clause-right c k all right =
+    subst (λ (views : AllAnswers). AreAllRight k views) (sym c.in-Ok.ensures.entries)
+    (all_right_put k c.args.answers.now.entries c.args.view c.args.of_view all right)

@@ -1,6 +1,8 @@
 use Rattle.std.proofs.Common.{sym, subst, ◌∙◌}
 use Rattle.wot_kept.specs.Answers.{IsFound}
 use Rattle.wot_looked.specs.Looked.{Amounts}
+use Rattle.wot_kept.specs.Asked.{IsFoundOver}
+use Rattle.wot_kept.proofs.WereKept.{kept_as, over_carries}
 use Rattle.wot_kept.proofs.recall.remember_now.Goals as goal
 
 pub returns-in-Ok : goal.returns-in-Ok
@@ -13,4 +15,6 @@ returns-in-Ok c =
             (subst (λ (roots : Amounts). IsFound k roots c.in-Ok.kept) (sym roots) c.in-Ok.ensures.found);
         roots = c.keep.ensures.roots ∙ roots;
       };
+      kept = kept_as (IsFoundOver c.args.parts.now c.args.asked.now) (over_carries c.args.parts.now c.args.asked.now)
+          c.args.of_view.now.entries c.keep.new.self.entries c.in-Ok.kept c.in-Ok.ensures.by c.keep.ensures.kept;
     }

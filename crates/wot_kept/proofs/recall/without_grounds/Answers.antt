@@ -1,6 +1,6 @@
 use Rattle.std.proofs.Common.{None}
 use Rattle.wot_kept.specs.CaseLaws.{if_ok}
-use Rattle.wot_kept.proofs.Grounds.{found_now, right_without}
+use Rattle.wot_kept.proofs.Grounds.{found_by_all, found_now, right_without}
 use Rattle.wot_kept.proofs.recall.without_grounds.Goals as goal
 
 pub returns : goal.returns
@@ -12,4 +12,6 @@ returns c =
           right_without p asked c.args.answer.now kept is c.requires.answered) c.kept_now.ensures.kept;
       found = if_ok c.kept_now.result _ _ (λ kept is.
           found_now p asked c.args.answer.now None kept is c.requires.answered) c.kept_now.ensures.kept;
+      by = if_ok c.kept_now.result _ _ (λ kept is. found_by_all p asked c.args.answer.now kept is)
+          c.kept_now.ensures.kept;
     }

@@ -1,4 +1,4 @@
-use Rattle.std.proofs.Common.{◌≡◌, Option, Some, None, sym, ap, ◌∙◌, subst}
+use Rattle.std.proofs.Common.{◌≡◌, Some, sym, ap, ◌∙◌, subst}
 use Rattle.std.specs.declared.cmp.Ordering.{Ordering}
 use Rattle.std.specs.BTreeMap.{is_at}
 use Rattle.std.specs.Map.{lookup, set_value}
@@ -7,9 +7,7 @@ use Rattle.wot_types.specs.FprLaws.{same_cmp}
 use Rattle.wot_policy.specs.Kept.{rows_of}
 use Rattle.wot_held.specs.Keyring.{Entries, is_fpr}
 use Rattle.wot_merge.specs.Staging.{IsLog}
-use Rattle.wot_merge.proofs.InPlace.{asked_found, asked_none, grown_at, grown_goes_on, set_here}
-use Rattle.wot_merge.proofs.ImportSteps.{not_asked}
-use Rattle.wot_held.specs.declared.kept.Kept.{Kept}
+use Rattle.wot_merge.proofs.InPlace.{asked_found, grown_at, grown_goes_on, set_here}
 use Rattle.wot_merge.proofs.in_place.grow_at.Goals as goal
 
 pub returns-in-Ok-clause-merged : goal.returns-in-Ok-clause-merged
@@ -70,17 +68,4 @@ returns-in-Ok-clause-asked g c =
       a.1,
       asked_found (rows_of c.args.policy.now) es c.args.cert.now fpr c.in-Some.kept.now a.0 found
           c.fpr-fpr.ensures.fpr a.2,
-    )
-
-pub returns-in-None-clause-asked : goal.returns-in-None-clause-asked
-returns-in-None-clause-asked g c =
-    let es = c.args.certs.now.entries in
-    let fpr = c.fpr-fpr.result in
-    let nothing : Option Kept = None in
-    let absent = subst (λ (cmp : Fpr → Fpr → Ordering). nothing ≡ lookup (is_at (cmp fpr)) es) same_cmp
-    c.in-None.ensures.value in (
-      0,
-      not_asked c.args.policy.now,
-      asked_none (rows_of c.args.policy.now) es c.args.cert.now fpr absent
-          c.fpr-fpr.ensures.fpr,
     )

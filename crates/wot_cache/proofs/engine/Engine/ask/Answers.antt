@@ -1,13 +1,13 @@
 use Rattle.std.proofs.Common.{Ok, refl, sym, subst}
 use Rattle.std.proofs.lemmas.Result.{err_from_is_err_and}
 use Rattle.wot_held.specs.Keyring.{Keyring}
-use Rattle.wot_kept.specs.Answers.{AreAllRight}
+use Rattle.wot_kept.specs.Answers.{AreAllRight, answers_for}
 use Rattle.wot_cache.specs.Marks.{end_in}
 use Rattle.wot_cache.specs.Views.{view_at}
 use Rattle.wot_cache.proofs.PartsAnswer.{few_seen, present_seen, right_kept, right_seen, seen_after}
 use Rattle.wot_kept.specs.CaseLaws.{if_ok, if_some}
 use Rattle.wot_cache.proofs.PartsAnswer.{told_seen}
-use Rattle.wot_cache.proofs.ConsultsLeads.{consulted, keeps_itself}
+use Rattle.wot_cache.proofs.ConsultsLeads.{consulted, found_seen, kept_all, others_themselves}
 use Rattle.wot_cache.proofs.OpenViewsMarks.{answered_open, engine_after, err_less, left, made_as}
 use Rattle.wot_cache.proofs.engine.Engine.ask.Goals as goal
 
@@ -161,9 +161,13 @@ returns-clause-consulted c =
     c.self.view_is c.refresh.ensures.keyring
     c.refresh.ensures.views c.parts-parts.ensures.parts in
     consulted c.args.self.now k c.refresh.new.self.keyring views c.refresh.new.self.views.entries networks
-    c.refresh.new.self.networks.entries c.self.inside.answers.entries c.answer.new.answers.entries name c.self.view_is
+    c.refresh.new.self.networks.entries c.self.inside.answers.entries c.answer.new.answers.entries name
+    c.args.target.now c.args.wanted c.args.uid.now c.self.view_is
     (right_kept c.args.self.now k c.refresh.new.self.keyring views name p c.answer.new.answers.entries c.self.view_is
-    c.refresh.ensures.keyring seen c.answer.ensures.right) c.answer.ensures.others
+    c.refresh.ensures.keyring seen c.answer.ensures.right)
+    (found_seen c.args.self.now name p c.args.target.now c.args.wanted c.args.uid.now seen
+    (answers_for name c.self.inside.answers.entries) (answers_for name c.answer.new.answers.entries)
+    c.answer.ensures.found) c.answer.ensures.others
 
 pub returns-in_err-refresh-clause-consulted : goal.returns-in_err-refresh-clause-consulted
 returns-in_err-refresh-clause-consulted c =
@@ -171,6 +175,7 @@ returns-in_err-refresh-clause-consulted c =
     let answers = c.self.inside.answers.entries in
     consulted c.args.self.now k c.refresh.new.self.keyring c.self.inside.networked.views.entries
     c.refresh.new.self.views.entries c.self.inside.networked.networks.entries c.refresh.new.self.networks.entries
-    answers answers c.args.view.now c.self.view_is
+    answers answers c.args.view.now c.args.target.now c.args.wanted c.args.uid.now c.self.view_is
     (subst (λ (new : Keyring). AreAllRight new answers) (sym c.refresh.ensures.keyring) c.self.invariant.right)
-    (keeps_itself c.args.view.now answers)
+    (kept_all c.args.self.now c.args.view.now c.args.target.now c.args.wanted c.args.uid.now answers)
+    (others_themselves c.args.view.now answers)

@@ -1,5 +1,5 @@
 use Rattle.std.proofs.Common.{sym, ap, subst, ◌∙◌}
-use Rattle.wot_kept.specs.Answers.{AreRight, AreRightIn, OfView}
+use Rattle.wot_kept.specs.Answers.{AreRight, AreRightIn, OfView, WereKept}
 use Rattle.wot_looked.specs.Looked.{Amounts}
 use Rattle.wot_kept.proofs.answers.Answers.give.Goals as goal
 
@@ -25,3 +25,7 @@ returns-clause-settled c =
       };
       roots = same;
     }
+
+pub returns-clause-kept : goal.returns-clause-kept
+returns-clause-kept c =
+    subst (λ (v : OfView). WereKept v.entries c.give.new.table.entries) c.self.view_is c.give.ensures.kept

@@ -10,4 +10,7 @@ returns c =
     let same = ap (λ (v : OfView). v.roots) c.self.view_is ∙ c.requires.settled.roots in
     let reaching = subst (λ (roots : Amounts). IsReaching k roots c.self.inside.turn c.new.result)
     (sym same) c.new.ensures.reaching in
-    record { settled = record { right = record { each = before.each; reach = reaching }; roots = same } }
+    record {
+      settled = record { right = record { each = before.each; reach = reaching }; roots = same };
+      kept = ap (λ (v : OfView). v.entries) c.self.view_is;
+    }

@@ -12,6 +12,7 @@ use Rattle.wot_step.proofs.Results.{if_ok}
 use Rattle.wot_machine.proofs.Unchanged.{runs_none}
 use Rattle.wot_machine.proofs.CommandsInLines.{few_turns, kept_told, on_err_told, on_ok_told, paced_ran, ran_told}
 use Rattle.wot_machine.proofs.CommandsInLines.{still_turns, told_as, watched_told}
+use Rattle.wot_machine.proofs.Due.{due_alone, due_paced}
 use Rattle.wot_machine.proofs.Removals.{close_only, off_only}
 use Rattle.wot_machine.proofs.dispatch.Parts.act.Goals as goal
 
@@ -19,8 +20,8 @@ use Rattle.wot_machine.proofs.dispatch.Parts.act.Goals as goal
 
 pub obey-requires-clause-read : goal.obey-requires-clause-read
 obey-requires-clause-read g c = record {
-  fit = rw c.in-State.is at c.requires.fit;
-  small = rw c.in-State.is at c.requires.small;
+  fit = rw c.in-State.is at c.requires.read.0;
+  small = rw c.in-State.is at c.requires.read.1;
 }
 
 pub obey-requires-clause-ready : goal.obey-requires-clause-ready
@@ -169,3 +170,29 @@ pub returns-in-Watch-clause-sure : goal.returns-in-Watch-clause-sure
 returns-in-Watch-clause-sure g c =
     rw c.in-Watch.is
     (λ e. c.plain-in-Watch.ensures.same ∙ c.watch.ensures.sure (off_only c.in-Watch.name c.in-Watch.command e))
+
+-- ---- the move of a cursor
+
+pub returns-in-State-clause-due : goal.returns-in-State-clause-due
+returns-in-State-clause-due g c =
+    due_alone c.obey.result c.plain.result (record {
+      engine = c.obey.new.engine;
+      cursors = c.args.self.now.cursors;
+      watches = c.args.self.now.watches;
+      made = c.obey.new.steps.made;
+    }) c.plain.ensures.told c.plain.ensures.same
+
+pub returns-in-Cursor-clause-due : goal.returns-in-Cursor-clause-due
+returns-in-Cursor-clause-due g c =
+    due_paced c.pace.result (OfCursor c.in-Cursor.name c.in-Cursor.command) c.args.self.now.engine c.pace.new.engine
+    c.args.self.now.cursors c.pace.new.cursors c.args.self.now.watches c.pace.new.steps.made refl c.pace.ensures.stays
+    c.pace.ensures.moves c.pace.ensures.paces
+
+pub returns-in-Watch-clause-due : goal.returns-in-Watch-clause-due
+returns-in-Watch-clause-due g c =
+    due_alone c.watch.result c.plain-in-Watch.result (record {
+      engine = c.watch.new.engine;
+      cursors = c.args.self.now.cursors;
+      watches = c.watch.new.watches;
+      made = c.watch.new.steps.made;
+    }) c.plain-in-Watch.ensures.told c.plain-in-Watch.ensures.same
