@@ -33,11 +33,23 @@ pub fn is_hash_accepted(algorithm: u8) -> bool {
     matches!(algorithm, 8..=12 | 14)
 }
 
+/// The same for a key's own signatures by the engine's policy (docs/PROFILE.md), which also admits SHA-1 and RIPEMD-160
+/// on those that were created before 1 February 2013.
+pub fn is_hash_admitted(algorithm: u8, created: u32) -> bool {
+    is_hash_accepted(algorithm) || (matches!(algorithm, 2 | 3) && created < 1_359_676_800)
+}
+
 impl<'a> Bound<'a> {
     /// Of copies of one certificate.
     pub fn of(copies: &[&'a Certificate<'a>]) -> Option<Bound<'a>> {
+        Bound::with_hashes(copies, |algorithm, _| is_hash_accepted(algorithm))
+    }
+
+    /// `admits` says whether a hash algorithm counts on a signature of this creation time.
+    pub fn with_hashes(copies: &[&'a Certificate<'a>], admits: fn(u8, u32) -> bool) -> Option<Bound<'a>> {
         let key = copies.first()?.key();
-        let maker = Maker { body: key, fingerprint: Fingerprint::of_key(key)?, key: verifying_key(key)? };
+        let fingerprint = Fingerprint::of_key(key)?;
+        let maker = Maker { body: key, fingerprint, key: verifying_key(key)?, admits };
         let mut bound = Bound { key, signatures: Vec::new(), revocations: HashMap::new() };
         for placed in copies.iter().flat_map(|copy| copy.signatures()) {
             bound.add(&maker, placed);
@@ -71,6 +83,7 @@ struct Maker<'a> {
     body: &'a [u8],
     fingerprint: Fingerprint,
     key: VerifyingKey,
+    admits: fn(u8, u32) -> bool,
 }
 
 impl Maker<'_> {
@@ -87,10 +100,13 @@ impl Maker<'_> {
     /// What a signature says, if this key made it and it counts.
     fn verified(&self, key: &VerifyingKey, placed: &PlacedSignature, signature: &Signature) -> Option<Facts> {
         // A revocation by a weak hash is heeded rather than not.
+        let facts = Facts::of(&signature.hashed_subpackets()?).ok()?;
         let is_fit = signature.version == self.body[0]
             && has_right_salt(signature)
-            && (is_revocation(signature.kind) || is_hash_accepted(signature.hash_algorithm));
-        let facts = Facts::of(&signature.hashed_subpackets()?).ok().filter(|_| is_fit)?;
+            && (is_revocation(signature.kind) || (self.admits)(signature.hash_algorithm, facts.created));
+        if !is_fit {
+            return None;
+        }
         let digests = digests(self.body, placed, signature).ok()?;
         digests.iter().any(|digest| verify(key, signature, digest).is_ok()).then(|| facts)
     }

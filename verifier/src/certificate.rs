@@ -83,6 +83,12 @@ impl<'a> Certificate<'a> {
         self.packets.iter().filter(is_key).map(|packet| &*packet.body)
     }
 
+    /// The bodies of the user IDs.
+    pub fn user_ids(&self) -> impl Iterator<Item = &[u8]> {
+        let is_user_id = |packet: &&Packet| packet.kind == kind::USER_ID;
+        self.packets.iter().filter(is_user_id).map(|packet| &*packet.body)
+    }
+
     pub fn signatures(&self) -> impl ExactSizeIterator<Item = PlacedSignature<'_>> {
         self.standing.iter().map(move |standing| PlacedSignature {
             place: standing.place,
@@ -119,6 +125,8 @@ pub fn certificates<'a>(text: &'a [u8], public: bool, mut tell: impl FnMut(usize
             Ok(packet) if begins_certificate(&packet) => lists.push(vec![packet]),
             Ok(packet) => match lists.last_mut() {
                 Some(list) => list.push(packet),
+                // These are ignored wherever they stand (RFC 9580, sections 5.8 and 5.14).
+                None if matches!(packet.kind, kind::MARKER | kind::PADDING) => {}
                 None => tell(packet.place, What::BeforeFirst),
             },
         }
@@ -216,6 +224,8 @@ mod tests {
             let text = text(&[KEY, packet, KEY]);
             assert_eq!(cut(&text, false), (vec![vec![]], vec![(0, what)]));
         }
+        let marked = text(&[&[0xca, 3, b'P', b'G', b'P', 0xd5, 1, 0], KEY]);
+        assert_eq!(cut(&marked, false), (vec![vec![]], vec![]));
         let text = text(&[&[0xcd, 0], KEY, KEY, &[0xc2, 7]]);
         let (certificates, told) = cut(&text, false);
         assert_eq!(certificates.len(), 1);

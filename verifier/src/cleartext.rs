@@ -4,6 +4,9 @@ use std::io::{self, BufRead, Read};
 
 const BEGIN: &[u8] = b"-----BEGIN PGP SIGNED MESSAGE-----";
 const SIGNATURE: &[u8] = b"-----BEGIN PGP SIGNATURE-----";
+/// RFC 9580, section 9.5.
+const HASHES: [&str; 9] =
+    ["MD5", "SHA1", "RIPEMD160", "SHA256", "SHA384", "SHA512", "SHA224", "SHA3-256", "SHA3-512"];
 /// A longer line is refused, since it is held in memory.
 const LONGEST_LINE: u64 = 1 << 24;
 const LONGEST_SIGNATURES: u64 = 1 << 24;
@@ -13,25 +16,33 @@ pub fn is_begun_by(line: &[u8]) -> bool {
     line.without_end() == BEGIN
 }
 
-/// Hands on what is signed, piece by piece, and returns the armored signatures behind it. Lines end with a line feed,
-/// and the last line doesn't end.
+/// Whether a line ends what is signed, and begins the signatures.
+pub fn is_ended_by(line: &[u8]) -> bool {
+    line.without_end() == SIGNATURE
+}
+
+/// Hands on what is signed, piece by piece, and returns the armored signatures behind it. The text begins with the line
+/// that begins it, and has nothing behind the signatures. Lines end with a line feed, and the last line doesn't end.
 pub fn take_apart(text: &mut dyn BufRead, data: &mut dyn FnMut(&[u8]) -> io::Result<()>) -> io::Result<Vec<u8>> {
     let mut line = Vec::new();
-    while !is_begun_by(&line) {
-        next_line(text, &mut line)?;
+    next_line(text, &mut line)?;
+    if !is_begun_by(&line) {
+        return Err(invalid("no signed text begins here"));
     }
     next_line(text, &mut line)?;
     while !line.without_end().is_empty() {
-        if !line.starts_with(b"Hash: ") {
-            return Err(invalid("an armor header of the signed text isn't known"));
+        if !names_hashes(line.without_end()) {
+            return Err(invalid("a signed text has another armor header than `Hash` with names of hash algorithms"));
         }
         next_line(text, &mut line)?;
     }
     let mut is_first = true;
     loop {
         next_line(text, &mut line)?;
-        if line.without_end() == SIGNATURE {
-            text.take(LONGEST_SIGNATURES).read_to_end(&mut line)?;
+        if is_ended_by(&line) {
+            if text.take(LONGEST_SIGNATURES).read_to_end(&mut line)? as u64 == LONGEST_SIGNATURES {
+                return Err(invalid("its signatures are too long"));
+            }
             return Ok(line);
         }
         if !is_first {
@@ -40,6 +51,12 @@ pub fn take_apart(text: &mut dyn BufRead, data: &mut dyn FnMut(&[u8]) -> io::Res
         is_first = false;
         data(signed_part(&line)?)?;
     }
+}
+
+/// Whether an armor header is the one that RFC 9580 allows here (section 7). Others would be text that looks signed.
+fn names_hashes(header: &[u8]) -> bool {
+    let is_name = |name: &[u8]| HASHES.iter().any(|one| one.as_bytes() == name.trim_spaces());
+    header.strip_prefix(b"Hash:").map_or(false, |names| names.split(|octet| *octet == b',').all(is_name))
 }
 
 /// Reads a line in place of another one; an error if there is none.
@@ -71,12 +88,21 @@ fn invalid(why: &str) -> io::Error {
 trait Line {
     /// Without the line feed at its end, and a carriage return before it.
     fn without_end(&self) -> &[u8];
+    /// Without spaces and tabs at both ends.
+    fn trim_spaces(&self) -> &[u8];
 }
 
 impl Line for [u8] {
     fn without_end(&self) -> &[u8] {
         let line = self.strip_suffix(b"\n").unwrap_or(self);
         line.strip_suffix(b"\r").unwrap_or(line)
+    }
+
+    fn trim_spaces(&self) -> &[u8] {
+        let is_text = |octet: &u8| !matches!(octet, b' ' | b'\t');
+        let begin = self.iter().position(is_text).unwrap_or(self.len());
+        let end = self.iter().rposition(is_text).map_or(begin, |last| last + 1);
+        &self[begin..end]
     }
 }
 
@@ -98,7 +124,8 @@ mod tests {
     #[test]
     fn lines_lose_their_marks_and_ends() {
         let lines = "a \t\r\n- - b\n\n- -----BEGIN c";
-        let text = format!("before\n{HEAD}Hash: SHA512\n\n{lines}\n-----BEGIN PGP SIGNATURE-----\nd");
+        let head = format!("{HEAD}Hash: SHA512\nHash: SHA1, SHA3-256,SHA256 \r\n\n");
+        let text = format!("{head}{lines}\n-----BEGIN PGP SIGNATURE-----\nd");
         let expected = ("a\n- b\n\n-----BEGIN c".to_owned(), "-----BEGIN PGP SIGNATURE-----\nd".to_owned());
         assert_eq!(apart(&text).unwrap(), expected);
         let empty = format!("{HEAD}\n-----BEGIN PGP SIGNATURE-----\r\n");
@@ -111,7 +138,12 @@ mod tests {
             "a\n".to_owned(),
             HEAD.to_owned(),
             format!("{HEAD}\na\n"),
+            format!("a\n{HEAD}\na\n-----BEGIN PGP SIGNATURE-----\n"),
             format!("{HEAD}Comment: x\n\na\n-----BEGIN PGP SIGNATURE-----\n"),
+            format!("{HEAD}NotDashEscaped: You need GnuPG\n\na\n-----BEGIN PGP SIGNATURE-----\n"),
+            format!("{HEAD}Hash: SHA512 and pay 100 to Mallory\n\na\n-----BEGIN PGP SIGNATURE-----\n"),
+            format!("{HEAD}Hash:\n\na\n-----BEGIN PGP SIGNATURE-----\n"),
+            format!("{HEAD}Hash: SHA512,\n\na\n-----BEGIN PGP SIGNATURE-----\n"),
             format!("{HEAD} \na\n-----BEGIN PGP SIGNATURE-----\n"),
             format!("{HEAD}\n-a\n-----BEGIN PGP SIGNATURE-----\n"),
         ] {

@@ -1,21 +1,21 @@
 //! Signatures on data: whether each is good, and by which key of which certificate. The library verifies most of them,
 //! and this program those that the library can't (`own`).
 
-use std::fs::{File, OpenOptions};
-use std::io::{self, Cursor, Read, Seek, Write};
+use std::io::{self, Seek, Write};
 use std::path::Path;
 use std::time::{SystemTime, UNIX_EPOCH};
 
+use crate::files::{broken, octets, unwritten, Data, Whole};
 use crate::finding::{Finding, Word};
 use crate::holders::Holders;
-use crate::input;
+use crate::layout::Outside;
 use crate::library::Library;
 use crate::message::{copy_pieces, signatures_of, Message};
 use crate::mixed::Mixed;
 use crate::own::Judge;
-use crate::spool;
+use crate::said::Said;
 
-/// Signatures that stand apart are held in memory, if they are no longer than this.
+/// Signatures that stand apart are held in memory. Longer ones are refused.
 const LONGEST_SIGNATURES: u64 = 1 << 24;
 
 /// What is signed, and where its signatures are.
@@ -26,9 +26,16 @@ pub enum Signed<'p> {
 }
 
 /// Why nothing is said of the signatures.
+#[derive(Debug)]
 pub enum Broken {
     Input(String),
     Output(String),
+}
+
+impl From<Broken> for Stop {
+    fn from(broken: Broken) -> Stop {
+        Stop::Broken(broken)
+    }
 }
 
 /// Why reading stopped.
@@ -47,14 +54,85 @@ impl From<anyhow::Error> for Stop {
     }
 }
 
-impl Signed<'_> {
-    /// What each signature comes to at a time, by default now. If the message or the signatures aren't well-formed,
-    /// that is the one finding.
-    pub fn judge(&self, holders: &Holders, at: Option<u32>) -> Result<Vec<Finding>, Broken> {
+impl<'p> Signed<'p> {
+    /// Opens all of its files. What they hold isn't looked at yet.
+    pub fn files(self) -> Result<Files<'p>, Broken> {
+        match self {
+            Signed::Detached { data, signatures } => {
+                let signatures = octets(signatures, LONGEST_SIGNATURES + 1)?;
+                Ok(Files::Detached { data: Data::open(data)?, signatures })
+            }
+            Signed::Whole { message, content } => Whole::open(message, content).map(Files::Whole),
+        }
+    }
+
+    /// Reads the signatures, so that their issuers are known before certificates are there.
+    pub fn open(self) -> Result<Opened<'p>, Broken> {
+        Ok(self.files()?.open())
+    }
+}
+
+/// The files of data and of their signatures, open.
+pub enum Files<'p> {
+    /// The text of the signatures, and the data.
+    Detached { data: Data<'p>, signatures: Vec<u8> },
+    Whole(Whole<'p>),
+}
+
+impl<'p> Files<'p> {
+    /// Reads the signatures.
+    pub fn open(self) -> Opened<'p> {
+        Opened(match self {
+            Files::Detached { data, signatures } => {
+                let bodies = match signatures.len() as u64 > LONGEST_SIGNATURES {
+                    true => Err(io::Error::new(io::ErrorKind::InvalidData, "the signatures are too long")),
+                    false => signatures_of(&signatures),
+                };
+                Form::Detached { data, bodies }
+            }
+            Files::Whole(mut whole) => {
+                let message = Message::read(&mut whole.file);
+                Form::Whole { whole, message }
+            }
+        })
+    }
+}
+
+/// Data and their signatures, of which the signatures are read.
+pub struct Opened<'p>(Form<'p>);
+
+enum Form<'p> {
+    /// The bodies of the signatures; an Err says why they aren't well-formed.
+    Detached { data: Data<'p>, bodies: io::Result<Vec<Vec<u8>>> },
+    /// An Err says why it isn't well-formed.
+    Whole { whole: Whole<'p>, message: io::Result<Message> },
+}
+
+impl Opened<'_> {
+    /// What each signature says of itself, in their order, as far as that can be read. Empty if the signatures, or the
+    /// message that holds them, aren't well-formed.
+    pub fn said(&self) -> Vec<Said> {
+        let bodies = match &self.0 {
+            Form::Detached { bodies, .. } => bodies.as_deref().unwrap_or_default(),
+            Form::Whole { message, .. } => message.as_ref().map_or(&[][..], |message| &message.signatures),
+        };
+        bodies.iter().filter_map(|body| Said::of(body)).collect()
+    }
+
+    /// What stands around a message or a text with a cleartext signature: nobody signed it.
+    pub fn outside(&self) -> Outside {
+        match &self.0 {
+            Form::Whole { message: Ok(message), .. } => message.outside(),
+            _ => Outside::default(),
+        }
+    }
+
+    /// What each signature comes to, as [`Signed::findings`] has it.
+    pub fn findings(self, holders: &Holders, at: Option<u32>) -> Result<Vec<Finding>, Broken> {
         let library = Library { holders, at };
-        let judged = match self {
-            Signed::Detached { data, signatures } => detached(data, signatures, library),
-            Signed::Whole { message, content } => whole(message, *content, library),
+        let judged = match self.0 {
+            Form::Detached { data, bodies } => detached(data, bodies, library),
+            Form::Whole { whole, message } => of_whole(whole, message, library),
         };
         match judged {
             Ok(findings) => Ok(findings),
@@ -64,59 +142,50 @@ impl Signed<'_> {
     }
 }
 
-fn detached(data: &Path, signatures: &Path, library: Library) -> Result<Vec<Finding>, Stop> {
-    let mut reader = open(signatures)?;
-    let mut front = Vec::new();
-    reader.by_ref().take(LONGEST_SIGNATURES).read_to_end(&mut front).map_err(broken(signatures))?;
-    let bodies = signatures_of(&front).unwrap_or_default();
-    if !bodies.iter().any(|body| Judge::is_mine(library.holders, body)) {
-        return library.detached(Cursor::new(front).chain(reader), open(data)?);
+fn detached(data: Data, bodies: io::Result<Vec<Vec<u8>>>, library: Library) -> Result<Vec<Finding>, Stop> {
+    let bodies = bodies.map_err(|error| Stop::Malformed(error.into()))?;
+    if bodies.is_empty() {
+        return Err(Stop::Malformed(anyhow::anyhow!("there is no signature")));
     }
     let mut mixed = Mixed::new(&bodies, library, time(library.at));
+    if !mixed.has_mine() {
+        return mixed.findings(data.once());
+    }
     if !mixed.has_others() {
-        copy_pieces(&mut *open(data)?, &mut |piece| mixed.update(piece)).map_err(broken(data))?;
+        let path = data.path();
+        copy_pieces(&mut *data.once(), &mut |piece| mixed.update(piece)).map_err(|error| broken(path, error))?;
         return mixed.findings(io::empty());
     }
-    let mut file = spool::open(data).map_err(broken(data))?;
-    copy_pieces(&mut file, &mut |piece| mixed.update(piece)).and_then(|()| file.rewind()).map_err(broken(data))?;
-    mixed.findings(file)
+    let again = data.twice(&mut |piece| mixed.update(piece))?;
+    mixed.findings(again)
 }
 
-fn whole(path: &Path, content: Option<&Path>, library: Library) -> Result<Vec<Finding>, Stop> {
-    let mut file = spool::open(path).map_err(broken(path))?;
-    let message = Message::read(&mut file);
-    file.rewind().map_err(broken(path))?;
-    let mut content = Content::of(content)?;
-    match message {
-        Ok(message) if message.signatures.iter().any(|body| Judge::is_mine(library.holders, body)) => {
-            message.check().map_err(|why| Stop::Malformed(anyhow::anyhow!(why)))?;
-            taken_apart(&message, &mut file, path, &mut content, library)
-        }
-        // Of what isn't well-formed the library says why.
-        _ => {
-            let findings = library.whole(file, &mut |piece| content.write(piece))?;
-            content.finish().map(|()| findings)
-        }
+/// The library takes apart messages whose signatures it knows, unless they are texts with a cleartext signature: it
+/// lets more pass around these than RFC 9580 does.
+fn of_whole(mut whole: Whole, message: io::Result<Message>, library: Library) -> Result<Vec<Finding>, Stop> {
+    let message = message.map_err(|error| named(whole.path, error))?;
+    if message.is_cleartext() || message.signatures.iter().any(|body| Judge::is_mine(library.holders, body)) {
+        message.check().map_err(|why| Stop::Malformed(anyhow::anyhow!(why)))?;
+        return taken_apart(&message, whole, library);
     }
+    let text = message.text(&mut whole.file).map_err(|error| named(whole.path, error))?;
+    let content = &mut whole.content;
+    let findings = library.whole(text, &mut |piece| content.write(piece))?;
+    content.finish().map(|()| findings)
 }
 
 /// Verifies the signatures of a message as those that stand apart from its data.
-fn taken_apart(
-    message: &Message,
-    file: &mut File,
-    path: &Path,
-    content: &mut Content,
-    library: Library,
-) -> Result<Vec<Finding>, Stop> {
+fn taken_apart(message: &Message, whole: Whole, library: Library) -> Result<Vec<Finding>, Stop> {
+    let Whole { path, mut file, spare, mut content } = whole;
+    let unspared = |error| unwritten(Path::new("a temporary file"), error);
     let mut mixed = Mixed::new(&message.signatures, library, time(library.at));
-    let mut copy = spool::unnamed().map_err(output(Path::new("a temporary file")))?;
+    let mut copy = if mixed.has_others() { Some(spare.map_err(unspared)?) } else { None };
     let mut stop = None;
-    let is_copied = mixed.has_others();
-    let copied = message.copy_data(file, &mut |piece| {
+    let copied = message.copy_data(&mut file, &mut |piece| {
         mixed.update(piece)?;
-        let written = content.write(piece).and_then(|()| match is_copied {
-            true => copy.write_all(piece).map_err(output(Path::new("a temporary file"))),
-            false => Ok(()),
+        let written = content.write(piece).and_then(|()| match &mut copy {
+            Some(copy) => copy.write_all(piece).map_err(|error| unspared(error).into()),
+            None => Ok(()),
         });
         written.map_err(|error| {
             stop = Some(error);
@@ -128,8 +197,10 @@ fn taken_apart(
     }
     copied.map_err(|error| named(path, error))?;
     content.finish()?;
-    copy.rewind().map_err(output(Path::new("a temporary file")))?;
-    mixed.findings(copy)
+    match copy {
+        Some(mut copy) => copy.rewind().map_err(unspared).map_err(Stop::from).and_then(|()| mixed.findings(copy)),
+        None => mixed.findings(io::empty()),
+    }
 }
 
 /// Seconds since 1970, of a given time or the current one.
@@ -138,43 +209,10 @@ fn time(at: Option<u32>) -> u64 {
     at.map_or_else(now, u64::from)
 }
 
-/// The file to which what is signed is written, if one is wanted.
-struct Content<'p>(Option<(File, &'p Path)>);
-
-impl<'p> Content<'p> {
-    fn of(path: Option<&'p Path>) -> Result<Content<'p>, Stop> {
-        let open = |path: &'p Path| OpenOptions::new().write(true).create_new(true).open(path).map_err(output(path));
-        Ok(Content(path.map(|path| open(path).map(|file| (file, path))).transpose()?))
-    }
-
-    fn write(&mut self, octets: &[u8]) -> Result<(), Stop> {
-        self.0.as_mut().map_or(Ok(()), |(file, path)| file.write_all(octets).map_err(output(path)))
-    }
-
-    fn finish(&mut self) -> Result<(), Stop> {
-        self.0.as_mut().map_or(Ok(()), |(file, path)| file.flush().map_err(output(path)))
-    }
-}
-
-fn open(path: &Path) -> Result<Box<dyn Read + Send + Sync>, Stop> {
-    if input::is_standard_input(path) {
-        return Ok(Box::new(io::stdin()));
-    }
-    Ok(Box::new(File::open(path).map_err(broken(path))?))
-}
-
-fn broken(path: &Path) -> impl FnOnce(io::Error) -> Stop + '_ {
-    move |error| Stop::Broken(Broken::Input(format!("{}: {error}", path.display())))
-}
-
 /// An error in reading a message: of the system, or of what was read.
 fn named(path: &Path, error: io::Error) -> Stop {
     match error.raw_os_error() {
-        Some(_) => broken(path)(error),
+        Some(_) => Stop::Broken(broken(path, error)),
         None => Stop::Malformed(error.into()),
     }
-}
-
-fn output(path: &Path) -> impl FnOnce(io::Error) -> Stop + '_ {
-    move |error| Stop::Broken(Broken::Output(format!("{}: {error}", path.display())))
 }

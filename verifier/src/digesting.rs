@@ -3,6 +3,7 @@
 use crate::hasher::Hasher;
 use crate::signature::{kind, Signature};
 
+#[derive(Clone)]
 pub struct Digesting {
     hasher: Hasher,
     is_text: bool,
@@ -53,7 +54,7 @@ impl Digesting {
 #[cfg(test)]
 mod tests {
     use super::*;
-    use crate::script::digits;
+    use crate::digits::digits;
 
     fn digest(kind: u8, pieces: &[&[u8]]) -> Vec<u8> {
         let body = [4, kind, 22, 8, 0, 0, 0, 0, 0xab, 0xcd];

@@ -1,4 +1,4 @@
-//! What a signature on data comes to, as a line of the output.
+//! What a signature on data comes to.
 
 use std::fmt;
 use std::time::UNIX_EPOCH;
@@ -11,7 +11,7 @@ use openpgp::parse::stream::{VerificationError, VerificationResult};
 use openpgp::Cert;
 
 use crate::fingerprint::Fingerprint;
-use crate::script::digits;
+use crate::said::Said;
 use crate::signature::{Issuer, Signature as Own};
 
 #[derive(Clone, Copy, Debug, PartialEq, Eq)]
@@ -43,15 +43,21 @@ impl fmt::Display for Word {
     }
 }
 
-/// What isn't known is None. `key` is a key ID if the signature names no fingerprint and no key of the input made it.
+/// A signature, and what it comes to. What isn't known is None. As text, a line of the output of `wot-verdicts`.
+#[derive(Clone, Debug)]
 pub struct Finding {
-    word: Word,
-    made: Option<u64>,
-    kind: Option<u8>,
-    hash_algorithm: Option<u8>,
-    certificate: Option<String>,
-    key: Option<String>,
-    why: Option<String>,
+    pub word: Word,
+    /// What the signature says of itself; None if it can't be read.
+    pub said: Option<Said>,
+    /// When it was created, in seconds since 1970, as whoever verified it has it.
+    pub made: Option<u64>,
+    /// The fingerprint of the certificate, in lower-case digits.
+    pub certificate: Option<String>,
+    /// The fingerprint of the key or subkey that made it. If no key of the input did, it is the one that it names, and
+    /// a key ID if it names no fingerprint.
+    pub key: Option<String>,
+    /// Why it isn't good, by the library's or this program's words: one line, which may quote what was read.
+    pub why: Option<String>,
 }
 
 impl Finding {
@@ -78,17 +84,10 @@ impl Finding {
     pub fn on(word: Word, signature: &Own, made: Option<u32>) -> Finding {
         let key = signature.issuers().first().map(|issuer| match issuer {
             Issuer::Fingerprint(fingerprint) => fingerprint.to_string(),
-            Issuer::KeyId(id) => digits(&id.0),
+            Issuer::KeyId(id) => id.to_string(),
         });
-        Finding {
-            word,
-            made: made.map(u64::from),
-            kind: Some(signature.kind),
-            hash_algorithm: Some(signature.hash_algorithm),
-            certificate: None,
-            key,
-            why: None,
-        }
+        let said = Some(Said::from(signature));
+        Finding { word, said, made: made.map(u64::from), certificate: None, key, why: None }
     }
 
     pub fn by_key(self, certificate: Fingerprint, key: Fingerprint) -> Finding {
@@ -96,7 +95,8 @@ impl Finding {
     }
 
     pub fn since(self, why: &str) -> Finding {
-        Finding { why: Some(why.to_owned()), ..self }
+        // What the library says may quote what it read.
+        Finding { why: Some(why.replace(|character: char| character.is_control(), " ")), ..self }
     }
 
     /// Of what can't be read as a signature.
@@ -105,16 +105,15 @@ impl Finding {
     }
 
     pub fn nothing(word: Word) -> Finding {
-        Finding { word, made: None, kind: None, hash_algorithm: None, certificate: None, key: None, why: None }
+        Finding { word, said: None, made: None, certificate: None, key: None, why: None }
     }
 
     fn new(word: Word, sig: &Signature) -> Finding {
         let made = sig.signature_creation_time().and_then(|time| time.duration_since(UNIX_EPOCH).ok());
         Finding {
             word,
+            said: Some(Said::from(sig)),
             made: made.map(|since| since.as_secs()),
-            kind: Some(sig.typ().into()),
-            hash_algorithm: Some(sig.hash_algo().into()),
             certificate: None,
             key: sig.get_issuers().first().map(|issuer| format!("{issuer:x}")),
             why: None,
@@ -126,7 +125,7 @@ impl Finding {
     }
 
     fn because(self, error: &anyhow::Error) -> Finding {
-        Finding { why: Some(format!("{error:#}")), ..self }
+        self.since(&format!("{error:#}"))
     }
 }
 
@@ -146,13 +145,12 @@ fn word_for(sig: &Signature, error: &anyhow::Error) -> Word {
 /// `signature WORD MADE TYPE HASH CERTIFICATE KEY WHY`, with `-` for what isn't known. WHY is the rest of the line.
 impl fmt::Display for Finding {
     fn fmt(&self, f: &mut fmt::Formatter<'_>) -> fmt::Result {
-        let Finding { word, made, kind, hash_algorithm, certificate, key, why } = self;
+        let Finding { word, said, made, certificate, key, why } = self;
         let or_dash = |text: &Option<String>| text.clone().unwrap_or_else(|| "-".to_owned());
         let number = |number: Option<u64>| or_dash(&number.map(|number| number.to_string()));
+        let octet = |of: fn(&Said) -> u8| number(said.as_ref().map(of).map(u64::from));
         write!(f, "signature {word} {} ", number(*made))?;
-        write!(f, "{} {} ", number(kind.map(u64::from)), number(hash_algorithm.map(u64::from)))?;
-        // What the library says may quote what it read.
-        let why = or_dash(why).replace(|character: char| character.is_control(), " ");
-        write!(f, "{} {} {why}", or_dash(certificate), or_dash(key))
+        write!(f, "{} {} ", octet(|said| said.kind), octet(|said| said.hash_algorithm))?;
+        write!(f, "{} {} {}", or_dash(certificate), or_dash(key), or_dash(why))
     }
 }

@@ -54,9 +54,16 @@ fn hash_key(algorithm: HashAlgorithm, front: u8, length: &[u8], body: &[u8], dig
 }
 
 /// Lower-case digits.
+impl fmt::Display for KeyId {
+    fn fmt(&self, f: &mut fmt::Formatter<'_>) -> fmt::Result {
+        f.write_str(&crate::digits::digits(&self.0))
+    }
+}
+
+/// Lower-case digits.
 impl fmt::Display for Fingerprint {
     fn fmt(&self, f: &mut fmt::Formatter<'_>) -> fmt::Result {
-        f.write_str(&crate::script::digits(self.octets()))
+        f.write_str(&crate::digits::digits(self.octets()))
     }
 }
 

@@ -9,6 +9,7 @@ use crate::signature::Signature;
 pub const SHA3_256: u8 = 12;
 pub const SHA3_512: u8 = 14;
 
+#[derive(Clone)]
 pub enum Hasher {
     Sequoia(Box<dyn Digest>),
     Nettle(Box<dyn Hash>),
@@ -68,7 +69,7 @@ fn salt_size(algorithm: u8) -> Option<usize> {
 #[cfg(test)]
 mod tests {
     use super::*;
-    use crate::script::digits;
+    use crate::digits::digits;
 
     #[test]
     fn digests_are_those_of_other_programs() {

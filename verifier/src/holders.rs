@@ -7,10 +7,9 @@ use sequoia_openpgp::{Cert, KeyHandle, KeyID, Result};
 
 use crate::certificate::Certificate;
 use crate::fingerprint::{Fingerprint, KeyId};
+use crate::keys;
+use crate::said::MOST_ISSUERS;
 use crate::signature::Issuer;
-
-/// A signature names its issuer once or twice. More names are looked at no further.
-const MOST_ISSUERS: usize = 8;
 
 /// Certificates by the key IDs of their keys and subkeys.
 pub struct Holders<'a> {
@@ -44,11 +43,7 @@ impl<'a> Holders<'a> {
     pub fn named(&self, issuers: &[Issuer]) -> Vec<Named<'a>> {
         let mut found: Vec<Named> = Vec::new();
         for issuer in issuers.iter().take(MOST_ISSUERS) {
-            let id = match issuer {
-                Issuer::Fingerprint(fingerprint) => fingerprint.key_id(),
-                Issuer::KeyId(id) => *id,
-            };
-            for index in self.by_id.get(&id).into_iter().flatten() {
+            for index in self.by_id.get(&issuer.key_id()).into_iter().flatten() {
                 self.add_named(&self.certificates[*index], issuer, &mut found);
             }
         }
@@ -84,11 +79,12 @@ impl<'a> Holders<'a> {
     }
 
     /// The certificates that have these keys, in the library's form. Copies of one certificate are merged, so that what
-    /// only one of them says, such as a revocation, counts.
+    /// only one of them says, such as a revocation, counts. Those with a key that is too large are left out.
     pub fn with_keys(&self, handles: &[KeyHandle]) -> Result<Vec<Cert>> {
         let mut indices: Vec<usize> = handles.iter().flat_map(|handle| self.indices(handle)).copied().collect();
         indices.sort_unstable();
         indices.dedup();
+        indices.retain(|index| !keys::has_too_large(&self.certificates[*index]));
         let mut found: Vec<Cert> = Vec::new();
         for index in indices {
             let cert = Cert::from_bytes(&self.certificates[index].octets())?;

@@ -1,5 +1,6 @@
 //! Files and folders as texts of packets, out of their armor.
 
+use std::fmt::Display;
 use std::fs;
 use std::io::{self, Read};
 use std::path::{Path, PathBuf};
@@ -16,27 +17,58 @@ pub struct Text {
     pub filed: Option<String>,
 }
 
+/// A text as its file has it, maybe armored.
+pub struct Raw(Text);
+
 /// The texts of these files and certificate directories, in the order of the words and of the files' names.
 pub fn read_all(paths: &[PathBuf], notices: &mut Vec<Notice>) -> io::Result<Vec<Text>> {
+    let raw = read_raw(paths, notices)?;
+    raw.into_iter().map(|one| one.dearmored(notices)).collect()
+}
+
+/// The texts as they are. So nothing that they say is looked at before all are read.
+pub fn read_raw(paths: &[PathBuf], notices: &mut Vec<Notice>) -> io::Result<Vec<Raw>> {
     let mut texts = Vec::new();
     for path in paths {
         let read = if path.is_dir() {
             read_folder(path, notices, &mut texts)
         } else {
-            read_file(path, None, notices).map(|text| texts.push(text))
+            read_file(path, None).map(|text| texts.push(text))
         };
-        read.map_err(|error| io::Error::new(error.kind(), format!("{}: {error}", path.display())))?;
+        read.map_err(|error| named(&path.display(), error))?;
     }
     Ok(texts)
 }
 
+impl Raw {
+    pub fn length(&self) -> usize {
+        self.0.octets.len()
+    }
+
+    /// The text out of its armor.
+    pub fn dearmored(self, notices: &mut Vec<Notice>) -> io::Result<Text> {
+        let Text { name, octets, filed } = self.0;
+        let octets = match octets.first() {
+            None => octets,
+            Some(first) if first & 0x80 != 0 => octets,
+            Some(_) => dearmored(&octets, &mut |place, what| notices.push(Notice { name: name.clone(), place, what }))
+                .map_err(|error| named(&name, error))?,
+        };
+        Ok(Text { name, octets, filed })
+    }
+}
+
+fn named(name: &dyn Display, error: io::Error) -> io::Error {
+    io::Error::new(error.kind(), format!("{name}: {error}"))
+}
+
 /// A certificate directory: folders named by the first two digits of a fingerprint, files by the others, and the
 /// special name `trust-root`.
-fn read_folder(folder: &Path, notices: &mut Vec<Notice>, texts: &mut Vec<Text>) -> io::Result<()> {
+fn read_folder(folder: &Path, notices: &mut Vec<Notice>, texts: &mut Vec<Raw>) -> io::Result<()> {
     let before = texts.len();
     let root = folder.join("trust-root");
     if root.is_file() {
-        texts.push(read_file(&root, None, notices)?);
+        texts.push(read_file(&root, None)?);
     }
     for front in names(folder, &[2])? {
         let inner = folder.join(&front);
@@ -44,7 +76,7 @@ fn read_folder(folder: &Path, notices: &mut Vec<Notice>, texts: &mut Vec<Text>) 
             continue;
         }
         for rest in names(&inner, &[38, 62])? {
-            texts.push(read_file(&inner.join(&rest), Some(format!("{front}{rest}")), notices)?);
+            texts.push(read_file(&inner.join(&rest), Some(format!("{front}{rest}")))?);
         }
     }
     if texts.len() == before {
@@ -72,8 +104,7 @@ pub fn is_standard_input(path: &Path) -> bool {
     path == Path::new("-")
 }
 
-fn read_file(path: &Path, filed: Option<String>, notices: &mut Vec<Notice>) -> io::Result<Text> {
-    let name = path.display().to_string();
+fn read_file(path: &Path, filed: Option<String>) -> io::Result<Raw> {
     let octets = if is_standard_input(path) {
         let mut octets = Vec::new();
         io::stdin().lock().read_to_end(&mut octets)?;
@@ -81,12 +112,7 @@ fn read_file(path: &Path, filed: Option<String>, notices: &mut Vec<Notice>) -> i
     } else {
         fs::read(path)?
     };
-    let octets = match octets.first() {
-        None => octets,
-        Some(first) if first & 0x80 != 0 => octets,
-        Some(_) => dearmored(&octets, &mut |place, what| notices.push(Notice { name: name.clone(), place, what }))?,
-    };
-    Ok(Text { name, octets, filed })
+    Ok(Raw(Text { name: path.display().to_string(), octets, filed }))
 }
 
 /// The packets of all armored keys of a text.
@@ -116,7 +142,7 @@ fn invalid(why: &str) -> io::Error {
 }
 
 /// The armored blocks of a text, each from the line that begins it to the line that ends it, with their places.
-fn armored_blocks(text: &[u8]) -> Vec<(usize, &[u8])> {
+pub fn armored_blocks(text: &[u8]) -> Vec<(usize, &[u8])> {
     let mut blocks = Vec::new();
     let mut begun = None;
     let mut at = 0;

@@ -9,6 +9,7 @@ use openpgp::packet::key::{Key4, PublicParts, UnspecifiedRole};
 use openpgp::packet::Key;
 use openpgp::types::PublicKeyAlgorithm;
 
+use crate::certificate::Certificate;
 use crate::curves;
 
 /// Public-key algorithms that the library doesn't know (RFC 9580, section 9.1).
@@ -85,13 +86,46 @@ pub fn verifying_key(body: &[u8]) -> Option<VerifyingKey> {
     Some(VerifyingKey::Library(key.into()))
 }
 
-/// Whether no modulus is zero: the library's arithmetic would end the process.
+/// The largest keys that are used: a signature by one of them takes some 10 ms to verify, however it was chosen.
+mod largest {
+    /// gpg reads no longer number, and OpenSSL verifies with no longer RSA key. Sequoia has no bound.
+    pub const RSA: usize = 16384;
+    /// An RSA key longer than this has a short exponent, as OpenSSL requires it.
+    pub const RSA_WITH_LONG_EXPONENT: usize = 3072;
+    pub const LONG_EXPONENT: usize = 256;
+    pub const SHORT_EXPONENT: usize = 64;
+    /// OpenSSL's bound. FIPS 186-4 has 3072.
+    pub const DSA: usize = 10000;
+    /// FIPS 186-4 has 256, and gpg makes keys of up to 512.
+    pub const DSA_SUBGROUP: usize = 512;
+}
+
+/// Whether no modulus is zero, for which the library's arithmetic would end the process, and no number is so large that
+/// verifying takes long.
 fn is_usable(material: &mpi::PublicKey) -> bool {
     match material {
-        mpi::PublicKey::RSA { n, .. } => n.bits() > 0,
-        mpi::PublicKey::DSA { p, q, .. } => p.bits() > 0 && q.bits() > 0,
+        mpi::PublicKey::RSA { n, e } => {
+            let is_long = n.bits() > largest::RSA_WITH_LONG_EXPONENT;
+            let exponent = if is_long { largest::SHORT_EXPONENT } else { largest::LONG_EXPONENT };
+            (1..=largest::RSA).contains(&n.bits()) && e.bits() <= exponent
+        }
+        mpi::PublicKey::DSA { p, q, g, y } => {
+            let is_short = |number: &mpi::MPI| number.bits() <= largest::DSA;
+            p.bits() > 0 && [p, g, y].into_iter().all(is_short) && (1..=largest::DSA_SUBGROUP).contains(&q.bits())
+        }
         _ => true,
     }
+}
+
+/// Whether a certificate has a key that is too large to be used. The library has no bound, and doesn't get to see it.
+pub fn has_too_large(certificate: &Certificate) -> bool {
+    certificate.keys().any(is_too_large)
+}
+
+fn is_too_large(body: &[u8]) -> bool {
+    let material = Parts::read(body)
+        .and_then(|parts| mpi::PublicKey::parse(PublicKeyAlgorithm::from(parts.algorithm), parts.material).ok());
+    material.map_or(false, |material| !is_usable(&material))
 }
 
 /// Whether a key is of RSA with fewer than 2048 bits, which may no longer sign data.
@@ -167,6 +201,35 @@ mod tests {
         assert!(verifying_key(&[4, 0, 0, 0, 1, 1, 0, 0, 0, 2, 3]).is_none());
         assert!(verifying_key(&[4, 0, 0, 0, 1, 17, 0, 0, 0, 1, 1, 0, 1, 1, 0, 1, 1]).is_none());
         assert!(verifying_key(&[6, 0, 0, 0, 1, 1, 0, 0, 0, 5, 0, 0, 0, 2, 3]).is_none());
+    }
+
+    #[test]
+    fn the_largest_keys() {
+        let number = |bits: usize| {
+            let mut octets = vec![0xff; (bits + 7) / 8];
+            octets[0] >>= (8 - bits % 8) % 8;
+            [&(bits as u16).to_be_bytes()[..], &octets].concat()
+        };
+        let body = |algorithm: u8, sizes: &[usize]| {
+            let numbers: Vec<u8> = sizes.iter().flat_map(|bits| number(*bits)).collect();
+            [&[4, 0, 0, 0, 1, algorithm][..], &numbers].concat()
+        };
+        for sizes in [[16384, 64], [3072, 256], [3073, 64], [1024, 2]] {
+            assert!(verifying_key(&body(1, &sizes)).is_some() && !is_too_large(&body(1, &sizes)), "{sizes:?}");
+        }
+        for sizes in [[16385, 17], [16384, 65], [3073, 65], [3072, 257], [1024, 1024]] {
+            assert!(verifying_key(&body(1, &sizes)).is_none() && is_too_large(&body(1, &sizes)), "{sizes:?}");
+        }
+        for (sizes, is_usable) in [
+            ([3072, 256, 3072, 3072], true),
+            ([10000, 512, 9999, 9999], true),
+            ([10001, 256, 9999, 9999], false),
+            ([3072, 513, 3072, 3072], false),
+            ([3072, 256, 10001, 3072], false),
+            ([3072, 256, 3072, 10001], false),
+        ] {
+            assert_eq!(verifying_key(&body(17, &sizes)).is_some(), is_usable, "{sizes:?}");
+        }
     }
 
     #[test]

@@ -1,21 +1,24 @@
 //! Messages that hold both data and the signatures on them, taken apart.
 
 use std::fs::File;
-use std::io::{self, BufRead, BufReader, Read, Seek};
+use std::io::{self, BufRead, BufReader, Read, Seek, SeekFrom, Take};
 
 use sequoia_openpgp::armor::{Reader, ReaderMode};
 
 use crate::cleartext;
+use crate::input::armored_blocks;
+use crate::layout::{Layout, Outside};
 use crate::packets::{kind, Packets};
 use crate::signature::kind::TEXT;
 use crate::signature::Signature;
 use crate::walk::{walk, Visitor};
 
-/// How far the beginning of an armored text is sought, in octets.
-const FARTHEST_BEGIN: u64 = 1 << 20;
+/// How many signatures there may be on one file: each can take some 10 ms to verify.
+const MOST: usize = 1000;
 
 pub struct Message {
-    is_cleartext: bool,
+    /// None if it is binary.
+    layout: Option<Layout>,
     one_passes: Vec<Vec<u8>>,
     /// The bodies of the signatures, in their order.
     pub signatures: Vec<Vec<u8>>,
@@ -25,23 +28,56 @@ pub struct Message {
 }
 
 impl Message {
-    /// Reads all but the data. An error of the system aside, an Err says that it isn't well-formed.
+    /// Reads all but the data, of a file at its beginning. An error of the system aside, an Err says that it isn't
+    /// well-formed.
     pub fn read(file: &mut File) -> io::Result<Message> {
-        let is_cleartext = is_cleartext(file)?;
-        let mut message = Message { is_cleartext, one_passes: vec![], signatures: vec![], literals: 0, before: 0 };
-        if is_cleartext {
-            let armored = cleartext::take_apart(&mut BufReader::new(file), &mut |_| Ok(()))?;
+        let mut reader = BufReader::new(&mut *file);
+        let is_binary = reader.fill_buf()?.first().map_or(false, |first| first & 0x80 != 0);
+        let layout = if is_binary { None } else { Some(Layout::read(&mut reader)?) };
+        let mut message = Message { layout, one_passes: vec![], signatures: vec![], literals: 0, before: 0 };
+        if message.is_cleartext() {
+            let armored = cleartext::take_apart(&mut message.text(file)?, &mut |_| Ok(()))?;
             message.signatures = signatures_of(&armored)?;
         } else {
-            walk(&mut packets_of(file)?, &mut message)?;
+            walk(&mut *message.packets(file)?, &mut message)?;
         }
         Ok(message)
+    }
+
+    pub fn is_cleartext(&self) -> bool {
+        self.layout.map_or(false, |layout| layout.is_cleartext)
+    }
+
+    /// What stands around it, unsigned.
+    pub fn outside(&self) -> Outside {
+        self.layout.map_or_else(Outside::default, |layout| layout.outside)
+    }
+
+    /// Its octets alone: those of its armored block, if it has one.
+    pub fn text<'f>(&self, file: &'f mut File) -> io::Result<BufReader<Take<&'f mut File>>> {
+        let (begin, end) = self.layout.map_or((0, u64::MAX), |layout| (layout.begin, layout.end));
+        file.seek(SeekFrom::Start(begin))?;
+        Ok(BufReader::new(file.take(end - begin)))
+    }
+
+    /// Its packets, out of its armor.
+    fn packets<'f>(&self, file: &'f mut File) -> io::Result<Box<dyn BufRead + 'f>> {
+        let text = self.text(file)?;
+        Ok(match self.layout {
+            None => Box::new(text),
+            Some(_) => Box::new(BufReader::new(Reader::from_reader(text, ReaderMode::Tolerant(None)))),
+        })
+    }
+
+    /// Whether there are signatures without data.
+    pub fn is_detached(&self) -> bool {
+        !self.is_cleartext() && self.literals == 0 && self.one_passes.is_empty() && !self.signatures.is_empty()
     }
 
     /// Whether signatures and data stand as they should (RFC 9580, section 10.3): an Err says what is wrong.
     pub fn check(&self) -> Result<(), &'static str> {
         let (passes, signatures) = (&self.one_passes, &self.signatures);
-        if self.is_cleartext {
+        if self.is_cleartext() {
             let is_text = |body: &Vec<u8>| Signature::read(body).map_or(true, |one| one.kind == TEXT);
             return if signatures.iter().all(is_text) { Ok(()) } else { Err("a signature that isn't on text") };
         }
@@ -67,12 +103,12 @@ impl Message {
         }
     }
 
-    /// Hands on the data, piece by piece, from the same file at its beginning.
+    /// Hands on the data, piece by piece, from the same file.
     pub fn copy_data(&self, file: &mut File, to: &mut dyn FnMut(&[u8]) -> io::Result<()>) -> io::Result<()> {
-        if self.is_cleartext {
-            return cleartext::take_apart(&mut BufReader::new(file), to).map(drop);
+        if self.is_cleartext() {
+            return cleartext::take_apart(&mut self.text(file)?, to).map(drop);
         }
-        walk(&mut packets_of(file)?, &mut Copy { to })
+        walk(&mut *self.packets(file)?, &mut Copy { to })
     }
 }
 
@@ -83,6 +119,9 @@ impl Visitor for Message {
     }
 
     fn signature(&mut self, body: Vec<u8>) -> io::Result<()> {
+        if self.signatures.len() == MOST {
+            return Err(invalid("too many signatures"));
+        }
         self.before += usize::from(self.literals == 0);
         self.signatures.push(body);
         Ok(())
@@ -125,17 +164,24 @@ pub fn copy_pieces(from: &mut dyn Read, to: &mut dyn FnMut(&[u8]) -> io::Result<
     }
 }
 
-/// The bodies of the signatures of a text of packets, binary or armored; an Err if it holds anything else.
+/// The bodies of the signatures of a text of packets, binary or in armored blocks; an Err if it holds anything else.
 pub fn signatures_of(text: &[u8]) -> io::Result<Vec<Vec<u8>>> {
     let mut octets = Vec::new();
     if text.first().map_or(false, |first| first & 0x80 != 0) {
         octets.extend_from_slice(text);
     } else {
-        Reader::from_bytes(text, ReaderMode::Tolerant(None)).read_to_end(&mut octets)?;
+        let blocks = armored_blocks(text);
+        if blocks.is_empty() {
+            return Err(invalid("no armored text begins here"));
+        }
+        for (_, block) in blocks {
+            Reader::from_bytes(block, ReaderMode::Tolerant(None)).read_to_end(&mut octets)?;
+        }
     }
     let mut signatures = Vec::new();
     for packet in Packets::new(&octets) {
         match packet {
+            Ok(_) if signatures.len() == MOST => return Err(invalid("too many signatures")),
             Ok(packet) if packet.kind == kind::SIGNATURE => signatures.push(packet.body.into_owned()),
             Ok(packet) if matches!(packet.kind, kind::MARKER | kind::PADDING) => {}
             Ok(_) => return Err(invalid("a packet that isn't a signature")),
@@ -143,33 +189,6 @@ pub fn signatures_of(text: &[u8]) -> io::Result<Vec<Vec<u8>>> {
         }
     }
     Ok(signatures)
-}
-
-/// The packets of a file, out of its armor. The file is at its beginning.
-fn packets_of(file: &mut File) -> io::Result<Box<dyn BufRead + '_>> {
-    let mut reader = BufReader::new(file);
-    if reader.fill_buf()?.first().map_or(false, |first| first & 0x80 != 0) {
-        return Ok(Box::new(reader));
-    }
-    Ok(Box::new(BufReader::new(Reader::from_reader(reader, ReaderMode::Tolerant(None)))))
-}
-
-/// Whether the first armor of a file is a text with a cleartext signature. The file is at its beginning then, too.
-fn is_cleartext(file: &mut File) -> io::Result<bool> {
-    let mut reader = BufReader::new(&mut *file).take(FARTHEST_BEGIN);
-    let mut is_found = false;
-    let mut line = Vec::new();
-    if reader.fill_buf()?.first().map_or(false, |first| first & 0x80 == 0) {
-        while reader.read_until(b'\n', &mut line)? > 0 {
-            if line.starts_with(b"-----BEGIN PGP ") {
-                is_found = cleartext::is_begun_by(&line);
-                break;
-            }
-            line.clear();
-        }
-    }
-    file.rewind()?;
-    Ok(is_found)
 }
 
 /// Whether a one-pass signature announces a signature: by version, type, algorithms, and in version 6 by the salt.

@@ -30,6 +30,11 @@ impl<'s> Mixed<'s> {
         Mixed { library, parts: bodies.iter().map(part).collect() }
     }
 
+    /// Whether this program verifies any.
+    pub fn has_mine(&self) -> bool {
+        self.parts.iter().any(|part| matches!(part, Part::Mine(_)))
+    }
+
     /// Whether the library verifies any, so that it has to read the data too.
     pub fn has_others(&self) -> bool {
         self.parts.iter().any(|part| matches!(part, Part::Other(_)))

@@ -29,7 +29,7 @@ pub fn number_of(key: &[u8], place: Place, component: &[u8], signature: &[u8]) -
 #[cfg(test)]
 mod tests {
     use super::*;
-    use crate::script::digits;
+    use crate::digits::digits;
 
     #[test]
     fn numbers_are_those_of_the_protocol() {

@@ -66,7 +66,10 @@ impl<'h> Judge<'h> {
             || holders
                 .named(&signature.issuers())
                 .iter()
-                .any(|named| is_foreign(named.key) || is_foreign(named.certificate.key()))
+                .any(|named| {
+                    let certificate = named.certificate;
+                    is_foreign(named.key) || is_foreign(certificate.key()) || keys::has_too_large(certificate)
+                })
     }
 
     /// What can be said of a signature before the data are there.
@@ -134,6 +137,9 @@ impl<'h> Judge<'h> {
         named: &Named<'h>,
         time: u64,
     ) -> Result<VerifyingKey, (Word, &'static str)> {
+        if keys::has_too_large(named.certificate) {
+            return Err((Word::Refused, "a key of its certificate is too large"));
+        }
         let holders = self.holders;
         let bound = self.bound.entry(named.primary).or_insert_with(|| Bound::of(&holders.copies(named.primary)));
         let bound = bound.as_ref().ok_or((Word::Unsupported, "the algorithm of its certificate's key isn't known"))?;

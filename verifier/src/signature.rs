@@ -42,6 +42,15 @@ pub enum Issuer {
     KeyId(KeyId),
 }
 
+impl Issuer {
+    pub fn key_id(&self) -> KeyId {
+        match self {
+            Issuer::Fingerprint(fingerprint) => fingerprint.key_id(),
+            Issuer::KeyId(id) => *id,
+        }
+    }
+}
+
 impl<'a> Signature<'a> {
     /// None if the body isn't of version 4 or 6, or lacks a part. The areas needn't be lists of subpackets.
     pub fn read(body: &'a [u8]) -> Option<Signature<'a>> {

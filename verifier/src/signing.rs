@@ -40,6 +40,39 @@ impl Bound<'_> {
         }
     }
 
+    /// When a key or a subkey expires by what its certificate says at a time: the earlier of its own end and of that of
+    /// the primary key. None if it doesn't.
+    pub fn end(&self, key: &[u8], time: u64) -> Option<u64> {
+        let governing = self.governing(time).unwrap_or_default();
+        let end = |key: &[u8], validity: Option<u32>| {
+            let validity = validity.filter(|validity| *validity != 0)?;
+            Some(u64::from(Parts::read(key)?.created) + u64::from(validity))
+        };
+        let own = end(self.key, governing.iter().find_map(|own| own.facts.key_validity));
+        let binding = newest(self.live(Place::Subkey, time).filter(|own| own.component == key));
+        let of_subkey = binding.and_then(|binding| end(key, binding.facts.key_validity));
+        own.into_iter().chain(of_subkey).min()
+    }
+
+    /// Whether the key is or ever was meant to sign data by what its certificate says, whenever that was.
+    pub fn is_meant_for_signing(&self, key: &[u8]) -> bool {
+        let is_for_signing = |own: &&Own| own.facts.flags.map_or(false, |flags| flags & SIGNS != 0);
+        let of = |place: Place| self.signatures.iter().filter(move |own| own.place == place);
+        if key == self.key {
+            return of(Place::Key).chain(of(Place::UserId)).any(|own| is_for_signing(&own));
+        }
+        of(Place::Subkey).any(|own| own.component == key && own.agreed.is_some() && is_for_signing(&own))
+    }
+
+    /// Whether the key has revoked itself, or this subkey, by a time: whatever came after it, and for whatever reason.
+    pub fn has_revoked(&self, key: &[u8], time: u64) -> bool {
+        let is_there = |place: Place, component: &[u8]| {
+            let counts = |facts: &Facts| facts.is_hard() || u64::from(facts.created) <= time;
+            self.revocations.get(&(place, component)).map_or(false, |found| found.iter().any(counts))
+        };
+        is_there(Place::Key, &[]) || is_there(Place::Subkey, key)
+    }
+
     /// The signatures that speak for the primary key at a time, the one that decides first: in version 6 the newest
     /// direct key signature, in version 4 that of the primary user ID before it.
     fn governing(&self, time: u64) -> Option<Vec<&Own>> {
@@ -54,7 +87,7 @@ impl Bound<'_> {
 
     /// The signature on the primary user ID at a time: one that isn't revoked before one that is, one that is marked
     /// before others, and the newest.
-    fn primary_user_id(&self, time: u64) -> Option<&Own> {
+    pub fn primary_user_id(&self, time: u64) -> Option<&Own> {
         // Of each user ID only its newest speaks for it.
         let mut newest: HashMap<&[u8], &Own> = HashMap::new();
         for own in self.live(Place::UserId, time) {

@@ -12,8 +12,17 @@ pub fn open(path: &Path) -> io::Result<File> {
     if input::is_standard_input(path) {
         return copy(&mut io::stdin().lock());
     }
-    let mut file = File::open(path)?;
-    if file.metadata()?.is_file() { Ok(file) } else { copy(&mut file) }
+    of_file(File::open(path)?)
+}
+
+/// The same of a file that is open.
+pub fn of_file(mut file: File) -> io::Result<File> {
+    if is_whole(&mut file)? { Ok(file) } else { copy(&mut file) }
+}
+
+/// Whether a file can be read more than once, and is at its beginning.
+pub fn is_whole(file: &mut File) -> io::Result<bool> {
+    Ok(file.metadata()?.is_file() && file.stream_position()? == 0)
 }
 
 fn copy(from: &mut dyn Read) -> io::Result<File> {
@@ -23,8 +32,15 @@ fn copy(from: &mut dyn Read) -> io::Result<File> {
     Ok(file)
 }
 
-/// A new file that only this process sees: its name is gone at once, and nobody else may open it before.
+/// A new file that only this process sees: it has no name. Where the file system can't make such a file, its name is
+/// gone at once, and nobody else may open it before.
 pub fn unnamed() -> io::Result<File> {
+    let mut options = OpenOptions::new();
+    options.read(true).write(true).mode(0o600).custom_flags(libc::O_TMPFILE);
+    options.open(std::env::temp_dir()).or_else(|_| named())
+}
+
+fn named() -> io::Result<File> {
     let mut number = 0;
     loop {
         let path = std::env::temp_dir().join(format!("wot-verdicts-{}-{number}", std::process::id()));

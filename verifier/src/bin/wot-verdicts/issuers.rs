@@ -2,10 +2,10 @@
 
 use std::collections::HashMap;
 
-use crate::certificate::Certificate;
-use crate::fingerprint::{Fingerprint, KeyId};
-use crate::keys::{self, VerifyingKey};
-use crate::signature::Issuer;
+use tukyamid_verify::certificate::Certificate;
+use tukyamid_verify::fingerprint::{Fingerprint, KeyId};
+use tukyamid_verify::keys::{self, VerifyingKey};
+use tukyamid_verify::signature::Issuer;
 
 pub struct IssuerKey {
     pub fingerprint: Fingerprint,

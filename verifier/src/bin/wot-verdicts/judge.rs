@@ -1,14 +1,16 @@
 //! The verdicts on the signatures of a certificate.
 
 use std::collections::HashSet;
+use std::time::Instant;
 
-use crate::certificate::{Certificate, PlacedSignature};
-use crate::fingerprint::Fingerprint;
+use tukyamid_verify::certificate::{Certificate, PlacedSignature};
+use tukyamid_verify::fingerprint::Fingerprint;
+use tukyamid_verify::number::{number_of, Number, Place};
+use tukyamid_verify::signature::{kind, Issuer, Signature};
+use tukyamid_verify::verify::{digests, verify, Failure};
+
 use crate::issuers::{IssuerKey, Issuers};
-use crate::number::{number_of, Number, Place};
-use crate::signature::{kind, Issuer, Signature};
 use crate::stats::{thread_seconds, Counts};
-use crate::verify::{digests, verify, Failure};
 
 #[derive(Clone, Debug, PartialEq, Eq)]
 pub enum Verdict {
@@ -16,12 +18,17 @@ pub enum Verdict {
     Bad,
 }
 
+/// The processor time that the signatures of one certificate may take: seconds. All those of Debian's keyring take 10.
+const CERTIFICATE_SECONDS: f64 = 10.0;
+
 pub struct Judge {
     pub issuers: Issuers,
     /// Whether signatures on attributes and subkeys are verified too.
     pub all: bool,
     /// The only numbers that get a verdict, if there are such.
     pub pending: Option<HashSet<Number>>,
+    /// When verifying ends. What isn't verified by then gets no verdict.
+    pub end: Option<Instant>,
 }
 
 #[derive(Default)]
@@ -48,10 +55,19 @@ impl Judge {
                 judged.counts.other += 1;
                 continue;
             }
+            if self.is_late(&judged.counts) {
+                judged.counts.late += 1;
+                continue;
+            }
             let verdict = self.signature(certificate.key(), &own, &placed, &mut judged.counts);
             judged.verdicts.extend(verdict.map(|verdict| (number, verdict)));
         }
         judged
+    }
+
+    /// Whether the time of all, or that of a certificate with these counts, is up.
+    fn is_late(&self, counts: &Counts) -> bool {
+        counts.verifying_seconds > CERTIFICATE_SECONDS || self.end.map_or(false, |end| Instant::now() >= end)
     }
 
     /// The verdict on a signature, counted; None where nothing can be said.

@@ -13,6 +13,8 @@ pub struct Counts {
     pub absent: u64,
     /// The library can't check them.
     pub unsupported: u64,
+    /// There was no time left to verify them.
+    pub late: u64,
     /// No verdict is asked for.
     pub other: u64,
     pub verifying_seconds: f64,
@@ -24,6 +26,7 @@ impl AddAssign for Counts {
         self.bad += more.bad;
         self.absent += more.absent;
         self.unsupported += more.unsupported;
+        self.late += more.late;
         self.other += more.other;
         self.verifying_seconds += more.verifying_seconds;
     }
@@ -46,6 +49,7 @@ impl fmt::Display for Stats {
         writeln!(f, "signatures-bad {}", counts.bad)?;
         writeln!(f, "signatures-issuer-absent {}", counts.absent)?;
         writeln!(f, "signatures-unsupported {}", counts.unsupported)?;
+        writeln!(f, "signatures-late {}", counts.late)?;
         writeln!(f, "signatures-not-judged {}", counts.other)?;
         writeln!(f, "script-octets {}", self.script_octets)?;
         writeln!(f, "seconds {:.3}", self.begun.elapsed().as_secs_f64())?;

@@ -3,9 +3,11 @@
 use std::collections::HashSet;
 use std::io::{self, Write};
 
-use crate::certificate::Certificate;
+use tukyamid_verify::certificate::Certificate;
+use tukyamid_verify::digits::digits;
+use tukyamid_verify::number::Number;
+
 use crate::judge::Verdict;
-use crate::number::Number;
 
 /// Writes lines and counts their octets.
 pub struct Script<W> {
@@ -45,22 +47,10 @@ impl<W: Write> Script<W> {
     }
 }
 
-/// Octets as lower-case digits.
-pub fn digits(octets: &[u8]) -> String {
-    const DIGITS: &[u8; 16] = b"0123456789abcdef";
-    let digit = |half: u8| DIGITS[usize::from(half)] as char;
-    let mut text = String::with_capacity(2 * octets.len());
-    for octet in octets {
-        text.push(digit(octet >> 4));
-        text.push(digit(octet & 15));
-    }
-    text
-}
-
 #[cfg(test)]
 mod tests {
     use super::*;
-    use crate::fingerprint::Fingerprint;
+    use tukyamid_verify::fingerprint::Fingerprint;
 
     #[test]
     fn a_verdict_is_written_once() {

@@ -3,7 +3,7 @@
 use std::collections::HashSet;
 use std::io::BufRead;
 
-use crate::number::Number;
+use tukyamid_verify::number::Number;
 
 /// The numbers of a reply: a line `pending K`, and K lines `sig NUM FPR HINT`. An Err says what isn't so.
 pub fn read(reply: impl BufRead) -> Result<HashSet<Number>, String> {

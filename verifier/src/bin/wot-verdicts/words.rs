@@ -13,7 +13,8 @@ Usage: wot-verdicts [OPTION..] FILE|FOLDER..
 
 Standard output gets one line `import` for each certificate, with its packets unchanged, and one line `verdict`
 for each certification, direct key signature, key revocation and certification revocation whose issuer is there.
-With --data it gets one line `signature` for each signature on that data.
+With --data it gets one line `signature` for each signature on that data, and a line `outside before` or
+`outside after` if unsigned text stands before or after a signed message or text.
 
 Arguments:
   FILE|FOLDER..      Keyrings, binary or armored (- is standard input), or certificate directories
@@ -26,6 +27,7 @@ Options of keyrings:
   --pending          Read the engine's reply to `pending` from standard input, and write verdicts only
                      on these signatures
   --jobs N           Verify on N processors, by default on all
+  --seconds N        Stop verifying after N seconds; what is left gets no verdict
   --stats            Print statistics on standard error at the end
 
 Options of data:
@@ -43,6 +45,8 @@ Exit statuses:
   2  the arguments are wrong
   3  an input can't be read; nothing is written
   4  an output can't be written
+  5  everything was read, but some signatures weren't verified within their time: --seconds, and 10 seconds of a
+     processor for each certificate
 ";
 
 /// What the words ask for.
@@ -62,6 +66,7 @@ pub struct ScriptWords {
     pub pending: bool,
     pub stats: bool,
     pub jobs: Option<usize>,
+    pub seconds: Option<u32>,
 }
 
 pub struct DataWords {
@@ -83,6 +88,7 @@ struct Given {
     pending: bool,
     stats: bool,
     jobs: Option<usize>,
+    seconds: Option<u32>,
     data: Option<PathBuf>,
     signature: Option<PathBuf>,
     content: Option<PathBuf>,
@@ -105,6 +111,7 @@ impl Request {
                 Long("pending") => given.pending = true,
                 Long("stats") => given.stats = true,
                 Long("jobs") => given.jobs = Some(parser.value()?.parse()?),
+                Long("seconds") => given.seconds = Some(parser.value()?.parse()?),
                 Long("data") => given.data = Some(parser.value()?.into()),
                 Long("signature") => given.signature = Some(parser.value()?.into()),
                 Long("content") => given.content = Some(parser.value()?.into()),
@@ -135,17 +142,22 @@ impl Given {
         if self.jobs == Some(0) {
             return Err("--jobs takes a number, at least 1".into());
         }
-        let is_judging = self.pending || self.all || self.stats || self.jobs.is_some() || !self.with.is_empty();
+        let is_judging = self.pending
+            || self.all
+            || self.stats
+            || self.jobs.is_some()
+            || self.seconds.is_some()
+            || !self.with.is_empty();
         if self.certificates && is_judging {
             return Err("--certificates goes only with --public".into());
         }
-        let Given { inputs, with, all, public, certificates, pending, stats, jobs, .. } = self;
-        Ok(ScriptWords { inputs, with, all, public, certificates, pending, stats, jobs })
+        let Given { inputs, with, all, public, certificates, pending, stats, jobs, seconds, .. } = self;
+        Ok(ScriptWords { inputs, with, all, public, certificates, pending, stats, jobs, seconds })
     }
 
     fn data_words(self) -> Result<DataWords, lexopt::Error> {
         let is_marked = self.all || self.public || self.certificates || self.pending || self.stats;
-        if is_marked || self.jobs.is_some() || !self.with.is_empty() {
+        if is_marked || self.jobs.is_some() || self.seconds.is_some() || !self.with.is_empty() {
             return Err("--data goes only with --signature, --content and --at".into());
         }
         if self.signature.is_some() && self.content.is_some() {
@@ -191,7 +203,7 @@ mod tests {
         for words in [
             "", "--with", "ring --none", "ring --at 1", "ring --jobs 0", "ring --jobs x", "--data", "--data d",
             "--data d --all ring", "--data d --content c --signature s ring", "--data d --at -1 ring",
-            "--certificates --pending ring", "--data d --certificates ring",
+            "--data d --seconds 1 ring", "--certificates --pending ring", "--data d --certificates ring",
         ] {
             assert!(read(words).is_err(), "{words}");
         }

@@ -6,22 +6,22 @@ use std::sync::atomic::{AtomicUsize, Ordering};
 use std::sync::mpsc::{self, Receiver, Sender};
 use std::thread;
 
-use crate::certificate::Certificate;
+use tukyamid_verify::certificate::Certificate;
+
 use crate::judge::{Judge, Judged};
 use crate::progress::Progress;
 use crate::script::Script;
 use crate::stats::Counts;
 
-/// Verifies on this many processors, by default on all, and writes each certificate's lines in the order of the
+/// Verifies on this many processors, and writes each certificate's lines in the order of the
 /// certificates.
 pub fn write<W: Write>(
     certificates: &[Certificate],
     judge: &Judge,
-    jobs: Option<usize>,
+    jobs: usize,
     script: &mut Script<W>,
 ) -> io::Result<Counts> {
     let total = certificates.iter().map(|certificate| certificate.signatures().len() as u64).sum();
-    let jobs = jobs.unwrap_or_else(|| thread::available_parallelism().map_or(1, usize::from));
     let mut progress = Progress::new(total);
     let mut counts = Counts::default();
     let next = AtomicUsize::new(0);
