@@ -5,9 +5,9 @@ import threading
 from collections.abc import Callable, Iterable, Iterator
 from typing import BinaryIO, Generic, TypeVar
 
-from ..refusals import Refused
-from ..spelling import has_reply
-from .wire import PIECE, Wire
+from ..protocol.refusals import Refused
+from ..protocol.spelling import has_reply
+from .streams import PIECE, Wire
 
 T = TypeVar("T")
 MOST_LINES = 4096

@@ -4,22 +4,22 @@ from __future__ import annotations
 
 from abc import ABC, abstractmethod
 
-from .. import commands
-from ..bare import TYPE_CHECKING, TypeVar
-from ..claims import Claim, Label
-from ..lines import Command, ListingCommand
-from ..refusals import ProtocolError
-from ..replies import (Accepted, Answer, Binding, Explanation, Gone, Key, Missed, PendingSignature, Reached, Rejected,
-                       Reply, Stale, Taken, Watched)
-from ..spelling import UserId
-from .conversation import no_progress
+from ..fast_imports import TYPE_CHECKING, TypeVar
+from ..protocol import commands
+from ..protocol.claims import Claim, Label
+from ..protocol.command_base import Command, ListingCommand
+from ..protocol.refusals import ProtocolError
+from ..protocol.replies import (Accepted, Answer, Binding, Explanation, Gone, Key, Missed, PendingSignature, Reached,
+                                Rejected, Reply, Stale, Taken, Watched)
+from ..protocol.spelling import UserId
 from .listing import Listing
+from .reply_matching import no_progress
 
 if TYPE_CHECKING:
     from collections.abc import Iterable, Iterator
     from typing import overload
 
-    from .conversation import Progress
+    from .reply_matching import Progress
 
 R = TypeVar("R", bound=Reply)
 T = TypeVar("T")

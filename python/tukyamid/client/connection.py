@@ -4,23 +4,23 @@ from __future__ import annotations
 
 from abc import abstractmethod
 
-from ..bare import TYPE_CHECKING, RLock
-from ..reading import ListingHead, drive
-from ..refusals import ProtocolError, Refused, TukyamidError
-from ..replies import Gone, Reply, Watched
-from ..spelling import has_reply
+from ..fast_imports import TYPE_CHECKING, RLock
+from ..protocol.refusals import ProtocolError, Refused, TukyamidError
+from ..protocol.replies import Gone, Reply, Watched
+from ..protocol.reply_reader import ListingHead, drive
+from ..protocol.spelling import has_reply
 from .calls import Calls
-from .conversation import PROBE, Conversation, no_progress
 from .listing import Listing
-from .wire import Wire
+from .reply_matching import PROBE, Conversation, no_progress
+from .streams import Wire
 
 if TYPE_CHECKING:
     import io
     from collections.abc import Iterable, Iterator
     from typing import BinaryIO, Self
 
-    from ..reading import Reader
-    from .conversation import Progress
+    from ..protocol.reply_reader import Reader
+    from .reply_matching import Progress
 
 
 class Connection(Calls):

@@ -2,9 +2,9 @@
 
 from __future__ import annotations
 
-from ..bare import TYPE_CHECKING, Generic, RLock, TypeVar, cast
-from ..reading import ListingHead
-from ..refusals import ProtocolError
+from ..fast_imports import TYPE_CHECKING, Generic, RLock, TypeVar, cast
+from ..protocol.refusals import ProtocolError
+from ..protocol.reply_reader import ListingHead
 
 if TYPE_CHECKING:
     from collections.abc import Callable

@@ -5,16 +5,18 @@ from __future__ import annotations
 import os
 from abc import ABC
 
-from .. import service_lines
-from ..bare import TYPE_CHECKING
-from ..service_lines import Change, Found, Issued, KeyringAdded, KeyringLine
-from ..spelling import UserId
+from ..fast_imports import TYPE_CHECKING
+from ..protocol import service_lines
+from ..protocol.service_lines import Certified, Change, Found, Issued, KeyringAdded, KeyringLine, Waiting
+from ..protocol.spelling import UserId
 from .calls import Calls
-from .conversation import no_progress
 from .listing import Listing
+from .reply_matching import no_progress
 
 if TYPE_CHECKING:
-    from .conversation import Progress
+    from collections.abc import Iterable
+
+    from .reply_matching import Progress
 
 
 class ServiceCalls(Calls, ABC):
@@ -33,13 +35,28 @@ class ServiceCalls(Calls, ABC):
         """The signatures of a certificate with a good verdict, and who made each."""
         return self.do(service_lines.Issuers(fpr))
 
+    def certified(self, fpr: str) -> Listing[Certified]:
+        """The other certificates that have a good signature by this key, those with trust signatures first."""
+        return self.do(service_lines.CertifiedBy(fpr))
+
+    def excerpt(self, word: str, fprs: Iterable[str]) -> Listing[bytes]:
+        """Lines `import` and `verdict` that make a part of the keyring: a `key` alone; `from` some keys, whoever trust
+        signatures lead to, and with `reach` all that those have certified; `about` keys, the issuers of their
+        signatures too, and with `to` whoever leads to these."""
+        return self.do(service_lines.Excerpt(word, fprs))
+
     def log(self, count: int) -> Listing[Change]:
         """The last changes, newest first: when each was made, and by whom."""
         return self.do(service_lines.Log(count))
 
     def keyrings(self) -> list[KeyringLine]:
-        """The keyrings that the service keeps, each with the fault of its last reading, if any."""
+        """The keyrings that the service keeps, each with why it couldn't be read or isn't verified, if so."""
         return service_lines.with_faults(self.do(service_lines.KeyringList()))
+
+    def unverified(self) -> Waiting | None:
+        """The signatures that no verifier has looked at; None if there are none. Ask this before a question: an amount
+        that isn't reached says little while signatures wait."""
+        return next((one for one in self.do(service_lines.Unverified())), None)
 
     def add_keyring(self, name: str | os.PathLike[str], progress: Progress = no_progress) -> KeyringAdded:
         """Has the service read a keyring, by its absolute path or `gpg`, and again whenever it changes. Returns when

@@ -4,8 +4,8 @@ from __future__ import annotations
 
 import sys
 
-from ..bare import TYPE_CHECKING
-from .failures import run_guarded
+from ..fast_imports import TYPE_CHECKING
+from .exit_statuses import run_guarded
 
 if TYPE_CHECKING:
     from collections.abc import Sequence

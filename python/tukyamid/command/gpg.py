@@ -4,8 +4,8 @@ import os
 import subprocess
 from collections.abc import Iterable, Mapping
 
-from ..keyring import View
-from .failures import NoAnswer
+from ..keyrings.keyring import View
+from .exit_statuses import NoAnswer
 
 ULTIMATE, FULL, MARGINAL = 6, 5, 4
 # What a key is worth that introduces others: three of marginal trust are needed by gpg's default.
@@ -13,30 +13,39 @@ AMOUNTS = {ULTIMATE: 120, FULL: 120, MARGINAL: 40}
 _EXPORT = ["--export", "--export-options", "export-local-sigs"]
 
 
+def home_directory() -> str:
+    """gpg's home directory, whether or not it is there."""
+    return os.path.abspath(os.environ.get("GNUPGHOME") or os.path.expanduser("~/.gnupg"))
+
+
 def home() -> str:
-    """gpg's folder. It must be there: gpg would make one."""
-    folder = os.environ.get("GNUPGHOME") or os.path.expanduser("~/.gnupg")
+    """gpg's home directory. It must be there: gpg would make one."""
+    folder = home_directory()
     if not os.path.isdir(folder):
         raise NoAnswer(f"gpg has no keyring: {folder} isn't there")
     return folder
 
 
-def keyring_files() -> list[str]:
+def keyring_files(of: str | None = None) -> list[str]:
     """The files in which gpg may have its keyring."""
-    return [os.path.join(home(), name) for name in ("pubring.kbx", "pubring.gpg", "public-keys.d/pubring.db")]
+    return [os.path.join(of or home(), name) for name in ("pubring.kbx", "pubring.gpg", "public-keys.d/pubring.db")]
 
 
-def export() -> bytes:
-    """All certificates of gpg's keyring, with certifications that its owner made for themselves alone."""
-    octets = _run(_EXPORT)
+def export(of: str | None = None) -> bytes:
+    """All certificates of gpg's keyring, with certifications that its owner made for themselves alone; of another home
+    directory, if that is given."""
+    words = _EXPORT if of is None else ["--homedir", of, *_EXPORT]
+    octets = _run(words) if any(map(os.path.exists, keyring_files(of))) else b""  # gpg would make one.
     if not octets:
-        raise NoAnswer(f"gpg's keyring in {home()} is empty")
+        raise NoAnswer(f"gpg's keyring in {of or home()} is empty")
     return octets
 
 
 def owner_trust() -> dict[str, int]:
     """The owner trust of each key that introduces others: 6 is ultimate, 5 full, 4 marginal."""
-    found = {}
+    found: dict[str, int] = {}
+    if not os.path.exists(os.path.join(home(), "trustdb.gpg")):
+        return found  # gpg fails without one.
     for line in _run(["--export-ownertrust"]).decode("utf-8", "replace").splitlines():
         fpr, _, rest = line.partition(":")
         level = rest.partition(":")[0]

@@ -1,13 +1,13 @@
 """The options of a question: what each is called, what it takes, and what it is for.
 
-`quick` reads the usual words by them. `parser` has the help, and says what is wrong with any others.
+`quick_parser` reads the usual words by them. `parser` has the help, and says what is wrong with any others.
 """
 
 from __future__ import annotations
 
-from ..bare import TYPE_CHECKING
-from ..shown import FORMS
-from . import values
+from ..fast_imports import TYPE_CHECKING
+from ..formats import FORMS
+from . import option_values
 
 if TYPE_CHECKING:
     from collections.abc import Callable
@@ -46,20 +46,25 @@ INPUTS = (
     Option("--directory", "a certificate directory", "FOLDER", is_many=True),
     _switch("--gpg", "gpg's own keyring, and its owner trust as roots"),
     _switch("--gpg-keyring", "gpg's own keyring, without its owner trust"),
-    Option("--root", "a trust root, with amount 120 by default; without --root, gpg's with --gpg, the directory's "
-           "trust-root with --directory, otherwise sq's", "KEY[:AMOUNT]", values.read_root, is_many=True),
+    Option("--root", "a trust root, with amount 120 by default; without --root, gpg's with --gpg, otherwise your "
+           "own (tukyamid root list), the directory's trust-root with --directory, or sq's", "KEY[:AMOUNT]",
+           option_values.read_root, is_many=True),
 )
 TIME_AND_AMOUNT = (
     Option("--time", "as of this time (UTC): 2024-01-31, 2024-01-31T12:00:00Z, or @SECONDS since 1970", "TIME",
-           values.read_time),
+           option_values.read_time),
     Option("--amount", "the wanted amount: partial is 40, full 120 (the default), double 240",
-           "N|partial|full|double", values.read_wanted, default=values.AMOUNTS["full"]),
-    *(Option(f"--{word}", f"--amount {word}", dest="amount", means=amount) for word, amount in values.AMOUNTS.items()),
+           "N|partial|full|double", option_values.read_wanted, default=0),
+    *(Option(f"--{word}", f"--amount {word}", dest="amount", means=amount)
+      for word, amount in option_values.AMOUNTS.items()),
 )
 ANSWERS = (
     _switch("--email", "USERID is an e-mail address, in upper or lower case"),
     _switch("--strict", "a key that gpg or Sequoia treats as expired counts as not reached"),
     _switch("--paths", "list: show the paths too"),
+    Option("--suppose", "what the answer would be if: ISSUER certifies KEY USERID [depth N] [amount N] [for REGEX], "
+           "ISSUER revokes KEY USERID, without KEY|NUMBER; may be given several times", "WHAT",
+           option_values.read_supposition, is_many=True),
     Option("--format", f"how the answer is shown: {', '.join(FORMS)}", "FORM", default=FORMS[0], choices=FORMS),
 )
 PROGRAMS = (
@@ -70,6 +75,7 @@ PROGRAMS = (
     Option("--engine", "the engine's program", "PROGRAM"),
     Option("--verifier", "the program wot-verdicts", "PROGRAM"),
     Option("--known-notation", read=_known_notation),
+    _switch("--quiet", "print no answer: the exit status has it", short="-q"),
     _switch("--version", "print the versions and exit"),
     _switch("--help", "print this help and exit", short="-h"),
 )

@@ -3,7 +3,7 @@
 import errno
 import os
 
-from ..spelling import for_people
+from ..protocol.spelling import for_people
 
 
 def open_standard_files() -> None:

@@ -7,8 +7,8 @@ from collections.abc import Callable, Iterable, Sequence
 from typing import Any, NoReturn
 
 from . import options
-from .failures import WrongWords
-from .given import Given
+from .exit_statuses import WrongWords
+from .parsed_words import Given
 
 HELP = """usage: tukyamid [option..] QUESTION ARGUMENT..
 
@@ -22,9 +22,14 @@ questions:
 
 other commands, each with its own --help:
   verify FILE [SIGNATURE] --for WHOM   is this file signed by WHOM?
+  watch KEY USERID          report each change of the answer, and run a command if you like
+  plan KEY USERID           which new certifications would raise the amount of this user ID?
+  fragile                   what rests on a single key or certification, and what ends soon?
   web                       open a page in the browser: who vouches for whom, and what would change that
   check FILE                check an answer that somebody else saved in a file
   keyring add|remove|list   change or list the keyrings that the service keeps
+  root add|remove|list      change or list your own trust roots
+  setup PROGRAM             have git, apt or another program ask Tukyamid whether signatures are good
   status                    show what the service holds
   log                       show who changed what
   doctor                    check the installation, and say how to repair it

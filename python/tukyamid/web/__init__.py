@@ -1,5 +1,6 @@
 """The page that shows who vouches for whom: `tukyamid web`.
 
-A process of the user's serves it on the loopback interface. `words` reads the command, `serving` finds the service that
-is asked, `server` and `guard` speak HTTP, `calls` answers what the page asks, and `page/` is the page itself.
+A process of the user's serves it on the loopback interface. `web_command` reads the command, `asked_service` finds the
+service that is asked, `http_server` and `guard` speak HTTP, `page_calls` answers what the page asks, and `page/` is the
+page itself.
 """

@@ -7,8 +7,8 @@ Calls may overlap: each line is sent at once, and replies come in the order of t
 sent its line whole, or not at all; its reply is read and dropped, and the connection can be used on.
 """
 
-from .connection import Connection
-from .ends import Client, Engine, connect, start
-from .listing import Listing
+from .async_connection import Connection
+from .async_endpoints import Client, Engine, connect, start
+from .async_listing import Listing
 
 __all__ = ["Client", "Connection", "Engine", "Listing", "connect", "start"]

@@ -1,9 +1,9 @@
 """The database in PostgreSQL, which services on several machines share.
 
-`database` writes to it in turns, by `writing`; `looking` reads it, and `following` hears what other services change.
-`connecting` finds the primary, and `tables` makes the tables.
+`postgres_database` writes to it in turns, by `postgres_table_changes`. `postgres_reads` reads it, and `notifications`
+hears what other services change. `postgres_connection` finds the primary, and `postgres_schema` makes the tables.
 """
 
-from .database import Postgres
+from .postgres_database import Postgres
 
 __all__ = ["Postgres"]

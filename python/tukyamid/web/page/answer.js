@@ -1,8 +1,12 @@
 // The answer: a sentence, its measure, the paths as a list, and why every other certification doesn't count.
 
 import { call } from "./asking.js";
-import { count, day, fill, inWords, make, name, refill, short } from "./dom.js";
-import { learn, nameOf, subject } from "./state.js";
+import { byId, count, day, fill, inWords, make, name, refill, short } from "./dom.js";
+import { keyLink } from "./links.js";
+import { light } from "./picture.js";
+import { scopeText } from "./scopes.js";
+import { learn, nameOf, state, subject } from "./state.js";
+import { word } from "./words.js";
 
 /** The sentence, as nodes: "120 of 120, by two paths from Alice". */
 export function sentence(reply) {
@@ -12,7 +16,7 @@ export function sentence(reply) {
   said.push(`, by ${inWords(reply.paths.length, "path")} from `);
   roots.forEach((root, place) => {
     if (place) said.push(place === roots.length - 1 ? " and " : ", ");
-    said.push(name(nameOf(root)));
+    said.push(keyLink(root));
   });
   return [...said, "."];
 }
@@ -24,17 +28,24 @@ function why(reply) {
 
 export function showAnswer(element, reply, binding, present) {
   learn(reply.names);
-  const sort = reply.reached ? "yes" : reply.amount ? "part" : "no";
-  const word = { yes: "✓ fully authenticated", part: "◐ partly authenticated", no: "✗ not authenticated" }[sort];
+  const sort = !reply.certain ? "part" : reply.reached ? "yes" : reply.amount ? "part" : "no";
+  const word = !reply.certain ? "? not known yet"
+    : { yes: "✓ fully authenticated", part: "◐ partly authenticated", no: "✗ not authenticated" }[sort];
+  fill(byId("answer-title"), name(binding.user_id || "(an empty user ID)"));
   fill(element,
-    make("p", { class: "who" }, name(binding.user_id || "(an empty user ID)")),
-    make("p", { class: "soft" }, make("code", { class: "fpr" }, grouped(binding.fingerprint))),
+    make("p", { class: "soft" }, "the key ", keyLink(binding.fingerprint, grouped(binding.fingerprint),
+      { class: "to-key fpr", id: "to-this-key" })),
     make("p", { class: `verdict ${sort}` }, make("span", { class: "badge" }, word), " ", ...sentence(reply)),
     make("meter", {
       min: 0, max: reply.wanted, value: Math.min(reply.amount, reply.wanted), "aria-label": "Amount reached",
     }),
     present && present.amount !== reply.amount && make("p", { class: "beside" },
-      `With everything included it is ${present.amount}.`),
+      state.suppose.length ? `As the keyring is, it is ${present.amount}.`
+        : `With everything included it is ${present.amount}.`),
+    reply.supposed?.length > 0 && make("p", { class: "beside supposed" },
+      `Supposed, and in no keyring: ${reply.supposed.map((one) => one.said).join("; ")}.`),
+    reply.waiting && make("p", { class: "warn" },
+      `${reply.waiting}.`, reply.certain ? "" : " That may change this answer."),
     reply.expired_elsewhere && make("p", { class: "warn" }, `Note: ${reply.expired_elsewhere}.`));
 }
 
@@ -44,18 +55,22 @@ const grouped = (fpr) => fpr.toUpperCase().match(/.{1,4}/g).join(" ");
 export function said(step) {
   const parts = [`amount ${step.amount}`, `depth ${step.depth}`, `made ${day(step.made)}`];
   if (step.ends !== null) parts.push(`ends ${day(step.ends)}`);
-  if (step.scopes.length) parts.push(`for ${step.scopes.join(" or ")}`);
+  if (step.scopes.length) parts.push(`for ${scopeText(step)}`);
   return parts.join(", ");
 }
 
 export function showSteps(element, reply, leaveOut) {
-  refill(element, reply.paths.length ? reply.paths.map((path, place) => make("div", {},
+  const about = make("p", { class: "soft" }, "Each step of a ", word("path"), " is a ", word("certification"),
+    " with an ", word("amount"), ", a ", word("depth"), " and perhaps a ", word("scope"), ".");
+  refill(element, reply.paths.length ? [about, ...reply.paths.map((path, place) => make("div", {
+    class: "path", onmouseenter: () => light(place), onmouseleave: () => light(-1), onfocusin: () => light(place),
+    onfocusout: () => light(-1) },
     make("h3", {}, `Path ${place + 1}: amount ${path.amount}, ${count(path.steps.length, "step")}`),
     make("ol", { class: "steps" },
-      make("li", {}, name(nameOf(path.root)), " ", short(path.root), make("span", { class: "soft" }, " your root")),
-      path.steps.map((step) => make("li", {}, name(step.user_id), " ", short(step.target), make("br"),
+      make("li", {}, keyLink(path.root), " ", short(path.root), make("span", { class: "soft" }, " your root")),
+      path.steps.map((step) => make("li", {}, keyLink(step.target, step.user_id), " ", short(step.target), make("br"),
         make("span", { class: "soft" }, `certified by the one above: ${said(step)}`), " ",
-        ...outOfAccount(step, leaveOut)))))) : make("p", {}, "There is no path."));
+        ...outOfAccount(step, leaveOut))))))] : make("p", {}, "There is no path."));
 }
 
 /** Buttons that leave out a certification, or its issuer's key. */
@@ -85,11 +100,12 @@ export function showOthers(element, reply) {
 }
 
 function groupOf(group, isOpen) {
-  const meaning = group.word === "edge" ? "it counts, but no path needs it or can use it" : group.meaning;
+  const meaning = group.word === "edge" ? "counts, but adds nothing to this answer"
+    : `doesn’t count: ${group.meaning}`;
   const list = make("ul", { class: "others" });
   const box = make("details", { class: "group" },
     make("summary", {}, make("span", { class: "tally" }, group.count.toLocaleString("en")), " ",
-      make("span", {}, meaning), " ", make("code", { class: "soft" }, group.word)), list);
+      make("span", {}, meaning)), list);
   const shown = { list, word: group.word, begin: 0, count: group.count };
   box.addEventListener("toggle", () => { if (box.open && !list.childElementCount) more(shown); });
   box.open = isOpen;
@@ -125,7 +141,7 @@ const isSaidAbove = (item) => item.word !== "edge" && item.word !== "unsound";
 
 function otherOf(item) {
   const by = item.issuer && item.issuer.length >= 40 && nameOf(item.issuer) !== item.issuer
-    ? [name(nameOf(item.issuer)), " ", short(item.issuer)] : [make("code", {}, item.issuer ?? "an unknown key")];
+    ? [keyLink(item.issuer), " ", short(item.issuer)] : [make("code", {}, item.issuer ?? "an unknown key")];
   return make("li", {}, "by ", ...by, make("br"),
     make("span", { class: "soft" }, said(item)),
     ...isSaidAbove(item) ? [] : [make("br"), make("span", {}, item.meaning)]);

@@ -1,6 +1,15 @@
-// Calls of this page's own server. A later call of a sort takes the place of one that is under way.
+// Calls of this page's own server. A later call of a sort takes the place of one that is under way. What fails on the
+// way is said and tried again, so that no question is lost.
 
+import { byId, fill, make } from "./dom.js";
+
+const LATE = 4000;
+const PATIENCE = 30000;
+const MAY_TAKE_LONG = new Set(["add", "plan", "gone", "reach", "proof"]);
+const PAUSES = [300, 1000, 2000, 4000];  // Before each further try; the last one again and again.
+const TRIES_OF_SERVICE = 3;
 const underWay = new Map();
+const troubles = new Map();
 
 /** The reply to a call, or null if a later one of its sort took its place. A failure is an Error with its reason. */
 export async function call(what, asked = {}, sort = what) {
@@ -8,18 +17,58 @@ export async function call(what, asked = {}, sort = what) {
   const control = new AbortController();
   underWay.set(sort, control);
   try {
-    const reply = await fetch(`call/${what}`, {
-      method: "POST", headers: { "Content-Type": "application/json" }, body: JSON.stringify(asked),
-      signal: control.signal,
-    });
-    const value = await reply.json().catch(() => ({ error: `the server answered with status ${reply.status}` }));
-    if (value.error) throw new Error(value.error);
-    return value;
+    for (let tries = 1; ; tries += 1) {
+      const reply = await once(what, asked, control.signal, MAY_TAKE_LONG.has(what) ? 0 : PATIENCE * 2 ** (tries - 1));
+      if (reply.value) return reply.value;
+      // Without an answer nobody knows whether it was done, so what changes something isn't tried again.
+      if (what === "add" || (!reply.lost && (reply.status !== 502 || tries >= TRIES_OF_SERVICE))) {
+        throw Object.assign(new Error(reply.error), { status: reply.status });
+      }
+      tell(control, reply.lost ? "The connection to the command tukyamid web is lost. Trying again; your question "
+        + "stays in the address. If you ended the command, start it again." : `Trying again: ${reply.error}.`);
+      await pause(PAUSES[Math.min(tries, PAUSES.length) - 1], control.signal);
+    }
   } catch (failure) {
     if (control.signal.aborted) return null;
-    if (failure instanceof TypeError) throw new Error("the command tukyamid web has ended; start it again");
     throw failure;
   } finally {
+    tell(control, null);
     if (underWay.get(sort) === control) underWay.delete(sort);
   }
+}
+
+/** One try: its value, or why there is none. If no answer comes within the patience, it counts as lost; 0 waits. */
+async function once(what, asked, signal, patience) {
+  const own = new AbortController();
+  const giveUp = () => own.abort();
+  signal.addEventListener("abort", giveUp);
+  const over = patience ? setTimeout(giveUp, patience) : 0;
+  const late = setTimeout(() => tell(signal, "This takes longer than usual. Still waiting for the answer…"), LATE);
+  try {
+    const reply = await fetch(`call/${what}`, {
+      method: "POST", headers: { "Content-Type": "application/json" }, body: JSON.stringify(asked),
+      signal: own.signal });
+    const value = await reply.json().catch(() => ({ error: `the server answered with status ${reply.status}` }));
+    return value.error ? { error: value.error, status: reply.status } : { value };
+  } catch (failure) {
+    if (signal.aborted || !(failure instanceof TypeError || own.signal.aborted)) throw failure;
+    return { error: "the command tukyamid web can’t be reached", lost: true };
+  } finally {
+    signal.removeEventListener("abort", giveUp);
+    clearTimeout(over);
+    clearTimeout(late);
+    tell(signal, null);
+  }
+}
+
+const pause = (milliseconds, signal) => new Promise((done, fail) => {
+  const timer = setTimeout(done, milliseconds);
+  signal.addEventListener("abort", () => { clearTimeout(timer); fail(signal.reason); });
+});
+
+/** Says what a call waits for, as long as it does. */
+function tell(who, text) {
+  if (text) troubles.set(who, text);
+  else if (!troubles.delete(who)) return;
+  fill(byId("trouble"), [...new Set(troubles.values())].map((one) => make("p", { class: "trouble" }, one)));
 }

@@ -56,13 +56,35 @@ export const moment = (seconds) => `${new Date(seconds * 1000).toISOString().sli
 
 export const count = (number, noun) => `${number.toLocaleString("en")} ${noun}${number === 1 ? "" : "s"}`;
 
+/** As much of a text as this many characters have room for. */
+export const cut = (text, most) => ([...text].length <= most ? text : `${[...text].slice(0, most - 1).join("")}…`);
+
+const measure = document.createElement("canvas").getContext("2d");
+
+/** As much of a text as a width has room for, in the page's font at a size and weight. */
+export function fitted(text, width, size, weight = 400) {
+  measure.font = `${weight} ${size}px ${getComputedStyle(document.body).fontFamily}`;
+  const letters = [...cut(text, 200)];
+  if (measure.measureText(letters.join("")).width <= width) return letters.join("");
+  let [fits, most] = [0, letters.length];
+  while (fits < most) {
+    const middle = Math.ceil((fits + most) / 2);
+    if (measure.measureText(`${letters.slice(0, middle).join("")}…`).width <= width) fits = middle;
+    else most = middle - 1;
+  }
+  return `${letters.slice(0, fits).join("")}…`;
+}
+
 const WORDS = ["no", "one", "two", "three", "four", "five", "six", "seven", "eight", "nine"];
 export const inWords = (number, noun) =>
   number < WORDS.length ? `${WORDS[number]} ${noun}${number === 1 ? "" : "s"}` : count(number, noun);
 
 /** Offers a text as a file. */
-export function save(fileName, type, text) {
-  const address = URL.createObjectURL(new Blob([text], { type }));
+export const save = (fileName, type, text) => offer(fileName, new Blob([text], { type }));
+
+/** Offers a blob as a file. */
+export function offer(fileName, blob) {
+  const address = URL.createObjectURL(blob);
   const link = make("a", { href: address, download: fileName });
   link.click();
   setTimeout(() => URL.revokeObjectURL(address), 10000);

@@ -27,12 +27,13 @@ export function layOut(paths) {
 /** The certifications of all paths, each once, with the amounts of its paths. */
 function gather(paths, keys) {
   const edges = new Map();
-  for (const path of paths) {
+  for (const [place, path] of paths.entries()) {
     path.steps.forEach((step, at) => {
       note(keys, step.issuer, path.steps.length - at);
       const id = `${step.signature ?? ""} ${step.issuer} ${step.target} ${step.spelled}`;
-      const edge = edges.get(id) ?? { step, amounts: [] };
+      const edge = edges.get(id) ?? { step, amounts: [], paths: [] };
       edge.amounts.push(path.amount);
+      edge.paths.push(place);
       edges.set(id, edge);
     });
   }

@@ -2,41 +2,56 @@
 
 import { call } from "./asking.js";
 import { showAnswer, showOthers, showSteps } from "./answer.js";
-import { byId, count, day, fill, make, name } from "./dom.js";
+import { whatIsHeld } from "./beginning.js";
+import { byId, count, day, fill, make } from "./dom.js";
+import { showKey } from "./key.js";
+import { keyLink } from "./links.js";
+import { showNetwork } from "./network.js";
 import { showOverview } from "./overview.js";
 import { showPicture } from "./picture.js";
+import { showEnough } from "./enough.js";
 import { showProof } from "./proof.js";
+import { showReach } from "./reach.js";
 import { attachMainSearch } from "./search.js";
-import { change, learn, nameOf, read, state, subject, whenChanged } from "./state.js";
+import { addressOf, change, learn, read, state, subject, VIEWS, whenChanged } from "./state.js";
 import { showTime } from "./time.js";
 import { leaveOut, showWhatIf } from "./whatif.js";
+import { showWords } from "./words.js";
+
+let shownPlace = "";
 
 async function begin() {
-  attachMainSearch((one) => change({ binding: one, without: [], view: "ask" }));
-  try {
-    const reply = await call("begin");
-    state.now = state.time = reply.time;
-    state.roots = state.firstRoots = reply.roots;
-    learn(Object.fromEntries(reply.roots.map((root) => [root.fingerprint, root.name])));
-    const [keys, names] = [Number(reply.certificates), Number(reply.user_ids)];
-    fill(byId("held"), `${count(keys, "certificate")}, ${count(names, "user ID")}`);
-    fill(byId("notes"), notesOf(reply));
-  } catch (failure) {
-    fill(byId("notes"), make("p", { class: "warn", role: "alert" }, `${failure.message}.`));
-    return;
-  }
+  attachMainSearch((one) => change({ binding: one, without: [], suppose: [], view: "ask" }));
+  if (!await load()) return;
+  document.querySelector(".skip").addEventListener("click", (event) => {
+    event.preventDefault();  // It leads within this place, and is no other one.
+    byId("main").focus();
+  });
   whenChanged(show);
   window.addEventListener("popstate", () => { Object.assign(state, read(location.hash)); show(); });
-  for (const view of ["ask", "overview"]) {
-    byId(`to-${view}`).addEventListener("click", (event) => {
-      event.preventDefault();
-      change({ view });
-      if (view === "overview") byId("overview-title").focus();
-    });
-  }
   Object.assign(state, read(location.hash));
   show();
-  if (!state.binding && state.view === "ask") byId("sought").focus();
+  if (state.view === "start") byId("sought").focus();
+}
+
+/** Loads what the page begins with. Returns whether there is a server that says it. */
+async function load() {
+  try {
+    const reply = await call("begin");
+    const isFirst = !state.now;
+    state.now = reply.time;
+    if (isFirst) state.time = reply.time;
+    if (isFirst || !state.firstRoots.length) state.roots = state.firstRoots = reply.roots;
+    learn(Object.fromEntries(reply.roots.map((root) => [root.fingerprint, root.name])));
+    const [keys, names] = [Number(reply.certificates), Number(reply.user_ids)];
+    whatIsHeld(keys, async () => { await load(); show(); });
+    fill(byId("held"), `${count(keys, "certificate")}, ${count(names, "user ID")}`);
+    fill(byId("notes"), notesOf(reply));
+    return true;
+  } catch (failure) {
+    fill(byId("notes"), make("p", { class: "warn", role: "alert" }, `${failure.message}.`));
+    return false;
+  }
 }
 
 function notesOf(reply) {
@@ -44,40 +59,48 @@ function notesOf(reply) {
   if (!window.d3) {
     notes.push(make("p", { class: "note" }, "Scales need d3: apt-get install libjs-d3, and start again."));
   }
-  if (reply.certificates === "0") {
-    notes.push(make("p", { class: "note" }, "The service has no certificate yet: tukyamid keyring add FILE"));
-  }
   return notes;
 }
 
 /** From where one looks, in a sentence. */
 function standpointOf() {
   const roots = state.roots.flatMap((root, at) => [
-    at ? ", " : "", name(nameOf(root.fingerprint)), ` (${root.amount})`]);
+    at ? ", " : "", keyLink(root.fingerprint), ` (${root.amount})`]);
   return ["Seen from ", ...(roots.length ? roots : ["no root yet"]), `, as of ${day(state.time)}.`];
 }
 
 function show() {
   fill(byId("standpoint"), standpointOf());
-  for (const view of ["ask", "overview"]) {
+  for (const view of VIEWS) {
     byId(view).hidden = state.view !== view;
-    if (state.view === view) byId(`to-${view}`).setAttribute("aria-current", "page");
-    else byId(`to-${view}`).removeAttribute("aria-current");
+    if (state.view === view) byId(`to-${view}`)?.setAttribute("aria-current", "page");
+    else byId(`to-${view}`)?.removeAttribute("aria-current");
+    byId(`to-${view}`)?.setAttribute("href", addressOf({ view }));
   }
-  if (state.view === "overview") showOverview();
-  else if (state.binding) ask();
-  else byId("subject").hidden = true;
   const about = state.binding && state.view === "ask" ? state.binding.user_id : "who vouches for whom";
   document.title = `Tukyamid: ${about}`;
+  ({ start: showNetwork, key: showKey, ask, overview: showOverview, words: showWords })[state.view]();
+  arrive();
+}
+
+/** At another place the page is at its top, and the focus on the place's title, so that a screen reader says it. */
+function arrive() {
+  const place = `${state.view} ${state.binding?.fingerprint ?? ""} ${state.binding?.spelled ?? ""}`;
+  if (shownPlace && place !== shownPlace) {
+    window.scrollTo(0, 0);
+    byId({ start: "start-title", key: "key-title", ask: "answer-title", overview: "overview-title",
+      words: "words-title" }[state.view]).focus({ preventScroll: true });
+  }
+  shownPlace = place;
 }
 
 /** Asks, and shows the answer. If something is left out, it asks for the present answer too. */
 async function ask() {
-  byId("subject").hidden = false;
   byId("subject").setAttribute("aria-busy", "true");
   try {
-    const both = [call("answer", subject()), state.without.length ? call("answer", subject({ without: [] }), "present")
-      : null];
+    const isOther = state.without.length || state.suppose.length;
+    const both = [call("answer", subject()), isOther
+      ? call("answer", subject({ without: [], suppose: [] }), "present") : null];
     const [reply, present] = await Promise.all(both);
     if (reply === null) return;
     learn(present?.names);
@@ -88,10 +111,12 @@ async function ask() {
     showOthers(byId("others"), reply);
     showWhatIf(reply, present);
     showProof(reply);
+    showReach(reply);
+    showEnough(reply);
     showTime();
   } catch (failure) {
     fill(byId("answer"), make("p", { class: "warn" }, `There is no answer: ${failure.message}.`));
-    for (const part of ["picture", "steps", "others", "if", "proof"]) fill(byId(part));
+    for (const part of ["picture", "steps", "others", "if", "proof", "reach", "enough"]) fill(byId(part));
   } finally {
     byId("subject").removeAttribute("aria-busy");
   }

@@ -2,27 +2,31 @@
 
 import { call } from "./asking.js";
 import { byId, count, day, fill, make, name, save, short } from "./dom.js";
-import { standpoint, state } from "./state.js";
+import { keyLink } from "./links.js";
+import { addressOfKey, standpoint, state } from "./state.js";
 
 const PAUSE = 500;
+const SHOWN = 50;
 let shownFor = "";
+let shownTables = 0;
 
 export async function showOverview() {
   const asked = standpoint();
   const id = JSON.stringify(asked);
   if (id === shownFor && byId("tables").dataset.done) return;
+  if (id !== shownFor) fill(byId("tables"));
   shownFor = id;
+  shownTables = 0;
   delete byId("tables").dataset.done;
   while (state.view === "overview" && id === shownFor) {
     try {
       const reply = await call("overview", asked);
       if (reply === null) return;
-      if (reply.tables) {
-        show(reply);
-        return;
-      }
+      if (reply.tables?.length && (!reply.progress || reply.tables.length !== shownTables)) show(reply);
+      if (reply.tables && !reply.progress) return;
       showProgress(reply.progress);
     } catch (failure) {
+      fill(byId("overview-state"));
       fill(byId("tables"), make("p", { class: "warn", role: "alert" }, `No overview was made: ${failure.message}.`));
       return;
     }
@@ -31,12 +35,12 @@ export async function showOverview() {
 }
 
 function showProgress(text) {
-  fill(byId("tables"), make("p", { role: "status" }, make("span", { class: "wheel", "aria-hidden": "true" }), " ",
-    `${text}…`));
+  fill(byId("overview-state"), make("span", { class: "wheel", "aria-hidden": "true" }), " ", `${text}…`);
 }
 
 function show(reply) {
   const box = byId("tables");
+  shownTables = reply.tables.length;
   fill(box,
     make("p", {}, `${count(reply.keys, "key")}, as of ${day(reply.time)}, from `,
       state.roots.length ? "" : "no root",
@@ -47,7 +51,9 @@ function show(reply) {
         `${JSON.stringify(reply, null, 1)}\n`) }, "All as JSON"),
       make("button", { type: "button", onclick: again }, "Refresh")),
     reply.tables.map(tableOf));
+  if (reply.progress) return;
   box.dataset.done = "yes";
+  fill(byId("overview-state"));
 }
 
 function again() {
@@ -61,22 +67,42 @@ function tableOf(table) {
   return make("section", { class: "card", "aria-labelledby": title },
     make("h2", { id: title }, table.title), make("p", { class: "soft" }, table.about),
     chartOf(table),
-    table.rows.length ? make("div", { class: "scroll", tabindex: "0", role: "region", "aria-labelledby": title },
-      make("table", {}, make("thead", {}, make("tr", {}, table.columns.map((one, at) => make("th", {
-        scope: "col", class: table.rows.every((row) => typeof row[at] === "number") && "number" }, one)))),
-        make("tbody", {}, table.rows.map((row) => make("tr", {},
-          row.map((cell, at) => cellOf(table.columns[at], cell)))))))
-      : make("p", {}, "None."),
-    rest > 0 && make("p", { class: "soft" }, `And ${count(rest, "row")} more.`),
+    table.rows.length ? rowsOf(table, title) : make("p", {}, "None."),
+    rest > 0 && make("p", { class: "soft" }, `And ${count(rest, "row")} more, which aren’t listed.`),
     table.rows.length > 0 && make("button", {
       type: "button", class: "small", "aria-label": `${table.title} as CSV`,
       onclick: () => save(`${table.name}.csv`, "text/csv", asCsv(table)) }, "CSV"));
 }
 
-function cellOf(column, cell) {
-  if (typeof cell === "number") return make("td", { class: "number" }, cell.toLocaleString("en"));
-  if (column === "key") return make("td", {}, short(cell));
-  return make("td", {}, name(cell));
+/** The rows, some at a time. On narrow screens each is a card, so the roles are said: the style sheet hides them. */
+function rowsOf(table, title) {
+  const body = make("tbody", { role: "rowgroup" });
+  const more = make("button", { type: "button", class: "small more", onclick: () => show(body.childElementCount) });
+  const show = (from) => {
+    body.append(...table.rows.slice(from, from + SHOWN).map((row) => make("tr", { role: "row" },
+      row.map((cell, at) => cellOf(table, row, at, cell)))));
+    const left = table.rows.length - body.childElementCount;
+    if (!left) more.remove();
+    fill(more, `Show more (${count(left, "row")} left)`);
+  };
+  const heads = table.columns.map((one, at) => make("th", { scope: "col", role: "columnheader",
+    class: table.rows.every((row) => typeof row[at] === "number") && "number" }, one));
+  const box = make("div", {},
+    make("div", { class: "scroll", tabindex: "0", role: "region", "aria-labelledby": title },
+      make("table", { role: "table" }, make("thead", { role: "rowgroup" }, make("tr", { role: "row" }, heads)), body)),
+    more);
+  show(0);
+  return box;
+}
+
+/** A cell. The key, and the name that is its, lead to the key's place. */
+function cellOf(table, row, at, cell) {
+  const about = { role: "cell", "data-label": table.columns[at] };
+  if (typeof cell === "number") return make("td", { ...about, class: "number" }, cell.toLocaleString("en"));
+  const key = row[table.columns.indexOf("key")];
+  if (table.columns[at] === "key") return make("td", about, make("a", { href: addressOfKey(cell) }, short(cell)));
+  if (key && cell && table.columns[at].endsWith("user ID")) return make("td", about, keyLink(key, cell));
+  return make("td", about, name(cell));
 }
 
 /** Bars for the first numbers of a table; the table says the same. */

@@ -1,29 +1,46 @@
 // The paths drawn from the roots down to the target: a row for each distance from it, a line for each certification.
 
 import { layOut, BOX } from "./layout.js";
-import { day, draw, fill } from "./dom.js";
-import { nameOf, state } from "./state.js";
+import { cut, day, draw, fill, fitted } from "./dom.js";
+import { fold } from "./folding.js";
+import { scopeText } from "./scopes.js";
+import { addressOfKey, nameOf, state } from "./state.js";
+import { frame } from "./zoom.js";
 
 const LINE = 15;
 const MOST_CHARACTERS = 30;
 
-export function showPicture(element, reply) {
+/** Draws the paths; equal steps of many are folded unless `all` of them are wanted. */
+export function showPicture(element, reply, all = false) {
   element.hidden = !reply.paths.length;
-  fill(element, reply.paths.length ? drawn(reply) : []);
-  element.scrollLeft = (element.scrollWidth - element.clientWidth) / 2;  // The target is in the middle.
+  fill(element);
+  if (!reply.paths.length) return;
+  const { paths, folds } = all ? { paths: reply.paths, folds: new Map() } : fold(reply.paths);
+  const unfold = () => { showPicture(element, reply, true); element.querySelector(".area").focus(); };
+  const { area, fit } = frame(element, drawn(reply, paths, folds, unfold), "The paths, drawn", "paths");
+  if (area.scrollWidth > 2 * area.clientWidth) fit();
+  area.scrollLeft = (area.scrollWidth - area.clientWidth) / 2;  // The target is in the middle.
 }
 
-function drawn(reply) {
-  const network = layOut(reply.paths);
+/** Lights up the certifications of a path, or none. */
+export function light(place) {
+  for (const edge of document.querySelectorAll("#picture .edge")) {
+    edge.classList.toggle("lit", edge.dataset.paths.split(" ").includes(String(place)));
+  }
+}
+
+function drawn(reply, shown, folds, unfold) {
+  const network = layOut(shown);
   const paths = reply.paths.length === 1 ? "One path" : `${reply.paths.length} paths`;
   const svg = draw("svg", {
-    viewBox: `0 0 ${network.width} ${network.height}`, width: network.width, height: network.height, role: "img",
+    viewBox: `0 0 ${network.width} ${network.height}`, width: network.width, height: network.height, role: "group",
     "aria-label": `${paths}, drawn. The list of the paths says the same.`, class: "network",
   });
   svg.append(draw("defs", {}, draw("marker", {
     id: "tip", viewBox: "0 0 8 8", refX: 7, refY: 4, markerWidth: 7, markerHeight: 7, orient: "auto",
   }, draw("path", { d: "M0 0 8 4 0 8z", class: "tip" }))));
-  svg.append(...network.edges.map(lineOf), ...network.keys.map((key) => boxOf(key, reply, network.target)));
+  svg.append(...network.edges.map(lineOf), ...network.keys.map((key) => (folds.has(key.fpr)
+    ? foldOf(key, folds.get(key.fpr), unfold) : boxOf(key, reply, network.target))));
   svg.append(...network.edges.map(labelOf));
   return svg;
 }
@@ -33,7 +50,7 @@ function lineOf(edge) {
     const [x0, y0] = edge.points[at];
     return `C${x0} ${(y0 + y1) / 2} ${x1} ${(y0 + y1) / 2} ${x1} ${y1}`;
   });
-  return draw("g", { class: "edge" },
+  return draw("g", { class: `edge${edge.step.supposed ? " supposed" : ""}`, "data-paths": edge.paths.join(" ") },
     draw("title", {}, `${nameOf(edge.step.issuer)} certified ${edge.step.user_id}`),
     draw("path", { d: `M${edge.points[0].join(" ")}${ways.join("")}`, "marker-end": "url(#tip)" }));
 }
@@ -41,25 +58,42 @@ function lineOf(edge) {
 /** What the certification says, beside its line. */
 function labelOf(edge) {
   const { step, amounts } = edge;
+  if (step.folded) return labelAt(edge.label, [`${amounts.length} certifications`,
+    `together ${amounts.reduce((sum, one) => sum + one, 0)}`]);
   const said = [`amount ${amounts.join(" + ")} of ${step.amount}`, `depth ${step.depth}, made ${day(step.made)}`];
   if (step.ends !== null) said.push(`ends ${day(step.ends)}`);
-  if (step.scopes.length) said.push(cut(`for ${step.scopes.join(" or ")}`, MOST_CHARACTERS));
-  const [x, y] = edge.label;
+  if (step.scopes.length) said.push(cut(`for ${scopeText(step)}`, MOST_CHARACTERS));
+  return labelAt(edge.label, said);
+}
+
+function labelAt([x, y], said) {
   const top = y - ((said.length - 1) * LINE) / 2 + 4;
   return draw("g", { class: "label" }, ...said.map((text, at) => draw("text", {
     x, y: top + at * LINE, "text-anchor": "middle", class: at ? "small" : "main" }, text)));
+}
+
+/** Keys that are drawn as one, until one asks for each. */
+function foldOf(key, keys, unfold) {
+  const box = draw("g", {
+    class: "key fold", role: "button", tabindex: "0", "aria-label": `${keys.length} keys side by side: show each`,
+    transform: `translate(${key.x - BOX.width / 2} ${key.y})`, onclick: unfold,
+    onkeydown: (event) => { if (event.key === "Enter" || event.key === " ") { event.preventDefault(); unfold(); } } },
+  draw("rect", { width: BOX.width, height: BOX.height, rx: 10 }),
+  draw("text", { x: BOX.width / 2, y: 24, class: "main", "text-anchor": "middle" }, `${keys.length} keys`),
+  draw("text", { x: BOX.width / 2, y: 43, class: "small", "text-anchor": "middle" }, "▸ show each"));
+  return box;
 }
 
 function boxOf(key, reply, target) {
   const root = state.roots.find((one) => one.fingerprint === key.fpr);
   const sort = key.fpr === target ? (reply.reached ? "target yes" : "target part") : root ? "root" : "";
   const below = root ? `root, amount ${root.amount}` : `${key.fpr.slice(0, 8)}…${key.fpr.slice(-8)}`;
-  return draw("g", { class: `key ${sort}`, transform: `translate(${key.x - BOX.width / 2} ${key.y})` },
+  return draw("a", {
+    href: addressOfKey(key.fpr), class: `key ${sort}`, "aria-label": `${nameOf(key.fpr)}, ${below}`,
+    transform: `translate(${key.x - BOX.width / 2} ${key.y})` },
     draw("title", {}, `${nameOf(key.fpr)} ${key.fpr}`),
     draw("rect", { width: BOX.width, height: BOX.height, rx: 10 }),
     draw("text", { x: BOX.width / 2, y: 24, class: "main", "text-anchor": "middle" },
-      cut(nameOf(key.fpr).replace(/ <[^<>]*>$/, ""), 24)),
+      fitted(nameOf(key.fpr).replace(/ <[^<>]*>$/, ""), BOX.width - 16, 13, 650)),
     draw("text", { x: BOX.width / 2, y: 43, class: "small", "text-anchor": "middle" }, cut(below, 28)));
 }
-
-const cut = (text, most) => ([...text].length <= most ? text : `${[...text].slice(0, most - 1).join("")}…`);

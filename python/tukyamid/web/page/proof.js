@@ -11,7 +11,9 @@ export function showProof(reply) {
   fill(byId("proof"),
     make("p", {}, about, " Anyone with Tukyamid can check the file with ", make("code", {}, "tukyamid check FILE"),
       ". It verifies all signatures itself."),
-    state.without.length
+    state.suppose.length
+      ? make("p", { class: "soft" }, "A proof is about certificates that exist: suppose nothing first.")
+      : state.without.length
       ? make("p", { class: "soft" }, "A proof is about the whole keyring: include what is left out first.")
       : make("button", { type: "button", id: "save-proof", onclick: write }, "Save the proof"),
     make("p", { id: "proof-state", role: "status", class: "soft" }));

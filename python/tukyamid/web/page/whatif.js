@@ -1,5 +1,6 @@
 // What if: other roots and amounts, and keys or certifications that are left out. None of it is stored.
 
+import { supposedList } from "./enough.js";
 import { byId, make, name, refill, short } from "./dom.js";
 import { attachSearch } from "./search.js";
 import { change, nameOf, state } from "./state.js";
@@ -20,7 +21,8 @@ export function showWhatIf(reply, present) {
     !state.roots.length && make("p", { class: "warn" }, "No root yet, so nothing is authenticated. Add your own key."),
     adder(),
     isOtherwise() && make("button", {
-      type: "button", id: "reset", onclick: () => change({ roots: state.firstRoots, without: [], wanted: 120 }),
+      type: "button", id: "reset",
+      onclick: () => change({ roots: state.firstRoots, without: [], suppose: [], wanted: 120 }),
     }, "Reset"),
     make("label", { class: "block", for: "wanted" }, "Wanted amount"),
     make("input", {
@@ -30,6 +32,7 @@ export function showWhatIf(reply, present) {
     state.without.length ? make("ul", { class: "plain" }, state.without.map(leftOut))
       : make("p", { class: "soft" }, "Nothing. The list of the paths has a button for each certification."),
     triedOf(reply),
+    supposedList(reply),
     make("p", { id: "if-answer", role: "status", class: "beside" }, ...beside(reply, present)));
 }
 
@@ -51,7 +54,7 @@ function beside(reply, present) {
     make("strong", {}, String(present.amount)), "."];
 }
 
-const isOtherwise = () => state.without.length > 0 || state.wanted !== 120
+const isOtherwise = () => state.without.length + state.suppose.length > 0 || state.wanted !== 120
   || JSON.stringify(state.roots.map(({ fingerprint, amount }) => [fingerprint, amount]))
   !== JSON.stringify(state.firstRoots.map(({ fingerprint, amount }) => [fingerprint, amount]));
 

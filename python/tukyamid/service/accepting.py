@@ -1,0 +1,130 @@
+"""Lets connections in: one of each user in turn, so that whoever connects again and again holds up nobody else."""
+
+from __future__ import annotations
+
+import asyncio
+import socket
+from collections import deque
+from collections.abc import Callable
+from functools import partial
+
+from ..client.socket_peers import peer_of
+from .sessions.client_rights import NOBODY
+from .sessions.command_kinds import REFUSED_CLIENTS
+
+_TAKEN_AT_ONCE = 128  # Each costs some 20 us.
+_BEGUN_AT_ONCE = 8    # Each costs some 0.5 ms.
+_PAUSE = 1.0
+
+_Waiting = tuple[socket.socket, Callable[[], asyncio.BaseProtocol]]
+
+
+class Acceptor:
+    """Takes connections from sockets, which listen already, and has the loop serve them with what `make` makes.
+    `has_room` says whether a user may have one more client, with that many that wait."""
+
+    def __init__(self, has_room: Callable[[int, int], bool], tell: Callable[[str], None]) -> None:
+        self._has_room, self._tell = has_room, tell
+        self._loop = asyncio.get_running_loop()
+        self._waiting: dict[int, deque[_Waiting]] = {}
+        self._beginning: set[asyncio.Task[object]] = set()
+        self._sockets: list[socket.socket] = []
+        self._is_turning = False
+
+    def listen(self, listening: socket.socket, make: Callable[[], asyncio.BaseProtocol]) -> None:
+        listening.setblocking(False)
+        self._sockets.append(listening)
+        self._loop.add_reader(listening.fileno(), self._take, listening, make)
+
+    def close(self) -> None:
+        """Takes no more. Who waits to be served is disconnected."""
+        for listening in self._sockets:
+            if listening.fileno() >= 0:
+                self._loop.remove_reader(listening.fileno())
+                listening.close()
+        for connected, _ in [one for waiting in self._waiting.values() for one in waiting]:
+            connected.close()
+        self._waiting.clear()
+
+    def _take(self, listening: socket.socket, make: Callable[[], asyncio.BaseProtocol]) -> None:
+        for _ in range(_TAKEN_AT_ONCE):
+            try:
+                connected, _ = listening.accept()
+            except (BlockingIOError, InterruptedError, ConnectionAbortedError):
+                return
+            except OSError as error:  # Too many files are open.
+                self._tell(f"no connection can be taken: {error}")
+                self._loop.remove_reader(listening.fileno())
+                self._loop.call_later(_PAUSE, self._go_on, listening, make)
+                return
+            self._let_wait(connected, make)
+
+    def _go_on(self, listening: socket.socket, make: Callable[[], asyncio.BaseProtocol]) -> None:
+        if listening.fileno() >= 0:
+            self._loop.add_reader(listening.fileno(), self._take, listening, make)
+
+    def _let_wait(self, connected: socket.socket, make: Callable[[], asyncio.BaseProtocol]) -> None:
+        connected.setblocking(False)
+        if _is_gone(connected):
+            connected.close()
+            return
+        user = _user_of(connected)
+        waiting = self._waiting.get(user, ())
+        if not self._has_room(user, len(waiting)):
+            _refuse(connected)
+            return
+        self._waiting.setdefault(user, deque()).append((connected, make))
+        self._turn_soon()
+
+    def _turn_soon(self) -> None:
+        if self._waiting and not self._is_turning:
+            self._is_turning = True
+            self._loop.call_soon(self._turn)
+
+    def _turn(self) -> None:
+        """Begins with the first of each user, and once more if there are few users."""
+        self._is_turning = False
+        begun = 0
+        while self._waiting and begun < _BEGUN_AT_ONCE:
+            for user in list(self._waiting):
+                self._begin(*self._waiting[user].popleft())
+                begun += 1
+                if not self._waiting[user]:
+                    del self._waiting[user]
+        self._turn_soon()
+
+    def _begin(self, connected: socket.socket, make: Callable[[], asyncio.BaseProtocol]) -> None:
+        task: asyncio.Task[object] = self._loop.create_task(self._loop.connect_accepted_socket(make, connected))
+        self._beginning.add(task)
+        task.add_done_callback(partial(self._has_begun, connected))
+
+    def _has_begun(self, connected: socket.socket, task: asyncio.Task[object]) -> None:
+        self._beginning.discard(task)
+        if not task.cancelled() and task.exception() is not None:
+            self._tell(f"a connection can't be served: {task.exception()!r}")
+            connected.close()
+
+
+def _is_gone(connected: socket.socket) -> bool:
+    """Whether a client has closed its connection without a word."""
+    try:
+        return not connected.recv(1, socket.MSG_PEEK)
+    except BlockingIOError:
+        return False
+    except OSError:
+        return True
+
+
+def _user_of(connected: socket.socket) -> int:
+    try:
+        return peer_of(connected).user
+    except OSError:
+        return NOBODY
+
+
+def _refuse(connected: socket.socket) -> None:
+    try:
+        connected.send(REFUSED_CLIENTS)
+    except OSError:
+        pass
+    connected.close()

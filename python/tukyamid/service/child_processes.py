@@ -1,0 +1,73 @@
+"""The processes that the service has started: engines, the verifier, gpg. One that was stopped is ended, so that
+whoever waits for it meets its end; and so are all when the service itself takes too long to end."""
+
+from __future__ import annotations
+
+import asyncio
+import contextlib
+import os
+import signal
+import threading
+import time
+from collections.abc import Callable, Iterator
+from pathlib import Path
+
+_LOOK_SECONDS = 1.0
+_STOPPED = "Tt"  # By a signal, or by a debugger.
+MOST_SECONDS = 8.0  # From a signal to the end of the process.
+
+
+def children() -> Iterator[int]:
+    """The process numbers of this process's children, whichever thread has started them."""
+    for task in Path("/proc/self/task").iterdir():
+        with contextlib.suppress(OSError):  # A thread may have ended meanwhile.
+            yield from map(int, (task / "children").read_text().split())
+
+
+def is_stopped(pid: int) -> bool:
+    try:
+        return Path(f"/proc/{pid}/stat").read_text().rpartition(")")[2].split()[0] in _STOPPED
+    except (OSError, IndexError):
+        return False
+
+
+async def end_stopped(tell: Callable[[str], None]) -> None:
+    """Ends those that are stopped, and still are a second later; for ever."""
+    before: set[int] = set()
+    while True:
+        stopped = {pid for pid in children() if is_stopped(pid)}
+        for pid in stopped & before:
+            tell(f"process {pid} was stopped, and is ended")
+            kill(pid)
+        before = stopped
+        await asyncio.sleep(_LOOK_SECONDS)
+
+
+def kill(pid: int) -> None:
+    with contextlib.suppress(ProcessLookupError):
+        os.kill(pid, signal.SIGKILL)
+
+
+class Deadline:
+    """Ends the process some seconds after it should have begun to end, whatever hangs: what is acknowledged is on the
+    disk. `clear` is called before."""
+
+    def __init__(self, tell: Callable[[str], None], seconds: float = MOST_SECONDS) -> None:
+        self._tell = tell
+        self._seconds = seconds
+        self._thread: threading.Thread | None = None
+
+    def begin(self, clear: Callable[[], None]) -> None:
+        if self._thread is None:
+            self._thread = threading.Thread(target=self._end, args=(clear,), name="deadline", daemon=True)
+            self._thread.start()
+
+    def _end(self, clear: Callable[[], None]) -> None:
+        time.sleep(self._seconds)
+        try:
+            self._tell(f"something didn't end within {self._seconds:.0f} seconds; the service ends without it")
+            for pid in children():
+                kill(pid)
+            clear()
+        finally:
+            os._exit(0)

@@ -1,0 +1,1 @@
+"""Programs of the engine behind the service: run, talked to, started again."""

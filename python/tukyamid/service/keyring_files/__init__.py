@@ -1,0 +1,1 @@
+"""Keyring files, certificate directories and gpg keyrings that the service keeps up with."""

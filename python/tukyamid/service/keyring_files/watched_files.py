@@ -1,0 +1,93 @@
+"""The files of a watched keyring: one file, or the entries of a certificate directory. They are regular files, and
+bounded in size: whatever else somebody names is refused, and never waited for."""
+
+from __future__ import annotations
+
+import os
+import re
+import stat
+from collections.abc import Iterator
+
+MOST_OCTETS = 512 << 20
+TRUST_ROOT = "trust-root"
+_FOLDER = re.compile(r"[0-9a-f]{2}")
+_ENTRY = re.compile(r"[0-9a-f]{38}|[0-9a-f]{62}")
+
+
+class Unreadable(Exception):
+    """The keyring can't be read; the text says why."""
+
+
+def files_of(name: str) -> list[str]:
+    """The files of a keyring, in order. Unreadable if it is neither a regular file nor a certificate directory."""
+    try:
+        mode = os.stat(name).st_mode
+        if stat.S_ISREG(mode):
+            return [name]
+        if not stat.S_ISDIR(mode):
+            raise Unreadable(f"{name}: this is neither a regular file nor a directory")
+        found = sorted(_entries(name))
+        if not found and not _is_new(name):
+            raise Unreadable(f"{name}: this isn't a certificate directory: it has no certificate as 0a/1b2c.., and no "
+                             f"{TRUST_ROOT}")
+        return found
+    except OSError as error:
+        raise unreadable(name, error) from None
+
+
+def folders_of(name: str) -> dict[str, frozenset[bytes] | None]:
+    """The directories in which a keyring's files can change, each with the names of these files; None stands for any
+    name."""
+    if os.path.isdir(name):
+        own = [entry.path for entry in os.scandir(name) if _FOLDER.fullmatch(entry.name) and entry.is_dir()]
+        return {folder: None for folder in (name, *own)}
+    places = {os.path.split(path) for path in (os.path.abspath(name), os.path.realpath(name))}
+    return {folder: frozenset(os.fsencode(file) for own, file in places if own == folder) for folder, _ in places}
+
+
+def read_files(name: str, files: list[str]) -> list[bytes]:
+    """What these files of a keyring have. Unreadable if it is too much, or if one isn't a regular file any more."""
+    left, texts = MOST_OCTETS, []
+    for file in files:
+        try:
+            text = _read(file, left)
+        except OSError as error:
+            raise unreadable(name, error) from None
+        if text is None:
+            raise Unreadable(f"{name}: it has more than {MOST_OCTETS >> 20} MiB; give it in several files")
+        texts.append(text)
+        left -= len(text)
+    return texts
+
+
+def unreadable(name: str, error: OSError) -> Unreadable:
+    return Unreadable(f"{error.filename or name}: {error.strerror or error}")
+
+
+def _entries(folder: str) -> Iterator[str]:
+    """The certificates of a certificate directory. Links to files count as files."""
+    with os.scandir(folder) as entries:
+        for entry in entries:
+            if entry.name == TRUST_ROOT and entry.is_file():
+                yield entry.path
+            elif _FOLDER.fullmatch(entry.name) and entry.is_dir():
+                with os.scandir(entry.path) as own:
+                    yield from (one.path for one in own if _ENTRY.fullmatch(one.name) and one.is_file())
+
+
+def _is_new(folder: str) -> bool:
+    """Whether a directory without certificates may be a certificate directory: nothing is in it, or what programs that
+    keep one leave there."""
+    return all(name == "writelock" or name.startswith(("_", ".")) or _FOLDER.fullmatch(name)
+               for name in os.listdir(folder))
+
+
+def _read(file: str, most: int) -> bytes | None:
+    """What a file has; None if that is more than `most`. Opening it doesn't wait: it may have become a FIFO."""
+    number = os.open(file, os.O_RDONLY | os.O_NONBLOCK | os.O_CLOEXEC | os.O_NOCTTY)
+    with open(number, "rb") as opened:
+        about = os.fstat(number)
+        if not stat.S_ISREG(about.st_mode):
+            raise Unreadable(f"{file}: this isn't a regular file")
+        text = opened.read(most + 1) if about.st_size <= most else None  # It may grow while it is read.
+    return text if text is not None and len(text) <= most else None

@@ -1,0 +1,118 @@
+"""What holds a keyring: engines that hold everything, or slices; and what is reported of it."""
+
+from __future__ import annotations
+
+from collections.abc import Callable
+from typing import TypeVar
+
+from .engine_capacity import Room
+from .sliced.shared_sliced_keyring import SharedSliced
+from .sliced.sliced_keyring import Sliced
+from .storage.database import Database, Finder
+from .storage.database_threads import Access
+from .whole.engine_pool import Hub
+from .whole.shared_engine_pool import SharedHub
+
+_R = TypeVar("_R")
+
+
+_LONGEST_SILENCE = 3.0  # Seconds in which a primary that isn't cut off has heard from its standby.
+
+
+class Holding:
+    def __init__(self, access: Access, room: Room) -> None:
+        self._access = access
+        self._room = room
+        self._held: Hub | Sliced | None = None
+
+    @property
+    def held(self) -> Hub | Sliced:
+        assert self._held is not None
+        return self._held
+
+    @property
+    def database(self) -> Database:
+        return self._access.database
+
+    @property
+    def fault(self) -> str:
+        """Why nothing can be committed at present; empty where all is well."""
+        return self.held.fault
+
+    @property
+    def count(self) -> int | None:
+        """The number of the last change that all engines have; None of a sliced keyring that nobody else changes."""
+        return self.held.count if isinstance(self.held, Hub | SharedSliced) else None
+
+    @property
+    def age(self) -> float:
+        """For how many seconds changes of other services may have been missed."""
+        return self.held.age if isinstance(self.held, SharedHub | SharedSliced) else 0.0
+
+    def lag(self) -> float:
+        """For how many seconds lines have waited for the engines."""
+        return self.held.lag() if self._held is not None else 0.0
+
+    @property
+    def is_away(self) -> bool:
+        """Whether a shared database can't be reached, as far as is known, so that asking it would take long."""
+        return isinstance(self._held, SharedHub | SharedSliced) and (
+            bool(self.fault) or self.age > _LONGEST_SILENCE)
+
+    @property
+    def state(self) -> str:
+        """`ok`, or why nothing can be committed as far as is known."""
+        if self.fault or not isinstance(self.held, SharedHub | SharedSliced):
+            return self.fault or "ok"
+        if self.standby is None:
+            return f"{self.database.name}: no standby has confirmed anything yet"
+        if self.age > _LONGEST_SILENCE:
+            return f"{self.database.name}: no standby has confirmed anything for {int(self.age)} seconds"
+        return "ok"
+
+    @property
+    def standby(self) -> str | None:
+        """The setting that names the standby that confirms changes; empty if none does, None if it isn't known."""
+        return self.held.standby if isinstance(self.held, SharedHub | SharedSliced) else None
+
+    @property
+    def pids(self) -> list[int]:
+        """The engines' process numbers."""
+        return self.held.pids
+
+    @property
+    def loaded(self) -> int | None:
+        """How many certificates are loaded of a sliced keyring; None if each engine holds all."""
+        return self.held.loaded if isinstance(self.held, Sliced) else None
+
+    @property
+    def budget(self) -> int:
+        return self._room.certificates
+
+    async def pending(self) -> int | None:
+        """How many signatures of a sliced keyring have no verdict, well-formed or not; None if engines hold all."""
+        return await self.held.read(lambda parts: parts.pending()) if isinstance(self.held, Sliced) else None
+
+    def tell(self, text: str) -> None:
+        self._access.tell(text)
+
+    def note_change(self, session: int, line: bytes) -> None:
+        """Writes down a change when it has begun."""
+        self._access.note(session, line)
+
+    def note(self, session: int, line: bytes) -> None:
+        """Writes down any other line when it is handed in."""
+        if isinstance(self.held, SharedSliced) and self._access.notes:
+            self.held.note(session, line)
+        else:
+            self._access.note(session, line)
+
+    def cut_stuck(self) -> None:
+        """Ends what a server of the database hasn't answered for long."""
+        self._access.cut_stuck()
+
+    async def write(self, call: Callable[[], _R]) -> _R:
+        return await self._access.write(call)
+
+    async def find(self, look: Callable[[Finder], _R]) -> _R:
+        return await self._access.find(look)

@@ -1,0 +1,247 @@
+"""Writing to the database that several services share, each in its turn."""
+
+import os
+import socket
+import tempfile
+from collections.abc import Iterable, Sequence
+from contextlib import closing
+from pathlib import Path
+
+import psycopg
+from psycopg.pq import TransactionStatus
+
+from ..storage.acknowledged_changes import Entry
+from ..storage.database import Actor, Change, DatabaseFault, Snapshot, Source, Uncertain
+from ..storage.shared_database import UNREAD, News, Place
+from ..storage.sqlite_database import Sqlite
+from ..storage.table_check import EVERY_CERTIFICATE, compare
+from . import postgres_schema
+from .acknowledged_check import lacked_of
+from .changes_since import lines_between
+from .notifications import PLACE, PostgresFollower
+from .postgres_connection import Servers, Statements, Wire, faults, text_of
+from .postgres_partial_reads import PostgresParts
+from .postgres_reads import PostgresFinder, PostgresSnapshot
+from .postgres_table_changes import SharedWriting
+
+# Nobody else makes a change meanwhile.
+_BEGIN = b"BEGIN; SET LOCAL idle_in_transaction_session_timeout = '2s'; SET LOCAL tcp_user_timeout = '2s'"
+_NOW = "SELECT extract(epoch FROM clock_timestamp())::BIGINT"
+
+
+class Postgres:
+    """A database by a URL with one or more hosts. All that is written goes to the primary."""
+
+    def __init__(self, url: str, state: Path | None = None) -> None:
+        """DatabaseFault if no server can be reached, or the database can't be used. A service has a folder for its
+        state."""
+        self.place = UNREAD
+        self.heard = float("-inf")  # When the primary was last heard of.
+        self.servers = Servers(url, state)
+        self._machine = socket.gethostname()
+        self._wire: Wire | None = None
+        self._beside: Wire | None = None
+        try:
+            self._primary()
+        except DatabaseFault as fault:
+            self._check_standby(fault)
+
+    @property
+    def name(self) -> str:
+        return self.servers.name
+
+    @property
+    def ledger_fault(self) -> str:
+        return self.servers.guard.fault
+
+    def _check_standby(self, fault: DatabaseFault) -> None:
+        """Without a primary a service may begin on a standby."""
+        try:
+            wire = self.servers.connect(is_primary=False)
+        except DatabaseFault:
+            raise fault from None
+        with closing(wire):
+            if not postgres_schema.version_of(Statements(wire.connection), self.name):
+                raise fault
+
+    def _primary(self) -> Wire:
+        if self._wire is not None and not self._wire.is_live():
+            self.disconnect()
+        if self._wire is None:
+            wire = self.servers.connect(is_primary=True)
+            try:
+                postgres_schema.prepare(wire.connection, self.name)
+            except BaseException:
+                wire.close()
+                raise
+            self._wire = wire
+        return self._wire
+
+    def disconnect(self) -> None:
+        for wire in (self._wire, self._beside):
+            if wire is not None:
+                wire.close()
+        self._wire = self._beside = None
+
+    def close(self) -> None:
+        self.disconnect()
+        self.servers.guard.close()
+
+    def cut(self) -> None:
+        wire = self._wire
+        if wire is not None:
+            wire.cut()
+
+    def _begin(self) -> tuple[Statements, Place]:
+        """Begins a turn. The server ends it if this service is silent, or reads nothing, for two seconds."""
+        statements = Statements(self._primary().connection)
+        statements.connection.execute(_BEGIN)
+        return statements, Place(*statements.row(f"{PLACE} FOR UPDATE"))
+
+    @faults
+    def take_turn(self) -> News:
+        statements, place = self._begin()
+        return self._read(statements, place, has_snapshot=False)
+
+    @faults
+    def lock(self) -> None:
+        """Begins a turn of a service that reads by itself what others have changed."""
+        self._begin()
+
+    @faults
+    def prolong_turn(self) -> bool:
+        """Says something, so that the server sees that this service is still at work."""
+        if self._wire is None or self._wire.connection.info.transaction_status != TransactionStatus.INTRANS:
+            return False
+        self._wire.connection.execute("SELECT")
+        return True
+
+    @faults
+    def end_turn(self) -> None:
+        if self._wire is not None and self._wire.connection.info.transaction_status != TransactionStatus.IDLE:
+            self._wire.connection.execute("ROLLBACK")
+
+    @faults
+    def news(self, has_snapshot: bool = False) -> News:
+        try:
+            wire, is_primary = self._primary(), True
+        except DatabaseFault:
+            wire, is_primary = self.servers.connect(is_primary=False), False
+        try:
+            with wire.reading() as statements:
+                place = Place(*statements.row(PLACE))
+                if not is_primary and self.place not in (place, UNREAD):
+                    raise DatabaseFault(f"{self.name}: the standby doesn't have the same changes as this service")
+                return self._read(statements, place, has_snapshot)
+        finally:
+            if not is_primary:
+                wire.close()
+
+    def _read(self, statements: Statements, place: Place, has_snapshot: bool) -> News:
+        """What leads from where this service has read to this place."""
+        lines = lines_between(statements, self.place, place, self.servers.guard)
+        snapshot = PostgresSnapshot(statements, place.number) if has_snapshot or lines is None else None
+        self.place = place
+        return News(lines, snapshot)
+
+    @faults
+    def apply(self, changes: Sequence[Change]) -> list[int]:
+        assert self._wire is not None
+        statements = Statements(self._wire.connection)
+        writing, now = SharedWriting(statements, self._machine), int(statements.row(_NOW)[0])
+        numbers = [writing.make(change, now) for change in changes]
+        writing.count()
+        self._commit(writing)
+        return numbers
+
+    def _commit(self, writing: SharedWriting) -> None:
+        assert self._wire is not None
+        writing.tell()
+        self._wire.warned = ""
+        try:
+            self._wire.connection.execute("COMMIT")
+        except psycopg.Error as error:
+            if self._wire.connection.closed:
+                raise Uncertain(f"{self.name}: {text_of(error)}") from None
+            raise
+        if self._wire.warned:  # That is how a server says that it hasn't heard from its standby.
+            raise Uncertain(f"{self.name}: {self._wire.warned}")
+        self.place = writing.place or self.place
+        self.servers.guard.kept(writing.lines)
+
+    @faults
+    def probe(self) -> None:
+        self._begin()
+        self.end_turn()
+
+    @faults
+    def fill(self, lines: Iterable[bytes], what: str, actor: Actor) -> int:
+        statements, place = self._begin()
+        if self.place not in (place, UNREAD):
+            raise DatabaseFault(f"{self.name}: another service has changed the database meanwhile; try again")
+        writing = SharedWriting(statements, self._machine)
+        number = writing.fill(lines, Change(what, actor, ()), int(statements.row(_NOW)[0]))
+        self._commit(writing)
+        return number
+
+    @faults
+    def snapshot(self, before: Snapshot | None = None) -> PostgresSnapshot:
+        self.place = UNREAD
+        snapshot = self.news().snapshot
+        assert isinstance(snapshot, PostgresSnapshot)
+        return snapshot
+
+    def finder(self) -> PostgresFinder:
+        return PostgresFinder(self, self.servers, self._machine)
+
+    def parts(self) -> PostgresParts:
+        return PostgresParts(self.servers)
+
+    def follow(self) -> PostgresFollower:
+        return PostgresFollower(self)
+
+    def _sources(self) -> Statements:
+        """A connection of its own, since a turn may be under way."""
+        if self._beside is None or self._beside.connection.closed:
+            self._beside = self.servers.connect(is_primary=True)
+        return Statements(self._beside.connection)
+
+    def log_octets(self) -> int:
+        """None: a slow reader has a copy of its own."""
+        return 0
+
+    @faults
+    def put_source(self, source: Source) -> None:
+        self._sources().execute(
+            "INSERT INTO sources VALUES (?, ?, ?, ?, ?) ON CONFLICT (machine, name) DO UPDATE SET "
+            "digest = excluded.digest, certificates = excluded.certificates, fault = excluded.fault",
+            (self._machine, source.name, source.digest, source.certificates, source.fault))
+
+    @faults
+    def drop_source(self, name: str) -> bool:
+        return bool(self._sources().rows("DELETE FROM sources WHERE machine = ? AND name = ? RETURNING 1",
+                                         self._machine, name))
+
+    @faults
+    def lacked_of(self, entries: Sequence[Entry]) -> list[Entry]:
+        return lacked_of(self._primary().connection, entries)
+
+    @faults
+    def hand_in(self, entries: Iterable[Entry]) -> None:
+        statements = self._sources()
+        now = int(statements.row(_NOW)[0])
+        statements.executemany("INSERT INTO handed_in VALUES (?, ?) ON CONFLICT DO NOTHING",
+                               [(one.place.mark, now) for one in entries])
+
+    @faults
+    def check(self) -> list[str]:
+        with self._primary().reading() as statements:
+            return list(compare(statements, statements.scan(EVERY_CERTIFICATE)))
+
+    def backup(self, path: Path) -> None:
+        """Writes a copy as a file of SQLite's: certificates, verdicts and one line in the log."""
+        snapshot = self.snapshot()
+        with closing(snapshot), tempfile.TemporaryDirectory(prefix=".tukyamid-", dir=path.parent) as folder:
+            with closing(Sqlite(Path(folder) / "copy.db")) as copy:
+                copy.fill(snapshot.lines(), f"backup of {self.name}", Actor(os.getuid(), os.getpid()))
+                copy.backup(path)

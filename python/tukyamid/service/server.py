@@ -1,0 +1,228 @@
+"""The service: its sockets, its clients, its end."""
+
+from __future__ import annotations
+
+import asyncio
+import os
+import signal
+from collections.abc import Callable, Sequence
+from dataclasses import dataclass
+from functools import partial
+from pathlib import Path
+from typing import Any
+
+from tukyamid.version import VERSION
+
+from .accepting import Acceptor
+from .child_processes import end_stopped
+from .engines.certificate_directory import Directory
+from .keyring_files.keyring_updates import Keyrings
+from .line_intake import Desk
+from .listening_sockets import Listening, Passed, notify
+from .sessions.client_rights import Rights
+from .sessions.own_answers import Answering
+from .sessions.session import Session
+from .sessions.user_shares import Shares, bounds
+from .storage.shared_database import Shared
+
+_PATIENCE_AT_THE_END = 4
+_LARGEST_LOG = 128 << 20  # Octets.
+# Called when the service is to end, with what takes its sockets' files away: it ends within a bound then.
+Begun = Callable[[Callable[[], None]], None]
+
+
+@dataclass(frozen=True)
+class Settings:
+    """Bounds of a service: after how many seconds a client that doesn't read is dropped, and a service that nobody uses
+    ends (never, where that is None)."""
+    patience: float
+    idle: float | None
+    most_views: int
+
+
+@dataclass(frozen=True)
+class Door:
+    """A socket, and what its clients may do."""
+    listening: Listening | Passed
+    may_change: bool
+
+
+class Service:
+    def __init__(self, hub: Desk, keyrings: Keyrings, directory: Directory, settings: Settings,
+                 ending: Begun = lambda clear: None) -> None:
+        self._hub = hub
+        self._keyrings = keyrings
+        self._directory = directory
+        self._settings = settings
+        self._shares = Shares(bounds(), hub.lag)
+        self._ending = ending
+        self._answering = Answering(hub, directory, keyrings, self._status)
+        self._sessions: set[Session] = set()
+        self._count = 0
+        self._end = asyncio.Event()
+        self._last_used = 0.0
+        self._file = _own_file()
+        self._doors: Sequence[Door] = ()
+
+    async def serve(self, doors: Sequence[Door]) -> None:
+        """Serves clients of these sockets until SIGTERM, SIGINT, or until nobody has used it for long."""
+        loop = asyncio.get_running_loop()
+        loop.set_exception_handler(self._tell_exception)
+        for number in (signal.SIGTERM, signal.SIGINT):
+            loop.add_signal_handler(number, self._begin_end)
+        self._doors = doors
+        self._shares.has_others = any(door.listening.users is None for door in doors)
+        warden = loop.create_task(end_stopped(self._hub.tell))
+        try:
+            if not await self._is_started():
+                return
+            for door in doors:
+                door.listening.open()
+            acceptor = Acceptor(self._shares.has_room, self._hub.tell)
+            for door in doors:
+                acceptor.listen(door.listening.socket, partial(self._new_session, self._rights(door)))
+            notify("READY=1")
+            self._last_used = loop.time()
+            loading = loop.create_task(self._hub.load())
+            loading.add_done_callback(self._loaded)
+            beside = [loop.create_task(work) for work in (
+                self._look_around(), self._keyrings.watch(), self._answering.learn())]
+            await self._end.wait()
+            self._begin_end()
+            notify("STOPPING=1")
+            await self._take_no_more(acceptor)
+            await loading
+            for task in beside:
+                task.cancel()
+            await asyncio.gather(*beside, return_exceptions=True)
+            await self._end_sessions()
+        finally:
+            self._begin_end()
+            warden.cancel()
+            await self._directory.close()
+            await self._hub.close()
+
+    def _begin_end(self) -> None:
+        self._end.set()
+        self._ending(self._remove_sockets)
+
+    def _remove_sockets(self) -> None:
+        for door in self._doors:
+            door.listening.remove()
+
+    async def _is_started(self) -> bool:
+        """Waits until there is an engine; False if the service is to end before."""
+        loop = asyncio.get_running_loop()
+        starting, ended = loop.create_task(self._hub.start()), loop.create_task(self._end.wait())
+        done, _ = await asyncio.wait((starting, ended), return_when=asyncio.FIRST_COMPLETED)
+        ended.cancel()
+        if starting in done:
+            await starting
+            return True
+        starting.cancel()
+        await asyncio.wait((starting,))
+        return False
+
+    def _loaded(self, loading: asyncio.Task[None]) -> None:
+        """A keyring that no engine can load is the end, also for those who asked before that was known."""
+        if not loading.cancelled() and loading.exception() is not None:
+            self._end.set()
+
+    def _tell_exception(self, loop: asyncio.AbstractEventLoop, context: dict[str, Any]) -> None:
+        """What nobody has caught is one line for people, and no end of the service."""
+        self._hub.tell(f"{context['message']}: {context.get('exception')!r}")
+
+    def _new_session(self, rights: Rights) -> Session:
+        self._count += 1
+        return Session(self._count, self._hub, self._answering.answer, rights, self._shares, self._opened)
+
+    def _rights(self, door: Door) -> Rights:
+        return Rights(door.may_change, self._settings.most_views, door.listening.users)
+
+    def _opened(self, session: Session) -> None:
+        self._sessions.add(session)
+        session.over.add_done_callback(lambda _: self._closed(session))
+
+    def _closed(self, session: Session) -> None:
+        self._sessions.discard(session)
+        self._last_used = asyncio.get_running_loop().time()
+
+    async def _look_around(self) -> None:
+        """Drops those who never read, and ends a service that nobody uses."""
+        loop = asyncio.get_running_loop()
+        idle, patience = self._settings.idle, self._settings.patience
+        pause = min(1.0, patience / 4, *([idle / 4] if idle is not None else []))
+        while True:
+            await asyncio.sleep(pause)
+            now = loop.time()
+            for session in list(self._sessions):
+                if session.outbox.drop_where_unread(now, patience):
+                    self._hub.tell(f"client {session.number} doesn't read its replies and is disconnected")
+                elif session.intake.holds_up_others(now, patience):
+                    session.drop("doesn't finish its long line")
+            self._drop_slowest()
+            self._hub.cut_stuck()
+            if self._sessions or self._keyrings.is_busy:
+                self._last_used = now
+            elif idle is not None and now - self._last_used > idle or self._is_upgraded():
+                self._end.set()
+
+    def _is_upgraded(self) -> bool:
+        """Whether another version was installed since this one began, and whoever comes next starts that."""
+        is_started_again = self._settings.idle is not None or any(
+            isinstance(door.listening, Passed) for door in self._doors)
+        return is_started_again and _own_file() != self._file
+
+    def _drop_slowest(self) -> None:
+        """Drops the client that has read for longest from the database as it was: its log grows until that is over."""
+        reading = [session for session in self._sessions if session.outbox.pinned_since < float("inf")]
+        if reading and self._hub.database.log_octets() > _LARGEST_LOG:
+            min(reading, key=lambda one: one.outbox.pinned_since).drop("reads the keyring too slowly")
+
+    async def _take_no_more(self, acceptor: Acceptor) -> None:
+        """Closes the sockets. Who has connected by then is served: first nobody new finds the file, then those that
+        wait are let in."""
+        self._remove_sockets()
+        await asyncio.sleep(0.05)  # The loop lets in who waits.
+        acceptor.close()
+
+    async def _end_sessions(self) -> None:
+        """Has the lines that were taken answered, and ends all connections."""
+        sessions = list(self._sessions)
+        for session in sessions:
+            session.stop(is_at_once=True)
+        if sessions:
+            await asyncio.wait([session.over for session in sessions], timeout=_PATIENCE_AT_THE_END)
+        for session in list(self._sessions):
+            session.outbox.drop()
+        await asyncio.sleep(0)
+
+    def _status(self) -> list[tuple[str, object]]:
+        pids, loaded = self._hub.pids, self._hub.loaded
+        return [("budget", self._hub.budget), ("loaded", "all" if loaded is None else loaded),
+                ("engines", len(pids)), ("memory", sum(map(_resident, [os.getpid(), *pids]))),
+                ("clients", len(self._sessions)), ("process", os.getpid()),
+                ("database", self._hub.database.name), ("state", self._hub.state),
+                ("age", int(self._hub.age)), ("version", VERSION), *self._status_of_shared()]
+
+    def _status_of_shared(self) -> list[tuple[str, object]]:
+        if not isinstance(self._hub.database, Shared):
+            return []
+        return [("confirmed-by", self._hub.standby or "-"), ("ledger", self._hub.database.ledger_fault or "ok")]
+
+
+def _own_file() -> tuple[int, int]:
+    """Which file this module is now; an upgrade puts another in its place."""
+    try:
+        found = os.stat(__file__)
+    except OSError:
+        return 0, 0  # It is being replaced.
+    return found.st_ino, found.st_mtime_ns
+
+
+def _resident(pid: int) -> int:
+    """How many octets of memory a process holds; 0 where it has ended."""
+    try:
+        return int(Path(f"/proc/{pid}/statm").read_text().split()[1]) * os.sysconf("SC_PAGE_SIZE")
+    except (OSError, IndexError):
+        return 0

@@ -1,0 +1,20 @@
+"""Which commands are of what kind."""
+
+# A command is added here. One that the service doesn't know is refused, as by an engine that doesn't: so none is passed
+# on that changes an engine, or names what is another client's, behind the service's back.
+CHANGES = frozenset((b"import", b"drop", b"verdict"))
+OF_A_VIEW = frozenset((b"ask", b"list", b"explain", b"absence", b"check"))
+OF_THE_KEYRING = frozenset((b"keys", b"pending", b"export"))
+OF_THE_DIRECTORY = frozenset((b"load", b"store"))
+# Lines that are under way alone: their replies are long, or what they do takes more than one step.
+ALONE = OF_THE_KEYRING | OF_THE_DIRECTORY | {b"list", b"explain", b"absence", b"dump", b"cursor", b"service"}
+# While the first engine loads the keyring, lines of these kinds wait for it; all others are answered from slices.
+OF_THE_WHOLE = CHANGES | OF_THE_DIRECTORY | {b"list", b"absence", b"check", b"keys", b"pending", b"dump", b"watch",
+                                             b"cursor"}
+MAY_CHANGE = CHANGES | OF_THE_DIRECTORY
+
+# With what the service itself refuses a line, or a client.
+REFUSED_LINE = b"refused line\n"
+REFUSED_LONG = b"refused long\n"
+REFUSED_READ_ONLY = b"refused read-only\n"
+REFUSED_CLIENTS = b"refused full clients\n"

@@ -1,0 +1,199 @@
+"""The replies of one client: in the order of their lines, and no faster than they are read."""
+
+from __future__ import annotations
+
+import asyncio
+import tempfile
+from collections import deque
+from collections.abc import Callable, Generator
+
+from .user_shares import Share
+
+# A reply in pieces. The first piece has no octets: it is taken at once, and the others as the client reads.
+Pieces = Generator[bytes, None, None]
+
+_PIECE = 1 << 18
+_MOST_IN_MEMORY = 1 << 20
+
+
+class Slot:
+    """The place of a line's reply, or of a watch line, among the replies. `finish` makes the client's reply of
+    the engine's, by the number of the last change before it."""
+    __slots__ = ("word", "size", "watch", "reply", "is_answered", "finish", "kind", "share", "told")
+
+    def __init__(self, word: bytes, size: int) -> None:
+        self.word = word
+        self.size = size
+        self.watch: bytes | None = None
+        self.reply: bytes | Pieces | None = None
+        self.is_answered = False
+        self.finish: Callable[[bytes, int], bytes] | None = None
+        self.kind = 0
+        self.share: Share | None = None
+        self.told: bytes | None = None  # The watch whose line this is.
+
+    def end(self) -> None:
+        """The line costs nothing any more."""
+        share, self.share = self.share, None
+        if share is not None:
+            share.end(self.kind)
+
+
+def spooled(reply: bytes) -> Pieces:
+    """A long reply, from a file without a name: so what nobody reads takes no memory."""
+    with tempfile.TemporaryFile(prefix="tukyamid-") as file:
+        file.write(reply)
+        del reply
+        file.seek(0)
+        yield b""  # Whoever has called this keeps no reply.
+        while piece := file.read(_PIECE):
+            yield piece
+
+
+class Outbox:
+    """Slots in order. A reply that is long, or that comes in pieces, is written piece by piece as it is read."""
+
+    def __init__(self, transport: asyncio.Transport, more: Callable[[], None],
+                 give_up: Callable[[Exception], None]) -> None:
+        """`more` is called when there is room, and `give_up` when a reply breaks off."""
+        self.slots: deque[Slot] = deque()
+        self.octets = 0
+        self.can_write = True
+        self._transport = transport
+        self._more = more
+        self._give_up = give_up
+        self._loop = asyncio.get_running_loop()
+        self._buffer: list[bytes] = []
+        self._pump: Pieces | None = None
+        self._written = 0
+        self.pinned_since = float("inf")  # Since when a reply comes from the database as it was then.
+        self._taken = (-1, 0.0)
+
+    def add(self, slot: Slot) -> None:
+        self.slots.append(slot)
+        self.octets += slot.size
+
+    def tell(self, watch: bytes, reply: bytes) -> None:
+        """A watch line comes after the replies so far, but before the reply to a line of the same watch."""
+        slot = Slot(b"watch", 0)
+        slot.reply, slot.is_answered, slot.told = reply, True, watch
+        self._forget_told(watch)
+        place = next((at for at, other in enumerate(self.slots) if other.watch == watch and not other.is_answered),
+                     len(self.slots))
+        self.slots.insert(place, slot)
+        self.deliver()
+
+    def _forget_told(self, watch: bytes) -> None:
+        """A line of a watch that isn't written yet is out of date now, unless the watch began again."""
+        for other in reversed(self.slots):
+            if other.watch == watch:
+                return
+            if other.told == watch:
+                self.slots.remove(other)
+                return
+
+    def answer(self, slot: Slot, reply: bytes | Pieces | None) -> None:
+        """The reply to a slot's line; None drops the client, whose line nobody could answer."""
+        slot.reply, slot.is_answered = reply, True
+        if slot.share is not None:
+            slot.end()
+        if reply is not None and not isinstance(reply, bytes):
+            self.pinned_since = self._loop.time()
+        if self.slots and self.slots[0] is slot:
+            self.deliver()
+
+    def say(self, octets: bytes) -> None:
+        """Writes what stands before the reply to the first line, and belongs to it."""
+        self._write(octets)
+
+    def deliver(self) -> None:
+        """Writes the answered replies at the beginning of the row."""
+        while self._pump is None and self.slots and self.slots[0].is_answered:
+            if self.slots[0].told is not None and not self.can_write:
+                break  # Nobody reads: a later one may take its place.
+            slot = self.slots.popleft()
+            self.octets -= slot.size
+            reply, slot.reply = slot.reply, None
+            if reply is None:
+                self.drop()
+            elif isinstance(reply, bytes) and len(reply) <= _MOST_IN_MEMORY:
+                self._write(reply)
+            elif isinstance(reply, bytes):
+                self._start(spooled(reply))
+            else:
+                self._start(reply)
+        self._more()
+
+    def drop(self) -> None:
+        """Ends the connection at once."""
+        self._transport.abort()
+
+    def flush(self) -> None:
+        if self._buffer and not self._transport.is_closing():
+            self._transport.write(b"".join(self._buffer))
+        self._buffer.clear()
+
+    @property
+    def is_done(self) -> bool:
+        return not self.slots and self._pump is None
+
+    def close(self) -> None:
+        """The client is gone."""
+        self.slots.clear()
+        self._end_pump()
+
+    def set_can_write(self, can_write: bool) -> None:
+        self.can_write = can_write
+        if can_write:
+            self._run_pump()
+            self.deliver()
+
+    def drop_where_unread(self, now: float, patience: float) -> bool:
+        """Drops a client that has taken no octet for `patience` seconds while there are some for it."""
+        unread = self._transport.get_write_buffer_size()
+        taken, since = self._taken
+        if not unread or self._written - unread != taken:
+            self._taken = self._written - unread, now
+        elif now - since > patience:
+            self.drop()
+            return True
+        return False
+
+    def _write(self, octets: bytes) -> None:
+        """Writes at the end of this turn of the loop, with what else there is by then."""
+        if self._transport.is_closing():
+            return
+        if not self._buffer:
+            self._loop.call_soon(self.flush)
+        self._written += len(octets)
+        self._buffer.append(octets)
+
+    def _start(self, pump: Pieces) -> None:
+        self.flush()
+        next(pump)
+        self._pump = pump
+        self._loop.call_soon(self._run_pump)
+
+    def _run_pump(self) -> None:
+        """Writes one piece; then it is the turn of others."""
+        if self._pump is None or not self.can_write or self._transport.is_closing():
+            return
+        try:
+            piece = next(self._pump, None)
+        except Exception as error:
+            self._give_up(error)
+            return
+        if piece is None:
+            self._end_pump()
+            self.deliver()
+            return
+        self._written += len(piece)
+        self._transport.write(piece)
+        if self.can_write:
+            self._loop.call_soon(self._run_pump)
+
+    def _end_pump(self) -> None:
+        self.pinned_since = float("inf")
+        if self._pump is not None:
+            self._pump.close()
+            self._pump = None

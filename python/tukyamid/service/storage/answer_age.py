@@ -1,0 +1,82 @@
+"""How old the answers of a service may be, whose database others change too."""
+
+from __future__ import annotations
+
+import asyncio
+from collections.abc import Callable
+from concurrent.futures import ThreadPoolExecutor
+from time import monotonic
+
+from .database import DatabaseFault
+from .group_commit import Committer, called
+from .shared_database import Shared
+
+LONGEST_CALL = 12.0  # Seconds: longer than a server lets one wait for others.
+_PAUSE = 0.5
+
+
+class Freshness:
+    """Looks after what other services do. `behind` is called when the engines lack something that was committed."""
+
+    def __init__(self, database: Shared, committer: Committer, tell: Callable[[str], None],
+                 behind: Callable[[], None]) -> None:
+        self._database = database
+        self._committer = committer
+        self._tell = tell
+        self._behind = behind
+        self._following = ThreadPoolExecutor(1, "following")
+        self._follower = database.follow()
+        self._loop = asyncio.get_running_loop()
+        self._current = self._loop.time()
+        self._heard = database.place, self._current
+        self._told = ""
+        # The setting that names the synchronous standby, as the database last said; None before it has said anything.
+        self.standby: str | None = None
+
+    @property
+    def age(self) -> float:
+        """For how many seconds the engines may have missed something."""
+        return self._loop.time() - self._current
+
+    async def keep(self) -> None:
+        """Hears of changes, for ever. A connection that is lost, or that can't be had at first, is made once more
+        before changes are refused."""
+        is_lost = False
+        while True:
+            try:
+                heard = await called(self._following, self._follower.wait, self._follower.cut, LONGEST_CALL)
+            except Exception as error:  # Whatever one look meets, there is another.
+                if is_lost or not isinstance(error, DatabaseFault):
+                    self._take_fault(str(error) if isinstance(error, DatabaseFault) else repr(error))
+                    await asyncio.sleep(_PAUSE)
+                is_lost = True
+                continue
+            is_lost = False
+            self._take_fault("")
+            self.standby = heard.standby
+            self._heard = heard.place, self._loop.time() - (monotonic() - heard.begun)
+            self.see()
+            if heard.place != self._database.place:
+                self._behind()
+
+    def see(self) -> None:
+        """The engines have all that was committed when the database last confirmed a place, if they have come there."""
+        place, when = self._heard
+        own = self._database.place
+        if place == own or place.number < own.number:
+            self._current = max(self._current, when)
+
+    def _take_fault(self, fault: str) -> None:
+        """Notes why nothing can be committed, if so, and says it once."""
+        self._committer.fault = fault
+        if fault and fault != self._told:
+            self._tell(f"changes are refused: {fault}")
+        elif self._told and not fault:
+            self._tell("changes are accepted again")
+        self._told = fault
+
+    def close(self) -> None:
+        """After `keep` was cancelled."""
+        self._follower.cut()
+        self._following.shutdown()
+        self._follower.close()

@@ -1,0 +1,107 @@
+"""The way to the database for everything that the service does in parallel: one thread writes, one looks up what people
+seek, which may take long, and one reads what questions rest on."""
+
+from __future__ import annotations
+
+import asyncio
+import sys
+from collections.abc import Callable
+from concurrent.futures import ThreadPoolExecutor
+from time import monotonic
+from typing import BinaryIO, Protocol, TypeVar, runtime_checkable
+
+from tukyamid.protocol.spelling import for_people
+
+from .database import Database, Finder
+
+_R = TypeVar("_R")
+LONGEST_SILENCE = 30.0  # Seconds: no server takes longer for what is looked up, unless it is stopped.
+
+
+@runtime_checkable
+class Cuttable(Protocol):
+    """What waits for a server."""
+
+    def cut(self) -> None:
+        """Has what waits meet the connection's end. Any thread may call this."""
+
+
+class Calls:
+    """A thread that makes one call after another, and since when it makes the present one."""
+
+    def __init__(self, name: str) -> None:
+        self.executor = ThreadPoolExecutor(1, name)
+        self._since = float("inf")
+
+    async def make(self, call: Callable[[], _R]) -> _R:
+        return await asyncio.get_running_loop().run_in_executor(self.executor, self._make, call)
+
+    def _make(self, call: Callable[[], _R]) -> _R:
+        self._since = monotonic()
+        try:
+            return call()
+        finally:
+            self._since = float("inf")
+
+    def cut_if_stuck(self, asked: object) -> None:
+        """Cuts what is asked if that has been silent for too long."""
+        if monotonic() - self._since > LONGEST_SILENCE and isinstance(asked, Cuttable):
+            asked.cut()
+
+
+def say(text: object) -> None:
+    """Writes a line of the log. Strangers' names may be in it, so nothing in it steers a terminal or ends the line."""
+    shown = for_people(str(text).encode("utf-8", "surrogateescape"), "\\")
+    print(f"tukyamid-server: {shown}", file=sys.stderr, flush=True)
+
+
+class Access:
+    def __init__(self, database: Database, order: BinaryIO | None = None) -> None:
+        self.database = database
+        self.writing = ThreadPoolExecutor(1, "writing")
+        self.parts: object = None  # What `read` asks, as whoever calls it says.
+        self._finding = Calls("finding")
+        self._reading = Calls("reading")
+        self._finder: Finder | None = None
+        self._order = order
+
+    def tell(self, text: str) -> None:
+        say(text)
+
+    @property
+    def notes(self) -> bool:
+        """Whether the order of lines is written down."""
+        return self._order is not None
+
+    def note(self, session: int, line: bytes) -> None:
+        """Writes down the order of lines, for those who check it."""
+        if self._order is not None:
+            self._order.write(b"%d %s\n" % (session, line))
+
+    async def write(self, call: Callable[[], _R]) -> _R:
+        """Calls what writes to the database, between commits."""
+        return await asyncio.get_running_loop().run_in_executor(self.writing, call)
+
+    async def find(self, look: Callable[[Finder], _R]) -> _R:
+        """Looks something up in the database, beside commits."""
+        return await self._finding.make(lambda: look(self._opened()))
+
+    async def read(self, call: Callable[[], _R]) -> _R:
+        """Calls what reads parts of the database."""
+        return await self._reading.make(call)
+
+    def cut_stuck(self) -> None:
+        """Ends what a server hasn't answered for long: whoever waits for it meets that as a fault."""
+        self._finding.cut_if_stuck(self._finder)
+        self._reading.cut_if_stuck(self.parts)
+
+    def _opened(self) -> Finder:
+        if self._finder is None:
+            self._finder = self.database.finder()
+        return self._finder
+
+    def close(self) -> None:
+        for executor in (self.writing, self._finding.executor, self._reading.executor):
+            executor.shutdown()
+        if self._finder is not None:
+            self._finder.close()

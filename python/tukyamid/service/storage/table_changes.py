@@ -1,0 +1,187 @@
+"""What changes do to the tables of a database, within one transaction. The statements are those that SQLite and
+PostgreSQL understand alike; `table_check` says whether they have done it."""
+
+from collections import Counter
+from collections.abc import Iterable, Sequence
+from typing import Any, Protocol
+
+from .certificate_rows import Described, describe
+from .database import Change, DropCertificate, Effect, PutCertificate, SetVerdict
+
+NOBODY = 0  # The key of this number has no octets: the issuer of a signature that is bad.
+COUNTED = ("certificates", "octets", "user_ids", "signatures", "verdicts", "pending")
+_TABLES = ("verdicts", "user_ids", "subkeys", "certificates")
+_LIST_SUBKEY = "INSERT INTO subkeys (certificate, key_id) VALUES (?, ?) ON CONFLICT DO NOTHING"
+_ADOPT = "UPDATE verdicts SET certificate = ?, depth = ? WHERE number = ? AND certificate IS NULL"
+_BRING = "INSERT INTO verdicts (number, certificate, depth) SELECT ?, ?, ? " \
+    "WHERE NOT EXISTS (SELECT 1 FROM verdicts WHERE number = ?)"
+
+
+class Rows(Protocol):
+    """What a statement has found."""
+
+    @property
+    def rowcount(self) -> int: ...
+
+    def fetchone(self) -> Any: ...
+
+    def fetchall(self) -> Any: ...
+
+
+class Statements(Protocol):
+    """Does statements, whose values stand as `?` in them."""
+
+    def execute(self, statement: str, values: Sequence[Any] = (), /) -> Rows: ...
+
+    def executemany(self, statement: str, values: Iterable[Sequence[Any]], /) -> Rows: ...
+
+
+def fill_subkeys(connection: Statements, certificates: Iterable[Sequence[Any]]) -> None:
+    """Lists the subkeys of certificates that an earlier version has written: rows of number and octets."""
+    for place, octets in certificates:
+        connection.executemany(_LIST_SUBKEY, [(place, key_id) for key_id in describe(bytes(octets)).subkeys])
+
+
+class Writing:
+    """Changes within one transaction. `count` is called behind the last of them."""
+
+    def __init__(self, connection: Statements) -> None:
+        self._connection = connection
+        self._number = int(connection.execute("SELECT coalesce(max(number), 0) FROM changes").fetchone()[0])
+        self._keys: dict[bytes, int] = {b"": NOBODY}
+        self._more: Counter[str] = Counter()
+        # How many verdicts are on signatures that no kept certificate has.
+        self._loose = int(connection.execute("SELECT verdicts + pending - signatures FROM counts").fetchone()[0])
+
+    def make(self, change: Change, now: int) -> int:
+        """Makes a change, and gives the number of the last change so far."""
+        if any([self._is_made(effect) for effect in change.effects]):
+            self._log(change, now)
+        return self._number
+
+    def _log(self, change: Change, now: int) -> None:
+        self._number += 1
+        self._connection.execute("INSERT INTO changes VALUES (?, ?, ?, ?, ?)",
+                                 (self._number, now, change.actor.uid, change.actor.pid, change.what))
+
+    def fill(self, lines: Iterable[bytes], change: Change, now: int) -> int:
+        """Puts what these lines bring into the place of everything."""
+        for table in _TABLES:
+            self._connection.execute(f"DELETE FROM {table}")
+        self._connection.execute(f"UPDATE counts SET {', '.join(f'{name} = 0' for name in COUNTED)}")
+        self._loose = 0
+        for line in lines:
+            word, _, rest = line.partition(b" ")
+            if word == b"import":
+                octets = bytes.fromhex(rest.decode())
+                self._put(describe(octets), octets)
+            else:
+                number, _, issuer = rest.partition(b" ")
+                self._judge(bytes.fromhex(number.decode()), bytes.fromhex(issuer.removeprefix(b"good ").decode())
+                            if issuer != b"bad" else b"")
+        self._log(change, now)
+        self.count()
+        return self._number
+
+    def count(self) -> None:
+        """Has the counts say what there is now."""
+        if any(self._more.values()):
+            self._connection.execute(f"UPDATE counts SET {', '.join(f'{name} = {name} + ?' for name in COUNTED)}",
+                                     [self._more[name] for name in COUNTED])
+        self._more.clear()
+
+    def _is_made(self, effect: Effect) -> bool:
+        """Makes an effect, and says whether anything is other than before."""
+        match effect:
+            case PutCertificate(_, octets):
+                return self._put(describe(octets), octets)
+            case DropCertificate(fpr):
+                return self._drop(fpr)
+            case SetVerdict(number, issuer):
+                return self._judge(number, issuer)
+
+    def _one(self, statement: str, *values: object) -> Any:
+        """The first row, or None."""
+        return self._connection.execute(statement, values).fetchone()
+
+    def _key(self, fpr: bytes) -> int:
+        """The number of a key, which it has from now on."""
+        place = self._keys.get(fpr)
+        if place is None:
+            row = self._one("SELECT id FROM keys WHERE fingerprint = ?", fpr) \
+                or self._one("INSERT INTO keys (fingerprint) VALUES (?) RETURNING id", fpr)
+            place = self._keys[fpr] = int(row[0])
+        return place
+
+    def _put(self, described: Described, octets: bytes) -> bool:
+        place = self._key(described.fpr)
+        row = self._one("SELECT length(octets) FROM certificates WHERE id = ?", place)
+        if row is None:
+            self._more["certificates"] += 1
+            self._connection.execute("INSERT INTO certificates (id, key_id, octets, change) VALUES (?, ?, ?, ?)",
+                                     (place, described.key_id, octets, self._number + 1))
+        elif self._one("UPDATE certificates SET octets = ?, change = ? WHERE id = ? AND octets <> ? RETURNING id",
+                       octets, self._number + 1, place, octets) is None:
+            return False
+        self._more["octets"] += len(octets) - (row[0] if row is not None else 0)
+        if described.user_ids:
+            self._more["user_ids"] += self._connection.executemany(
+                "INSERT INTO user_ids VALUES (?, ?, ?) ON CONFLICT DO NOTHING",
+                [(place, user_id, address) for user_id, address in described.user_ids.items()]).rowcount
+        if described.subkeys:
+            self._connection.executemany(_LIST_SUBKEY, [(place, key_id) for key_id in described.subkeys])
+        self._bring(place, described.signatures, is_new=row is None)
+        return True
+
+    def _bring(self, place: int, signatures: dict[bytes, int], is_new: bool) -> None:
+        """Has a certificate carry these signatures too. Some may have a verdict already, as those of a certificate
+        that was dropped."""
+        known = set() if is_new else {bytes(row[0]) for row in self._connection.execute(
+            "SELECT number FROM verdicts WHERE certificate = ?", (place,)).fetchall()}
+        new = [(number, depth) for number, depth in signatures.items() if number not in known]
+        self._more["signatures"] += len(new)
+        self._more["pending"] += len(new)
+        if new and self._loose:
+            adopted = self._connection.executemany(
+                _ADOPT, [(place, depth, number) for number, depth in new]).rowcount
+            self._connection.executemany(_BRING, [(number, place, depth, number) for number, depth in new])
+            self._more["pending"] -= adopted
+            self._loose -= adopted
+        elif new:
+            self._connection.executemany("INSERT INTO verdicts (number, certificate, depth) VALUES (?, ?, ?)",
+                                         [(number, place, depth) for number, depth in new])
+
+    def _drop(self, fpr: bytes) -> bool:
+        row = self._one("SELECT id, length(octets), (SELECT count(*) FROM user_ids WHERE certificate = id) "
+                        "FROM certificates JOIN keys USING (id) WHERE fingerprint = ?", fpr)
+        if row is None:
+            return False
+        place, octets, user_ids = row
+        unjudged = self._connection.execute("DELETE FROM verdicts WHERE certificate = ? AND issuer IS NULL", (place,))
+        judged = self._connection.execute("UPDATE verdicts SET certificate = NULL, depth = 0 WHERE certificate = ?",
+                                          (place,))
+        self._connection.execute("DELETE FROM certificates WHERE id = ?", (place,))
+        self._loose += judged.rowcount
+        self._more.subtract({"certificates": 1, "octets": octets, "user_ids": user_ids, "pending": unjudged.rowcount,
+                             "signatures": unjudged.rowcount + judged.rowcount})
+        return True
+
+    def _judge(self, number: bytes, issuer: bytes | None) -> bool:
+        by = None if issuer is None else self._key(issuer)
+        row = self._one("SELECT certificate, issuer FROM verdicts WHERE number = ?", number)
+        before = row[1] if row else None
+        if before == by:
+            return False
+        if row is None:
+            self._connection.execute("INSERT INTO verdicts (number, issuer) VALUES (?, ?)", (number, by))
+        elif by is None and row[0] is None:
+            self._connection.execute("DELETE FROM verdicts WHERE number = ?", (number,))
+        else:
+            self._connection.execute("UPDATE verdicts SET issuer = ? WHERE number = ?", (by, number))
+        more = (by is not None) - (before is not None)
+        self._more["verdicts"] += more
+        if row is not None and row[0] is not None:
+            self._more["pending"] -= more
+        else:
+            self._loose += more
+        return True

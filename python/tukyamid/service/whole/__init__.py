@@ -1,0 +1,1 @@
+"""A keyring that each engine holds as a whole."""

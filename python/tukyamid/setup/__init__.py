@@ -1,0 +1,1 @@
+"""`tukyamid setup`: has other programs ask Tukyamid whether signatures are good."""

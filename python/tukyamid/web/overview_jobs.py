@@ -1,0 +1,82 @@
+"""Overviews of a keyring and what else takes long, each made by a process of its own, so that the page answers
+meanwhile. One of a kind runs at a time."""
+
+from __future__ import annotations
+
+import asyncio
+import contextlib
+import json
+import os
+import sys
+from pathlib import Path
+from typing import Any
+
+from .page_requests import Standpoint
+from .service_connections import Desk
+
+LONGEST_LINE = 1 << 26
+PATIENCE = 1800.0
+
+
+class _Survey:
+    """One overview: under way, done, or failed."""
+
+    def __init__(self, asked: bytes, change: int) -> None:
+        self.of = asked, change
+        self.state: dict[str, Any] = {"progress": "starting"}
+        self.task: asyncio.Task[None] | None = None
+
+    async def run(self, words: list[str], asked: bytes) -> None:
+        package = str(Path(__file__).resolve().parents[2])
+        process = await asyncio.create_subprocess_exec(
+            *words, stdin=asyncio.subprocess.PIPE, stdout=asyncio.subprocess.PIPE, limit=LONGEST_LINE,
+            start_new_session=True, env={**os.environ, "PYTHONPATH": package})
+        assert process.stdin is not None and process.stdout is not None
+        try:
+            async with asyncio.timeout(PATIENCE):
+                process.stdin.write(asked)
+                process.stdin.close()
+                async for line in process.stdout:
+                    self.state = json.loads(line)
+                await process.wait()
+        except (TimeoutError, ValueError, OSError) as error:
+            self.state = {"error": f"it wasn't finished: {error or 'it took too long'}"}
+        finally:
+            with contextlib.suppress(ProcessLookupError):
+                process.terminate()
+            await process.wait()
+        if "progress" in self.state:
+            self.state = {"error": f"it ended with status {process.returncode}"}
+
+
+class Surveys:
+    """The overview that was asked for last, or what another module makes."""
+
+    def __init__(self, desk: Desk, module: str = "overview_process") -> None:
+        self._desk, self._module = desk, module
+        self._last: _Survey | None = None
+
+    async def ask(self, standpoint: Standpoint, **more: object) -> dict[str, Any]:
+        """How far the overview is, or all of it. One of another question, or of an earlier keyring, is given up."""
+        async with self._desk.talking() as client:
+            change = max([one.number async for one in await client.log(1)], default=0)
+        roots = dict(sorted(standpoint.roots.items()))
+        asked = json.dumps({"time": standpoint.time, "roots": roots, **more}).encode()
+        survey = _Survey(asked, change)
+        if self._last is not None and self._last.of == survey.of:
+            state = self._last.state
+            self._last = None if "error" in state else self._last  # Who asks again after an error tries again.
+            return state
+        await self.close()
+        words = [sys.executable, "-m", f"tukyamid.web.{self._module}", self._desk.socket]
+        survey.task = asyncio.create_task(survey.run(words, asked))
+        self._last = survey
+        return survey.state
+
+    async def close(self) -> None:
+        """Gives up what is under way."""
+        task = self._last.task if self._last is not None else None
+        if task is not None:
+            task.cancel()
+            with contextlib.suppress(asyncio.CancelledError):
+                await task

@@ -1,0 +1,149 @@
+// The start: the network from the viewer's roots, with those whom no path reaches below it.
+
+import { call } from "./asking.js";
+import { beginning } from "./beginning.js";
+import { byId, count, draw, fill, fitted, make } from "./dom.js";
+import { keyLink } from "./links.js";
+import { addressOf, addressOfKey, learn, nameOf, standpoint, state } from "./state.js";
+import { HEIGHT, layOutTree, lineBetween } from "./tree_layout.js";
+import { word } from "./words.js";
+import { frame } from "./zoom.js";
+
+const PAUSE = 300;
+let shownFor = "";
+let latest = null;
+
+/** Shows the network, and goes on until all of it is there. */
+export async function showNetwork() {
+  fill(byId("beginning"), beginning());
+  const asked = { ...standpoint(), open: state.opened };
+  const id = JSON.stringify(asked);
+  if (id === shownFor && latest?.done) return;
+  shownFor = id;
+  while (state.view === "start" && id === shownFor) {
+    const reply = await call("network", asked).catch((failure) => ({ failure }));
+    if (reply === null || id !== shownFor) return;
+    if (reply.failure) {
+      shownFor = "";
+      fill(byId("network-state"), make("span", { class: "warn" }, `${reply.failure.message}.`));
+      return;
+    }
+    latest = reply;
+    show(reply);
+    if (reply.done) break;
+    await new Promise((done) => setTimeout(done, PAUSE));
+  }
+  if (id === shownFor) showOthers();
+}
+
+/** Draws it again if the width has changed so much that it is laid out otherwise. */
+new ResizeObserver(([entry]) => {
+  const room = Math.floor(entry.contentRect.width);
+  if (latest && room > 0 && byId("network").dataset.room && Math.abs(room - byId("network").dataset.room) > 24) {
+    drawNetwork(latest);
+  }
+}).observe(byId("network"));
+
+function show(reply) {
+  learn(Object.fromEntries(reply.nodes.filter((one) => one.sort === "key").map((one) => [one.id, one.name])));
+  fill(byId("counts"),
+    countOf("yes", "✓", reply.full, "fully", word("authenticated")),
+    countOf("part", "◐", reply.part, "partly", "authenticated"),
+    countOf("no", "✗", reply.none, "not", "authenticated"));
+  fill(byId("network-state"), reply.done ? "" : `${reply.asked.toLocaleString("en")} of `
+    + `${count(reply.total, "user ID")} asked about so far…`);
+  drawNetwork(reply);
+}
+
+const countOf = (sort, sign, number, ...said) => make("p", { class: `count ${sort}` },
+  make("span", { class: "badge" }, `${sign} ${number.toLocaleString("en")}`), " ",
+  ...said.flatMap((one) => [one, " "]));
+
+function drawNetwork(reply) {
+  const element = byId("network");
+  element.hidden = !reply.nodes.length;
+  if (!reply.nodes.length) return;
+  const room = Math.floor(element.getBoundingClientRect().width) - 4;
+  element.dataset.room = room;
+  const nodes = reply.nodes.map((node) => ({ ...node }));
+  const { width, height, isWide } = layOutTree(nodes, room);
+  const byName = new Map(nodes.map((node) => [node.id, node]));
+  const svg = draw("svg", {
+    viewBox: `0 0 ${width} ${height}`, width, height, class: "tree", role: "group",
+    "aria-label": "Who vouches for whom, from your roots" });
+  const lines = reply.links.filter((link) => link.tree || isWide);
+  for (const link of lines) svg.append(linkOf(link, byName.get(link.from), byName.get(link.to), isWide));
+  for (const node of nodes) {
+    if (node.sort === "group" || String(node.parent).startsWith("group ")) {
+      svg.append(draw("path", {
+        class: "line folded", d: lineBetween(byName.get(node.parent), node, isWide) }));
+    }
+  }
+  const focused = document.activeElement?.getAttribute?.("data-id");
+  svg.append(...nodes.map(nodeOf));
+  const { area } = frame(element, svg, "The network", "network");
+  if (focused) [...area.querySelectorAll("a")].find((one) => one.getAttribute("data-id") === focused)?.focus();
+}
+
+/** A line has the name of what it says; one that doesn't lead down the tree is thin. */
+function linkOf(link, from, to, isWide) {
+  const inGroup = link.tree && to.parent !== from.id;  // The line leads through the group that it is in.
+  return draw("path", {
+    class: `line ${link.tree ? "" : "beside"}`, d: inGroup ? "" : lineBetween(from, to, isWide) },
+  draw("title", {}, `${nameOf(link.from)} vouches for ${nameOf(link.to)}`));
+}
+
+function nodeOf(node) {
+  const isKey = node.sort === "key";
+  const sort = !isKey ? "group" : node.root ? "root" : node.amount >= 120 ? "yes" : "part";
+  const [upper, lower] = isKey ? [node.name || node.id, aboutKey(node)] : [groupName(node), aboutGroup(node)];
+  const href = isKey ? addressOfKey(node.id) : addressOf({
+    view: "start", opened: node.open ? state.opened.filter((one) => one !== node.opens)
+      : [...state.opened, node.opens] });
+  const room = node.width - 20;
+  const link = draw("a", {
+    href, class: `node ${sort}`, transform: `translate(${node.x} ${node.y})`, "data-id": node.id,
+    "aria-label": `${upper}: ${lower}`, ...(isKey ? {} : { "aria-expanded": String(node.open) }) },
+  draw("title", {}, upper),
+  draw("rect", { width: node.width, height: HEIGHT, rx: 9 }),
+  draw("text", { x: 10, y: 18, class: "main" }, fitted(isKey ? upper.replace(/ <[^<>]*>$/, "") : upper, room,
+    13.5, 600)),
+  draw("text", { x: 10, y: 35, class: "small" }, fitted(lower, room, 12)));
+  return link;
+}
+
+function aboutKey(node) {
+  const said = node.root ? [`root, amount ${node.root}`] : [`${node.amount} of 120`];
+  if (node.through) said.push(`leads to ${node.through.toLocaleString("en")}`);
+  return said.join(", ");
+}
+
+function groupName(node) {
+  if (node.label === "more") return `${count(node.count, "more key")}`;
+  const at = node.label ? `${node.label}: ` : "";
+  return `${at}${count(node.count, "key")}`;
+}
+
+const aboutGroup = (node) =>
+  `${node.open ? "▾ click to fold" : "▸ click to open"}, ${node.full.toLocaleString("en")} fully authenticated`;
+
+/** The keys that no path reaches, some at a time. */
+async function showOthers() {
+  const list = make("ul", { class: "names" });
+  fill(byId("unreached"), list);
+  await moreOthers(list, 0);
+}
+
+async function moreOthers(list, begin) {
+  const reply = await call("others", { ...standpoint(), begin }, `others ${begin}`).catch(() => null);
+  if (reply === null) return;
+  learn(reply.names);
+  byId("unreached-box").hidden = !reply.count;
+  list.append(...reply.keys.map((fpr) => make("li", {}, keyLink(fpr))));
+  const left = reply.count - begin - reply.keys.length;
+  if (!left) return;
+  const more = make("li", {}, make("button", {
+    type: "button", class: "small", onclick: () => { more.remove(); moreOthers(list, begin + reply.keys.length); },
+  }, `Show more (${count(left, "key")} left)`));
+  list.append(more);
+}

@@ -1,0 +1,52 @@
+"""Looks for what is fragile, or makes the plan of a meeting: `python3 -m tukyamid.web.plan_process SOCKET`, with what
+is asked as JSON on standard input. Writes lines of JSON: how far it is, and at last the answer."""
+
+import json
+import os
+import sys
+from typing import Any
+
+from ..client import connect
+from ..formats.phrases import Called
+from ..keyrings.keyring import Keyring
+from ..keyrings.service_keyring import served_keyring
+from ..planning import meeting_text
+from ..planning.fragile_making import fragile_in
+from ..planning.fragile_tables import tables
+from ..planning.meeting_making import meeting_of
+from ..protocol.refusals import TukyamidError
+from .overview_process import say
+
+
+def main(words: list[str]) -> int:
+    os.nice(5)
+    asked = json.loads(sys.stdin.read())
+    try:
+        with connect(words[0]) as client:
+            say(**_answer(served_keyring(client), asked))
+    except BrokenPipeError:
+        os.dup2(os.open(os.devnull, os.O_WRONLY), 1)  # The page has ended, so nobody wants the answer.
+    except TukyamidError as error:
+        say(error=str(error))
+    return 0
+
+
+def _answer(keyring: Keyring, asked: dict[str, Any]) -> dict[str, Any]:
+    time, roots, wanted, called = asked["time"], asked["roots"], asked["wanted"], Called(keyring)
+    if asked["what"] == "fragile":
+        if not roots:
+            return {"error": "without a root nothing is authenticated, so nothing is fragile"}
+        found = fragile_in(keyring, time, roots, wanted, asked["days"], _tell)
+        return {"time": time, "roots": roots, "reached": found.reached, "tables": tables(found, called.of)}
+    meeting = meeting_of(keyring, asked["who"], time, roots, wanted, asked["depth"], tell=_tell)
+    shown = meeting_text.as_object(meeting, called.of)
+    names = {fpr: called.of(fpr) for fpr in meeting.comers}
+    return {"time": time, "roots": roots, **shown, "names": names}
+
+
+def _tell(text: str) -> None:
+    say(progress=text)
+
+
+if __name__ == "__main__":
+    sys.exit(main(sys.argv[1:]))
