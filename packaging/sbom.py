@@ -6,17 +6,20 @@ import hashlib
 import io
 import subprocess
 import tarfile
-import tomllib
 from collections.abc import Iterable, Iterator, Mapping, Sequence
 from datetime import datetime, timezone
 from pathlib import Path
 
+from linked import Library
+
 Element = dict[str, object]
 LICENSE = "Apache-2.0"
-ENGINE, VERIFIER = "tukyamid", "tukyamid-verifier"
+ENGINE = "tukyamid"
+VERIFIERS = ("tukyamid-gpg", "tukyamid-verifier")  # They have the same libraries inside.
 
 
-def bill_of_materials(top: Path, packages: Sequence[Path], build: Mapping[str, str], epoch: int) -> Element:
+def bill_of_materials(top: Path, packages: Sequence[Path], build: Mapping[str, str], epoch: int,
+                      of_the_verifier: Sequence[Library]) -> Element:
     """The document about these packages: each with its files, and the libraries within the two programs."""
     document: Element = {
         "spdxVersion": "SPDX-2.3", "dataLicense": "CC0-1.0", "SPDXID": "SPDXRef-DOCUMENT",
@@ -34,7 +37,7 @@ def bill_of_materials(top: Path, packages: Sequence[Path], build: Mapping[str, s
         files += inside
         relations.append(_relation("SPDXRef-DOCUMENT", "DESCRIBES", element))
         relations += [_relation(element["SPDXID"], "CONTAINS", file) for file in inside]
-        for library in _libraries(top, str(element["name"]), build):
+        for library in _libraries(top, str(element["name"]), build, of_the_verifier):
             elements += [library] if library not in elements else []
             relations.append(_relation(element["SPDXID"], "STATIC_LINK", library))
     return document | {"packages": elements, "files": files, "relationships": relations}
@@ -97,17 +100,16 @@ def _files(path: Path, package: str) -> Iterator[Element]:
                        "copyrightText": "NOASSERTION"}
 
 
-def _libraries(top: Path, package: str, build: Mapping[str, str]) -> Iterator[Element]:
+def _libraries(top: Path, package: str, build: Mapping[str, str],
+               of_the_verifier: Sequence[Library]) -> Iterator[Element]:
     """The libraries that a package's program has inside."""
     if package == ENGINE:
         for name in _kit_libraries(top):
             yield _library("rattle", name, build["toolchain"], [])
-    elif package == VERIFIER and (top / "verifier" / "Cargo.lock").is_file():
-        lock = tomllib.loads((top / "verifier" / "Cargo.lock").read_text())
-        for crate in lock["package"]:
-            if crate["name"] != "wot-verdicts":
-                yield _library("crate", crate["name"], crate["version"],
-                               [_purl(f"pkg:cargo/{crate['name']}@{crate['version']}")])
+    elif package in VERIFIERS:
+        for crate in of_the_verifier:
+            yield _library("crate", crate.name, crate.version, [_purl(f"pkg:cargo/{crate.name}@{crate.version}")]) | {
+                "licenseDeclared": crate.licence}
 
 
 def _library(kind: str, name: str, version: str, references: list[Element]) -> Element:

@@ -16,7 +16,7 @@ from .tree import PYTHON, SHELL, Tree
 PLACE = re.compile(r"^(?:\./)?(.+?):(\d+):(?:\d+:)? (.*)$", re.MULTILINE)
 PACKAGE, TOOLS = "tukyamid", ("tools/checks", "tools/nights")
 FOR_MYPY = "tests/suites/typing/programs/"
-MODULES = ("tools", "bench", "python", "packaging")
+MODULES = ("tools", "bench", "python", "packaging", "interop/make", "interop/adapters")
 # `CDPATH= cd` is meant as it stands.
 SHELLCHECK = ("--format=gcc", "--exclude=SC1007")
 
@@ -86,9 +86,11 @@ def checked_by_mypy(tree: Tree, folder: str, targets: list[str]) -> Iterator[Fin
 
 
 def types(tree: Tree) -> Iterator[Finding]:
-    """What mypy says of the package, and of the tools and benches."""
+    """What mypy says of the package, of the tools and benches, and of the suite for any engine."""
     yield from checked_by_mypy(tree, "python", [PACKAGE])
     yield from checked_by_mypy(tree, ".", [*TOOLS, *(path for path in tree.scripts(PYTHON) if is_tool(path))])
+    interop = [path.removeprefix("interop/") for path in tree.scripts(PYTHON) if path.startswith("interop/")]
+    yield from checked_by_mypy(tree, "interop", [path for path in interop if not path.endswith(".py")])
 
 
 def is_tool(path: str) -> bool:

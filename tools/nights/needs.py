@@ -6,8 +6,9 @@ from pathlib import Path
 KEYRING = Path("/usr/share/keyrings/debian-keyring.gpg")
 # Programs and the packages of Debian 12 that have them.
 PROGRAMS = {
-    "gcc": "gcc", "git": "git", "gpg": "gnupg", "gpgv": "gpgv", "groff": "groff-base", "mypy": "mypy",
-    "pyflakes3": "pyflakes3", "shellcheck": "shellcheck", "sq": "sq", "sqv": "sqv",
+    "etcd": "etcd-server", "gcc": "gcc", "git": "git", "gpg": "gnupg", "gpgv": "gpgv", "groff": "groff-base",
+    "mypy": "mypy", "patroni": "patroni", "pg_ctlcluster": "postgresql", "pyflakes3": "pyflakes3",
+    "shellcheck": "shellcheck", "sq": "sq", "sqv": "sqv",
 }
 SEQUOIA = Path("/usr/share/cargo/registry")
 

@@ -5,16 +5,24 @@ from concurrent.futures import ThreadPoolExecutor
 
 from .beside_model import mutants, scripts
 from .benches import benches
+from .cluster import cluster
 from .edits import edits
+from .fuzz import fuzz
+from .interop import interop
+from .injected import injected
 from .memory import memory
 from .night import Part, PartOf
+from .planted import planted
 from .readers import readers
+from .service import service
 from .slices import slices
 from .suites import checks, gate, suites
 
 # One step after another. The gate makes the programs for the others, and beside a bench nothing else may run.
 STEPS: list[list[PartOf]] = [
-    [gate], [checks], [suites, edits, scripts, mutants, slices, readers, memory], [benches],
+    [gate], [checks],
+    [suites, edits, planted, scripts, mutants, slices, interop, cluster, readers, fuzz, service, injected, memory],
+    [benches],
 ]
 PARTS: dict[str, PartOf] = {part.__name__: part for step in STEPS for part in step}
 

@@ -1,0 +1,1 @@
+"""What a reader has to believe: the definitions that a contract rests on."""
