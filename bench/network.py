@@ -108,7 +108,7 @@ def _signature(draw: random.Random, kind: int, issuer: bytes, depth: int) -> byt
 def fill(path: Path, network: Network) -> None:
     """Makes the service's database of a network, as its own commits would, but with few syncs: a commit for some ten
     thousands of certificates."""
-    from tukyamid.service.sqlite import Sqlite
+    from tukyamid.service.storage.sqlite_database import Sqlite
     Sqlite(path).close()
     with closing(sqlite3.connect(path, isolation_level=None)) as connection:
         connection.execute("PRAGMA synchronous = OFF")

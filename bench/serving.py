@@ -21,8 +21,8 @@ import developer
 TOP = Path(developer.TOP)
 sys.path.insert(0, str(TOP / "python"))
 
-from tukyamid.service.framing import ReplyCutter  # noqa: E402
-from tukyamid.service.sqlite import Sqlite  # noqa: E402
+from tukyamid.service.engines.framing import ReplyCutter  # noqa: E402
+from tukyamid.service.storage.sqlite_database import Sqlite  # noqa: E402
 
 SERVER = TOP / "python/bin/tukyamid-server"
 PYTHON = "/usr/bin/python3"
@@ -30,7 +30,7 @@ DEBIAN = Path("/usr/share/keyrings/debian-keyring.gpg")
 PIECE = 1 << 18
 # The service as it runs where uvloop isn't installed.
 WITHOUT_UVLOOP = ("import sys; sys.modules['uvloop'] = None; sys.path.insert(0, sys.argv.pop(1)); "
-                  "from tukyamid.service.command import main; sys.exit(main())")
+                  "from tukyamid.service.server_command import main; sys.exit(main())")
 Span = tuple[float, float]
 
 

@@ -29,7 +29,9 @@ OTHER_PAGES = {
     "docs/USING.md": "the suite `python` runs them in their order, and the suite `web` those of the page",
     "docs/SPEED.md": "benches take minutes; the suite `tools` runs what reads their records",
     "docs/SCALE.md": "a network of a million certificates takes minutes; the suite `slices` makes a small one",
+    "docs/CLIENTS.md": "the suite `gpg` runs git and the other programs below `tukyamid-gpg`",
     "docs/CLUSTER.md": "needs servers on several machines; the suite `shared` starts such servers here",
+    "interop/README.md": "the engines take minutes; the suite `interop` runs it with engines of its own",
 }
 # The beginnings of commands that aren't run, and why.
 NOT_RUN = {
@@ -44,6 +46,7 @@ NOT_RUN = {
     "sha256sum --check": "needs built packages: the suite `packages` checks their sums",
     "python/bin/tukyamid-server --socket": "stays, as a service does: the suite `server` starts it",
     "socat ": "needs a service that runs: the suite `server` asks one",
+    "until [": "waits for a service that isn't started here",
     "python/bin/tukyamid --keyring": "has words that stand for others: the suite `python` asks so",
     "python/bin/check-claims": "has words that stand for others: the suite `python` checks claims",
     "verifier/out/wot-verdicts": "needs the built verifier: the suite `verdicts` runs it",

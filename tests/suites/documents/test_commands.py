@@ -128,7 +128,7 @@ class Protocol(unittest.TestCase):
     def test_the_table_has_each_command(self) -> None:
         """The page's forms of commands are those that the model reads, where V is any name and N any count."""
         first = [line.split("`")[1] for line in page("docs/PROTOCOL.md").lines if line.startswith("| `")]
-        forms = {re.sub(r"\bK\b", "N", re.sub(r"\b[CW]\b", "V", cell)) for cell in first}
+        forms = {re.sub(r"\bM\b", "N", re.sub(r"\b[CW]\b", "V", cell)) for cell in first}
         self.assertEqual(set(COMMANDS) - forms, set())
 
     def test_the_numbers_of_signatures(self) -> None:

@@ -3,6 +3,7 @@
 import re
 import subprocess
 import unittest
+from collections import Counter
 from functools import cache
 from pathlib import Path
 
@@ -13,8 +14,7 @@ SIZES = {
     "README.md": 110,
     "docs/ARCHITECTURE.md": 280,
     "docs/CHANGING.md": 200,
-    "docs/SEARCH.md": 150,
-    "docs/DECISIONS.md": 300,
+    "docs/SEARCH.md": 180,
 }
 # Pages that speak about the engine's code, so that each name in them is one of the code's.
 ABOUT_CODE = ["docs/ARCHITECTURE.md", "docs/CHANGING.md", "docs/DECISIONS.md", "docs/PROOF.md", "docs/SEARCH.md"]
@@ -131,12 +131,12 @@ class Names(unittest.TestCase):
                 if len(page(name).lines) >= most]
         self.missing(over)
 
-    def test_decisions_are_few(self) -> None:
-        """Few enough to be read at once, numbered in their order."""
+    def test_each_decision_has_a_number_of_its_own(self) -> None:
+        """Numbers last, so they may have gaps and needn't be in order."""
         found = (re.match(r"(\d+)\. \*\*", line) for line in page("docs/DECISIONS.md").lines)
-        numbers = [int(each.group(1)) for each in found if each]
-        self.assertEqual(numbers, list(range(1, len(numbers) + 1)))
-        self.assertIn(len(numbers), range(30, 51))
+        numbers = Counter(int(each.group(1)) for each in found if each)
+        self.assertIn(1, numbers)
+        self.assertEqual([number for number, count in numbers.items() if count > 1], [])
 
     def test_suites_are_listed(self) -> None:
         """The page on tests has a row for each suite."""

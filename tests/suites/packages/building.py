@@ -10,12 +10,12 @@ import unittest
 from concurrent.futures import ThreadPoolExecutor
 from pathlib import Path
 
+import needs
 import plain
 import verifier
 
 TOOL = plain.ROOT / "tools" / "package"
 TOOLCHAIN = "the tests' own words"
-TESTING = ["lintian", "mmdebstrap", "zsh", "groff"]
 
 
 @functools.cache
@@ -26,15 +26,8 @@ def folder():
 
 
 def installed(packages):
-    """Whether all these packages are installed, or can be."""
-    missing = [name for name in packages if "install ok installed" not in subprocess.run(
-        ["dpkg-query", "-W", "-f", "${Status}", name], capture_output=True, text=True, check=False).stdout]
-    if missing and os.geteuid() == 0 and not os.environ.get("WOT_NO_APT") and shutil.which("apt-get"):
-        done = subprocess.run(["apt-get", "-o", "DPkg::Lock::Timeout=300", "install", "-y", "-qq",
-                               "--no-install-recommends", *missing],
-                              stdin=subprocess.DEVNULL, capture_output=True, check=False)
-        return done.returncode == 0
-    return not missing
+    """Whether all these packages are installed."""
+    return not needs.missing(packages)
 
 
 def package(out, *words, **settings):

@@ -34,22 +34,29 @@ def of_the_host():
     return words, {"user": place.pw_uid, "group": place.pw_gid, "extra_groups": [], "env": environment}
 
 
+def ask(socket, user):
+    """Gives the example's lines to the service at a socket, which has to be this user's, and asks about Carol."""
+    for _ in range(600):
+        if socket.exists():
+            break
+        time.sleep(0.1)
+    lines = EXAMPLE.read_bytes().splitlines()
+    opened = 1 + max(at for at, line in enumerate(lines[:40]) if line.startswith(b"view me root"))
+    with connect(socket, user=user) as client:
+        print("refused", client.feed(lines[:opened]))
+        print("amount", client.ask("me", CAROL, 120, "Carol <carol@example.org>").amount)
+
+
 def main():
     is_host = sys.argv[1:] == ["host"]
     socket = Path("/run/tukyamid/by-hand") if is_host else Path(os.environ["XDG_RUNTIME_DIR"]) / "by-hand"
     words, settings = of_the_host() if is_host else (["/usr/bin/tukyamid-server", "serve"], {})
     with subprocess.Popen([*words, "--socket", str(socket)], **settings) as service:
-        for _ in range(600):
-            if socket.exists():
-                break
-            time.sleep(0.1)
-        lines = EXAMPLE.read_bytes().splitlines()
-        opened = 1 + max(at for at, line in enumerate(lines[:40]) if line.startswith(b"view me root"))
-        with connect(socket) as client:
-            print("refused", client.feed(lines[:opened]))
-            print("amount", client.ask("me", CAROL, 120, "Carol <carol@example.org>").amount)
-        service.send_signal(signal.SIGTERM)
-        print("status", service.wait(60))
+        try:
+            ask(socket, settings.get("user", os.getuid()))
+        finally:
+            service.send_signal(signal.SIGTERM)
+            print("status", service.wait(60))
     if is_host:
         shutil.rmtree(socket.parent)  # systemd makes and removes it for the units' sockets.
 

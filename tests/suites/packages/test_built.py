@@ -63,10 +63,13 @@ class Built(unittest.TestCase):
             "tukyamid-server": ["usr/bin/tukyamid-server", "usr/share/man/man1/tukyamid-server.1.gz",
                                 "usr/lib/sysusers.d/tukyamid-server.conf", "lib/systemd/system/tukyamid.service",
                                 "lib/systemd/system/tukyamid.socket", "usr/lib/systemd/user/tukyamid.service",
-                                "usr/lib/systemd/user/tukyamid.socket"],
+                                "usr/lib/systemd/user/tukyamid.socket", "usr/lib/tukyamid/watch-notice",
+                                "usr/lib/systemd/user/tukyamid-watch@.service"],
         }
         if verifier.built():
             expected["tukyamid-verifier"] = ["usr/bin/wot-verdicts", "usr/share/man/man1/wot-verdicts.1.gz"]
+            expected["tukyamid-gpg"] = ["usr/bin/tukyamid-gpg", "usr/bin/tukyamid-sopv", "usr/lib/tukyamid/bin/gpg",
+                                        "usr/lib/tukyamid/bin/gpgconf", "usr/share/man/man1/tukyamid-gpg.1.gz"]
         self.assertEqual(set(building.packages()), set(expected))
         for name, files in expected.items():
             self.assertEqual(set(files) - building.paths(name), set(), name)
@@ -93,8 +96,8 @@ class Built(unittest.TestCase):
         self.assertEqual(named["tukyamid-engine sha256"], hashlib.sha256(engine.read_bytes()).hexdigest())
 
     def test_the_manual_pages_are_well_formed(self):
-        if not building.installed(["groff"]):
-            self.skipTest("groff isn't installed")
+        if not building.installed(["groff-base"]):
+            self.skipTest("groff-base isn't installed")
         pages = [building.unpacked(name) / path for name in building.packages() for path in building.paths(name)
                  if "/man/" in path]
         self.assertGreater(len(pages), 3)
@@ -125,6 +128,28 @@ class Built(unittest.TestCase):
                 self.assert_files(bill, element, name)
         self.assertEqual({one["name"] for one in bill["packages"] if "Library-rattle" in one["SPDXID"]},
                          {"hex", "itoa", "memchr", "rand_core", "rand_xoshiro", "sha1", "sha2", "thiserror"})
+
+    def test_the_libraries_within_the_verifier(self):
+        """The program names the sources of libraries in it, for what it says if they panic: each of these is in the
+        bill and in the package's copyright, with its licence."""
+        if "tukyamid-verifier" not in building.packages():
+            self.skipTest("the verifier isn't built")
+        said = output("strings", "-n", "8", building.unpacked("tukyamid-verifier") / "usr/bin/wot-verdicts")
+        inside = set(re.findall(r"/registry/([a-z0-9_-]+)-(\d+\.\d+\.\d+)/", said))
+        self.assertTrue({"sequoia-openpgp", "nettle", "buffered-reader"} <= {name for name, _ in inside}, inside)
+        bill = json.loads((building.both()[0] / f"tukyamid_{VERSION}.spdx.json").read_text())
+        listed = {(one["name"], one["versionInfo"]): one["licenseDeclared"] for one in bill["packages"]
+                  if "Library-crate" in one["SPDXID"]}
+        self.assertEqual(inside - set(listed), set())
+        self.assertNotIn("NOASSERTION", listed.values())
+        text = (building.unpacked("tukyamid-verifier") / "usr/share/doc/tukyamid-verifier/copyright").read_text()
+        for (name, version), licence in listed.items():
+            self.assertIn(f"  {name} {version}: {licence}\n", text)
+        for licence in "LGPL-2+", "LGPL-3+ or GPL-2+", "MIT", "BSL-1.0", "Apache-2.0":
+            self.assertIn(f"\nLicense: {licence}\n", text)
+
+    def test_the_command_comes_with_the_package_of_its_name(self):
+        self.assertIn("python3-tukyamid", output("dpkg-deb", "-f", building.packages()["tukyamid"], "Recommends"))
 
     def assert_files(self, bill, element, name):
         """The files of a package are all in the list, with their checksums by another program."""
@@ -160,6 +185,11 @@ class Completion(unittest.TestCase):
         self.assertEqual(self.bash("tukyamid", "--key"), ["--keyring"])
         self.assertEqual(self.bash("tukyamid", "lookup", "--ema"), ["--email"])
         self.assertEqual(sorted(self.bash("tukyamid", "--format", "")), ["colons", "dot", "html", "json", "tree"])
+        for words, found in [(["verify", "--th"], ["--threshold"]), (["web", "--po"], ["--port"]),
+                             (["keyring", "re"], ["remove"]), (["doctor", "--so"], ["--socket"]),
+                             (["check", "--ro"], ["--root"]), (["status", "--th"], [])]:
+            self.assertEqual(self.bash("tukyamid", *words), found)
+        self.assertEqual(sorted(self.bash("tukyamid", "verify", "--format", "")), ["colons", "json", "tree"])
 
     def test_zsh(self):
         if not building.installed(["zsh"]):

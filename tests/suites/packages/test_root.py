@@ -19,6 +19,7 @@ import verifier
 HERE = Path(__file__).resolve().parent
 SOURCES = [Path("/etc/apt/sources.list"), *sorted(Path("/etc/apt/sources.list.d").glob("*.sources"))]
 SECONDS = 1500
+UNITS = ("tukyamid-read-only.socket", "tukyamid.service", "tukyamid.socket")
 
 
 def sources():
@@ -34,6 +35,13 @@ def shown_commands():
     return [line.partition("  # ")[0].strip() for line in block.splitlines() if line.startswith("tukyamid ")]
 
 
+def commands_for_git():
+    """The commands of the page on using it that lead to git's log with names by one's own roots."""
+    page = (plain.ROOT / "docs" / "USING.md").read_text()
+    part = page.partition("## Have git and mail programs ask")[2]
+    return re.search(r"```sh\n(.*?)```", part, re.DOTALL)[1].replace(" FINGERPRINT", ' "$FINGERPRINT"')
+
+
 def tried(results):
     """Makes a root and runs the trial in it; the reason why that can't be done, or None."""
     if os.environ.get("WOT_NO_ROOT"):
@@ -44,8 +52,11 @@ def tried(results):
         return "this machine names no source of packages"
     packages = results / "packages"
     packages.mkdir()
-    for file in [*building.packages().values(), HERE / "by_hand.py"]:
+    for file in [*building.packages().values(), HERE / "by_hand.py", HERE / "newcomer.sh", HERE / "set_up.sh"]:
         shutil.copy(file, packages)
+    (packages / "commands").write_text(commands_for_git())
+    with open(packages / "Packages", "wb") as listed:
+        subprocess.run(["dpkg-scanpackages", "."], cwd=packages, stdout=listed, stderr=subprocess.DEVNULL, check=True)
     for name, command in zip(("keyring", "answer"), shown_commands(), strict=True):
         (packages / name).write_text(f"exec {command} \"$@\"\n")
     made = subprocess.run(
@@ -94,7 +105,7 @@ class FreshRoot(unittest.TestCase):
         self.assertRegex(said, r"\[ok\] +engine +/usr/bin/tukyamid-engine answers\n")
         self.assertRegex(said, r"\[ok\] +verifier +/usr/bin/wot-verdicts is wot-verdicts " if verifier.built()
                          else r"\[missing\] +verifier .*\n +fix it with: apt install tukyamid-verifier\n")
-        self.assertRegex(said, r"\[note\] +gpg .*\n +fix it with: apt install gnupg\n")
+        self.assertRegex(said, r"\[ok\] +gpg +/usr/bin/gpg is there")  # tukyamid-gpg depends on it.
 
     def test_the_quickstart(self):
         self.assert_ended("quickstart")
@@ -112,11 +123,57 @@ class FreshRoot(unittest.TestCase):
         self.assertIn("<svg", self.said("page"))
         print("; ".join(f"{name}: {self.steps[name][1]:.2f} seconds" for name in names))
 
+    def test_a_newcomer_comes_to_names_in_gits_log(self):
+        if not verifier.built():
+            self.skipTest("the verifier can't be built, so nothing can be verified there")
+        self.assert_ended("newcomer")
+        said = self.said("newcomer")
+        shown = re.findall(r'Good signature from "(\w+) <.*>" \[(\w+)\]', said)
+        # The last ones first. A signer has to be certified at the time of signing, too.
+        self.assertEqual(shown, [("me", "ultimate"), ("stranger", "unknown"), ("friend", "full"),
+                                 ("friend", "unknown")])
+        print(f"from the packages to names in git's log: {said.splitlines()[-1]}")
+
+    def test_root_sets_up_and_takes_it_back(self):
+        if not verifier.built():
+            self.skipTest("the verifier can't be built, so nothing can be verified there")
+        self.assert_ended("setup")
+        asks = [f"[ok]      program   {name} asks Tukyamid: it took a signature that only Tukyamid knows"
+                for name in ("apt", "dpkg", "pacman")]
+        # Strict, apt takes nothing: there are no roots.
+        self.assertEqual(self.said("setup").splitlines(), [
+            "update before: 0", "update after setup: 0", *asks, "update with strict: 1", "update after undo: 0"])
+
     def test_the_service_by_hand(self):
         for name in "service", "host":
             self.assert_ended(name)
             said = self.said(name)
             self.assertEqual(said.splitlines()[-3:], ["refused []", "amount 120", "status 0"], said)
+
+    def test_one_name_brings_them(self):
+        """`apt install tukyamid` from an archive: the command, the service and the verifier come along."""
+        self.assert_ended("simulated")
+        brought = re.findall(r"^Inst (\S*tukyamid\S*) ", self.said("simulated"), re.MULTILINE)
+        expected = {"python3-tukyamid", "tukyamid", "tukyamid-server"}
+        self.assertEqual(set(brought), expected | ({"tukyamid-verifier"} if verifier.built() else set()),
+                         self.said("simulated"))
+
+    def actions(self, name):
+        """What systemd has to do to each unit, in order."""
+        lines = [line.split() for line in self.said(name).splitlines()]
+        heard = [(word, unit) for line in lines for word in ("stop", "start", "restart", "try-restart") if word in line
+                for unit in line if unit.startswith("tukyamid")]
+        return {unit: [word for word, named in heard if named == unit] for unit in UNITS}
+
+    def test_an_upgrade_restarts_what_runs(self):
+        """Nothing is stopped without being started again."""
+        self.assert_ended("upgrade")
+        for unit, words in self.actions("upgraded").items():
+            self.assertEqual(words[-1:], ["restart"], f"{unit}: {self.said('upgraded')}")
+
+    def test_a_removal_stops_what_runs(self):
+        for unit, words in self.actions("systemctl").items():
+            self.assertEqual(words, ["stop"], f"{unit}: {self.said('systemctl')}")
 
     def test_purging_leaves_what_the_user_has(self):
         self.assert_ended("remove")

@@ -5,8 +5,8 @@ import unittest
 
 from friends import friends
 from outside import COMMAND, TRUSTING, folder, run
-from tukyamid.command import asking, parser
-from tukyamid.shown import FORMS, form
+from tukyamid.command import answer_text, parser
+from tukyamid.formats import FORMS, form
 
 # The third is 15 February 2025.
 DECEMBER, APRIL, FEBRUARY = "2025-12-01", "2025-04-15T00:00:00Z", "1739577600"
@@ -28,7 +28,7 @@ def in_every_form(words):
     def show(report):
         return json.dumps({name: form(name)(report) for name in FORMS})
     given = parser.read([str(word) for word in words])
-    texts, is_reached = asking.answer(given, show, refuse)
+    texts, is_reached = answer_text.answer(given, show, refuse)
     return json.loads(texts), is_reached
 
 

@@ -41,18 +41,9 @@ def folder():
     path = tempfile.mkdtemp(prefix="tukyamid-tests-")
     atexit.register(shutil.rmtree, path, ignore_errors=True)
     # Nothing of the user's own is read or written: no cache, no certificate directory, no service, no gpg.
-    for name in "CACHE_HOME", "DATA_HOME", "RUNTIME_DIR":
+    for name in "CACHE_HOME", "CONFIG_HOME", "DATA_HOME", "RUNTIME_DIR":
         os.environ[f"XDG_{name}"] = f"{path}/{name.lower()}"
         Path(os.environ[f"XDG_{name}"]).mkdir(mode=0o700)
     for name in "PGP_CERT_D", "GNUPGHOME", "TUKYAMID_TRACEBACK":
         os.environ.pop(name, None)
     return Path(path)
-
-
-@functools.cache
-def installed(program, package):
-    """The path of a program, installed by apt-get where it may; None where it can't be had."""
-    if not shutil.which(program) and shutil.which("apt-get") and os.geteuid() == 0 and not os.environ.get("WOT_NO_APT"):
-        words = ["apt-get", "-o", "DPkg::Lock::Timeout=300", "install", "-y", "--no-install-recommends", package]
-        subprocess.run(words, capture_output=True, stdin=subprocess.DEVNULL, check=False)
-    return shutil.which(program)

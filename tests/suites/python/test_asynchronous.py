@@ -10,7 +10,8 @@ from outside import FAKE_ENGINE
 from stand_ins import FakeService
 from tukyamid import EngineEnded, Gone, ServiceEnded, Taken, Watched
 from tukyamid.client import aio
-from tukyamid.refusals import RefusedClash, RefusedView
+from tukyamid.client.aio import async_listing
+from tukyamid.protocol.refusals import RefusedClash, RefusedView
 
 A = "aa" * 20
 
@@ -61,7 +62,7 @@ class Asynchronous(unittest.IsolatedAsyncioTestCase):
         async with await aio.connect(service.path) as client:
             listing = await client.keys()
             await asyncio.sleep(0.3)
-            self.assertLess(len(listing._kept), 2 * aio.listing.MOST_KEPT)
+            self.assertLess(len(listing._kept), 2 * async_listing.MOST_KEPT)
             self.assertEqual(len({key.user_ids async for key in listing}), 20_000)
             half = await client.keys()
             first = [key.user_ids async for key in first_of(half, 10)]
@@ -101,6 +102,18 @@ class Asynchronous(unittest.IsolatedAsyncioTestCase):
             self.assertEqual(await client.watch("w", "v", A, 120, ""), 0)
             await asyncio.sleep(0.2)
             self.assertEqual(await client.told(), [Watched("w", 40), Gone("w")])
+            self.assertFalse(await client.wait(0.01))
+
+    async def test_waiting_for_what_watches_are_told(self):
+        service = FakeService([sys.executable, "-c", PUSHING])
+        self.addCleanup(service.close)
+        async with await aio.connect(service.path) as client:
+            await client.watch("w", "v", A, 120, "")
+            self.assertTrue(await client.wait(60))
+            self.assertEqual((await client.told())[0], Watched("w", 40))
+            client.end_at_once()
+            with self.assertRaises(ServiceEnded):
+                await client.wait(60)
 
 
 async def first_of(items, count):

@@ -7,7 +7,7 @@ import stat
 
 from asking import Asking, program
 from friends import PEOPLE
-from outside import TRUSTING, folder, needs_engine, needs_gpg
+from outside import COMMAND, TRUSTING, folder, needs_engine, needs_gpg, run
 
 VERSION = 'case "$1" in --version) echo "wot-verdicts 1 (a stand-in)"; exit;; esac\n'
 
@@ -28,8 +28,8 @@ class Cache(Asking):
         self.assertEqual(done.returncode, status, done.stderr)
         self.assertRegex(done.stderr, said)
         lines = self.log.read_text().splitlines() if self.log.exists() else []
-        return [" ".join(word for word in line.split() if word.startswith("--") and word != "--public") or "whole"
-                for line in lines if line != "--version"]
+        return [line.partition(" -- ")[0].removeprefix("--public").strip() or "whole" for line in lines
+                if line != "--version"]
 
     def test_what_was_verified_is_kept(self):
         counts = [len(self.asked(*words)) for words in ((), (), ["--anew"], (), ["--no-cache"])]
@@ -37,6 +37,15 @@ class Cache(Asking):
         (entry,) = self.cache.iterdir()
         self.assertEqual(stat.S_IMODE(self.cache.stat().st_mode), 0o700)
         self.assertEqual(sorted(file.name for file in entry.iterdir()), ["about.json", "bindings", "dump"])
+
+    def test_a_keyring_whose_name_is_an_option(self):
+        for name in "--certificates", "-h", "--version":
+            shutil.copy(self.friends.keyring, folder() / name)
+            words = [f"--keyring={name}", "--cache", self.cache, "--no-service", "--root", self.fpr["Alice"]]
+            done = run([COMMAND, *words, "authenticate", self.fpr["Bob"], PEOPLE["Bob"]], cwd=folder(),
+                       env={**os.environ, "TUKYAMID_VERIFIER": str(TRUSTING)})
+            self.assertEqual((done.returncode, done.stderr), (0, b""))
+            shutil.rmtree(self.cache)
 
     def test_what_is_kept_and_damaged_is_deleted(self):
         self.asked()

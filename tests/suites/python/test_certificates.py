@@ -2,7 +2,7 @@
 
 import unittest
 
-from tukyamid import certificates
+from tukyamid.openpgp import certificates
 
 KEY = bytes.fromhex("0663877fe31b00000020f94da7bb48d60a61e567706a6587d0331999bb9d891a08242ead84543df895a3")
 FPR = "cb186c4f0609a697e4d52dfa6c722b0c1f1e27c18a56708f6525ec27bad9acc9"

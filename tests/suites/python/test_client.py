@@ -12,10 +12,10 @@ from pathlib import Path
 import test_engine
 from outside import FAKE_ENGINE, HERE
 from stand_ins import FakeService, Waiting
-from tukyamid import (Engine, EngineMissing, Gone, ProtocolError, ServiceEnded, ServiceMissing, Watched, connect,
-                      refusals)
+from tukyamid import Engine, EngineMissing, Gone, ProtocolError, ServiceEnded, ServiceMissing, Watched, connect
 from tukyamid.client import Client, aio
-from tukyamid.service_lines import Change, Found, Issued, KeyringAdded, KeyringLine
+from tukyamid.protocol import refusals
+from tukyamid.protocol.service_lines import Certified, Change, Found, Issued, KeyringAdded, KeyringLine
 
 A, B, N = "aa" * 20, "bb" * 20, "11" * 32
 
@@ -78,6 +78,11 @@ class OnlyAService(unittest.TestCase):
             self.assertEqual(list(client.find("key", A)), [Found(A, b"Alice")])
             self.assertEqual(list(client.issuers(A)), [Issued(N, B)])
             self.assertRaises(refusals.RefusedAbsent, client.issuers, B)
+            self.assertEqual(list(client.certified(A)), [Certified(1, B)])
+            self.assertEqual(list(client.excerpt("from", [A, B])), [b"import c6", f"verdict {N} bad".encode()])
+            for word, fprs in ("all", [A]), ("from", []), ("from", ["aa"]), ("from", [A] * 257):
+                self.assertRaises(ValueError, client.excerpt, word, fprs)
+            self.assertEqual(list(client.certified(B)), [])
             self.assertEqual(list(client.log(2)), [
                 Change(7, 1764547200, 1000, 4711, "keyring add /tmp/\udcff")])
             self.assertEqual(client.keyrings(), [KeyringLine("/tmp/a", 3, ""), KeyringLine("gpg", 0, "no such file")])

@@ -1,14 +1,15 @@
 """The command, over a keyring that gpg made. What is expected is known from who certified whom."""
 
+import shutil
 import time
 import unittest
 
 from asking import APRIL, DECEMBER, FEBRUARY, Asking
 from friends import PEOPLE, friends
-from outside import TRUSTING, installed, needs_engine, needs_gpg, run, verifier_built
+from outside import TRUSTING, needs_engine, needs_gpg, run, verifier_built
 from tukyamid import Engine
-from tukyamid.reasons import TargetWord
-from tukyamid.refusals import RefusedAbsent, RefusedView
+from tukyamid.protocol.reasons import TargetWord
+from tukyamid.protocol.refusals import RefusedAbsent, RefusedView
 
 
 @needs_engine
@@ -197,9 +198,9 @@ class Questions(Asking):
 
     def test_beside_sq_wot(self):
         """Both find the same at 120 and at 40, at the current time: another program says what is expected."""
-        sq_wot = installed("sq-wot", "sq-wot")
+        sq_wot = shutil.which("sq-wot")
         if sq_wot is None:
-            self.skipTest("sq-wot isn't there, and couldn't be installed")
+            self.skipTest("sq-wot isn't installed")
         for name, uid in PEOPLE.items():
             for amount in "40", "120":
                 with self.subTest(name, amount=amount):
@@ -214,7 +215,7 @@ class Questions(Asking):
         built = verifier_built()
         if built is None:
             self.skipTest("verifier can't be built: packages are missing")
-        said = [run([words, self.friends.keyring]).stdout.splitlines() for words in (built, TRUSTING)]
+        said = [run([words, "--", self.friends.keyring]).stdout.splitlines() for words in (built, TRUSTING)]
         verdicts = [{line for line in lines if line.startswith(b"verdict ")} for lines in said]
         self.assertEqual(verdicts[0], verdicts[1])
         for name, status in ("Carol", 0), ("Dave", 1), ("Erin", 1):

@@ -1,15 +1,19 @@
 """`tukyamid doctor`: what it finds of each part, what it calls missing, and what mends it."""
 
 import os
+import signal
 import subprocess
 import sys
 import tempfile
 import unittest
 from pathlib import Path
+from unittest import mock
 
 from outside import CLIENT, COMMAND, PROGRAM, needs_engine
 from stand_ins import FakeService
-from tukyamid.doctor import State, examine
+from tukyamid.command.doctor import State, examine
+from tukyamid.service.start_on_demand import ensure
+from tukyamid.version import VERSION
 
 VERIFIER = "#!/bin/sh\necho wot-verdicts 9.9\n"
 
@@ -53,6 +57,44 @@ class Doctor(unittest.TestCase):
             self.assertIs(one.state, State.BAD)
             self.assertTrue(one.mend.endswith("verifier/build"))
 
+    def test_variables_that_name_nothing(self):
+        gone = str(self.home / "gone")
+        for name in "TUKYAMID_ENGINE", "TUKYAMID_VERIFIER", "XDG_RUNTIME_DIR", "GNUPGHOME", "PGP_CERT_D":
+            with self.subTest(name), mock.patch.dict(os.environ, {name: gone}):
+                (one,) = self.found("variable")
+                self.assertEqual((one.state, one.text, one.mend),
+                                 (State.NOTE, f"{name} names {gone}, which isn't there", f"unset {name}"))
+            with mock.patch.dict(os.environ, {name: str(self.home)}):
+                self.assertEqual(self.found("variable"), [])
+
+    def test_what_the_page_needs(self):
+        with mock.patch("tukyamid.web.page_files.D3", [str(self.home / "d3.js")]):
+            (one,) = self.found("page")
+            self.assertEqual((one.state, one.mend.startswith("apt install ")), (State.NOTE, True))
+            self.assertIn("libjs-d3", one.mend)
+            (self.home / "d3.js").touch()
+            (one,) = self.found("page")
+            self.assertNotIn("libjs-d3", one.text)
+        with mock.patch("importlib.util.find_spec", return_value=None):
+            (one,) = self.found("page")
+            self.assertIn("python3-aiohttp", one.mend)
+
+    @needs_engine
+    def test_a_service_of_another_version(self):
+        """A real service, whose version another one has meanwhile."""
+        place = self.home / "run"
+        place.mkdir(mode=0o700)
+        with mock.patch.dict(os.environ, XDG_DATA_HOME=str(self.home), XDG_STATE_HOME=str(self.home),
+                             TUKYAMID_ENGINE=PROGRAM):
+            socket = ensure(place / "socket")
+            self.assertEqual([one.state for one in self.found("service", socket=socket)], [State.GOOD])
+            with mock.patch("tukyamid.command.doctor.VERSION", "99.9"):
+                *_, one = self.found("service", socket=socket)
+            process = one.mend.split(";")[0].removeprefix("kill ")
+            os.kill(int(process), signal.SIGTERM)
+        self.assertIs(one.state, State.NOTE)
+        self.assertEqual(one.text, f"{socket} is of version {VERSION}, and this command of version 99.9")
+
     def test_no_service_is_no_fault(self):
         (one,) = self.found("service")
         self.assertIs(one.state, State.NOTE)
@@ -61,7 +103,8 @@ class Doctor(unittest.TestCase):
     def test_a_service_and_its_keyrings(self):
         service = FakeService()
         self.addCleanup(service.close)
-        (one,) = self.found("service", socket=service.path)
+        one, old = self.found("service", socket=service.path)
+        self.assertIn("is of an earlier version", old.text)  # It doesn't say which.
         self.assertIs(one.state, State.GOOD)
         self.assertIn("3 certificates and 5 verdicts", one.text)
         kept, faulty = self.found("keyring", socket=service.path)

@@ -18,7 +18,7 @@ from outside import CLIENT, ROOT, needs_engine, run
 MODULES = sorted(module.name for module in pkgutil.walk_packages(tukyamid.__path__, "tukyamid.")
                  if not module.name.endswith(".__main__"))
 if importlib.util.find_spec("aiohttp") is None:  # The suite `web` says what is left out then.
-    MODULES = [name for name in MODULES if name not in ("tukyamid.web.guard", "tukyamid.web.server")]
+    MODULES = [name for name in MODULES if name not in ("tukyamid.web.guard", "tukyamid.web.http_server")]
 if importlib.util.find_spec("psycopg") is None:  # The suite `shared` says what is left out then.
     MODULES = [name for name in MODULES if not name.startswith("tukyamid.service.postgres")]
 PAGES = [CLIENT / "README.md", ROOT / "docs" / "USING.md"]
@@ -60,11 +60,15 @@ class Examples(unittest.TestCase):
                     self.assertEqual(doctest.testfile(str(page), module_relative=False, globs=names).failed, 0)
 
 
+# The commands that have a help of their own.
+OWN_HELP = ("web", "check", "keyring", "root", "setup", "watch", "plan", "fragile")
+
+
 class Documents(unittest.TestCase):
     def test_every_option_is_on_the_man_page_and_in_the_help(self):
         manual = (CLIENT / "tukyamid.1").read_text().replace("\\-", "-")
         said = "".join(run([CLIENT / "bin" / "tukyamid", *word, "--help"]).stdout.decode()
-                       for word in ((), ("web",), ("check",)))
+                       for word in ((), *((one,) for one in OWN_HELP)))
         options = set(re.findall(r"--[a-z-]+", said))
         self.assertGreater(len(options), 10)
         self.assertEqual({option for option in options if option not in manual}, set())

@@ -9,9 +9,10 @@ import unittest
 from outside import FAKE_ENGINE
 from tukyamid import (Accepted, Answer, Binding, Claim, ClaimedStep, Done, Engine, EngineEnded, Explanation, Gone, Key,
                       Label, Missed, Path, PendingSignature, ProtocolError, Reached, Reason, Rejected, Stale, Step,
-                      Taken, Watched, commands, refusals)
-from tukyamid.reasons import ReasonWord, TargetWord
-from tukyamid.replies import Exported
+                      Taken, Watched, commands)
+from tukyamid.protocol import refusals
+from tukyamid.protocol.reasons import ReasonWord, TargetWord
+from tukyamid.protocol.replies import Exported
 
 A, B, N = "aa" * 20, "bb" * 20, "11" * 32
 

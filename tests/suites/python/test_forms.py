@@ -13,7 +13,10 @@ from asking import DECEMBER, Asking, in_every_form
 from friends import PEOPLE
 from made import CREATED, Made, trust
 from outside import TRUSTING, folder, needs_engine, needs_gpg, run
-from tukyamid.spelling import for_people
+from tukyamid.formats import form
+from tukyamid.keyrings.assessment import Assessment, Certification, Report, ShownPath
+from tukyamid.protocol.reasons import TargetWord
+from tukyamid.protocol.spelling import for_people
 
 DAY = 86_400
 FORMS = ("tree", "json", "colons", "dot", "html")
@@ -83,8 +86,8 @@ class Compared(Asking):
         """For the other tests, which start no process for each form."""
         words = self.fpr["Carol"], PEOPLE["Carol"]
         shown, _ = self.forms(["authenticate", *words])
-        for form in FORMS:
-            self.assertEqual(self.ask("--format", form, "authenticate", *words).stdout.decode(), shown[form])
+        for name in FORMS:
+            self.assertEqual(self.ask("--format", name, "authenticate", *words).stdout.decode(), shown[name])
 
     def test_every_form_says_the_same(self):
         for words in self.QUESTIONS:
@@ -180,10 +183,10 @@ class Others(unittest.TestCase):
             ["path", cls.evil, cls.end, "End"], ["lookup", EVIL[0].decode()])]
 
     def test_nothing_steers_a_terminal_or_turns_the_direction_of_writing(self):
-        for form in FORMS:
-            for text in self.shown(form):
+        for name in FORMS:
+            for text in self.shown(name):
                 kinds = {unicodedata.category(character) for character in text if character != "\n"}
-                self.assertEqual(kinds & {"Cc", "Cf", "Cs", "Zl", "Zp"}, set(), form)
+                self.assertEqual(kinds & {"Cc", "Cf", "Cs", "Zl", "Zp"}, set(), name)
 
     def test_all_user_ids_are_there_as_they_stand(self):
         names = [for_people(user_id) for user_id in EVIL]
@@ -206,3 +209,19 @@ class Others(unittest.TestCase):
         drawn = Drawn(self.shown("dot")[0].encode())
         self.assertEqual({for_people(user_id) for user_id in EVIL} - set(drawn.texts), set())
         self.assertEqual(len(drawn.edges), len(EVIL))
+
+
+class LongUserIds(unittest.TestCase):
+    """A user ID may have 64 kB; people see its beginning, and programs all of it."""
+
+    def test_they_are_cut_for_people(self):
+        user_id = b"Carol " + b"x" * 60_000 + b" <carol@example.org>"
+        fpr = "ab" * 20
+        step = Certification("cd" * 20, fpr, user_id, 0, 120)
+        found = Assessment(fpr, user_id, 120, 120, (ShownPath(120, "cd" * 20, (step,)),), TargetWord.OK, ())
+        report = Report("authenticate", 120, 0, {"cd" * 20: 120}, (found,), {fpr: user_id})
+        for name in "tree", "dot":
+            text = form(name, False)(report)
+            self.assertLess(len(text), 3000, name)
+            self.assertIn("(60026 octets)", text)
+        self.assertEqual(json.loads(form("json", False)(report))["bindings"][0]["user_id"], user_id.decode())

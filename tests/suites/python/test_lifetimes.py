@@ -12,8 +12,8 @@ import unittest
 from asking import DECEMBER, in_every_form
 from made import CREATED, PRIMARY, Made, key_lasts, signature_lasts
 from outside import COMMAND, TRUSTING, folder, needs_engine, needs_gpg, run
-from tukyamid.certificates import read_certificate
-from tukyamid.lifetimes import expired_elsewhere
+from tukyamid.openpgp.certificates import read_certificate
+from tukyamid.openpgp.lifetimes import expired_elsewhere
 
 DEBIAN = "/usr/share/keyrings/debian-keyring.gpg"
 DEBIANS = "82d119a840c6efca6f5af9459edcc991d9ab457e"
@@ -146,7 +146,8 @@ class Ended(unittest.TestCase):
             self.assertFalse(is_reached)
             self.assertFalse(json.loads(shown["json"])["bindings"][0]["reached"])
             self.assertIn(":120:no:ok\n", shown["colons"])
-        self.assertIn("not reached, because of --strict", shown["tree"])
+            self.assertIn("not reached, because of --strict", shown["tree"])
+            self.assertNotRegex(shown["tree"], "(?m)^ *120 ")
         done = run([COMMAND, *self.words("--strict", "identify", key.fpr)])
         self.assertEqual((done.returncode, done.stderr), (1, b""))
 

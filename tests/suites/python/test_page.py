@@ -1,15 +1,16 @@
 """The page for an auditor, as a headless Chromium shows it."""
 
 import re
+import shutil
 import unittest
 from html.parser import HTMLParser
 
 from friends import PEOPLE, friends
-from outside import COMMAND, TRUSTING, folder, installed, needs_engine, needs_gpg, run
+from outside import COMMAND, TRUSTING, folder, needs_engine, needs_gpg, run
 from test_command import DECEMBER
-from tukyamid.assessment import Assessment, Certification, Other, Report
-from tukyamid.reasons import ReasonWord, TargetWord
-from tukyamid.shown import html_form, tree
+from tukyamid.formats import html_form, tree
+from tukyamid.keyrings.assessment import Assessment, Certification, Other, Report
+from tukyamid.protocol.reasons import ReasonWord, TargetWord
 
 
 class Text(HTMLParser):
@@ -90,9 +91,9 @@ class Page(unittest.TestCase):
         self.assertIn(r"\xe2\x80\xae", page)
 
     def test_the_page_in_a_browser(self):
-        chromium = installed("chromium", "chromium")
+        chromium = shutil.which("chromium")
         if chromium is None:
-            self.skipTest("chromium isn't there, and couldn't be installed")
+            self.skipTest("chromium isn't installed")
         options = [chromium, "--headless", "--no-sandbox", "--disable-gpu", "--disable-dev-shm-usage",
                    "--hide-scrollbars", "--window-size=1250,1400"]
         page, picture = self.page("Carol"), folder() / "page.png"

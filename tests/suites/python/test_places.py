@@ -9,7 +9,7 @@ from pathlib import Path
 
 from outside import needs_engine
 from tukyamid import Engine
-from tukyamid.engine import find_program
+from tukyamid.client.engine import find_program
 
 
 class Programs(unittest.TestCase):
@@ -17,7 +17,7 @@ class Programs(unittest.TestCase):
 
     def found(self, folder, **environment):
         said = subprocess.run(
-            [sys.executable, "-c", "from tukyamid.engine import find_program; print(*find_program())"],
+            [sys.executable, "-c", "from tukyamid.client.engine import find_program; print(*find_program())"],
             env={"PATH": "/usr/bin:/bin", "PYTHONPATH": str(folder), **environment},
             capture_output=True, text=True, check=False)
         return said.stdout.strip() or said.stderr.strip().splitlines()[-1]

@@ -3,8 +3,8 @@
 import unittest
 
 from tukyamid import ProtocolError
-from tukyamid.reading import drive, read_reply_after
-from tukyamid.replies import Exported
+from tukyamid.protocol.replies import Exported
+from tukyamid.protocol.reply_reader import drive, read_reply_after
 
 
 def read(line):

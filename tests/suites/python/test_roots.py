@@ -22,24 +22,33 @@ TRUST = {"Me": 6, "Full": 5, "Second": 5, "Stranger": 5, "M1": 4, "M2": 4, "M3":
 class Home:
     """A home of gpg's, with keys, certifications and owner trust."""
 
-    def __init__(self):
-        self.path = folder() / "home"
+    def __init__(self, name="home", trust=None, others=("Far", "Three", "Two", "Lost", "Local"), certified=None):
+        self.path = folder() / name
+        self.trust = TRUST if trust is None else trust
         self.path.mkdir(mode=0o700)
         subprocess.run(["gpg-agent", "--homedir", str(self.path), "--daemon"], stdin=subprocess.DEVNULL,
                        stdout=subprocess.DEVNULL, stderr=subprocess.DEVNULL, timeout=600, check=True)
-        names = [*TRUST, "Far", "Three", "Two", "Lost", "Local"]
-        self.fpr = {name: self._make(name) for name in names}
-        for issuer, target in CERTIFIED:
+        self.fpr = {name: self._make(name) for name in [*self.trust, *others]}
+        for issuer, target in CERTIFIED if certified is None else certified:
             self.gpg("-u", self.fpr[issuer], "--quick-sign-key", self.fpr[target])
-        self.gpg("-u", self.fpr["Me"], "--quick-lsign-key", self.fpr["Local"])
+        if "Local" in others:
+            self.gpg("-u", self.fpr["Me"], "--quick-lsign-key", self.fpr["Local"])
+
+    def take_trust(self):
         # A key that gpg makes has ultimate trust; 2 is none.
-        trust = "".join(f"{fpr.upper()}:{TRUST.get(name, 2)}:\n" for name, fpr in self.fpr.items())
+        trust = "".join(f"{fpr.upper()}:{self.trust.get(name, 2)}:\n" for name, fpr in self.fpr.items())
         self.gpg("--import-ownertrust", typed=trust.encode())
         self.gpg("--check-trustdb")
+        return self
 
-    def gpg(self, *words, typed=b""):
-        done = subprocess.run(["gpg", "--homedir", str(self.path), "--batch", "--quiet", "--no-tty", "--yes", *words],
-                              input=typed, capture_output=True, timeout=600, check=False)
+    def trust_half(self, issuer, target):
+        """A trust signature of amount 60 and depth 1, as gpg makes it: its first choice is marginal trust."""
+        self.gpg("-u", self.fpr[issuer], "--command-fd", "0", "--edit-key", self.fpr[target],
+                 typed=b"tsign\n1\n1\n\ny\nsave\n", batch=False)
+
+    def gpg(self, *words, typed=b"", batch=True):
+        options = ["--homedir", str(self.path), *["--batch"] * batch, "--quiet", "--no-tty", "--yes"]
+        done = subprocess.run(["gpg", *options, *words], input=typed, capture_output=True, timeout=600, check=False)
         if done.returncode:
             raise RuntimeError(f"gpg {words}: {done.stderr.decode(errors='replace')}")
         return done.stdout
@@ -57,7 +66,19 @@ class Home:
 
 @functools.cache
 def home():
-    return Home()
+    return Home().take_trust()
+
+
+@functools.cache
+def mixed_home():
+    """Where trust signatures and owner trust meet."""
+    made = Home("mixed", {"Me": 6, "Full": 5, "HalfFull": 5, "Both": 4, "M": 4},
+                ["Half", "Half2", "ByHalfFull", "TwoHalves", "Twice", "Once"],
+                [("Me", "Full"), ("Me", "M"), ("Full", "Both"), ("HalfFull", "ByHalfFull"), ("Half", "TwoHalves"),
+                 ("Half2", "TwoHalves"), ("Both", "Twice"), ("M", "Twice"), ("Both", "Once")])
+    for target in "Half", "Half2", "HalfFull", "Both":
+        made.trust_half("Me", target)
+    return made.take_trust()
 
 
 @needs_engine
@@ -82,6 +103,17 @@ class OfGpg(unittest.TestCase):
         self.assertEqual(listed, expected)
         self.assertEqual(roots, {"Me": 120, "Full": 120, "Second": 120, "M1": 40, "M2": 40, "M3": 40})
 
+    def test_where_trust_signatures_and_owner_trust_meet(self):
+        """It is as USING.md says: gpg finds a key valid that half a trust signature certifies, needs three signers of
+        marginal trust where two amounts of 60 are enough here, and takes a signer once that counts here by its owner
+        trust and by a trust signature."""
+        at_gpg = mixed_home().valid()
+        done = self.ask("--gpg", "--format", "json", "list", gnupg=mixed_home().path)
+        here = {one["user_id"].split(" ")[0] for one in json.loads(done.stdout)["bindings"]}
+        both = {"Me", "Full", "M", "Both"}
+        self.assertEqual(at_gpg, both | {"Half", "Half2", "HalfFull", "ByHalfFull"})
+        self.assertEqual(here, both | {"TwoHalves", "Twice"})
+
     def test_two_of_marginal_trust_are_not_enough(self):
         done = self.ask("--gpg", "--format", "json", "identify", home().fpr["Two"])
         self.assertEqual(json.loads(done.stdout)["bindings"][0]["amount"], 80)
@@ -99,6 +131,15 @@ class OfGpg(unittest.TestCase):
         empty.mkdir(mode=0o700)
         said = self.ask("--gpg", "list", gnupg=empty).stderr.decode()
         self.assertRegex(said, r"\Atukyamid: gpg's keyring in \S+ is empty\n\Z")
+        self.assertEqual(os.listdir(empty), [])  # gpg would have made a keyring.
+
+    def test_a_keyring_without_a_trust_database(self):
+        copied = folder() / "copied-home"
+        copied.mkdir(mode=0o700)
+        shutil.copy(home().path / "pubring.kbx", copied)
+        said = self.ask("--gpg", "list", gnupg=copied).stderr.decode()
+        self.assertIn("gpg trusts no key ultimately", said)
+        self.assertEqual(os.listdir(copied), ["pubring.kbx"])
 
 
 @needs_engine

@@ -2,7 +2,7 @@
 
 import unittest
 
-from tukyamid.service.seats import Seats
+from tukyamid.service.engines.shared_views import Seats
 
 ROOTS = ((b"aa" * 20, b"120"),)
 DAY = 86_400
@@ -24,7 +24,7 @@ class Engine:
 class Moved(unittest.TestCase):
     def setUp(self):
         self.engine = Engine()
-        self.seats = Seats(lambda: self.engine, lambda: None, [self.engine])
+        self.seats = Seats(lambda: self.engine, lambda: None, [self.engine], 1)
 
     def find(self, time, roots=ROOTS):
         return self.seats.find((b"%d" % time, roots)).name

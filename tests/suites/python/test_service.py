@@ -7,11 +7,16 @@ import signal
 import socket
 import struct
 import time
+import unittest.mock
+from pathlib import Path
 
 from asking import DECEMBER, Asking
 from friends import PEOPLE
 from outside import COMMAND, TRUSTING, folder, needs_engine, needs_gpg, run
 from test_lifetimes import ended_key
+from tukyamid.command.keyring_choice import Inputs
+from tukyamid.command.parsed_words import Given
+from tukyamid.web.asked_service import service_for
 
 
 def server_of(path):
@@ -86,6 +91,19 @@ class HeldInputs(Services):
         again = [self.asked(*self.named, *words, status=status) for words, status in zip(questions, statuses)]
         self.assertEqual(again, first)
 
+    def test_a_directory_of_others_is_not_used(self):
+        """Be it the cache or that of the sockets: the answer comes all the same, from an engine of its own."""
+        cache = self.own / "cache"
+        cache.mkdir()
+        for loose, safe, said in ((cache, self.runtime, rb"tukyamid: no cache is used: others can write [^\n]*\n"),
+                                  (self.runtime, cache, b"")):
+            loose.chmod(0o777)
+            safe.chmod(0o700)
+            with self.subTest(loose.name):
+                done = run([COMMAND, f"--root={self.fpr['Alice']}", *self.named, "list", "carol"], env=self.environment)
+                self.assertRegex(done.stderr, rb"\A" + said + rb"\Z")
+                self.assertEqual((done.returncode, self.sockets()), (0, []))
+
     def test_what_a_file_is_now_is_what_is_answered(self):
         frank = ["identify", self.fpr["Frank"]]
         self.assertEqual(self.asked(*self.named, *frank, status=1)["bindings"], [])
@@ -95,6 +113,24 @@ class HeldInputs(Services):
         self.assertEqual(len(self.asked(*self.named, *frank, status=1)["bindings"]), 1)
         shutil.copy(self.friends.without("Frank"), self.keyring)
         self.assertEqual(self.asked(*self.named, *frank, status=1)["bindings"], [])
+
+    def test_inputs_stay_as_long_as_their_service_runs(self):
+        """Eight other inputs are verified meanwhile; they take the place of inputs that nobody serves."""
+        self.asked(*self.named, "list")
+        self.wait_for_socket()
+        (entry,) = (self.own / "cache").iterdir()
+        for missing in PEOPLE:
+            for more in [], ["--keyring", self.keyring]:
+                run([COMMAND, "--root", self.fpr["Bob"], "--no-service", "--cache", self.own / "cache", *more,
+                     "--keyring", self.friends.without(missing), "list"], env=self.environment)
+        self.assertTrue((entry / "keyring.db").exists())
+        self.assertLessEqual(len(list((self.own / "cache").iterdir())), 9)
+        given = Given(keyring=[str(self.keyring)], directory=[], gpg=False, gpg_keyring=False, no_service=False,
+                      no_cache=False, anew=False, engine=None, verifier=None, cache=str(self.own / "cache"))
+        shutil.rmtree(entry)  # As an earlier version did.
+        with unittest.mock.patch.dict(os.environ, self.environment):
+            service = service_for(given, Inputs(given, lambda text: None), lambda text: None)
+        self.assertIn(Path(service.socket), self.sockets())
 
     def test_a_service_that_was_killed(self):
         self.asked(*self.named, "list")

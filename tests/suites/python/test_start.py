@@ -12,9 +12,9 @@ import test_service
 from friends import PEOPLE
 from outside import CLIENT, COMMAND, needs_engine, needs_gpg, run
 from tukyamid import Engine
-from tukyamid.command import parser, quick
-from tukyamid.command.failures import WrongWords
-from tukyamid.refusals import RefusedView
+from tukyamid.command import parser, quick_parser
+from tukyamid.command.exit_statuses import WrongWords
+from tukyamid.protocol.refusals import RefusedView
 
 # Each takes longer to import than a module of the command, and most of them import others.
 HEAVY = {"argparse", "asyncio", "collections", "contextlib", "dataclasses", "datetime", "enum", "functools", "gettext",
@@ -39,7 +39,8 @@ WORDS = ["authenticate", "list", "", "-", KEY, "Carol <carol@example.org>", "--r
 
 class QuickWords(unittest.TestCase):
     def test_usual_words(self):
-        given = quick.read(["--root", KEY, "--email", "--format=json", "lookup", "carol@example.org", "--partial"])
+        words = ["--root", KEY, "--email", "--format=json", "lookup", "carol@example.org", "--partial"]
+        given = quick_parser.read(words)
         self.assertEqual((given.question, given.words, given.root, given.email, given.format, given.amount, given.time),
                          ("lookup", ["carol@example.org"], [(KEY[2:].lower(), 120)], True, "json", 40, None))
 
@@ -47,7 +48,7 @@ class QuickWords(unittest.TestCase):
         draw, quickly = random.Random(5), 0
         for _ in range(3000):
             words = draw.choices(WORDS, k=draw.randrange(7))
-            given = quick.read(words)
+            given = quick_parser.read(words)
             if given is not None:
                 self.assertEqual(vars(given), vars(parser.read(words)), words)
                 quickly += 1
@@ -56,7 +57,7 @@ class QuickWords(unittest.TestCase):
     def test_what_is_wrong_is_for_the_parser(self):
         for words in (["--rot"], ["--root"], ["--root", "--paths"], ["--amount", "0"], ["--format=xml"], ["--gpg=1"],
                       ["--time", "never"], ["--known-notation", "a@b"]):
-            self.assertIsNone(quick.read(words), words)
+            self.assertIsNone(quick_parser.read(words), words)
             self.assertRaises(WrongWords, parser.read, words)
 
 

@@ -6,11 +6,11 @@ import unittest
 
 from outside import needs_engine
 from tukyamid import Engine, Keyring, Store
-from tukyamid.assessment import assess
-from tukyamid.certificates import signature_number
-from tukyamid.keyring import DumpIndex
-from tukyamid.store import Held
-from tukyamid.verdicts import Verdicts
+from tukyamid.keyrings.assessment import assess
+from tukyamid.keyrings.keyring import DumpIndex
+from tukyamid.keyrings.verified_cache import Held
+from tukyamid.openpgp.certificates import signature_number
+from tukyamid.protocol.verdicts import Verdicts
 
 FPR = "0123456789abcdef" * 2 + "01234567"
 

@@ -1,6 +1,7 @@
 """The page on using it: every command that it shows is run, in their order, and writes what the page shows. Its
 programs do what it says."""
 
+import json
 import os
 import re
 import shutil
@@ -8,16 +9,17 @@ import subprocess
 import unittest
 
 from friends import PEOPLE
-from outside import COMMAND, ROOT, TRUSTING, needs_engine, needs_gpg
+from outside import COMMAND, ROOT, TRUSTING, needs_engine, needs_gpg, verifier_built
 from test_service import Services
 from tukyamid import Keyring, connect
 
 PAGE = ROOT / "docs" / "USING.md"
-# The fingerprints that the page has for people whose keys gpg makes for each run.
+EXAMPLE = ROOT / "examples" / "friends.pgp"
+# The fingerprints that the page has, which are those of the example. gpg makes other keys for each run.
 ON_PAGE = {
-    "Alice": "fb88f0d227c941044d81b8634ea7c2c11011dca1", "Bob": "1f80fb7ef649445e8a4f5a6b02562e176f4fbcb1",
-    "Carol": "4d2c7e07cccee7e821115f693cda0ca82907b19c", "Dave": "6b2bd9ba34ca31ae31c9cb1ed5d3cf7f5b6d2c4e",
-    "Frank": "0d5dd05c2bcb2fcd6ac6cdeaf1a3a7d4c9ab1e0f",
+    "Alice": "8bb8574fecda267656835bc65cfa7d5c6b7e3ef1", "Bob": "bfc7d864b05626494b1d39fe52ef8f522166a181",
+    "Carol": "8c15b04bfbec61af89aaf76b0f2da5e1e9f36d75", "Dave": "8dba344359714210463611a1049c0cdad8c139aa",
+    "Frank": "f046a0999da136ee4f7c7912870a96ca1d4ce39b",
 }
 
 
@@ -120,3 +122,22 @@ class Programs(Services):
                            "DISTRIBUTION": self.fpr["Alice"]}
             done = subprocess.run(["sh", "-c", script], cwd=self.own, env=environment, capture_output=True, check=False)
             self.assertEqual((done.returncode, bool(done.stdout)), (status, status == 0), done.stderr)
+
+
+@needs_engine
+class Example(unittest.TestCase):
+    """The keyring that is shipped: the page's people and certifications, as gpg made them."""
+
+    def test_it_is_the_keyring_of_the_page(self):
+        built = verifier_built()
+        if built is None:
+            self.skipTest("the verifier isn't built")
+        reached = {}
+        for name in ON_PAGE:
+            done = subprocess.run([COMMAND, "--no-service", "--no-cache", "--verifier", built, "--keyring", EXAMPLE,
+                                   "--root", ON_PAGE["Alice"], "--partial", "--format", "json", "identify",
+                                   ON_PAGE[name]], capture_output=True, check=False)
+            (binding,) = json.loads(done.stdout)["bindings"]
+            self.assertEqual(binding["user_id"], PEOPLE[name])
+            reached[name] = binding["reached"]
+        self.assertEqual(reached, {"Alice": True, "Bob": True, "Carol": True, "Dave": True, "Frank": False})

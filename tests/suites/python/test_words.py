@@ -4,13 +4,14 @@ import os
 import shlex
 import shutil
 import subprocess
+import time
 import unittest
 
 from asking import Asking
 from friends import PEOPLE
 from outside import COMMAND, TRUSTING, needs_engine, needs_gpg, run
-from tukyamid.addresses import address_of, canonical
-from tukyamid.command.values import read_key, read_time
+from tukyamid.command.option_values import read_key, read_time
+from tukyamid.openpgp.addresses import address_of, canonical
 
 
 class Values(unittest.TestCase):
@@ -45,6 +46,25 @@ class Values(unittest.TestCase):
         self.assertEqual(address_of("Zo\u00eb <zoe@B\u00fccher.example>".encode()), "zoe@xn--bcher-kva.example")
         self.assertIsNone(address_of(b"no address"))
         self.assertEqual(canonical("x@" + "\u00fc" * 64), "x@" + "\u00fc" * 64)
+
+    def test_what_is_too_long_for_an_address(self):
+        """254 octets in all, and 63 of a label, are the most (RFC 5321 with its erratum 1690; RFC 1035)."""
+        for domain, is_one in (("x" * 63 + ".example", True), ("x" * 64 + ".example", False),
+                               ("\u00fc" * 64 + ".example", False), ("x" * 40 + "\u3002" + "x" * 40, True),
+                               (".".join(["x" * 61] * 3 + ["x" * 62]), True),
+                               (".".join(["x" * 61] * 3 + ["x" * 63]), False)):
+            self.assertEqual(address_of(f"Carol <carol@{domain}>".encode()) is not None, is_one, domain)
+        self.assertIsNone(address_of(b"x" * 253 + b"@x"))
+        self.assertEqual(address_of(b"x" * 252 + b"@x"), "x" * 252 + "@x")
+
+    def test_a_long_text_takes_no_time(self):
+        """Each of these took seconds to minutes: the time grew with the square of the length."""
+        letters = "".join(chr(0x4E00 + place) for place in range(8000))
+        for text in ("a@" + letters, "a@" + "\u0660" * 16000, "a@" + "\u00fc." * 16000, "<" + "@" * 64000,
+                     "<" + "@" * 64000 + ">", "a@" + "\u00ad" * 16000 + "b"):
+            begin = time.process_time()
+            self.assertEqual((address_of(text.encode()), canonical(text)), (None, text))
+            self.assertLess(time.process_time() - begin, 0.5)
 
 
 @needs_engine
@@ -103,11 +123,11 @@ class Words(Asking):
             ("amount of a root", ["--root", carol + ":256", "list"]), ("choose from", ["--format", "xml", "list"]),
             ("no notation can be made known", ["--known-notation", "a@b", "list"]),
             ("--nonsense", ["--nonsense", "list"]),
-            ("once, and one is given twice", ["path", carol, carol, "Carol"]), ("status comes first", ["status"]),
+            ("once, and one is given twice", ["path", carol, carol, "Carol"]),
         ]:
             with self.subTest(words):
                 self.fails(self.ask(*words), 2, said)
-        self.fails(self.ask("list", root=None), 2, "a trust root is missing: give --root")
+        self.fails(self.ask("list", root=None), 2, "a trust root is missing: tukyamid root add KEY")
         self.fails(run([COMMAND, "--no-service", "--root", carol, "list"]), 2, "an input is missing: give --keyring")
         self.fails(run([COMMAND, "--anew", "--root", carol, "list"]), 2, "--anew goes with an input: give --keyring")
 

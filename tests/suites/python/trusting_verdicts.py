@@ -8,7 +8,7 @@ from pathlib import Path
 
 sys.path.insert(0, str(Path(__file__).resolve().parents[3] / "python"))
 
-from tukyamid.certificates import KEY, key_fingerprint, key_id, packets, read_certificate  # noqa: E402
+from tukyamid.openpgp.certificates import KEY, key_fingerprint, key_id, packets, read_certificate  # noqa: E402
 
 
 def certificates(octets):
@@ -25,7 +25,9 @@ def certificates(octets):
 def read(names):
     for path in map(Path, names):
         for file in sorted(path.rglob("*")) if path.is_dir() else [path]:
-            if file.is_file():
+            if str(file) == "-":
+                yield from certificates(sys.stdin.buffer.read())
+            elif file.is_file():
                 yield from certificates(file.read_bytes())
 
 
@@ -45,8 +47,8 @@ def main(words):
     if words == ["--version"]:
         print("wot-verdicts", os.environ.get("TRUSTING_VERSION", "1 (a stand-in)"))
         return
-    options = {word for word in words if word.startswith("--")}
-    whole = list(read([word for word in words if word not in options]))
+    options, paths = words[:words.index("--")], words[words.index("--") + 1:]
+    whole = list(read(paths))
     fprs = [key_fingerprint(body) for octets in whole for kind, body in packets(octets) if kind == KEY]
     there = {name: fpr for fpr in fprs for name in (fpr, key_id(fpr))}
     wanted = {line.split()[1] for line in sys.stdin if line.startswith("sig ")} if "--pending" in options else None

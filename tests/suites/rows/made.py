@@ -86,6 +86,14 @@ class Long(unittest.TestCase):
         attribute = b"\xd1\xff" + (4194304 - 15).to_bytes(4, "big") + bytes(4194304 - 15)
         self.stores(write_packet(KEY, self.BODY) + attribute, b"ok stored 4194304\n", b"refused full certificate\n")
 
+    def test_over_a_mebibyte(self):
+        """A certificate of 2 MiB is taken, its key and user attribute, and then a user ID that is merged into it."""
+        attribute = b"\xd1\xff" + (2097152).to_bytes(4, "big") + bytes(2097152)
+        key = write_packet(KEY, self.BODY)
+        lines = (key + attribute, key + write_packet(USER_ID, b"t"))
+        script = b"".join(b"import " + octets.hex().encode() + b"\n" for octets in lines)
+        self.assertEqual(plain.run_program(script), (0, b"ok taken 1 skipped 0 new 2\nok taken 1 skipped 0 new 1\n"))
+
     def test_longer_than_an_entry_may_be(self):
         self.stores(b"\xc6" * (LONGEST_ENTRY + 1), b"refused long\n", b"refused long\n")
 
@@ -106,3 +114,11 @@ class Full(unittest.TestCase):
         ]
         script = b"".join(b"import " + b"".join(keys).hex().encode() + b"\n" for keys, _ in exchanges)
         self.assertEqual(plain.run_program(script), (0, b"".join(reply for _, reply in exchanges)))
+
+    def test_verdicts(self):
+        """As many verdicts as may be held. One more is refused, and one that replaces another isn't."""
+        most = 2097152
+        numbers = [*range(most), most, 0]
+        script = b"".join(b"verdict %064x bad\n" % number for number in numbers)
+        replies = b"ok\n" * most + b"refused full verdicts\nok\n"
+        self.assertEqual(plain.run_program(script), (0, replies))

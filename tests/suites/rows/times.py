@@ -121,6 +121,33 @@ class Times(unittest.TestCase):
                 self.say(question, told)
         self.passes()
 
+    def test_introducers_that_certify_one_another(self):
+        """Sixty, who certify the target with amounts that rise in the order of their fingerprints, or that fall. The
+        longer a path from one of them, the wider it may be. The answer is found at once, and not with status 5."""
+        for amounts in (range(1, 61), range(60, 0, -1)):
+            with self.subTest(amounts):
+                self.setUp()
+                self.hold_introducers(amounts)
+                self.passes()
+
+    def hold_introducers(self, amounts):
+        """Introducers who certify the target with these amounts; the root certifies the one with the greatest."""
+        keys = sorted((bytes.fromhex("04000003e81b") + bytes([last]) for last in range(5, 65)), key=fingerprint)
+        names = [fingerprint(key) for key in keys]
+        widest = names[amounts.index(60)]
+        self.hold(1)
+        small = [b"\3\5\0" + bytes([amount]) + b"\x16\x21\4" for amount in amounts]
+        self.hold(4, (b"t", [(self.certification(2000, part + name), name) for part, name in zip(small, names)]))
+        trust = b"\3\5\377\170\x16\x21\4"  # Depth 255 and amount 120, and the issuer.
+        for key, name in zip(keys, names):
+            issuers = [self.ROOT] * (name == widest) + [each for each in names if each != name]
+            self.hold(key[-1], (b"x", [(self.certification(2000, trust + issuer), issuer) for issuer in issuers]))
+        self.view(5000, 255)
+        root, target, introducer = (each.hex().encode() for each in (self.ROOT, self.TARGET, widest))
+        path = b"path 60 steps 2 root %s\nstep %s %s 255 120 x\nstep %s %s 0 60 t"
+        path %= root, root, introducer, introducer, target
+        self.say(b"ask p %s 60 t" % target, b"amount 60 paths 1", *path.split(b"\n"))
+
 
 def joined(replies):
     """The replies in pieces of at least this size."""

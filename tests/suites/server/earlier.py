@@ -1,6 +1,6 @@
 """What the tables of earlier versions had of a keyring, before keys were numbered and things were counted."""
 
-from tukyamid.service.reading import describe
+from tukyamid.service.storage.certificate_rows import describe
 
 
 class Earlier:

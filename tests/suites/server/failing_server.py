@@ -14,8 +14,8 @@ from pathlib import Path
 
 sys.path.insert(0, str(Path(__file__).resolve().parents[3] / "python"))
 
-from tukyamid.service import looking, writing  # noqa: E402
-from tukyamid.service.command import main  # noqa: E402
+from tukyamid.service.server_command import main  # noqa: E402
+from tukyamid.service.storage import sqlite_reads, table_changes  # noqa: E402
 
 
 def faults(word):
@@ -35,9 +35,10 @@ def failing(call, is_meant):
     return instead
 
 
-writing.Writing.make = failing(writing.Writing.make,
-                               lambda change, now: any(text in change.what for text in faults("change")))
-looking.SqliteSnapshot.certificates = failing(looking.SqliteSnapshot.certificates, lambda: bool(faults("snapshot")))
+table_changes.Writing.make = failing(table_changes.Writing.make,
+                                     lambda change, now: any(text in change.what for text in faults("change")))
+sqlite_reads.SqliteSnapshot.certificates = failing(sqlite_reads.SqliteSnapshot.certificates,
+                                                   lambda: bool(faults("snapshot")))
 
 
 def in_a_room(make):

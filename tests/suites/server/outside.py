@@ -11,9 +11,9 @@ import time
 import unittest
 from pathlib import Path
 
-from tukyamid.engine import has_reply
-from tukyamid.refusals import Refused
-from tukyamid.reading import ListingHead, read_reply
+from tukyamid.client.engine import has_reply
+from tukyamid.protocol.refusals import Refused
+from tukyamid.protocol.reply_reader import ListingHead, read_reply
 
 HERE = Path(__file__).resolve().parent
 ROOT = Path(os.environ.get("WOT_ROOT") or HERE.parents[2])
@@ -143,11 +143,16 @@ class Server:
         self.directory = self.folder / "pgp.cert.d"
         self._order = self.folder / "order"
         self._said = open(self.folder / "said", "w+b")
+        self._words = [PYTHON, program, "--socket", self.path, "--database", self.database, "--order", self._order,
+                       "--engine", engine, "--directory", self.directory, *options]
+        self._environment = {**os.environ, "XDG_STATE_HOME": str(self.folder / "state"), **(environment or {})}
+        self.start()
+
+    def start(self):
+        """Starts it, also again after it has ended."""
         self.process = subprocess.Popen(
-            [PYTHON, program, "--socket", self.path, "--database", self.database, "--order", self._order,
-             "--engine", engine, "--directory", self.directory, *options],
-            stdin=subprocess.DEVNULL, stdout=subprocess.DEVNULL, stderr=self._said,
-            env={**os.environ, **(environment or {})})
+            self._words, stdin=subprocess.DEVNULL, stdout=subprocess.DEVNULL, stderr=self._said,
+            env=self._environment)
         try:
             self.wait_for(self._is_there)
         except BaseException:

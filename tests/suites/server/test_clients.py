@@ -11,7 +11,7 @@ from concurrent.futures import ThreadPoolExecutor
 from unittest.mock import Mock
 
 from outside import WORN_ENGINE, Client, Server, expected, needs_engine, with_reply
-from tukyamid.service.outbox import Outbox
+from tukyamid.service.sessions.outbox import Outbox
 from world import Chatter, World
 
 # An engine has sixteen cursors, and a client of these tests up to three. If the service has one engine alone, since

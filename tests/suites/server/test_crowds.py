@@ -15,8 +15,8 @@ from concurrent.futures import ThreadPoolExecutor
 from pathlib import Path
 
 from outside import Client, Server, alone, needs_engine, script_of
-from tukyamid.service.database import Actor
-from tukyamid.service.sqlite import Sqlite
+from tukyamid.service.storage.database import Actor
+from tukyamid.service.storage.sqlite_database import Sqlite
 from world import Chatter, World, packet
 
 SOAK = float(os.environ.get("TUKYAMID_SOAK", "12"))

@@ -10,8 +10,8 @@ from contextlib import closing
 from pathlib import Path
 
 from outside import PATIENCE, PROGRAM, PYTHON, SERVER, Client, Server, alone, needs_engine, script_of
-from tukyamid.service.database import Actor, Change, DropCertificate, PutCertificate, SetVerdict
-from tukyamid.service.sqlite import Sqlite
+from tukyamid.service.storage.database import Actor, Change, DropCertificate, PutCertificate, SetVerdict
+from tukyamid.service.storage.sqlite_database import Sqlite
 from world import World
 
 NOBODY = Actor(1, 2)
@@ -191,14 +191,3 @@ class Commands(InAFolder):
             self.assertEqual(server.stop(), 0)
         self.assertEqual(self.command("restore", "--database", "keyring.db", "copy"), (0, ""))
         self.assertEqual(script_of(self.open()), script(world))
-
-    def test_a_damaged_one_is_set_aside(self):
-        with closing(Sqlite(self.path)) as database:
-            database.backup(self.folder / "copy")
-        self.path.write_bytes(b"damaged" * 1000)
-        status, said = self.command("check", "--database", "keyring.db")
-        self.assertEqual((status, "not a database" in said), (1, True), said)
-        status, said = self.command("restore", "--database", "keyring.db", "copy")
-        self.assertEqual((status, "keyring.db.damaged" in said), (0, True), said)
-        self.assertEqual((self.folder / "keyring.db.damaged").read_bytes(), b"damaged" * 1000)
-        self.assertEqual(self.command("check", "--database", "keyring.db"), (0, ""))

@@ -15,7 +15,7 @@ import unittest
 from pathlib import Path
 
 from outside import Client, Server, alone, is_change, needs_engine, script_of
-from tukyamid.service.sqlite import Sqlite
+from tukyamid.service.storage.sqlite_database import Sqlite
 from world import Chatter, World
 
 KILLS = int(os.environ.get("TUKYAMID_KILLS", "24"))
@@ -197,7 +197,7 @@ class Refusing(InAFolder):
     def test_the_disk_is_full(self):
         disk = self.folder / "disk"
         disk.mkdir()
-        mounted = subprocess.run(["mount", "-t", "tmpfs", "-o", "size=8m", "tmpfs", disk], capture_output=True,
+        mounted = subprocess.run(["mount", "-t", "tmpfs", "-o", "size=8m,mode=700", "tmpfs", disk], capture_output=True,
                                  check=False)
         if mounted.returncode:
             self.skipTest("a small file system can't be mounted here")

@@ -10,15 +10,15 @@ import unittest
 from pathlib import Path
 
 from outside import HERE, PATIENCE, PROGRAM, PYTHON, ROOT, SERVER, Client, alone, needs_engine
-from tukyamid.service.starting import is_served
+from tukyamid.service.start_on_demand import is_served
 from world import World
 
 SERVE = """
 import sys
 sys.path.insert(0, sys.argv.pop(1))
-from tukyamid.service import command, desk
-desk.LOADED_AT_ONCE = 0
-sys.exit(command.main())
+from tukyamid.service import line_intake, server_command
+line_intake.LOADED_AT_ONCE = 0
+sys.exit(server_command.main())
 """
 
 
@@ -114,6 +114,17 @@ class Early(unittest.TestCase):
             self.heard(other, self.questions())
             self.go()
             self.hear(client, lines)
+
+    def test_the_status_waits_for_its_turn(self):
+        """It asks for what no view has. Whoever comes later is answered as well."""
+        self.start()
+        with Client(self.socket) as client, Client(self.socket) as other:
+            client.send(b"service status", b"service unverified")
+            self.assertTrue(self.is_silent(client))
+            self.go()
+            client.socket.settimeout(PATIENCE)
+            self.assertEqual(client.read_line().split(b" ")[:2], [b"service", b"status"])
+            self.heard(other, self.questions())
 
     def test_a_service_that_ends_while_it_loads(self):
         served = self.start()

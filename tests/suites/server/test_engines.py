@@ -11,10 +11,10 @@ from contextlib import closing
 from pathlib import Path
 
 from outside import PROGRAM, WORN_ENGINE, Client, Server, alone, is_change, needs_engine, script_of
-from tukyamid.service import journal
-from tukyamid.service.database import Actor
-from tukyamid.service.hub import Hub
-from tukyamid.service.sqlite import Sqlite
+from tukyamid.service.storage import journal
+from tukyamid.service.storage.database import Actor
+from tukyamid.service.storage.sqlite_database import Sqlite
+from tukyamid.service.whole.engine_pool import Hub
 from world import Chatter, World
 
 ENGINES = 3
@@ -192,14 +192,15 @@ class ManyViews(unittest.TestCase):
 @needs_engine
 class ManyCursors(unittest.TestCase):
     def test_another_engine_is_started_for_them(self):
-        """An engine has sixteen cursors, and so has a client: two clients fill two engines, though nobody is busy."""
+        """An engine has sixteen cursors, and so has a client: two clients fill two engines, though nobody is busy. The
+        last four are kept for another user."""
         with Server("--engines", "2") as server, Client(server.path) as one, Client(server.path) as two, \
                 Client(server.path) as three:
             over = [b"cursor c%d over p 120" % place for place in range(16)]
             for client in (one, two, three):
                 self.assertEqual(client.tell(b"view p time 5000"), b"ok")
-            for client in (one, two):
-                self.assertEqual([client.tell(line) for line in over], [b"ok"] * 16)
+            for client, count in ((one, 16), (two, 12)):
+                self.assertEqual([client.tell(line) for line in over[:count]], [b"ok"] * count)
                 self.assertEqual(client.tell(b"cursor more over p 120"), b"refused full cursors")
                 self.assertEqual(client.tell(over[3]), b"ok")
             self.assertEqual(len(server.engines()), 2)

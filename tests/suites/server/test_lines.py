@@ -1,6 +1,6 @@
 """The lines that only the service answers, watched keyrings, and what a read-only socket refuses."""
 
-import base64
+import hashlib
 import os
 import shutil
 import subprocess
@@ -11,6 +11,11 @@ from pathlib import Path
 from outside import HERE, Client, Server, alone, needs_engine
 from world import World
 
+# A key and a subkey of algorithm 27, which nothing binds; their fingerprints are by RFC 9580, section 5.5.4.2.
+KEY, SUBKEY = bytes.fromhex("04000003e81b01"), bytes.fromhex("04000003e81b07")
+WITH_SUBKEY = b"\xc6\x07" + KEY + b"\xce\x07" + SUBKEY
+KEY_FPR, SUBKEY_FPR = (hashlib.sha1(b"\x99\x00\x07" + body).hexdigest().encode() for body in (KEY, SUBKEY))
+SUBKEY_ID = bytes.fromhex(SUBKEY_FPR[-16:].decode())
 VERIFIER = HERE / "trusting_verifier.py"
 REFUSED = b"refused line"
 
@@ -75,6 +80,32 @@ class Asked(Lines):
         self.assertEqual(self.ask(b"service find first sEr 2"), [binding])
         self.assertEqual(self.ask(b"service find address nobody@example.org"), [])
 
+    def test_holders(self):
+        """Of a primary key and of a subkey, by fingerprint or key ID of either case; with what is committed."""
+        self.client.send(b"import " + WITH_SUBKEY.hex().encode())
+        self.assertEqual(self.client.read_line(), b"ok taken 1 skipped 0 new 2")
+        held = [b"holder %s %s" % (KEY_FPR, WITH_SUBKEY.hex().encode())]
+        for key in (KEY_FPR, KEY_FPR[-16:], SUBKEY_FPR, SUBKEY_FPR.upper(), SUBKEY_FPR[-16:]):
+            self.assertEqual(self.ask(b"service holders " + key), held, key)
+        self.assertEqual(len(self.ask(b"service holders " + self.world.fprs[1])), 1)
+        # Another key of this key ID isn't the one that is sought.
+        self.assertEqual(self.ask(b"service holders " + b"0" * 24 + SUBKEY_FPR[-16:]), [])
+        self.assertEqual(self.ask(b"service holders " + b"0" * 64), [])
+        self.client.send(b"drop " + KEY_FPR)
+        self.assertEqual(self.client.read_line(), b"ok")
+        self.assertEqual(self.ask(b"service holders " + SUBKEY_FPR), [])
+
+    def test_too_many_holders(self):
+        """A stranger may give a subkey to any number of keys: none of them is chosen."""
+        keys = [b"\xc6\x07\x04\x00\x00\x03\xe8\x1b%c\xce\x07%s" % (number, SUBKEY) for number in range(8, 73)]
+        self.client.send(*(b"import " + octets.hex().encode() for octets in keys[:-1]))
+        for _ in keys[:-1]:
+            self.assertEqual(self.client.read_line(), b"ok taken 1 skipped 0 new 2")
+        self.assertEqual(len(self.ask(b"service holders " + SUBKEY_FPR)), 64)
+        self.client.send(b"import " + keys[-1].hex().encode(), b"service holders " + SUBKEY_FPR)
+        self.client.read_line()
+        self.assertEqual(self.client.read_line(), b"refused full holders")
+
     def test_a_user_id_that_is_no_text(self):
         """It is spelled as the engine spells it."""
         user_id = b"\x1b[2J\xff \xe2\x80\xae\\<x@example.org>"
@@ -91,6 +122,14 @@ class Asked(Lines):
         self.assertEqual(sorted(told), sorted(signed))
         self.assertEqual(self.client.tell(b"service issuers " + b"0" * 40), b"refused absent")
 
+    def test_certified(self):
+        for fpr in self.world.fprs:
+            expected = sorted((-depth, target) for (issuer, target), depth in self.world.depths.items()
+                              if issuer == fpr != target)
+            self.assertEqual(self.ask(b"service certified " + fpr), [
+                b"on %d %s" % (-depth, target) for depth, target in expected])
+        self.assertEqual(self.ask(b"service certified " + b"0" * 40), [])
+
     def test_log(self):
         number, issuer = self.world.verdicts[0]
         self.client.tell(b"verdict %s bad" % number.upper())
@@ -105,7 +144,9 @@ class Asked(Lines):
     def test_malformed(self):
         for line in (b"service", b"service ", b"service status ", b"service find", b"service find part",
                      b"service find part ", b"service find key 12", rb"service find part \y", b"service find x y",
-                     b"service issuers", b"service issuers 12", b"service log", b"service log 0", b"service log x",
+                     b"service issuers", b"service issuers 12", b"service certified", b"service excerpt key 12",
+                     b"service excerpt all " + b"0" * 40, b"service excerpt key" + 257 * (b" " + b"0" * 40),
+                     b"service certified 12", b"service log", b"service log 0", b"service log x",
                      b"service keyring", b"service keyring add", b"service keyring add keyring.pgp",
                      b"service keyring list x", b"service shutdown"):
             self.assertEqual(self.client.tell(line), REFUSED, line)
@@ -159,24 +200,15 @@ class Watched(Lines):
         dump = [self.client.read_line() for _ in range(int(self.client.read_line().split(b" ")[1]))]
         self.assertEqual(dump, alone([*self.world.lines(), b"dump"])[-1].splitlines()[1:])
 
-    def test_an_armored_file(self):
-        text = base64.encodebytes(self.octets(0)) + b"=abcd\n"
-        self.file.write_bytes(b"Some words.\n-----BEGIN PGP PUBLIC KEY BLOCK-----\nComment: x\n\n" + text
-                              + b"-----END PGP PUBLIC KEY BLOCK-----\n")
-        self.assertRegex(self.add(self.name), b"^ok keyring 5 ")
-
     def test_a_directory(self):
+        """What is damaged or armored is for the verifier, which the suite `verify` tries."""
         folder = self.folder / "certs"
         self.world.make_directory(folder)
-        self.assertRegex(self.add(os.fsencode(folder)), b"^fault keyring ")  # One of its entries is damaged.
         for place in (5, 6):
             (folder / self.world.fprs[place][:2].decode() / self.world.fprs[place][2:].decode()).unlink(missing_ok=True)
-        self.assertRegex(self.add(os.fsencode(folder)), b"^ok keyring ")
+        self.assertRegex(self.add(os.fsencode(folder)), b"^ok keyring [1-9]")
 
-    def test_what_is_no_keyring(self):
-        for text in (b"no keyring", b"\x99\0", b"\0" * 8 + b"KBXf" + b"\0" * 20):
-            self.file.write_bytes(text)
-            self.assertRegex(self.add(self.name), b"^fault keyring ")
+    def test_a_keyring_that_is_not_there(self):
         missing = os.fsencode(self.folder / "missing")
         self.assertRegex(self.add(missing), b"^fault keyring %s: No such file" % missing)
         self.assertEqual(self.status()[b"keyrings"], b"0")

@@ -1,6 +1,5 @@
 """The service's sockets, its words, its end and its documents."""
 
-import fcntl
 import os
 import re
 import shutil
@@ -14,10 +13,10 @@ from contextlib import closing
 from pathlib import Path
 
 from outside import PATIENCE, PROGRAM, PYTHON, ROOT, SERVER, Client, Server, alone, needs_engine, script_of
-from tukyamid.service.command import COMMANDS
-from tukyamid.service.framing import LineCutter, ReplyCutter
-from tukyamid.service.sqlite import Sqlite
-from tukyamid.service.views import Views
+from tukyamid.service.engines.framing import LineCutter, ReplyCutter
+from tukyamid.service.server_command import COMMANDS
+from tukyamid.service.sessions.views import Room, Views
+from tukyamid.service.storage.sqlite_database import Sqlite
 from world import World
 
 UNITS = ROOT / "packaging" / "systemd"
@@ -46,6 +45,22 @@ class Cutting(unittest.TestCase):
             cutter = ReplyCutter()
             told = [reply for at in range(0, len(octets), size) for reply in cutter.cut(octets[at:at + size])]
             self.assertEqual(told, replies)
+
+    def test_views_that_share_room(self):
+        """Each view and each root takes the place of one, until it is closed or the client goes."""
+        room = Room(4)
+        one, other = Views(), Views()
+        one.room = other.room = room
+        a, b = (b"%040x" % number for number in (1, 2))
+        told = [views.take(line) for views, line in (
+            (one, b"view x time 5"), (one, b"view x root " + a + b" 9"), (one, b"view x root " + a + b" 8"),
+            (other, b"view x time 5"), (other, b"view x root " + a + b" 9"), (other, b"view x root " + b + b" 9"),
+            (other, b"view y time 5"), (other, b"view x time 6"), (one, b"view x root " + a + b" 0"),
+            (other, b"view y time 5"), (one, b"view x close"), (one, b"view x close"), (other, b"view z time 5"))]
+        self.assertEqual(told, [b"ok\n"] * 5 + [b"refused full roots\n", b"refused full views\n"] + [b"ok\n"] * 4
+                         + [b"refused view\n", b"ok\n"])
+        other.close()
+        self.assertEqual((room.left, list(other.lines())), (4, []))
 
     def test_views(self):
         views = Views()
@@ -141,53 +156,6 @@ class Words(unittest.TestCase):
             self.assertEqual(server.stop(), 0)
             self.assertTrue(server.path.exists())
 
-    def test_a_socket_that_systemd_passes(self):
-        with socket.socket(socket.AF_UNIX) as listening:
-            listening.bind(str(self.folder / "passed"))
-            listening.listen()
-            words = ["sh", "-c", 'LISTEN_PID=$$ LISTEN_FDS=1 exec "$@"', "sh", PYTHON, SERVER,
-                     "--engine", PROGRAM, "--database", str(self.folder / "k.db")]
-            passed = fcntl.fcntl(listening, fcntl.F_DUPFD_CLOEXEC, 10)  # Not 3, which would be closed as it stands.
-            server = subprocess.Popen(words, stdin=subprocess.DEVNULL, stdout=subprocess.DEVNULL, close_fds=False,
-                                      preexec_fn=lambda: os.dup2(passed, 3))
-            self.addCleanup(server.wait)
-            self.addCleanup(server.kill)
-            os.close(passed)
-        with Client(self.folder / "passed") as client:
-            self.assertEqual(client.tell(b"keys"), b"keys 0")
-        server.terminate()
-        self.assertEqual(server.wait(PATIENCE), 0)
-        self.assertTrue((self.folder / "passed").exists())
-
-
-@needs_engine
-@unittest.skipUnless(shutil.which("systemd-socket-activate"), "systemd-socket-activate isn't installed")
-class Activated(unittest.TestCase):
-    """systemd's own program opens the sockets, and starts the service with the first client."""
-
-    def setUp(self):
-        self.folder = Path(tempfile.mkdtemp(prefix="tukyamid-server-"))
-        self.addCleanup(shutil.rmtree, self.folder)
-
-    def test_two_sockets(self):
-        changes, questions = self.folder / "changes", self.folder / "questions"
-        words = ["systemd-socket-activate", "-l", changes, "-l", questions, "--fdname=changes:read-only",
-                 "-E", f"PATH={os.environ['PATH']}", PYTHON, SERVER, "--engine", PROGRAM, "--idle", "1",
-                 "--database", self.folder / "keyring.db"]
-        service = subprocess.Popen(words, stdin=subprocess.DEVNULL, stderr=subprocess.DEVNULL)
-        self.addCleanup(service.wait)
-        self.addCleanup(service.kill)
-        end = time.monotonic() + PATIENCE
-        while not questions.is_socket() and time.monotonic() < end:
-            time.sleep(0.02)
-        with Client(questions) as client:
-            self.assertEqual(client.tell(b"keys"), b"keys 0")
-            self.assertEqual(client.tell(b"verdict %064x bad" % 1), b"refused read-only")
-        with Client(changes) as client:
-            self.assertEqual(client.tell(b"verdict %064x bad" % 1), b"ok")
-        self.assertEqual(service.wait(PATIENCE), 0)
-        self.assertTrue(changes.is_socket())
-
 
 class Documents(unittest.TestCase):
     @unittest.skipUnless(shutil.which("groff"), "groff isn't installed")
@@ -211,7 +179,8 @@ class Documents(unittest.TestCase):
                 units = []
                 for unit in sorted(folder_of_units.iterdir()):
                     units.append(Path(folder) / unit.name)
-                    units[-1].write_text(unit.read_text().replace("/usr/bin/tukyamid-server", str(SERVER)))
+                    text = unit.read_text().replace("/usr/bin/tukyamid-server", str(SERVER))
+                    units[-1].write_text(text.replace("/usr/bin/tukyamid ", f"{SERVER.with_name('tukyamid')} "))
                 self.assertGreater(len(units), 1)
                 done = subprocess.run(["systemd-analyze", "verify", user, "--man=no", *units], capture_output=True,
                                       text=True, check=False, env={**os.environ, "XDG_RUNTIME_DIR": folder})

@@ -13,12 +13,12 @@ import unittest
 from pathlib import Path
 
 from outside import PATIENCE, PROGRAM, PYTHON, ROOT, Client, needs_engine
-from tukyamid import runtime
-from tukyamid.service import places, starting
+from tukyamid import safe_folders
+from tukyamid.service import paths_and_locks, start_on_demand
 
 ENSURE = """
 import socket, sys
-from tukyamid.service.starting import ensure
+from tukyamid.service.start_on_demand import ensure
 path = ensure()
 with socket.socket(socket.AF_UNIX) as asking:
     asking.connect(str(path))
@@ -90,7 +90,7 @@ class Starting(unittest.TestCase):
         self.assertIn("isn't in the keyring", done.stderr)
         lines = [line for line in done.stderr.splitlines() if line.startswith("import time:")]
         imported = {line.rpartition("|")[2].strip() for line in lines}
-        self.assertIn("tukyamid.client.unix", imported)
+        self.assertIn("tukyamid.client.service_client", imported)
         slow = {"asyncio", "email", "idna", "json", "logging", "pathlib", "queue", "shutil", "sqlite3", "ssl",
                 "subprocess", "tempfile", "urllib", "tukyamid.service"}
         self.assertEqual(imported & slow, set())
@@ -112,15 +112,16 @@ class Starting(unittest.TestCase):
 
     def test_another_command_that_hangs(self):
         """It has the lock for starting, and never starts anything."""
-        with places.Lock(places.beside(self.socket, ".starting")), self.assertRaises(starting.ServiceFailed) as failed:
-            starting.ensure(self.socket, patience=0.2)
+        lock = paths_and_locks.Lock(paths_and_locks.beside(self.socket, ".starting"))
+        with lock, self.assertRaises(start_on_demand.ServiceFailed) as failed:
+            start_on_demand.ensure(self.socket, patience=0.2)
         self.assertIn("another command has been starting the service", str(failed.exception))
 
     def test_one_that_is_ending(self):
         """It listens no longer, and its last clients are still answered: the next service waits for its end."""
-        with places.Lock(places.beside(self.socket, ".lock")):
-            with self.assertRaises(starting.ServiceFailed) as failed:
-                starting.ensure(self.socket, patience=0.2)
+        with paths_and_locks.Lock(paths_and_locks.beside(self.socket, ".lock")):
+            with self.assertRaises(start_on_demand.ServiceFailed) as failed:
+                start_on_demand.ensure(self.socket, patience=0.2)
             self.assertIn("is closing", str(failed.exception))
             command = self.begin()
             time.sleep(1)
@@ -157,5 +158,5 @@ class InTmp(unittest.TestCase):
             own = Path(folder) / "own"
             for place in (loose, link):
                 with self.assertRaises(PermissionError):
-                    runtime.own_folder(str(place))
-            self.assertEqual(os.stat(runtime.own_folder(str(own))).st_mode & 0o777, 0o700)
+                    safe_folders.own_folder(str(place))
+            self.assertEqual(os.stat(safe_folders.own_folder(str(own))).st_mode & 0o777, 0o700)

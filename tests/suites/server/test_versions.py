@@ -6,10 +6,11 @@ from contextlib import closing
 from earlier import Earlier
 from outside import alone, needs_engine, script_of
 from test_database import InAFolder
-from tukyamid.service.database import DatabaseFault
-from tukyamid.service.parts import Sizes
-from tukyamid.service.schema import MIGRATIONS, PAGE_OCTETS, VERSION
-from tukyamid.service.sqlite import Sqlite
+from test_lines import SUBKEY_ID, WITH_SUBKEY
+from tukyamid.service.storage.database import Actor, DatabaseFault
+from tukyamid.service.storage.partial_reads import Sizes
+from tukyamid.service.storage.sqlite_database import Sqlite
+from tukyamid.service.storage.sqlite_schema import MIGRATIONS, PAGE_OCTETS, VERSION
 from world import World
 
 
@@ -44,7 +45,7 @@ class Versions(InAFolder):
         for line in world.verdicts[2:5]:
             lines.append(b"verdict %s none" % line[0])
         told = alone([*lines, b"dump"])[-1].splitlines()[1:]
-        for version in range(1, VERSION):
+        for version in (1, 2):
             with self.subTest(version):
                 self.path.unlink(missing_ok=True)
                 self.fill_earlier(version, told)
@@ -56,6 +57,17 @@ class Versions(InAFolder):
                 with closing(sqlite3.connect(self.path)) as raw:
                     self.assertEqual(raw.execute("PRAGMA page_size").fetchone(), (PAGE_OCTETS,))
                     self.assertEqual(raw.execute("PRAGMA freelist_count").fetchone(), (0,))
+
+    def test_subkeys_are_listed_when_a_file_is_opened(self):
+        """The third version had no table of them."""
+        with closing(self.open()) as database:
+            database.fill([b"import " + WITH_SUBKEY.hex().encode()], "filled", Actor(0, 0))
+        with closing(sqlite3.connect(self.path)) as raw, raw:
+            raw.execute("DROP TABLE subkeys")
+            raw.execute("PRAGMA user_version = 3")
+        with closing(Sqlite(self.path)) as database, closing(database.finder()) as finder:
+            self.assertEqual(finder.holders(SUBKEY_ID, 9), [WITH_SUBKEY])
+            self.assertEqual(database.check(), [])
 
     def check_counts(self, database, finder, told):
         """What is counted, beside the lines and the world: each certificate has a direct signature and five more."""

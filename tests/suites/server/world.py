@@ -47,6 +47,7 @@ class World:
         self.user_ids = [b"user %d <u%d@example.org>" % (place, place) for place in range(count)]
         self.imports = []
         self.verdicts = []
+        self.depths = {}  # Of each certification, by its issuer and its target.
         for place in range(count):
             self._make(place)
 
@@ -57,6 +58,7 @@ class World:
         front = packet(6, key) + packet(2, direct) + packet(13, user_id)
         for issuer in self.random.sample(range(len(self.keys)), 5):
             trust = bytes([3, 5, self.random.choice(self._depths), self.random.choice([40, 60, 120])])
+            self.depths[self.fprs[issuer], self.fprs[place]] = trust[2]
             body = signature(0x10, 2000, trust + b"\x16\x21\x04" + bytes.fromhex(self.fprs[issuer].decode()))
             self.verdicts.append((number(key, 1, user_id, body), self.fprs[issuer]))
             self.imports.append(b"import " + (front + packet(2, body)).hex().encode())

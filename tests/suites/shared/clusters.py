@@ -80,13 +80,15 @@ hot_standby = on
 class Cluster:
     """One server. Its data is what `initdb` makes, or what a standby takes from its primary."""
 
-    def __init__(self, add_cleanup, of=None, name="one"):
+    def __init__(self, add_cleanup, of=None, name="one", user="tukyamid"):
+        """`user` is its superuser."""
+        self.user = user
         self.folder = new_folder(add_cleanup)
         self.data = self.folder / "data"
         self.port, = free_ports(1)
         self.name = name
         if of is None:
-            run(PROGRAMS / "initdb", "-D", self.data, "-A", "trust", "-U", "tukyamid", "-E", "UTF8", "--no-locale",
+            run(PROGRAMS / "initdb", "-D", self.data, "-A", "trust", "-U", user, "-E", "UTF8", "--no-locale",
                 "--no-sync")
             self.set(SETTINGS)
         else:
@@ -103,7 +105,7 @@ class Cluster:
             file.write(lines + "\n")
 
     def at(self, database="postgres"):
-        return f"host=127.0.0.1 port={self.port} user=tukyamid dbname={database}"
+        return f"host=127.0.0.1 port={self.port} user={self.user} dbname={database}"
 
     def url(self, *others):
         """The URL of the keyring on this server, or on whichever of these is the primary."""

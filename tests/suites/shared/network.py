@@ -2,11 +2,14 @@
 
 import contextlib
 import ctypes
+import itertools
 import os
+import string
 import subprocess
 import unittest
 
 _NEW_NETWORK = 0x40000000  # CLONE_NEWNET
+_LETTERS = itertools.cycle(string.ascii_lowercase)
 _C = ctypes.CDLL(None, use_errno=True)
 
 
@@ -32,7 +35,7 @@ class Network:
     """`count` machines with the addresses 10.213.77.1 and so on."""
 
     def __init__(self, add_cleanup, count):
-        self._bridge = f"tkm{os.getpid()}"
+        self._bridge = f"tkm{os.getpid()}{next(_LETTERS)}"  # The system may still be ending the one before.
         add_cleanup(self._remove)
         self._names = [f"{self._bridge}n{place}" for place in range(count)]
         ip("link", "add", self._bridge, "type", "bridge")

@@ -43,6 +43,8 @@ class Commands(OneServer):
             issued = {tuple(line.split(b" ")[1:]) for line in listed(client, b"service issuers " + fpr)}
             self.assertTrue(issued)
             self.assertLessEqual(issued, set(self.world.verdicts))
+            for _, issuer in issued - {one for one in issued if one[1] == fpr}:
+                self.assertIn(fpr, {line.split(b" ")[2] for line in listed(client, b"service certified " + issuer)})
 
     def test_what_check_finds(self):
         with Client(self.serve().path) as client:
@@ -55,8 +57,8 @@ class Commands(OneServer):
     def test_an_earlier_version(self):
         """Also with a verdict that is bad, and one on a signature that isn't kept."""
         import psycopg
-        from tukyamid.service.postgres.connecting import Statements
-        from tukyamid.service.postgres.tables import MIGRATIONS
+        from tukyamid.service.postgres.postgres_connection import Statements
+        from tukyamid.service.postgres.postgres_schema import MIGRATIONS
         lines = told([*self.world.lines(), b"verdict %s bad" % self.world.verdicts[0][0], b"verdict %064x bad" % 1,
                       b"verdict %064x good %s" % (2, b"5" * 40), b"verdict %s none" % self.world.verdicts[1][0]])
         with contextlib.closing(psycopg.connect(self.cluster.at(self.name), autocommit=True)) as connection:

@@ -28,6 +28,16 @@ class Cut(unittest.TestCase):
             with member.inside():
                 self.servers.append(self.stack.enter_context(serve(Member.url(self.members))))
 
+    def check_what_is_known(self, server, cut):
+        """The service beside the primary that was cut off says at once that its answers grow old, also while that
+        still takes itself for the primary."""
+        while (passed := time.monotonic() - cut) < 15:
+            status = status_of(server)
+            self.assertGreater(int(status[b"age"]), passed - 2.5)
+            if passed > 5:
+                self.assertNotEqual(status[b"state"], b"ok")
+            time.sleep(0.3)
+
     def test_the_smaller_side_refuses_and_answers(self):
         place = self.members.index(Member.primary_of(self.members))
         small, large = self.servers[place], self.servers[place - 1]
@@ -39,6 +49,7 @@ class Cut(unittest.TestCase):
             writer.wait_for(5)
         self.network.cut(place)
         cut, kept = time.monotonic(), len(writers[0].kept)
+        self.check_what_is_known(small, cut)
         wait_for(lambda: writers[0].refused)
         writers[1].wait_for(3)
         print(f"the larger side keeps changes again {time.monotonic() - cut:.1f} seconds after the cut ... ", end="",

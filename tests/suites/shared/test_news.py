@@ -3,7 +3,7 @@
 import contextlib
 
 from alone_cluster import OneServer
-from tukyamid.service.database import Actor, Change, SetVerdict
+from tukyamid.service.storage.database import Actor, Change, SetVerdict
 
 
 class News(OneServer):

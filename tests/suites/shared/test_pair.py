@@ -71,7 +71,8 @@ class Pair(unittest.TestCase):
         check_kept(self, writers, self.servers, told(self.kept_before))
 
     def test_a_change_that_is_lost_is_undone(self):
-        """A service that has read what the new primary never had goes back to what that has."""
+        """A service that has only read what the new primary never had goes back to what that has. The one that has
+        acknowledged it doesn't follow."""
         self.primary.set("synchronous_standby_names = ''")
         self.primary.reload()
         wait_for(lambda: self.primary.query("SHOW synchronous_standby_names") == [("",)])
@@ -84,9 +85,11 @@ class Pair(unittest.TestCase):
             self.standby.start()
             self.standby.promote()
             wait_for(lambda: other.tell(kept) == b"ok")
-            wait_until_same(self.servers)
-            expected = told([*self.kept_before, kept])
-            self.assertEqual([dump_of(server) for server in self.servers], [expected, expected])
+            wait_until_same(self.servers[1:])
+            self.assertEqual(dump_of(self.servers[1]), told([*self.kept_before, kept]))
+            self.assertEqual(status_of(self.servers[1])[b"change"], b"%d" % (len(self.kept_before) + 1))
+            wait_for(lambda: b"lacks 1 change that" in status_of(self.servers[0])[b"state"])
+            self.assertEqual(client.tell(kept), b"fault database")
             self.assertEqual(status_of(self.servers[0])[b"change"], b"%d" % (len(self.kept_before) + 1))
 
     @staticmethod

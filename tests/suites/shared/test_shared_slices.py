@@ -11,8 +11,8 @@ from alone_cluster import OneServer
 from outside import Client
 from talking import dump_of, log_of, status_of, told, wait_until_same
 from test_slices_scripts import BUDGET, Asking, talk
-from tukyamid.service.database import Actor
-from tukyamid.service.sqlite import Sqlite
+from tukyamid.service.storage.database import Actor
+from tukyamid.service.storage.sqlite_database import Sqlite
 from world import World
 
 

@@ -8,9 +8,9 @@ from contextlib import closing
 from pathlib import Path
 
 from network import Network, fill
-from tukyamid.service.database import Actor, Change, DropCertificate, PutCertificate, SetVerdict
-from tukyamid.service.slices import Slices
-from tukyamid.service.sqlite import Sqlite
+from tukyamid.service.sliced.slices import Slices
+from tukyamid.service.storage.database import Actor, Change, DropCertificate, PutCertificate, SetVerdict
+from tukyamid.service.storage.sqlite_database import Sqlite
 from world import World, packet, signature
 
 ACTOR = Actor(0, 0)

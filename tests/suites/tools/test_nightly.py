@@ -173,6 +173,6 @@ class Pages(unittest.TestCase):
             self.assertNotEqual(night.drawn("a").random(), night.drawn("b").random())
 
     def test_a_part_that_is_not_there(self) -> None:
-        status, _, errors = run("tools/nightly", "planted")
+        status, _, errors = run("tools/nightly", "nothing")
         self.assertEqual(status, 2)
-        self.assertIn("there is no part planted", errors)
+        self.assertIn("there is no part nothing", errors)

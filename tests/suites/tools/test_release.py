@@ -20,7 +20,7 @@ NAMES = {f"GIT_{who}_{what}": text for who in ("AUTHOR", "COMMITTER")
          for what, text in (("NAME", "T"), ("EMAIL", "t@example.org"))}
 
 
-@unittest.skipUnless(shutil.which("git"), "git isn't installed")
+@unittest.skipUnless(shutil.which("git") and shutil.which("gpg"), "git or gpg isn't installed")
 class Released(unittest.TestCase):
     """Each test has a repository of its own."""
 
@@ -29,6 +29,9 @@ class Released(unittest.TestCase):
         self.addCleanup(holder.cleanup)
         self.top, self.into = Path(holder.name) / "repo", Path(holder.name) / "into"
         self.night = Path(holder.name) / "night.json"
+        self.home = tempfile.mkdtemp(prefix="g")  # The socket of gpg's agent needs a short path.
+        self.addCleanup(shutil.rmtree, self.home, ignore_errors=True)
+        self.addCleanup(subprocess.run, ["gpgconf", "--kill", "all"], env={**os.environ, "GNUPGHOME": self.home})
         files = {
             "python/tukyamid/version.py": '"""The version."""\n\nVERSION = "0.0.9"\n',
             "CHANGELOG.md": "# Changelog\n\n## Unreleased\n\n- More.\n\n## 0.0.9 (2020-01-01)\n",
@@ -41,6 +44,7 @@ class Released(unittest.TestCase):
         shutil.copy(ROOT / "tools/release", self.top / "tools/release")
         for words in (["init", "-q", "-b", "main"], ["add", "-A"], ["commit", "-q", "-m", "Begin"]):
             self.git(*words)
+        self.make_key()
 
     def git(self, *words: str) -> str:
         how = {"cwd": self.top, "env": {**os.environ, **NAMES}, "capture_output": True, "text": True, "check": True}
@@ -51,9 +55,20 @@ class Released(unittest.TestCase):
         values = {"commit": self.git("rev-parse", "HEAD").strip(), "short": False, "parts": parts, "programs": []}
         self.night.write_text(json.dumps({**values, **more}), encoding="utf-8")
 
+    def make_key(self) -> None:
+        """A key of a gpg of the test's own, which signs for git."""
+        self.gpg("--quick-generate-key", "Release <release@example.org>", "ed25519", "sign", "never")
+        self.git("config", "user.signingKey", "release@example.org")
+
+    def gpg(self, *words: str) -> str:
+        how = {"env": {**os.environ, "GNUPGHOME": self.home}, "capture_output": True, "text": True, "check": True}
+        words = ("gpg", "--batch", "--passphrase", "", "--pinentry-mode", "loopback", *words)
+        done = subprocess.run(words, **how)
+        return str(done.stdout) + str(done.stderr)
+
     def release(self, *words: str) -> tuple[int, str, str]:
         where = ["--into", str(self.into), "--night", str(self.night)]
-        return run(self.top / "tools/release", *words, *where, at=self.top, **NAMES)
+        return run(self.top / "tools/release", *words, *where, at=self.top, GNUPGHOME=self.home, **NAMES)
 
     def test_a_release(self) -> None:
         self.write_night()
@@ -69,6 +84,17 @@ class Released(unittest.TestCase):
             self.assertEqual(hashlib.sha256((self.into / name).read_bytes()).hexdigest(), digest)
         self.assertIn('VERSION = "0.1.0"', (self.into / "packages/tukyamid.deb").read_text(encoding="utf-8"))
         self.assertIn("released 0.1.0", told)
+        signed = [self.gpg("--verify", str(self.into / "SHA256SUMS.asc"), str(self.into / "SHA256SUMS"))]
+        how = {"cwd": self.top, "env": {**os.environ, "GNUPGHOME": self.home}, "capture_output": True, "text": True}
+        signed.append(str(subprocess.run(["git", "verify-tag", "v0.1.0"], **how, check=True).stderr))
+        for said in signed:
+            self.assertIn('Good signature from "Release <release@example.org>"', said)
+
+    def test_without_a_key(self) -> None:
+        self.write_night()
+        self.git("config", "--unset", "user.signingKey")
+        self.refused("no key signs the release")
+        self.refused("couldn't be signed", "0.1.0", "--key", "nobody@example.org")
 
     def refused(self, says: str, *words: str) -> None:
         before = self.git("rev-parse", "HEAD")

@@ -9,8 +9,7 @@ ROOT = Path(__file__).resolve().parents[3]
 PROGRAM = Path(os.environ.get("TUKYAMID_VERIFIER") or ROOT / "verifier/out/wot-verdicts")
 ENGINE = Path(os.environ.get("WOT_PROGRAM", ROOT / "crates/wot_cli/out/wot_cli"))
 
-# What builds the verifier; it may install Debian's packages unless WOT_NO_APT is set.
-BUILD = [ROOT / "verifier/build", *([] if os.environ.get("WOT_NO_APT") else ["--yes"])]
+BUILD = [ROOT / "verifier/build"]
 
 needs_engine = unittest.skipUnless(os.access(ENGINE, os.X_OK), f"the engine isn't built: {ENGINE}")
 

@@ -18,9 +18,10 @@ STAND_INS = {
     "apt-get": 'case "$*" in *--assume-no*) echo "0 upgraded, 7 newly installed, 0 to remove"; '
                'echo "Need to get 9 MB of archives."; exit 1 ;; *update*) exit 0 ;; esac\n'
                '[ -e "$HERE/unreachable" ] && exit 100\necho "$@" >> "$HERE/installing"',
-    "cargo": 'mkdir -p out/release && echo built > out/release/wot-verdicts',
+    "cargo": 'mkdir -p out/release && for name in $(ls src/bin); do echo "$name" > "out/release/$name"; done',
     "id": 'cat "$HERE/user"',
 }
+PROGRAMS = ["other", "wot-verdicts"]
 
 
 class Build(unittest.TestCase):
@@ -29,7 +30,8 @@ class Build(unittest.TestCase):
         self.addCleanup(folder.cleanup)
         self.here = Path(folder.name)
         tool = self.here / "verifier"
-        tool.mkdir()
+        for name in PROGRAMS:
+            (tool / "src/bin" / name).mkdir(parents=True)
         # The script sets Debian's programs before all others; here it finds those that stand in for them.
         script = (ROOT / "verifier/build").read_text()
         self.assertIn("PATH=/usr/bin:$PATH cargo", script)
@@ -67,7 +69,7 @@ class Build(unittest.TestCase):
 
     @property
     def is_built(self):
-        return (self.here / "verifier/out/wot-verdicts").exists()
+        return all((self.here / "verifier/out" / name).exists() for name in PROGRAMS)
 
     def test_without_a_terminal_nothing_is_installed(self):
         run = self.run_build()

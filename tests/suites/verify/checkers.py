@@ -63,7 +63,7 @@ class Line:
 
 
 def by_verifier(ring, file, *words, status=0):
-    """The lines of `wot-verdicts --data`."""
+    """The lines `signature` of `wot-verdicts --data`."""
     signature = ["--signature", file.signature] if file.signature is not None else []
     run = _run(PROGRAM, "--data", file.data, *signature, *words, "--", ring)
     if run.returncode != status:
@@ -71,7 +71,8 @@ def by_verifier(ring, file, *words, status=0):
     lines = []
     for line in run.stdout.decode().splitlines():
         mark, *fields = line.split(" ", 7)
-        if mark != "signature":
+        if mark == "signature":
+            lines.append(Line(*fields))
+        elif mark != "outside":
             raise AssertionError(line)
-        lines.append(Line(*fields))
     return lines

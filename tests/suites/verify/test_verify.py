@@ -1,51 +1,16 @@
 """`tukyamid verify`: the signature and its signer together, over the files of the tests."""
 
-import json
 import os
 import signal
-import subprocess
-import sys
 import tempfile
-import unittest
 
-from checkers import PROGRAM
-from made import Made
-from program import ENGINE, ROOT, needs_engine
+from asking import NO, NO_ANSWER, OK, WRONG, Asking
+from program import needs_engine
 from signers import MADE, PACKAGE, RELEASE, SIGNED, USER_IDS
-
-COMMAND = ROOT / "python/bin/tukyamid"
-OK, NO, WRONG, NO_ANSWER = range(4)
 
 
 @needs_engine
-class Verify(unittest.TestCase):
-    @classmethod
-    def setUpClass(cls):
-        cls.signers, cls.files = Made.once()
-        cls.by_name = {case.name: case.file for case in cls.files.cases}
-        cls.cache = tempfile.TemporaryDirectory(prefix="wot")
-        cls.addClassCleanup(cls.cache.cleanup)
-
-    def run_command(self, *words, given=None, question="verify", **environment):
-        programs = {"TUKYAMID_ENGINE": str(ENGINE), "TUKYAMID_VERIFIER": str(PROGRAM)}
-        return subprocess.run([sys.executable, COMMAND, question, *map(str, words)], capture_output=True, check=False,
-                              input=b"" if given is None else given, env={**os.environ, **programs, **environment})
-
-    def words(self, name, *more, root=True):
-        """The words for a file, as of a time at which all keys but the old one are in order."""
-        file = self.by_name[name]
-        paths = [file.data] if file.signature is None else [file.data, file.signature]
-        roots = ["--root", self.signers.fpr["root"]] if root else []
-        return [*paths, "--no-service", "--keyring", self.signers.ring, *roots, "--cache", self.cache.name, *more]
-
-    def verify(self, name, *more, status):
-        run = self.run_command(*self.words(name, *more))
-        self.assertEqual((run.returncode, run.stderr), (status, b""), run.stdout.decode())
-        return run.stdout.decode()
-
-    def verify_object(self, name, *more, status):
-        return json.loads(self.verify(name, *more, "--format", "json", status=status))
-
+class Verify(Asking):
     def test_each_form_by_whom_it_should_be(self):
         for name, whom in [
             ("Release.gpg by archive", USER_IDS["archive"]), ("Release.sig by release", "release@example.org"),
@@ -172,7 +137,8 @@ class Verify(unittest.TestCase):
             ("a key that has expired since", ["--for", "old@example.org"],
              ["when it was made: Old Key <old@example.org>, 120 of 120: reached", "now: Old Key", "not reached"]),
             ("a stranger", ["--for", "@example.com"], ["signature 1: absent"]),
-            ("Release.gpg by archive", ["--for", "nobody@example.org"], ["no such user ID"]),
+            ("Release.gpg by archive", ["--for", "nobody@example.org"],
+             ["no user ID of the certificate is nobody@example.org"]),
         ]:
             said = self.verify(name, *words, status=NO)
             for text in expected:

@@ -8,7 +8,7 @@ import shutil
 import tempfile
 import unittest
 
-from outside import folder, installed
+from outside import folder
 from page import PATIENCE
 
 has_selenium = importlib.util.find_spec("selenium") is not None
@@ -25,7 +25,7 @@ def missing():
     """Why there is no browser; None if there is one."""
     if not has_selenium:
         return "python3-selenium isn't installed"
-    if installed("chromium", "chromium") is None or installed("chromedriver", "chromium-driver") is None:
+    if not shutil.which("chromium") or not shutil.which("chromedriver"):
         return "the packages chromium and chromium-driver aren't installed"
     return None
 

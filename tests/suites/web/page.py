@@ -60,10 +60,10 @@ class Page:
         self.runtime.mkdir(mode=0o700)
         self.environment = {**os.environ, "XDG_RUNTIME_DIR": str(self.runtime), "XDG_DATA_HOME": str(own / "data"),
                             "XDG_STATE_HOME": str(own / "state"), "XDG_CACHE_HOME": str(own / "cache"),
-                            "TUKYAMID_VERIFIER": str(verifier)}
+                            "TUKYAMID_VERIFIER": str(verifier), "GNUPGHOME": str(own / "gnupg")}
         try:
-            added = run([COMMAND, "keyring", "add", *files], env=self.environment)
-            if added.returncode:
+            added = run([COMMAND, "keyring", "add", *files], env=self.environment) if files else None
+            if added is not None and added.returncode:
                 raise AssertionError(added.stderr.decode())
             words = [COMMAND, "web", "--no-browser", "--time", f"@{time}", *(f"--root={root}" for root in roots)]
             self.process = subprocess.Popen(words, env=self.environment, stdout=subprocess.PIPE,

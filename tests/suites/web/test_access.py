@@ -53,7 +53,7 @@ class Access(InBrowser):
         self.browser.wait("return document.querySelector('#moments li') && document.querySelector('#save-proof')")
         self.assertEqual(self.browser.run("return document.querySelector('#found').hidden"), True)
         seen = self.tabbed("save-proof")
-        for wanted in ("picture", "slider", "earlier", "later", "day", f"amount-{self.fpr['Alice']}", "new-root",
+        for wanted in ("picture-area", "slider", "earlier", "later", "day", f"amount-{self.fpr['Alice']}", "new-root",
                        "wanted"):
             self.assertIn(wanted, seen)
         self.assertEqual(seen[-1], "save-proof")
@@ -68,7 +68,7 @@ class Access(InBrowser):
     def tabbed(self, last):
         """The ids of what Tab comes to, up to one; each shows that it has the focus."""
         seen = []
-        while len(seen) < 60 and (not seen or seen[-1] != last):
+        while len(seen) < 100 and (not seen or seen[-1] != last):
             self.browser.keys("TAB")
             self.browser.wait("return document.activeElement !== document.body")
             seen.append(self.browser.focused()[0])
@@ -79,7 +79,7 @@ class Access(InBrowser):
         return seen
 
     def tab_back_to(self, wanted):
-        for _ in range(60):
+        for _ in range(100):
             if self.browser.focused()[0] == wanted:
                 return
             self.browser.run("const all = [...document.querySelectorAll('a[href], button, input, summary, [tabindex]')]"
@@ -102,7 +102,7 @@ class Access(InBrowser):
         for view in "ask", "overview":
             self.open("Carol", CAROL) if view == "ask" else self.open(view="overview")
             if view == "overview":
-                self.browser.wait_text("#tables", "Islands without a path")
+                self.whole_overview()
             tree = self.browser.driver.execute_cdp_cmd("Accessibility.getFullAXTree", {})["nodes"]
             shown = [(node["role"]["value"], node.get("name", {}).get("value", "")) for node in tree
                      if not node.get("ignored") and "role" in node]
@@ -137,8 +137,22 @@ class Access(InBrowser):
                 self.open("Frank", "Frank <frank@example.org>")
                 self.assertEqual(self.browser.run(CONTRASTS), [])
                 self.open(view="overview")
-                self.browser.wait_text("#tables", "Islands without a path")
+                self.whole_overview()
                 self.assertEqual(self.browser.run(CONTRASTS), [])
+
+    def test_the_overview_on_a_phone(self):
+        """Each row is a card with the names of its columns, nothing is cut off, and names lead to their places."""
+        self.browser.size(360, 740)
+        self.open(view="overview")
+        self.whole_overview()
+        self.assertEqual(self.browser.run(
+            "return [...document.querySelectorAll('#tables td, #tables .bar-name')].filter((one) =>"
+            "one.getBoundingClientRect().right > innerWidth || one.scrollWidth > one.clientWidth + 1).length"), 0)
+        self.assertIn("user ID", self.browser.run(
+            "return getComputedStyle(document.querySelector('[aria-labelledby=table-introducers] td'), '::before')"
+            ".content"))
+        self.browser.click("[aria-labelledby=table-introducers] td a")
+        self.browser.wait("return document.title === 'Tukyamid: Alice <alice@example.net>'")
 
     def test_no_width_is_too_small_or_too_large(self):
         for width in WIDTHS:
@@ -147,7 +161,7 @@ class Access(InBrowser):
                 self.open("Carol", CAROL)
                 self.check_width(width)
                 self.open(view="overview")
-                self.browser.wait_text("#tables", "Islands without a path")
+                self.whole_overview()
                 self.check_width(width)
 
     def check_width(self, width):

@@ -123,7 +123,7 @@ class Calls(Served):
         asked = self.subject("Carol", CAROL)
         for _ in range(1200):
             reply = self.page.call("overview", **asked)
-            if "tables" in reply:
+            if "progress" not in reply:
                 break
             time.sleep(0.25)
         tables = {one["name"]: one for one in reply["tables"]}

@@ -142,5 +142,5 @@ class Proofs(Served):
         self.assertEqual(status, FAILS, said)
 
     def is_of(self, certificate, name):
-        from tukyamid.certificates import read_certificate
+        from tukyamid.openpgp.certificates import read_certificate
         return read_certificate(bytes.fromhex(certificate)).fpr == self.fpr[name]

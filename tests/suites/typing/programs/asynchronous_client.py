@@ -7,14 +7,14 @@ from tukyamid.client import aio
 
 
 async def ask(service: aio.Client, fprs: list[str]) -> list[Answer]:
-    reveal_type(await service.ask("me", fprs[0], 120, "Alice"))  # T: replies.Answer
+    reveal_type(await service.ask("me", fprs[0], 120, "Alice"))  # T: protocol.replies.Answer
     return await asyncio.gather(*(service.ask("me", fpr, 120, "Alice") for fpr in fprs))
 
 
 async def main() -> None:
     async with await aio.connect("/run/user/1000/tukyamid.socket") as service:
         async for key in await service.keys():
-            reveal_type(key)  # T: replies.Key
+            reveal_type(key)  # T: protocol.replies.Key
         for key in await service.keys():  # E: attr-defined
             pass
         reveal_type(await service.export("aa" * 20))  # T: bytes
