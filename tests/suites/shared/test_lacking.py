@@ -52,9 +52,16 @@ class Lacking(unittest.TestCase):
         """Has the copy be the primary, after changes that it doesn't have."""
         self.copy.stop()
         change(self.server, self.lost)
+        self.read_behind_changes()
         self.primary.stop("immediate")
         self.copy.start()
         self.copy.promote()
+
+    def read_behind_changes(self):
+        """Waits until the service has read what it committed: a change has its reply before that, and without a database
+        the service in slices answers from what it has read behind its last change."""
+        with Client(self.server.path) as client:
+            self.ask(client)
 
     def is_refusing(self):
         return b"acknowledged" in status_of(self.server)[b"state"]
