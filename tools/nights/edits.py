@@ -13,7 +13,7 @@ from concurrent.futures import ThreadPoolExecutor
 from dataclasses import dataclass
 from pathlib import Path
 
-from checks.edits import applied, crate_of
+from checks.edits import applied, written
 from checks.finding import CannotRun
 from checks.tree import Tree
 
@@ -27,9 +27,9 @@ GONE = re.compile(r"has no field|is not in scope|was not admitted")
 
 @dataclass(frozen=True)
 class Edit:
-    """A wrong change: its file, its crate, the changed texts and the function, if it is one."""
+    """A wrong change: where it is written, its crate, the changed texts and the function, if it is one."""
 
-    path: str
+    place: str
     crate: str
     texts: dict[str, str]
     function: Function | None
@@ -38,14 +38,13 @@ class Edit:
 def read(night: Night) -> tuple[list[Edit], list[str]]:
     """All edits, and those that can't be applied."""
     tree, found, bad = Tree(night.root), [], []
-    for path in tree.ending(".edit"):
-        crate = crate_of(path)
-        text, folder = tree.text(path), night.root / "crates" / crate
-        texts, wrong = applied(text, folder)
+    for edit in written(tree):
+        folder = night.root / "crates" / edit.crate
+        texts, wrong = applied(edit.text, folder)
         if wrong:
-            bad.append(f"{path}: {wrong}")
+            bad.append(f"{edit.place}: {wrong}")
         else:
-            found.append(Edit(path, crate, texts, changed_function(text, folder)))
+            found.append(Edit(edit.place, edit.crate, texts, changed_function(edit.text, folder)))
     return found, bad
 
 
@@ -93,10 +92,10 @@ def tried_alone(kit: Kit, edit: Edit, kept: Path) -> str:
     if status == 1 and "logic=not-proved" in output:
         return ""
     if status == 0:
-        return f"{edit.path}: NOT REFUSED: the crate is still proved with it"
+        return f"{edit.place}: NOT REFUSED: the crate is still proved with it"
     lines = [line for line in output.splitlines() if line.strip()]
     said = next((line for line in lines if "error" in line), lines[-1] if lines else "")
-    return f"{edit.path}: no verdict (status {status}): {said:.300}"
+    return f"{edit.place}: no verdict (status {status}): {said:.300}"
 
 
 def tried(kit: Kit, batch: Batch, kept: Path) -> list[str]:

@@ -58,8 +58,8 @@ class Lacking(unittest.TestCase):
         self.copy.promote()
 
     def read_behind_changes(self):
-        """Waits until the service has read what it committed: a change has its reply before that, and without a database
-        the service in slices answers from what it has read behind its last change."""
+        """Waits until the service has read what it committed. A change has its reply before that, and once the database
+        is gone a service in slices has only what it read after its last change."""
         with Client(self.server.path) as client:
             self.ask(client)
 

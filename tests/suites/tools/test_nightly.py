@@ -8,7 +8,8 @@ from pathlib import Path
 
 from outside import MACHINE, ROOT, run
 
-from checks.edits import applied  # noqa: I100
+from checks.edits import applied, written  # noqa: I100
+from checks.tree import Tree
 from nights.edits import Edit, batches, says
 from nights.functions import all_functions, changed_function
 from nights.night import Night, Part, timed
@@ -96,9 +97,8 @@ class Edits(unittest.TestCase):
 
     def test_the_repository_s_edits_change_functions(self) -> None:
         """Nearly all edits of code change one function; the others, and those of definitions, need a whole crate."""
-        edits = {path: path.read_text(encoding="utf-8") for path in sorted((ROOT / "tests/edits").glob("*/*.edit"))}
-        found = [changed_function(text, ROOT / "crates" / path.parent.name)
-                 for path, text in edits.items() if "file: src/" in text]
+        found = [changed_function(edit.text, ROOT / "crates" / edit.crate)
+                 for edit in written(Tree(ROOT)) if "file: src/" in edit.text]
         self.assertGreater(sum(each is not None for each in found), len(found) * 9 // 10)
 
 
