@@ -1,52 +1,41 @@
 """gpg's own keyring and owner trust, by gpg itself."""
 
 import os
-import subprocess
 from collections.abc import Iterable, Mapping
 
+from ..keyrings.gpg_keyring import GpgFailed, existing_files, exported, home_directory, possible_files, run_gpg
 from ..keyrings.keyring import View
 from .exit_statuses import NoAnswer
 
 ULTIMATE, FULL, MARGINAL = 6, 5, 4
 # What a key is worth that introduces others: three of marginal trust are needed by gpg's default.
 AMOUNTS = {ULTIMATE: 120, FULL: 120, MARGINAL: 40}
-_EXPORT = ["--export", "--export-options", "export-local-sigs"]
 
 
-def home_directory() -> str:
-    """gpg's home directory, whether or not it is there."""
-    return os.path.abspath(os.environ.get("GNUPGHOME") or os.path.expanduser("~/.gnupg"))
-
-
-def home() -> str:
-    """gpg's home directory. It must be there: gpg would make one."""
-    folder = home_directory()
-    if not os.path.isdir(folder):
-        raise NoAnswer(f"gpg has no keyring: {folder} isn't there")
-    return folder
-
-
-def keyring_files(of: str | None = None) -> list[str]:
+def keyring_files() -> list[str]:
     """The files in which gpg may have its keyring."""
-    return [os.path.join(of or home(), name) for name in ("pubring.kbx", "pubring.gpg", "public-keys.d/pubring.db")]
+    return possible_files(_home())
 
 
 def export(of: str | None = None) -> bytes:
     """All certificates of gpg's keyring, with certifications that its owner made for themselves alone; of another home
     directory, if that is given."""
-    words = _EXPORT if of is None else ["--homedir", of, *_EXPORT]
-    octets = _run(words) if any(map(os.path.exists, keyring_files(of))) else b""  # gpg would make one.
+    folder = of or _home()
+    try:
+        octets = exported(folder) if existing_files(folder) else b""
+    except GpgFailed as failed:
+        raise NoAnswer(str(failed)) from None
     if not octets:
-        raise NoAnswer(f"gpg's keyring in {of or home()} is empty")
+        raise NoAnswer(f"gpg's keyring in {folder} is empty")
     return octets
 
 
 def owner_trust() -> dict[str, int]:
     """The owner trust of each key that introduces others: 6 is ultimate, 5 full, 4 marginal."""
     found: dict[str, int] = {}
-    if not os.path.exists(os.path.join(home(), "trustdb.gpg")):
+    if not os.path.exists(os.path.join(_home(), "trustdb.gpg")):
         return found  # gpg fails without one.
-    for line in _run(["--export-ownertrust"]).decode("utf-8", "replace").splitlines():
+    for line in _printed(["--export-ownertrust"]).decode("utf-8", "replace").splitlines():
         fpr, _, rest = line.partition(":")
         level = rest.partition(":")[0]
         if not line.startswith("#") and level.isdigit() and int(level) & 15 in AMOUNTS:
@@ -54,17 +43,19 @@ def owner_trust() -> dict[str, int]:
     return found
 
 
-def _run(words: Iterable[str]) -> bytes:
-    home()
+def _home() -> str:
+    """gpg's home directory. It must be there: gpg would make one."""
+    folder = home_directory()
+    if not os.path.isdir(folder):
+        raise NoAnswer(f"gpg has no keyring: {folder} isn't there")
+    return folder
+
+
+def _printed(words: Iterable[str]) -> bytes:
     try:
-        done = subprocess.run(["gpg", "--batch", "--no-tty", "--quiet", *words], stdin=subprocess.DEVNULL,
-                              capture_output=True, check=False)
-    except FileNotFoundError:
-        raise NoAnswer("gpg isn't installed") from None
-    if done.returncode:
-        said = done.stderr.decode("utf-8", "replace").strip().splitlines()
-        raise NoAnswer(f"gpg ended with status {done.returncode}: {said[-1] if said else 'it printed nothing'}")
-    return done.stdout
+        return run_gpg(_home(), words)
+    except GpgFailed as failed:
+        raise NoAnswer(str(failed)) from None
 
 
 def roots_of(trust: Mapping[str, int], view: View) -> dict[str, int]:

@@ -15,7 +15,7 @@ from ..protocol.reasons import TargetWord
 from ..protocol.refusals import KeyringFault, RefusedAbsent
 from ..protocol.service_lines import KeyringLine
 from .exit_statuses import REACHED, NoAnswer, WrongWords
-from .gpg import home_directory
+from ..keyrings.gpg_keyring import home_directory
 from .output import printable, tell, write
 from .parser import Parser
 from .user_service import service

@@ -9,6 +9,7 @@ from ..client import Client
 from ..command import gpg
 from ..command.exit_statuses import NoAnswer
 from ..command.service_commands import absolute
+from ..keyrings.gpg_keyring import home_directory
 from ..keyrings.service_keyring import served_keyring
 from .names import Names
 
@@ -21,14 +22,14 @@ def offered(client: Client, time: int, is_own: bool) -> dict[str, Any]:
     keyring = served_keyring(client)
     names = Names(keyring)
     roots: dict[str, int] = {}
-    if is_own and os.path.isdir(gpg.home_directory()):
+    if is_own and os.path.isdir(home_directory()):
         try:
             roots = gpg.roots_of(gpg.owner_trust(), keyring.view(time, {}, VIEW))
         except NoAnswer:
             pass  # gpg isn't installed, or can't say: the user finds the root by its name.
     held = {fpr: amount for fpr, amount in roots.items() if names.note(fpr)}
-    has_gpg = is_own and os.path.isdir(gpg.home_directory()) and any(map(os.path.exists, gpg.keyring_files()))
-    return {"may_add": is_own, "gpg": has_gpg, "home": gpg.home_directory() if has_gpg else None,
+    has_gpg = is_own and os.path.isdir(home_directory()) and any(map(os.path.exists, gpg.keyring_files()))
+    return {"may_add": is_own, "gpg": has_gpg, "home": home_directory() if has_gpg else None,
             "roots": [{"fingerprint": fpr, "amount": amount, "name": names.found.get(fpr, "")}
                       for fpr, amount in held.items()]}
 
