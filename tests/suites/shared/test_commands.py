@@ -57,7 +57,7 @@ class Commands(OneServer):
     def test_an_earlier_version(self):
         """Also with a verdict that is bad, and one on a signature that isn't kept."""
         import psycopg
-        from tukyamid.service.postgres.postgres_connection import Statements
+        from tukyamid.service.postgres.postgres_statements import Statements
         from tukyamid.service.postgres.postgres_schema import MIGRATIONS
         lines = told([*self.world.lines(), b"verdict %s bad" % self.world.verdicts[0][0], b"verdict %064x bad" % 1,
                       b"verdict %064x good %s" % (2, b"5" * 40), b"verdict %s none" % self.world.verdicts[1][0]])

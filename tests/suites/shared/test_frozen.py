@@ -4,10 +4,13 @@ import contextlib
 import os
 import signal
 import time
+from concurrent.futures import ThreadPoolExecutor
 
 from alone_cluster import OneServer
 from outside import Client
+from relay import Relay
 from talking import Writer, check_kept, status_of, wait_until_same
+from tukyamid.service.storage.database import Actor, Change, DatabaseFault, PutCertificate, SetVerdict
 
 LONGEST = 2.0 + 1.0  # Seconds: a turn's bound, and some for a busy machine.
 
@@ -74,3 +77,64 @@ class Frozen(OneServer):
                 os.kill(engine, signal.SIGCONT)
             self.assertEqual(client.read_line(), b"ok")
         wait_until_same([server, other])
+
+
+class Moment:
+    """Counts what is said in a turn. It is true of the message with this number, which is said once nobody else may
+    change anything; of none if that is 0."""
+
+    def __init__(self, number=0):
+        self.count = 0
+        self._number = number
+        self._has_begun = False
+
+    def __call__(self, message):
+        self.count += self._has_begun
+        self._has_begun |= b"FOR UPDATE" in message
+        return self._number and self.count == self._number
+
+
+class Moments(OneServer):
+    """Connections without a service, of which one is stopped in the middle of each of its messages in turn."""
+    AT_ONCE = 8
+
+    def database(self, name, port=None):
+        from tukyamid.service.postgres import Postgres
+        url = self.url.replace(self.name, name).replace(f":{self.cluster.port}/", f":{port or self.cluster.port}/")
+        return self.stack.enter_context(contextlib.closing(Postgres(url)))
+
+    def make_change(self, database):
+        """A turn with changes of two kinds, whose lines are longer than what is sent at once."""
+        octets = bytes.fromhex(self.world.imports[0][7:].decode())
+        effects = PutCertificate(bytes.fromhex(self.world.fprs[0].decode()), octets), SetVerdict(b"n" * 32, b"")
+        database.take_turn()
+        database.apply([Change("a change", Actor(1, 2), (effect,), b"l" * 20_000) for effect in effects])
+
+    def wait_at(self, number):
+        """For how long another one waits for its turn if one is stopped in the middle of this message."""
+        name = f"{self.name}_{number}"
+        self.cluster.query(f"CREATE DATABASE {name}", "postgres")
+        other, relay = self.database(name), Relay(self.addCleanup, self.cluster.port)
+        stopped = self.database(name, relay.port)
+        relay.watch = Moment(number)
+        with ThreadPoolExecutor(1) as making:
+            made = making.submit(self.make_change, stopped)
+            self.assertTrue(relay.held.wait(60))
+            begun = time.monotonic()
+            try:
+                other.take_turn()
+            finally:
+                stopped.cut()
+            other.end_turn()
+            waited = time.monotonic() - begun
+            self.assertIsInstance(made.exception(), DatabaseFault)
+        return waited
+
+    def test_one_is_stopped_in_the_middle_of_any_message(self):
+        relay = Relay(self.addCleanup, self.cluster.port)
+        relay.watch = moment = Moment()
+        self.make_change(self.database(self.name, relay.port))
+        self.assertGreater(moment.count, 10)
+        with ThreadPoolExecutor(self.AT_ONCE) as pool:
+            waits = list(pool.map(self.wait_at, range(1, moment.count + 1)))
+        self.assertLess(max(waits), LONGEST, waits)

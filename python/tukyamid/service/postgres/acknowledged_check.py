@@ -70,10 +70,15 @@ class Guard:
         if self._ledger is not None:
             self._ledger.close()
 
+    def is_lacked_by(self, connection: "psycopg.Connection[tuple[object, ...]]") -> bool:
+        """Whether this server doesn't have the last change that this service has acknowledged."""
+        last = self._last
+        return last is not None and not _has(connection, last)
+
     def check(self, connection: "psycopg.Connection[tuple[object, ...]]") -> None:
         """Lacking if this server doesn't have the last change that this service has acknowledged."""
         last = self._last
-        if last is None or _has(connection, last):
+        if last is None or not self.is_lacked_by(connection):
             return
         if connection.info.parameter_status("in_hot_standby") == "on":
             raise DatabaseFault(f"{self._name}: the standby lacks changes that this service has acknowledged")

@@ -2,7 +2,7 @@
 
 from ..storage.shared_database import Place
 from .acknowledged_check import Guard
-from .postgres_connection import Statements
+from .postgres_statements import Statements
 from .postgres_table_changes import row_of
 
 _MOST_NEWS = 1000

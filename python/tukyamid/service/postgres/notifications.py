@@ -8,7 +8,8 @@ from typing import TYPE_CHECKING
 
 from ..storage.database import DatabaseFault
 from ..storage.shared_database import Heard, Place
-from .postgres_connection import Connected, Statements, Wire, faults
+from .postgres_connection import Connected, Wire, faults
+from .postgres_statements import Statements
 
 if TYPE_CHECKING:
     from .postgres_database import Postgres
@@ -56,7 +57,8 @@ class PostgresFollower(Connected):
         """A connection, and the end of the one before, which may still wait for a standby at the same server."""
         wire = self._servers.connect(is_primary=True)
         statements = Statements(wire.connection)
-        statements.rows(_END, *self._backend)
-        self._backend = statements.row(_OWN)
-        wire.connection.execute(f"LISTEN {CHANNEL}".encode())
+        with wire.kept(), wire.bounded():
+            statements.rows(_END, *self._backend)
+            self._backend = statements.row(_OWN)
+            wire.connection.execute(f"LISTEN {CHANNEL}".encode())
         return wire

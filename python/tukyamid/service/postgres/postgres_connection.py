@@ -4,7 +4,8 @@ import contextlib
 import os
 import select
 import socket
-from collections.abc import Callable, Iterable, Iterator, Sequence
+import threading
+from collections.abc import Callable, Iterator
 from hashlib import sha256
 from pathlib import Path
 from typing import Any, Concatenate, ParamSpec, Protocol, TypeVar
@@ -14,8 +15,8 @@ from psycopg.conninfo import conninfo_to_dict, make_conninfo
 
 from ..storage.acknowledged_changes import Ledger
 from ..storage.database import DatabaseFault
-from ..storage.table_changes import Rows
 from .acknowledged_check import Guard, Lacking
+from .postgres_statements import Statements
 
 # A server that says nothing is given up after some seconds, and one that holds others' changes up is too.
 _SETTINGS = {
@@ -26,6 +27,7 @@ _SETTINGS = {
 _SYNCHRONOUS = ("SELECT set_config('synchronous_commit', 'on', false) "
                 "WHERE current_setting('synchronous_commit') NOT IN ('on', 'remote_apply')")
 _OF_A_SERVER = ("host", "hostaddr", "port")
+_LONGEST_GREETING, _LONGEST_COMPARISON = 5.0, 60.0  # Seconds, until a server that says nothing is given up.
 
 _P = ParamSpec("_P")
 _R = TypeVar("_R")
@@ -108,13 +110,15 @@ class Servers:
         """A connection to this server; a DatabaseFault if it lacks what was acknowledged."""
         connection: psycopg.Connection[Any] = psycopg.connect(
             make_conninfo(**{**self._settings, **server, "target_session_attrs": wanted}), autocommit=True)
-        try:
-            connection.execute(_SYNCHRONOUS)
-            self.guard.check(connection)
-        except BaseException:
-            connection.close()
-            raise
-        return Wire(connection)
+        wire = Wire(connection)
+        with wire.kept():
+            with wire.bounded():
+                connection.execute(_SYNCHRONOUS)
+                is_lacking = self.guard.is_lacked_by(connection)
+            if is_lacking:
+                with wire.bounded(_LONGEST_COMPARISON):
+                    self.guard.check(connection)
+        return wire
 
 
 class Wire:
@@ -130,6 +134,10 @@ class Wire:
         if notice.severity_nonlocalized == "WARNING":
             self.warned = notice.message_primary or "a warning"
 
+    def say_whole(self) -> None:
+        """From now on each statement is one message, with its values in it."""
+        self.connection.cursor_factory = psycopg.ClientCursor
+
     def is_live(self) -> bool:
         """Whether the server hasn't ended the connection since it was last used. Between uses it says nothing else."""
         return not self.connection.closed and not select.select([self.connection.fileno()], [], [], 0)[0]
@@ -139,55 +147,37 @@ class Wire:
         with contextlib.suppress(OSError):
             self._socket.shutdown(socket.SHUT_RDWR)
 
+    @contextlib.contextmanager
+    def bounded(self, seconds: float = _LONGEST_GREETING) -> Iterator[None]:
+        """Cuts the connection if what is done meanwhile takes longer. A server that is stopped takes connections, and
+        says nothing."""
+        timer = threading.Timer(seconds, self.cut)
+        timer.daemon = True
+        timer.start()
+        try:
+            yield
+        finally:
+            timer.cancel()
+
+    @contextlib.contextmanager
+    def kept(self) -> Iterator[None]:
+        """Closes the connection if what is done meanwhile fails."""
+        try:
+            yield
+        except BaseException:
+            self.close()
+            raise
+
     def close(self) -> None:
         self.connection.close()
         self._socket.close()
 
     @contextlib.contextmanager
-    def reading(self) -> Iterator["Statements"]:
+    def reading(self) -> Iterator[Statements]:
         """A transaction that sees one moment, and changes nothing."""
         self.connection.execute("BEGIN ISOLATION LEVEL REPEATABLE READ READ ONLY")
         yield Statements(self.connection)
         self.connection.execute("COMMIT")
-
-
-class Statements:
-    """Does statements of both databases: `?` stands for a value. Text is kept as its octets, since PostgreSQL has no
-    text with a zero in it."""
-
-    def __init__(self, connection: "psycopg.Connection[Any]") -> None:
-        self.connection = connection
-
-    def execute(self, statement: str, values: Sequence[Any] = (), /) -> Rows:
-        rows: Rows = self.connection.execute(_spelled(statement), _kept(values))
-        return rows
-
-    def executemany(self, statement: str, values: Iterable[Sequence[Any]], /) -> Rows:
-        cursor = self.connection.cursor()
-        cursor.executemany(_spelled(statement), map(_kept, values))
-        rows: Rows = cursor
-        return rows
-
-    def rows(self, statement: str, *values: object) -> list[tuple[Any, ...]]:
-        rows: list[tuple[Any, ...]] = self.connection.execute(_spelled(statement), _kept(values)).fetchall()
-        return rows
-
-    def row(self, statement: str, *values: object) -> tuple[Any, ...]:
-        (row,) = self.rows(statement, *values)
-        return row
-
-    def scan(self, statement: str) -> Iterator[tuple[Any, ...]]:
-        """Rows as they are read, since they may be many; within a transaction."""
-        with self.connection.cursor(name="scan") as cursor:
-            yield from cursor.execute(statement)
-
-
-def _spelled(statement: str) -> bytes:
-    return statement.replace("?", "%s").encode()
-
-
-def _kept(values: Sequence[Any]) -> list[Any]:
-    return [value.encode("utf-8", "surrogateescape") if isinstance(value, str) else value for value in values]
 
 
 class Connected:

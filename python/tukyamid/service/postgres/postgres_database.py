@@ -1,11 +1,10 @@
 """Writing to the database that several services share, each in its turn."""
 
-import os
 import socket
-import tempfile
 from collections.abc import Iterable, Sequence
 from contextlib import closing
 from pathlib import Path
+from typing import Any
 
 import psycopg
 from psycopg.pq import TransactionStatus
@@ -13,20 +12,22 @@ from psycopg.pq import TransactionStatus
 from ..storage.acknowledged_changes import Entry
 from ..storage.database import Actor, Change, DatabaseFault, Snapshot, Source, Uncertain
 from ..storage.shared_database import UNREAD, News, Place
-from ..storage.sqlite_database import Sqlite
 from ..storage.table_check import EVERY_CERTIFICATE, compare
 from . import postgres_schema
 from .acknowledged_check import lacked_of
 from .changes_since import lines_between
 from .notifications import PLACE, PostgresFollower
-from .postgres_connection import Servers, Statements, Wire, faults, text_of
+from .postgres_connection import Servers, Wire, faults, text_of
+from .postgres_notes import NOW, PostgresNotes
 from .postgres_partial_reads import PostgresParts
 from .postgres_reads import PostgresFinder, PostgresSnapshot
+from .postgres_statements import Statements
 from .postgres_table_changes import SharedWriting
+from .sqlite_copy import write_copy
 
-# Nobody else makes a change meanwhile.
+# Nobody else makes a change meanwhile. The first bound runs from each answer of the server's until the next message is
+# there as a whole. So a turn's statements are one message each: after a part of a statement nothing would bound it.
 _BEGIN = b"BEGIN; SET LOCAL idle_in_transaction_session_timeout = '2s'; SET LOCAL tcp_user_timeout = '2s'"
-_NOW = "SELECT extract(epoch FROM clock_timestamp())::BIGINT"
 
 
 class Postgres:
@@ -40,7 +41,7 @@ class Postgres:
         self.servers = Servers(url, state)
         self._machine = socket.gethostname()
         self._wire: Wire | None = None
-        self._beside: Wire | None = None
+        self._beside = PostgresNotes(self.servers, self._machine)
         try:
             self._primary()
         except DatabaseFault as fault:
@@ -60,7 +61,7 @@ class Postgres:
             wire = self.servers.connect(is_primary=False)
         except DatabaseFault:
             raise fault from None
-        with closing(wire):
+        with closing(wire), wire.bounded():
             if not postgres_schema.version_of(Statements(wire.connection), self.name):
                 raise fault
 
@@ -69,22 +70,23 @@ class Postgres:
             self.disconnect()
         if self._wire is None:
             wire = self.servers.connect(is_primary=True)
-            try:
-                postgres_schema.prepare(wire.connection, self.name)
-            except BaseException:
-                wire.close()
-                raise
+            with wire.kept():
+                with wire.bounded():
+                    is_prepared = postgres_schema.is_current(wire.connection, self.name)
+                if not is_prepared:
+                    postgres_schema.prepare(wire.connection, self.name)
+            wire.say_whole()
             self._wire = wire
         return self._wire
 
     def disconnect(self) -> None:
-        for wire in (self._wire, self._beside):
-            if wire is not None:
-                wire.close()
-        self._wire = self._beside = None
+        if self._wire is not None:
+            self._wire.close()
+            self._wire = None
 
     def close(self) -> None:
         self.disconnect()
+        self._beside.close()
         self.servers.guard.close()
 
     def cut(self) -> None:
@@ -108,13 +110,19 @@ class Postgres:
         """Begins a turn of a service that reads by itself what others have changed."""
         self._begin()
 
+    def _turn(self) -> "psycopg.Connection[Any] | None":
+        """The connection, if it has a turn."""
+        connection = self._wire.connection if self._wire is not None else None
+        has_turn = connection is not None and connection.info.transaction_status == TransactionStatus.INTRANS
+        return connection if has_turn else None
+
     @faults
     def prolong_turn(self) -> bool:
         """Says something, so that the server sees that this service is still at work."""
-        if self._wire is None or self._wire.connection.info.transaction_status != TransactionStatus.INTRANS:
-            return False
-        self._wire.connection.execute("SELECT")
-        return True
+        turn = self._turn()
+        if turn is not None:
+            turn.execute("SELECT")
+        return turn is not None
 
     @faults
     def end_turn(self) -> None:
@@ -146,9 +154,11 @@ class Postgres:
 
     @faults
     def apply(self, changes: Sequence[Change]) -> list[int]:
-        assert self._wire is not None
-        statements = Statements(self._wire.connection)
-        writing, now = SharedWriting(statements, self._machine), int(statements.row(_NOW)[0])
+        turn = self._turn()
+        if turn is None:
+            raise DatabaseFault(f"{self.name}: the turn is over")
+        statements = Statements(turn)
+        writing, now = SharedWriting(statements, self._machine), int(statements.row(NOW)[0])
         numbers = [writing.make(change, now) for change in changes]
         writing.count()
         self._commit(writing)
@@ -180,7 +190,7 @@ class Postgres:
         if self.place not in (place, UNREAD):
             raise DatabaseFault(f"{self.name}: another service has changed the database meanwhile; try again")
         writing = SharedWriting(statements, self._machine)
-        number = writing.fill(lines, Change(what, actor, ()), int(statements.row(_NOW)[0]))
+        number = writing.fill(lines, Change(what, actor, ()), int(statements.row(NOW)[0]))
         self._commit(writing)
         return number
 
@@ -200,38 +210,22 @@ class Postgres:
     def follow(self) -> PostgresFollower:
         return PostgresFollower(self)
 
-    def _sources(self) -> Statements:
-        """A connection of its own, since a turn may be under way."""
-        if self._beside is None or self._beside.connection.closed:
-            self._beside = self.servers.connect(is_primary=True)
-        return Statements(self._beside.connection)
-
     def log_octets(self) -> int:
         """None: a slow reader has a copy of its own."""
         return 0
 
-    @faults
     def put_source(self, source: Source) -> None:
-        self._sources().execute(
-            "INSERT INTO sources VALUES (?, ?, ?, ?, ?) ON CONFLICT (machine, name) DO UPDATE SET "
-            "digest = excluded.digest, certificates = excluded.certificates, fault = excluded.fault",
-            (self._machine, source.name, source.digest, source.certificates, source.fault))
+        self._beside.put_source(source)
 
-    @faults
     def drop_source(self, name: str) -> bool:
-        return bool(self._sources().rows("DELETE FROM sources WHERE machine = ? AND name = ? RETURNING 1",
-                                         self._machine, name))
+        return self._beside.drop_source(name)
 
     @faults
     def lacked_of(self, entries: Sequence[Entry]) -> list[Entry]:
         return lacked_of(self._primary().connection, entries)
 
-    @faults
     def hand_in(self, entries: Iterable[Entry]) -> None:
-        statements = self._sources()
-        now = int(statements.row(_NOW)[0])
-        statements.executemany("INSERT INTO handed_in VALUES (?, ?) ON CONFLICT DO NOTHING",
-                               [(one.place.mark, now) for one in entries])
+        self._beside.hand_in(entries)
 
     @faults
     def check(self) -> list[str]:
@@ -239,9 +233,6 @@ class Postgres:
             return list(compare(statements, statements.scan(EVERY_CERTIFICATE)))
 
     def backup(self, path: Path) -> None:
-        """Writes a copy as a file of SQLite's: certificates, verdicts and one line in the log."""
-        snapshot = self.snapshot()
-        with closing(snapshot), tempfile.TemporaryDirectory(prefix=".tukyamid-", dir=path.parent) as folder:
-            with closing(Sqlite(Path(folder) / "copy.db")) as copy:
-                copy.fill(snapshot.lines(), f"backup of {self.name}", Actor(os.getuid(), os.getpid()))
-                copy.backup(path)
+        """Writes a copy as a file of SQLite's."""
+        with closing(self.snapshot()) as snapshot:
+            write_copy(snapshot, self.name, path)

@@ -11,8 +11,9 @@ from ..storage.partial_queries import QueriedParts
 from ..storage.shared_database import UNREAD, Place
 from .changes_since import lines_between
 from .notifications import PLACE
-from .postgres_connection import Servers, Statements, Wire, text_of
+from .postgres_connection import Servers, Wire, text_of
 from .postgres_reads import PostgresSnapshot
+from .postgres_statements import Statements
 
 _INDEX = re.compile(r"INDEXED BY \w+")
 # Few rows are looked up, each by an index. The transaction stands open between questions.
@@ -47,7 +48,8 @@ class PostgresParts(QueriedParts):
             wire, self._is_primary = self._servers.connect(is_primary=True), True
         except DatabaseFault:
             wire, self._is_primary = self._servers.connect(is_primary=False), False
-        wire.connection.execute(_SETTINGS.encode())
+        with wire.kept(), wire.bounded():
+            wire.connection.execute(_SETTINGS.encode())
         return wire
 
     def _begin(self, then: str = "") -> Statements:

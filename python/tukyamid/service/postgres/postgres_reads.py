@@ -10,7 +10,8 @@ from typing import TYPE_CHECKING, Any
 from ..storage.database import Actor, Binding, DatabaseFault, Figures, LogEntry, Source
 from ..storage.part_search import with_part
 from ..storage.sqlite_reads import CERTIFIED, HOLDERS
-from .postgres_connection import Connected, Servers, Statements, Wire, faults
+from .postgres_connection import Connected, Servers, Wire, faults
+from .postgres_statements import Statements
 
 if TYPE_CHECKING:
     from .postgres_database import Postgres

@@ -4,7 +4,7 @@ import psycopg
 
 from ..storage.database import DatabaseFault
 from ..storage.table_changes import fill_subkeys
-from .postgres_connection import Statements
+from .postgres_statements import Statements
 
 VERSION = 4
 
@@ -180,12 +180,15 @@ def version_of(statements: Statements, name: str) -> int:
     return version
 
 
+def is_current(connection: "psycopg.Connection[tuple[object, ...]]", name: str) -> bool:
+    """Whether the tables are of this version; DatabaseFault if they are of a later one."""
+    return version_of(Statements(connection), name) == VERSION
+
+
 def prepare(connection: "psycopg.Connection[tuple[object, ...]]", name: str) -> None:
     """Makes the tables, or brings them to this version; DatabaseFault if they are another program's, or of a later
     version."""
     statements = Statements(connection)
-    if version_of(statements, name) == VERSION:
-        return
     with connection.transaction():
         connection.execute(f"SELECT pg_advisory_xact_lock({_LOCK})".encode())
         version = version_of(statements, name)

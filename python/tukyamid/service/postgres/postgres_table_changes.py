@@ -6,7 +6,7 @@ from ..storage.database import Change
 from ..storage.shared_database import Place
 from ..storage.table_changes import Writing
 from .notifications import CHANNEL
-from .postgres_connection import Statements
+from .postgres_statements import Statements
 
 _KEPT_LINES = 10_000
 _KEPT_LONG_LINES = 20

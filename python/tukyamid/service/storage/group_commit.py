@@ -18,19 +18,24 @@ UNCERTAIN = b"fault uncertain\n"
 _MOST_CHANGES = 4096
 _LONGEST_COMMIT = 10.0
 _PROBE_SECONDS = 1.0
+_BETWEEN_CUTS = 1.0  # Seconds.
 
 
 _R = TypeVar("_R")
 
 
 async def called(executor: Executor, call: Callable[[], _R], cut: Callable[[], None], seconds: float) -> _R:
-    """Calls what waits for a server, in another thread. What lasts too long is cut, and meets that as a fault."""
-    loop = asyncio.get_running_loop()
-    timer = loop.call_later(seconds, cut)
+    """Calls what waits for a server, in another thread. What lasts too long is cut, and meets that as a fault: again
+    and again, since it may be making a connection at first, of which there is nothing to cut yet."""
+    calling = asyncio.get_running_loop().run_in_executor(executor, call)
     try:
-        return await loop.run_in_executor(executor, call)
-    finally:
-        timer.cancel()
+        while not (await asyncio.wait((calling,), timeout=seconds))[0]:
+            cut()
+            seconds = _BETWEEN_CUTS
+    except asyncio.CancelledError:
+        calling.cancel()
+        raise
+    return calling.result()
 
 
 @dataclass
@@ -118,9 +123,9 @@ class Committer:
         self.advance()
 
     async def _apply(self, made: list[Change]) -> list[int]:
-        def call() -> list[int]:
-            return self._database.apply([change.entry() for change in made])
+        return await self._call(lambda: self._database.apply([change.entry() for change in made]))
 
+    async def _call(self, call: Callable[[], _R]) -> _R:
         if self._shared is not None:
             return await called(self._executor, call, self._shared.cut, _LONGEST_COMMIT)
         return await asyncio.get_running_loop().run_in_executor(self._executor, call)
@@ -172,9 +177,8 @@ class Committer:
         return bool(self.fault)
 
     async def _probe(self) -> None:
-        loop = asyncio.get_running_loop()
         try:
-            await loop.run_in_executor(self._executor, self._database.probe)
+            await self._call(self._database.probe)
             self.fault = ""
         except Exception as error:
             self.fault = str(error) or repr(error)

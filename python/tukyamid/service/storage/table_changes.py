@@ -17,11 +17,13 @@ _BRING = "INSERT INTO verdicts (number, certificate, depth) SELECT ?, ?, ? " \
     "WHERE NOT EXISTS (SELECT 1 FROM verdicts WHERE number = ?)"
 
 
-class Rows(Protocol):
-    """What a statement has found."""
-
+class Counted(Protocol):
     @property
     def rowcount(self) -> int: ...
+
+
+class Rows(Counted, Protocol):
+    """What a statement has found."""
 
     def fetchone(self) -> Any: ...
 
@@ -33,7 +35,7 @@ class Statements(Protocol):
 
     def execute(self, statement: str, values: Sequence[Any] = (), /) -> Rows: ...
 
-    def executemany(self, statement: str, values: Iterable[Sequence[Any]], /) -> Rows: ...
+    def executemany(self, statement: str, values: Iterable[Sequence[Any]], /) -> Counted: ...
 
 
 def fill_subkeys(connection: Statements, certificates: Iterable[Sequence[Any]]) -> None:

@@ -204,5 +204,5 @@ class Turns:
         while self._loop.time() < end:
             await asyncio.sleep(_PAUSE)
             if not self._committer.is_busy:
-                has_begun = await self._loop.run_in_executor(self._writing, self._database.prolong_turn)
+                has_begun = await self._call(self._database.prolong_turn)
                 end = min(end, self._loop.time() + _LONGEST_TURN) if has_begun else end

@@ -1,0 +1,50 @@
+"""What a service notes in the shared database beside the changes of the keyring. Its connection is its own, since a
+turn may be under way on the other one."""
+
+import contextlib
+from collections.abc import Iterable, Iterator
+
+from ..storage.acknowledged_changes import Entry
+from ..storage.database import Source
+from .postgres_connection import Connected, Servers, faults
+from .postgres_statements import Statements
+
+NOW = "SELECT extract(epoch FROM clock_timestamp())::BIGINT"
+
+
+class PostgresNotes(Connected):
+    """The keyrings that this machine watches, and the changes that were handed in again."""
+
+    def __init__(self, servers: Servers, machine: str) -> None:
+        super().__init__(servers)
+        self._machine = machine
+
+    @contextlib.contextmanager
+    def _statements(self) -> Iterator[Statements]:
+        if self._wire is not None and not self._wire.is_live():
+            self.disconnect()
+        if self._wire is None:
+            self._wire = self._servers.connect(is_primary=True)
+        with self._wire.bounded():
+            yield Statements(self._wire.connection)
+
+    @faults
+    def put_source(self, source: Source) -> None:
+        with self._statements() as statements:
+            statements.execute(
+                "INSERT INTO sources VALUES (?, ?, ?, ?, ?) ON CONFLICT (machine, name) DO UPDATE SET "
+                "digest = excluded.digest, certificates = excluded.certificates, fault = excluded.fault",
+                (self._machine, source.name, source.digest, source.certificates, source.fault))
+
+    @faults
+    def drop_source(self, name: str) -> bool:
+        with self._statements() as statements:
+            return bool(statements.rows("DELETE FROM sources WHERE machine = ? AND name = ? RETURNING 1",
+                                        self._machine, name))
+
+    @faults
+    def hand_in(self, entries: Iterable[Entry]) -> None:
+        with self._statements() as statements:
+            now = int(statements.row(NOW)[0])
+            statements.executemany("INSERT INTO handed_in VALUES (?, ?) ON CONFLICT DO NOTHING",
+                                   [(one.place.mark, now) for one in entries])
