@@ -6,12 +6,15 @@ only checkers need does nothing. Where a Python lacks such a C module, the modul
 """
 
 __all__ = ["AF_UNIX", "SHUT_RDWR", "SIGINT", "SOCK_STREAM", "SOL_SOCKET", "SO_PEERCRED", "TYPE_CHECKING", "Any",
-           "BareSocket", "ClassVar", "Generic", "Protocol", "RLock", "TypeVar", "cast", "sha1", "sha256", "signal"]
+           "BareSocket", "ClassVar", "Generic", "Protocol", "RLock", "SimpleQueue", "TypeVar", "allocate_lock", "cast",
+           "sha1", "sha256", "signal", "start_new_thread"]
 
 TYPE_CHECKING = False
 
 if TYPE_CHECKING:
+    from _thread import allocate_lock, start_new_thread
     from hashlib import sha1, sha256
+    from queue import SimpleQueue
     from signal import SIGINT, signal
     from socket import AF_UNIX, SHUT_RDWR, SO_PEERCRED, SOCK_STREAM, SOL_SOCKET
     from socket import socket as BareSocket
@@ -26,10 +29,11 @@ else:
             from _sha256 import sha256
     except ImportError:
         from hashlib import sha1, sha256
+    from _queue import SimpleQueue
     from _signal import SIGINT, signal
     from _socket import AF_UNIX, SHUT_RDWR, SO_PEERCRED, SOCK_STREAM, SOL_SOCKET
     from _socket import socket as BareSocket
-    from _thread import RLock
+    from _thread import RLock, allocate_lock, start_new_thread
 
     class _Parameterised:
         """A base whose parameters are for checkers."""

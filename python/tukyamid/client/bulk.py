@@ -1,13 +1,15 @@
 """Many lines at once: a thread of its own writes them, while the replies are read."""
 
-import queue
-import threading
-from collections.abc import Callable, Iterable, Iterator
-from typing import BinaryIO, Generic, TypeVar
+from __future__ import annotations
 
+from ..fast_imports import TYPE_CHECKING, Generic, SimpleQueue, TypeVar, allocate_lock, start_new_thread
 from ..protocol.refusals import Refused
 from ..protocol.spelling import has_reply
 from .streams import PIECE, Wire
+
+if TYPE_CHECKING:
+    from collections.abc import Callable, Iterable, Iterator
+    from typing import BinaryIO
 
 T = TypeVar("T")
 MOST_LINES = 4096
@@ -19,18 +21,19 @@ class _Writing(Generic[T]):
 
     def __init__(self, wire: Wire, pieces: Iterable[tuple[T, bytes]], abandon: Callable[[], None]) -> None:
         self._wire, self._pieces, self._abandon = wire, pieces, abandon
-        self._notes: queue.SimpleQueue[tuple[T] | None] = queue.SimpleQueue()
+        self._notes: SimpleQueue[tuple[T] | None] = SimpleQueue()
         self._fault: Exception | None = None
-        self._thread = threading.Thread(target=self._write, daemon=True)
+        self._is_writing = allocate_lock()
 
     def __enter__(self) -> Iterator[T]:
-        self._thread.start()
+        self._is_writing.acquire()
+        start_new_thread(self._write, ())
         return self._read_notes()
 
     def __exit__(self, kind: type[BaseException] | None, *_: object) -> None:
         if kind is not None:
             self._abandon()  # What the other side still has to read or to say is nobody's.
-        self._thread.join()
+        self._is_writing.acquire()
         if kind is None and self._fault is not None:
             raise self._fault
 
@@ -46,7 +49,9 @@ class _Writing(Generic[T]):
             pass  # The other side has ended. The reader of the replies meets that.
         except OSError as fault:
             self._fault = fault
-        self._notes.put(None)
+        finally:
+            self._notes.put(None)
+            self._is_writing.release()
 
     def _write_pieces(self) -> None:
         pieces = iter(self._pieces)

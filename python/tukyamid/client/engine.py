@@ -2,21 +2,22 @@
 
 from __future__ import annotations
 
-import io
 import os
-import subprocess
-from collections.abc import Iterable
 
+from ..fast_imports import TYPE_CHECKING
 from ..protocol.refusals import EngineEnded, EngineMissing
 from ..protocol.spelling import LONGEST_LINE, has_reply
 from .connection import Connection
+from .engine_process import EngineProcess
 from .engine_program import find_program
 from .listing import Listing
-from .streams import PIECE
+
+if TYPE_CHECKING:
+    from collections.abc import Iterable
+
+    Program = str | os.PathLike[str] | Iterable[str | os.PathLike[str]]
 
 __all__ = ["Engine", "LONGEST_LINE", "Listing", "find_program", "has_reply", "program_words"]
-
-Program = str | os.PathLike[str] | Iterable[str | os.PathLike[str]]
 
 
 def program_words(program: Program | None) -> list[str]:
@@ -45,13 +46,10 @@ class Engine(Connection):
         """`program` is the program's path, or a list of words; by default what `find_program` finds."""
         words = program_words(program)
         try:
-            self._process = subprocess.Popen([*words, *arguments], stdin=subprocess.PIPE, stdout=subprocess.PIPE,
-                                             bufsize=PIECE)
+            self._process = EngineProcess([*words, *arguments])
         except OSError as error:
             raise EngineMissing(f"the engine can't be started: {words[0]}: {error.strerror}") from None
-        reader, writer = self._process.stdout, self._process.stdin
-        assert isinstance(reader, io.BufferedReader) and isinstance(writer, io.BufferedWriter)
-        super().__init__(reader, writer)
+        super().__init__(self._process.reader, self._process.writer)
 
     def close(self) -> int:
         """Ends the input, waits for the program's end, and returns its exit status; what it still writes is dropped."""

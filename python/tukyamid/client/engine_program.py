@@ -3,8 +3,6 @@
 from __future__ import annotations
 
 import os
-import shutil
-from pathlib import Path
 
 from ..protocol.refusals import EngineMissing
 
@@ -19,11 +17,15 @@ def find_program() -> list[str]:
     named = os.environ.get("TUKYAMID_ENGINE")
     if named:
         return [named]
-    top = Path(__file__).resolve().parents[3]
-    for program in str(top / "crates" / "wot_cli" / "out" / "wot_cli"), _NAME, _LIBEXEC:
-        found = shutil.which(program)
-        if found is not None:
-            return [found]
-    if (top / "wot").is_file():
-        raise EngineMissing(f"the engine isn't built; build it with: {top / 'wot'} run < /dev/null")
+    top = os.path.realpath(__file__).rsplit("/", 4)[0]
+    for program in f"{top}/crates/wot_cli/out/wot_cli", *_on_path(), _LIBEXEC:
+        if os.path.isfile(program) and os.access(program, os.X_OK):
+            return [program]
+    if os.path.isfile(f"{top}/wot"):
+        raise EngineMissing(f"the engine isn't built; build it with: {top}/wot run < /dev/null")
     raise EngineMissing("the engine isn't installed: install the package tukyamid, or name it in TUKYAMID_ENGINE")
+
+
+def _on_path() -> list[str]:
+    """Where it may be on the PATH. `shutil.which` would find it, but importing that takes as long as a question."""
+    return [f"{folder}/{_NAME}" for folder in os.environ.get("PATH", os.defpath).split(os.pathsep) if folder]

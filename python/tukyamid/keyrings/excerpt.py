@@ -6,13 +6,13 @@ along its certifications first, then along trust signatures. Of these only those
 needs a key's own signatures alone. Hence an engine over these certificates answers as one over the whole keyring does.
 """
 
-import threading
-from collections.abc import Callable, Collection, Iterator
+from collections.abc import Collection, Iterator
 from contextlib import contextmanager
 from typing import NamedTuple
 
 from ..client.engine import Engine
 from ..openpgp.certificates import CERTIFICATIONS, Certificate, Signature
+from ..patience import ended_after
 from .keyring import Keyring
 
 PATIENCE = 60.0
@@ -101,15 +101,3 @@ def engine_over(keyring: Keyring, part: Part) -> Iterator[Keyring]:
                 engine.import_certificates(keyring.engine.export(fpr))
         engine.feed(part.verdicts(fprs, part.fprs))
         yield Keyring(engine, keyring.index)
-
-
-@contextmanager
-def ended_after(seconds: float, end: Callable[[], None]) -> Iterator[None]:
-    """Ends something unless this is over within a number of seconds."""
-    timer = threading.Timer(seconds, end)
-    timer.daemon = True
-    timer.start()
-    try:
-        yield
-    finally:
-        timer.cancel()

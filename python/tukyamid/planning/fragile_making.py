@@ -4,7 +4,7 @@ from __future__ import annotations
 
 from typing import TYPE_CHECKING
 
-from ..keyrings.excerpt import ended_after
+from ..patience import ended_after
 from .fragile import Fragile, Look
 from .scratch import ScratchEngine, SupposedKeyring
 from .trials import Trials

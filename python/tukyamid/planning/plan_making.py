@@ -4,7 +4,7 @@ from __future__ import annotations
 
 from typing import TYPE_CHECKING
 
-from ..keyrings.excerpt import ended_after
+from ..patience import ended_after
 from .plan import Search
 from .scratch import ScratchEngine, SupposedKeyring
 from .trials import Trials

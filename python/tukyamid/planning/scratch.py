@@ -7,14 +7,12 @@ engine that holds all of the keyring, and besides what is supposed (docs/PROOF.m
 
 from __future__ import annotations
 
-from contextlib import contextmanager
-
 from ..client.engine import Engine
 from ..fast_imports import TYPE_CHECKING
-from ..keyrings.excerpt import ended_after
 from ..keyrings.keyring import Keyring
 from ..openpgp.certificates import CERTIFICATIONS, key_fingerprint
 from ..openpgp.packets import packets
+from ..patience import ended_after
 from ..protocol.reasons import ReasonWord
 from ..protocol.replies import Explanation
 from .supposed_index import SupposedIndex
@@ -192,10 +190,25 @@ class SupposedKeyring(Keyring):
         return super().certificate(fpr) if fpr in self._otherwise else self._whole.certificate(fpr)
 
 
-@contextmanager
-def supposing(keyring: Keyring, suppositions: Sequence[Supposition], time: int, program: Program | None = None,
-              patience: float = PATIENCE) -> Iterator[SupposedKeyring]:
-    """A keyring in which all of this is supposed, as made at this time. It is there for one question, and ends when the
-    patience is over whatever happens."""
-    with ScratchEngine(keyring, suppositions, program) as engine, ended_after(patience, engine.end_at_once):
-        yield SupposedKeyring(keyring, engine, engine.suppose(time), suppositions)
+class supposing:
+    """A keyring in which all of this is supposed, as made at this time. It is there for one question, in a `with`, and
+    ends when the patience is over whatever happens."""
+
+    def __init__(self, keyring: Keyring, suppositions: Sequence[Supposition], time: int, program: Program | None = None,
+                 patience: float = PATIENCE) -> None:
+        self._keyring, self._suppositions, self._time = keyring, suppositions, time
+        self._engine = ScratchEngine(keyring, suppositions, program)
+        self._limit = ended_after(patience, self._engine.end_at_once)
+
+    def __enter__(self) -> SupposedKeyring:
+        self._limit.__enter__()
+        try:
+            made = self._engine.suppose(self._time)
+        except BaseException:
+            self.__exit__()
+            raise
+        return SupposedKeyring(self._keyring, self._engine, made, self._suppositions)
+
+    def __exit__(self, *_: object) -> None:
+        self._limit.__exit__()
+        self._engine.close()

@@ -6,8 +6,6 @@ of the key's that what follows the key begins with.
 
 from __future__ import annotations
 
-import re
-
 from ..command.exit_statuses import NoAnswer, WrongWords
 from ..command.key_names import resolve
 from ..command.option_values import read_key
@@ -23,9 +21,6 @@ if TYPE_CHECKING:
     from .suppositions import Supposition
 
 FORMS = "ISSUER certifies KEY USERID [depth N] [amount N] [for REGEX], ISSUER revokes KEY USERID, without KEY|NUMBER"
-_OPTIONS = re.compile(r"(?:\s+depth\s+(?P<depth>[0-9]{1,3}))?(?:\s+amount\s+(?P<amount>[0-9]{1,3}))?"
-                      r"(?:\s+for\s+(?P<scope>\S.*))?", re.DOTALL)
-_ADDRESS = re.compile(r"\S+@\S+")
 
 
 class Spoken(Value):
@@ -64,15 +59,36 @@ def _resolved(keyring: Keyring, one: Spoken) -> Supposition:
         if keyring.certificate(fpr) is None:
             raise NoAnswer(f"the key {fpr} isn't in the keyring, so nothing can be supposed of it")
     user_id, behind = _user_id(keyring, key, one.rest)
-    said = _OPTIONS.fullmatch(behind)
+    said = _options(behind)
     if said is None or one.verb == "revokes" and behind:
         raise WrongWords(f"{behind.strip()!r} can't follow a user ID in a supposition: write {FORMS}")
     if one.verb == "revokes":
         return Revokes(issuer, key, user_id)
-    depth, amount = int(said["depth"] or 0), int(said["amount"] or FULL)
+    depth, amount = int(said.get("depth", 0)), int(said.get("amount", FULL))
     if depth > MOST_DEPTH or not 1 <= amount <= 255:
         raise WrongWords(f"a supposed depth is at most {MOST_DEPTH}, and an amount from 1 to 255")
-    return Certifies(issuer, key, user_id, depth, amount, _scopes(said["scope"]))
+    return Certifies(issuer, key, user_id, depth, amount, _scopes(said.get("for")))
+
+
+def _options(text: str) -> dict[str, str] | None:
+    """What follows a user ID: `depth N`, `amount N` and `for REGEX`, in this order, each preceded by white space. None
+    if it is something else.
+
+    >>> _options(" depth 1 for @example[.]org>$"), _options(""), _options(" deep")
+    ({'depth': '1', 'for': '@example[.]org>$'}, {}, None)
+    """
+    found: dict[str, str] = {}
+    for name in "depth", "amount":
+        word, *left = text.split(None, 2)[:3] or [""]
+        if word == name and left and text[0].isspace():
+            if not (left[0].isascii() and left[0].isdigit() and len(left[0]) <= 3):
+                return None
+            found[name] = left[0]
+            text = text.lstrip()[len(name):].lstrip()[len(left[0]):]
+    word, *rest = text.split(None, 1) or [""]
+    if word == "for" and rest and text[0].isspace():
+        return {**found, "for": rest[0]}
+    return found if not text else None
 
 
 def _scopes(text: str | None) -> tuple[bytes, ...]:
@@ -89,13 +105,13 @@ def _user_id(keyring: Keyring, fpr: str, text: str) -> tuple[bytes, str]:
     user_ids = sorted(certificate.user_ids if certificate else (), key=len, reverse=True)
     for user_id in user_ids:
         for shown in user_id.decode("utf-8", "surrogateescape"), spelling.for_people(user_id):
-            if text.startswith(shown) and _OPTIONS.fullmatch(text[len(shown):]):
+            if text.startswith(shown) and _options(text[len(shown):]) is not None:
                 return user_id, text[len(shown):]
-    address = _ADDRESS.match(text)
-    if address is not None:
+    address = text.split(None, 1)[0] if text[:1].strip() else ""
+    if "@" in address[1:-1]:
         from ..openpgp.addresses import address_of, canonical
-        having = [one for one in user_ids if address_of(one) == canonical(address[0])]
+        having = [one for one in user_ids if address_of(one) == canonical(address)]
         if len(having) == 1:
-            return having[0], text[address.end():]
+            return having[0], text[len(address):]
     shown = ", ".join(spelling.for_people(one) for one in user_ids) or "no user ID"
     raise WrongWords(f"the key {fpr} has no such user ID: {text!r}; it has {shown}")

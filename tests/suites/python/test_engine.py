@@ -6,10 +6,10 @@ import signal
 import threading
 import unittest
 
-from outside import FAKE_ENGINE
-from tukyamid import (Accepted, Answer, Binding, Claim, ClaimedStep, Done, Engine, EngineEnded, Explanation, Gone, Key,
-                      Label, Missed, Path, PendingSignature, ProtocolError, Reached, Reason, Rejected, Stale, Step,
-                      Taken, Watched, commands)
+from outside import FAKE_ENGINE, folder
+from tukyamid import (Accepted, Answer, Binding, Claim, ClaimedStep, Done, Engine, EngineEnded, EngineMissing,
+                      Explanation, Gone, Key, Label, Missed, Path, PendingSignature, ProtocolError, Reached, Reason,
+                      Rejected, Stale, Step, Taken, Watched, commands)
 from tukyamid.protocol import refusals
 from tukyamid.protocol.reasons import ReasonWord, TargetWord
 from tukyamid.protocol.replies import Exported
@@ -206,6 +206,21 @@ class End(unittest.TestCase):
             killed.feed([b"import 05"] * 100_000)
         self.assertEqual(caught.exception.status, -signal.SIGKILL)
         killed.close()
+
+    def test_what_the_program_has_of_this_process(self):
+        """No open file but the standard ones, and no signal that Python ignores."""
+        path = folder() / "started"
+        inherited = os.dup(0)
+        self.addCleanup(os.close, inherited)
+        os.set_inheritable(inherited, True)
+        script = f"ls /proc/self/fd > {path}; grep SigIgn /proc/self/status >> {path}; exec cat > /dev/null"
+        self.assertEqual(Engine(["/bin/sh", "-c", script, "sh"]).close(), 0)
+        *files, _, ignored = path.read_text(encoding="ascii").split()
+        self.assertEqual(files, ["0", "1", "2", "3"])  # `ls` has the third one open itself.
+        self.assertFalse(int(ignored, 16) & (1 << signal.SIGPIPE - 1 | 1 << signal.SIGXFSZ - 1))
+
+    def test_a_program_that_is_not_there(self):
+        self.assertRaises(EngineMissing, Engine, [str(folder() / "no-such-engine")])
 
     def test_closing(self):
         self.assertEqual(self.engine.close(), 0)

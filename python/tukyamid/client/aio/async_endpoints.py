@@ -6,13 +6,17 @@ import asyncio
 import contextlib
 import os
 from collections.abc import Iterable
+from typing import TYPE_CHECKING
 
 from ...protocol.refusals import EngineEnded, EngineMissing, ServiceEnded, ServiceForeign, ServiceMissing
-from ..engine import Program, program_words
+from ..engine import program_words
 from ..socket_peers import check_listener
 from .async_bulk import Bulk
 from .async_connection import PIECE
 from .async_service_calls import ServiceCalls
+
+if TYPE_CHECKING:
+    from ..engine import Program
 
 
 class Engine(Bulk):
