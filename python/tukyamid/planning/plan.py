@@ -11,6 +11,7 @@ from typing import TYPE_CHECKING
 
 from ..protocol.reasons import TargetWord
 from ..protocol.replies import Accepted, Missed
+from .domain_scopes import scope_of
 from .plan_types import Absence, Plan, Proposal, cost
 from .suppositions import FULL, MOST_DEPTH, Certifies
 from .trials import NO_ROOTS, VIEW
@@ -149,11 +150,12 @@ class Search:
                 free = user_id
                 yield user_id
 
-    def _has_edge(self, issuer: str, target: str, user_id: bytes) -> bool:
-        """Whether the issuer has signed this user ID."""
+    def _has_edge(self, issuer: str, target: str, user_id: bytes, depth: int = 0) -> bool:
+        """Whether the issuer has signed this user ID, with at least this depth."""
         certificate = self._keyring.certificate(target)
         assert certificate is not None
-        return any(one.said.issuer in (issuer, None) and self._keyring.index.issuer(target, one.number) == issuer
+        return any(one.said.depth >= depth and one.said.issuer in (issuer, None)
+                   and self._keyring.index.issuer(target, one.number) == issuer
                    for one in certificate.user_ids[user_id])
 
     def _proposals(self, enough: list[Certifications]) -> tuple[Proposal, ...]:
@@ -164,11 +166,23 @@ class Search:
         made = []
         for ones in cheapest.values():
             answer = self._ask(ones)
-            needed = tuple(one if not one.depth else one.but(depth=max(1, _behind(answer, one))) for one in ones)
+            needed = self._scoped(tuple(one.but(depth=max(1, _behind(answer, one))) if one.depth else one
+                                        for one in ones))
             alone = tuple(self._ask((one,)).amount for one in needed)
             older = tuple(self._has_edge(one.issuer, one.target, one.user_id) for one in needed)
             made.append(Proposal(needed, self._ask(needed).amount, alone, older))
         return tuple(sorted(made, key=lambda one: one.cost))
+
+    def _scoped(self, ones: Certifications) -> Certifications:
+        """With introducers for the domain of the user ID alone, if that is enough. Somebody whom the same signer has
+        made an introducer before stays one for all, since the new certification takes the place of the older one."""
+        scope = scope_of(self._target.user_id)
+        for place, one in enumerate(ones):
+            if scope is not None and one.depth and not self._has_edge(one.issuer, one.target, one.user_id, 1):
+                scoped = (*ones[:place], one.but(scopes=(scope,)), *ones[place + 1:])
+                if self._ask(scoped).amount >= self._target.wanted:
+                    ones = scoped
+        return ones
 
     def _absence(self) -> Absence | None:
         """All that these people could certify at once: what the engine proves then."""

@@ -6,6 +6,7 @@ from typing import TYPE_CHECKING, Any
 
 from ..formats.phrases import count, cut, moment
 from ..protocol.spelling import for_people, write_user_id
+from .domain_scopes import domain_of
 from .supposition_forms import as_object as supposition
 
 if TYPE_CHECKING:
@@ -114,8 +115,9 @@ def by_gpg(one: Certifies, is_again: bool = False) -> list[str]:
     gpg = f"gpg {'--expert ' if is_again else ''}-u {one.issuer}"
     if not one.depth and not is_again:
         return [f"{gpg} --quick-sign-key {one.target} {_quoted(one.user_id)}"]
+    domain = next(filter(None, map(domain_of, one.scopes)), None)
     sign = "`sign`" if not one.depth else (f"`tsign` with trust {_OF_GPG.get(one.amount, one.amount)}, depth "
-                                           f"{one.depth} and no domain")
+                                           f"{one.depth} and {'no domain' if domain is None else f'domain {domain}'}")
     return [f"{gpg} --edit-key {one.target}",
             f"   select {for_people(one.user_id)} by `uid`, then {sign}, then `save`"]
 

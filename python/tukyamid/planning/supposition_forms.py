@@ -5,6 +5,7 @@ from __future__ import annotations
 from typing import TYPE_CHECKING, Any
 
 from ..protocol.spelling import for_people, write_user_id
+from .domain_scopes import domain_of
 from .suppositions import Certifies, Revokes, WithoutKey
 
 if TYPE_CHECKING:
@@ -20,7 +21,8 @@ def as_object(one: Supposition, name: Name) -> dict[str, Any]:
                  "user_id_spelled": write_user_id(one.user_id)}
         if isinstance(one, Certifies):
             about |= {"depth": one.depth, "amount": one.amount,
-                      "scopes": [for_people(scope, "\\") for scope in one.scopes]}
+                      "scopes": [for_people(scope, "\\") for scope in one.scopes],
+                      "domains": [domain_of(scope) for scope in one.scopes]}
         return about | said
     if isinstance(one, WithoutKey):
         return {"kind": "without", "key": one.fpr, **said}

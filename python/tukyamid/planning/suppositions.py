@@ -33,7 +33,7 @@ class Certifies(Value):
             what += f" of {name(self.target)}"
         if self.depth or self.amount != FULL:
             what += f" with depth {self.depth} and amount {self.amount}"
-        return what + "".join(f", for {for_people(scope, chr(92))}" for scope in self.scopes)
+        return what + "".join(f", for {_covered(scope)}" for scope in self.scopes)
 
 
 class Revokes(Value):
@@ -70,3 +70,10 @@ class WithoutSignature(Value):
 
 
 Supposition = Certifies | Revokes | WithoutKey | WithoutSignature
+
+
+def _covered(scope: bytes) -> str:
+    """Whom a regular expression covers."""
+    from .domain_scopes import domain_of  # What it needs takes long to import, and few certifications have a scope.
+    domain = domain_of(scope)
+    return for_people(scope, "\\") if domain is None else f"addresses at {domain}"

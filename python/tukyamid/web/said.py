@@ -1,7 +1,7 @@
 """What a certification says, as the page shows it. Scopes are said in words too, where they are a domain's.
 
->>> in_words(rb"<[^>]+[@.]example\\.org>$"), in_words(rb"<[^>]+@example\\.org>$"), in_words(b"^Carol")
-('anyone at example.org', 'anyone at example.org, but not below it', None)
+>>> in_words(rb"<[^>]+[@.]my\\-example\\.org>$"), in_words(rb"<[^>]+@example\\.org>$"), in_words(b"^Carol")
+('anyone at my-example.org', 'anyone at example.org, but not below it', None)
 """
 
 import re
@@ -12,7 +12,7 @@ from ..keyrings.assessment import Certification
 from ..protocol.spelling import for_people, write_user_id
 
 # What gpg, sq and PGP write for a domain: addresses there and below it, or there alone.
-_DOMAIN = re.compile(rb"<\[\^>\]\+(\[@\.\]|@)((?:[A-Za-z0-9_-]|\\\.)+)>\$")
+_DOMAIN = re.compile(rb"<\[\^>\]\+(\[@\.\]|@)((?:[A-Za-z0-9_-]|\\[._-])+)>\$")
 
 
 def said_of(one: Certification) -> dict[str, Any]:
@@ -28,5 +28,5 @@ def in_words(pattern: bytes) -> str | None:
     found = _DOMAIN.fullmatch(pattern)
     if found is None:
         return None
-    domain = found[2].replace(rb"\.", b".").decode("ascii")
+    domain = found[2].replace(b"\\", b"").decode("ascii")
     return f"anyone at {domain}" + ("" if found[1] == b"[@.]" else ", but not below it")

@@ -53,6 +53,23 @@ class Network:
         return Keyring(engine, Issuers(engine, issuers))
 
 
+class Drawn(Network):
+    """Keys with a user ID each, and these certifications: of whom, by whom, with which depth and amount."""
+
+    def __init__(self, *edges):
+        made = [Made(number) for number in range(1 + max(max(edge[:2]) for edge in edges))]
+        self.fprs = [one.fpr for one in made]
+        self.user_ids = {one.fpr: [f"user {number}".encode()] for number, one in enumerate(made)}
+        for one in made:
+            one.direct(CREATED)
+            one.certified(*self.user_ids[one.fpr], one, CREATED)
+        for issuer, target, depth, amount in edges:
+            of = made[target]
+            of.certified(*self.user_ids[of.fpr], made[issuer], CREATED + 1000, trust(depth, amount))
+        self.keys = {one.fpr: one.key for one in made}
+        self.octets = [one.octets for one in made]
+
+
 class Issuers:
     """The index of such a keyring."""
     is_whole = True

@@ -70,6 +70,26 @@ class Plans(Planning):
         plan = self.plan("Frank", "--by", self.fpr["Dave"], "--by", self.fpr["Carol"], "--amount", "50")
         self.assertEqual(self.said(plan), [(60, [("Carol", "Frank", 0, 120)])])
 
+    def test_an_introducer_for_a_domain_alone(self):
+        """Frank has certified nobody, so whom he makes an introducer for Dave counts for example.net alone. Alice has
+        made Bob one before: for others that would be less than he was."""
+        scope = r"<[^>]+[@.]example\.net>$"
+        plan = self.plan("Dave", root="Frank")
+        self.assertEqual(self.said(plan), [(120, [("Frank", "Dave", 0, 120)]),
+                                           *((120, [("Frank", name, 1, 120)]) for name in self.by_fpr("Bob", "Carol"))])
+        self.assertEqual([(one["certifications"][0]["scopes"], one["certifications"][0]["domains"])
+                          for one in plan["proposals"]], [([], []), *[([scope], ["example.net"])] * 2])
+        text = self.ask("plan", self.fpr["Dave"], PEOPLE["Dave"], root="Frank").stdout.decode()
+        for line in (f"   {PEOPLE['Frank']} certifies {PEOPLE['Bob']} with depth 1 and amount 120, for addresses at "
+                     "example.net", f"      gpg -u {self.fpr['Frank']} --edit-key {self.fpr['Bob']}",
+                     f"         select {PEOPLE['Bob']} by `uid`, then `tsign` with trust 2, depth 1 and domain "
+                     "example.net, then `save`"):
+            self.assertIn(line + "\n", text)
+        self.assertEqual([one["certifications"][0]["scopes"] for one in self.plan("Dave")["proposals"]], [[], [], []])
+
+    def by_fpr(self, *names):
+        return sorted(names, key=lambda name: self.fpr[name])
+
     def test_what_people_read(self):
         text = self.ask("plan", self.fpr["Dave"], PEOPLE["Dave"]).stdout.decode()
         alice, bob, dave = (self.fpr[name] for name in ("Alice", "Bob", "Dave"))
@@ -148,12 +168,16 @@ class Signed(Planning):
             self.gpg(home, "--batch", "-u", one["issuer"], "--quick-sign-key", one["target"], one["user_id"])
             return
         again = "y\n" if one["replaces"] else ""
-        trust = f"{1 if one['amount'] == 60 else 2}\n{one['depth']}\n\n" if one["depth"] else ""
+        said = 1 if one["amount"] == 60 else 2, one["depth"], "".join(one["domains"])
+        trust = "".join(f"{each}\n" for each in said) if one["depth"] else ""
         self.gpg(home, "--command-fd", "0", "--status-fd", "2", "-u", one["issuer"], "--edit-key", one["target"],
                  "tsign" if one["depth"] else "sign", typed=f"{again}{trust}y\nsave\n".encode())
 
     def test_one_certification(self):
         self.check("Dave")
+
+    def test_introducers_for_a_domain(self):
+        self.check("Dave", root="Frank")
 
     def test_by_an_introducer(self):
         self.check("Frank", "--amount", "60", by=["--by", self.fpr["Carol"]])

@@ -3,7 +3,7 @@
 import unittest
 
 from outside import needs_engine
-from random_networks import NOW, Everything, Network
+from random_networks import NOW, Drawn, Everything, Network
 from tukyamid.planning.plan_types import Target
 from tukyamid.planning.plan_making import plan_for
 
@@ -54,6 +54,24 @@ class Complete(unittest.TestCase):
                                       (120, 180, 60)[seed % 3])
                 without, having = without + counts[0], having + counts[1]
         self.assertGreater(min(without, having), 10)  # Both are there to be compared.
+
+    def test_a_depth_that_is_enough_while_a_greater_one_is_not(self):
+        """Two roots R and S, of 80 and 120, and a key X that has certified T. If R makes X an introducer of depth 1,
+        three paths of 40 lead to T: by X, by a chain from R, and by a chain from S that ends with B. With more depth
+        the path R, X, B, T is shorter than both chains. It uses up what R and B have left, so neither chain counts."""
+        target, x, b, root, other, *chain = range(10)
+        network = Drawn((x, target, 0, 40), (x, b, 1, 120), (b, target, 0, 40),
+                        (root, chain[0], 9, 40), (chain[0], chain[1], 9, 40), (chain[1], chain[2], 9, 40),
+                        (chain[2], target, 0, 40),
+                        (other, chain[3], 9, 120), (chain[3], chain[4], 9, 120), (chain[4], b, 9, 120))
+        fprs = network.fprs
+        roots, binding = {fprs[root]: 80, fprs[other]: 120}, (fprs[target], *network.user_ids[fprs[target]])
+        everything = Everything(network, roots)
+        self.addCleanup(everything.close)
+        made = fprs[root], fprs[x], *network.user_ids[fprs[x]]
+        amounts = {depth: everything.amount(*binding, 120, [(*made, depth, 60)]) for depth in (0, 1, 2, 255)}
+        self.assertEqual(amounts, {0: 80, 1: 120, 2: 100, 255: 100})
+        self.compare(network, roots, [fprs[root]], [binding], 120)
 
     def test_networks_of_two_hundred_keys(self):
         for seed, certifications in (1, 1.5), (2, 3.0):
