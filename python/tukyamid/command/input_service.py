@@ -1,7 +1,7 @@
 """A service of its own for a set of inputs, so that asking again is fast and the answer is about these inputs alone.
 
 The digest of the inputs names its socket. A record beside it says, by the stamp of the inputs, what their digest was,
-so that the files needn't be read for the next question. The service ends when nobody has asked for ten minutes.
+so that the files needn't be read for the next question. The service ends when nobody has asked for a minute.
 """
 
 from __future__ import annotations

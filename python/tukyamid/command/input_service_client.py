@@ -40,13 +40,14 @@ class Reopening:
         return served_keyring(client) if client is not None else None
 
     def begin_after(self, keyring: Keyring) -> Keyring:
-        """Has their service started in the background, now that they are verified and kept. If that can't be done, the
-        next question is answered as this one was."""
+        """Has their service started beside this question, now that they are verified and kept, so that the next one is
+        answered at once. If that can't be done, it is answered as this one was."""
         try:
             entry = self._entry()
             if entry is not None:
+                from .after_answer import do_later
                 from .input_service_start import begin
-                begin(str(entry.folder), self._socket())
+                do_later(begin(str(entry.folder), self._socket()).wait)
         except (OSError, TukyamidError):
             pass
         return keyring

@@ -5,23 +5,48 @@ import contextlib
 import os
 import subprocess
 import sys
+import time
 from pathlib import Path
 
 from ..client.engine import find_program
+from ..client.service_client import connect
 from ..service.paths_and_locks import Lock, Taken
 from ..service.start_on_demand import ensure
 from ..service.storage.dumps import import_dump
 from ..service.storage.sqlite_database import Sqlite
+from .output import tell
 
 DATABASE = "keyring.db"
+# A service takes some 50 MB, and is started again in less than a second.
+_IDLE_SECONDS = "60"
+_PATIENCE = 60.0
+_SECONDS_BEFORE_A_WORD = 1.0
 
 
-def begin(entry: str, socket: str) -> None:
-    """Has this program run in the background. Nobody waits for it."""
+class Begun:
+    """A start that goes on if this process ends."""
+
+    def __init__(self, process: subprocess.Popen[bytes]) -> None:
+        self._process = process
+
+    def wait(self) -> None:
+        """Waits until the service answers, or can't be started; not for ever. At a terminal it says why."""
+        with contextlib.suppress(subprocess.TimeoutExpired):
+            try:
+                self._process.wait(_SECONDS_BEFORE_A_WORD)
+            except subprocess.TimeoutExpired:
+                if os.isatty(2):
+                    tell("making the next answers about this input fast; Ctrl-C leaves that to the background")
+                self._process.wait(_PATIENCE)
+
+
+def begin(entry: str, socket: str) -> Begun:
+    """Has this program run in the background."""
     package = str(Path(__file__).resolve().parents[2])
     words = [sys.executable, "-m", "tukyamid.command.input_service_start", os.path.abspath(entry), socket]
-    subprocess.Popen(words, stdin=subprocess.DEVNULL, stdout=subprocess.DEVNULL, stderr=subprocess.DEVNULL, cwd="/",
-                     start_new_session=True, env={**os.environ, "PYTHONPATH": package})
+    return Begun(subprocess.Popen(words, stdin=subprocess.DEVNULL, stdout=subprocess.DEVNULL, cwd="/",
+                                  stderr=subprocess.DEVNULL, start_new_session=True,
+                                  env={**os.environ, "PYTHONPATH": package}))
 
 
 def is_ready(entry: str) -> bool:
@@ -31,7 +56,8 @@ def is_ready(entry: str) -> bool:
 
 def start(entry: str, socket: str) -> Path:
     """The socket of a service over a kept entry, whose database is made. It is started unless it runs."""
-    return ensure(Path(socket), ["--database", os.path.abspath(os.path.join(entry, DATABASE)), "--engines", "1"])
+    database = os.path.abspath(os.path.join(entry, DATABASE))
+    return ensure(Path(socket), ["--database", database, "--engines", "1", "--idle", _IDLE_SECONDS])
 
 
 def main(words: list[str]) -> int:
@@ -39,8 +65,15 @@ def main(words: list[str]) -> int:
     with contextlib.suppress(Taken), Lock(Path(entry) / "holding.lock"):
         if not is_ready(entry):
             _make_database(Path(entry))
-        start(entry, socket)
+        _wait_until_loaded(start(entry, socket))
     return 0
+
+
+def _wait_until_loaded(socket: Path) -> None:
+    """A list needs all of the keyring, so it is answered once everything is loaded."""
+    with connect(socket, _PATIENCE) as client:
+        client.open_view("loaded", int(time.time()))
+        next(iter(client.list("loaded", 1)), None)
 
 
 def _make_database(entry: Path) -> None:

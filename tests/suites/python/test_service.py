@@ -6,6 +6,7 @@ import shutil
 import signal
 import socket
 import struct
+import subprocess
 import time
 import unittest.mock
 from pathlib import Path
@@ -14,6 +15,7 @@ from asking import DECEMBER, Asking
 from friends import PEOPLE
 from outside import COMMAND, TRUSTING, folder, needs_engine, needs_gpg, run
 from test_lifetimes import ended_key
+from tukyamid import connect
 from tukyamid.command.keyring_choice import Inputs
 from tukyamid.command.parsed_words import Given
 from tukyamid.web.asked_service import service_for
@@ -91,6 +93,25 @@ class HeldInputs(Services):
         again = [self.asked(*self.named, *words, status=status) for words, status in zip(questions, statuses)]
         self.assertEqual(again, first)
 
+    def test_the_second_question_needs_no_engine(self):
+        """The first one leaves a service that has loaded everything, and that answers where no engine is found."""
+        self.asked(*self.named, "list")
+        (listening,) = filter(server_of, self.sockets())
+        process = server_of(listening)
+        self.environment["TUKYAMID_ENGINE"] = str(self.own / "none")
+        self.assertEqual(len(self.asked(*self.named, "list")["bindings"]), 3)
+        self.assertEqual(server_of(listening), process)
+
+    def test_an_interrupt_after_the_answer(self):
+        """Whoever doesn't wait for the service has the answer, and the service is started all the same."""
+        words = [COMMAND, f"--root={self.fpr['Alice']}", "--time", DECEMBER, *self.named, "list", "carol"]
+        with subprocess.Popen(words, env=self.environment, stdout=subprocess.PIPE, start_new_session=True) as asking:
+            self.assertIn(b"Carol", asking.stdout.read1())
+            os.killpg(asking.pid, signal.SIGINT)
+            self.assertIn(asking.wait(300), (0, 130))  # 130 if it comes before the command begins to wait.
+        self.wait_for_socket()
+        self.assertEqual(len(self.asked(*self.named, "list")["bindings"]), 3)
+
     def test_a_directory_of_others_is_not_used(self):
         """Be it the cache or that of the sockets: the answer comes all the same, from an engine of its own."""
         cache = self.own / "cache"
@@ -119,10 +140,11 @@ class HeldInputs(Services):
         self.asked(*self.named, "list")
         self.wait_for_socket()
         (entry,) = (self.own / "cache").iterdir()
-        for missing in PEOPLE:
-            for more in [], ["--keyring", self.keyring]:
-                run([COMMAND, "--root", self.fpr["Bob"], "--no-service", "--cache", self.own / "cache", *more,
-                     "--keyring", self.friends.without(missing), "list"], env=self.environment)
+        with connect(*self.sockets()):  # It isn't idle meanwhile.
+            for missing in PEOPLE:
+                for more in [], ["--keyring", self.keyring]:
+                    run([COMMAND, "--root", self.fpr["Bob"], "--no-service", "--cache", self.own / "cache", *more,
+                         "--keyring", self.friends.without(missing), "list"], env=self.environment)
         self.assertTrue((entry / "keyring.db").exists())
         self.assertLessEqual(len(list((self.own / "cache").iterdir())), 9)
         given = Given(keyring=[str(self.keyring)], directory=[], gpg=False, gpg_keyring=False, no_service=False,

@@ -1,4 +1,5 @@
-"""The sources of watched keyrings: a file, a certificate directory, or the user's gpg. The verifier reads them."""
+"""The sources of watched keyrings: a file, a certificate directory, or the user's gpg. Each is read here once, and the
+verifier gets what was read: what stands in a file's place by then may be anything."""
 
 from __future__ import annotations
 
@@ -19,9 +20,10 @@ Stamp = tuple[tuple[str, int, int, int], ...]
 
 @dataclass(frozen=True)
 class Looked:
-    """The digest of what a keyring's files have, and what gpg exported, which no file has."""
+    """What a keyring's files have, with the digest of it: their names in a certificate directory, or one text without a
+    name."""
     digest: bytes
-    exported: bytes | None
+    files: tuple[tuple[str, bytes], ...]
 
 
 def is_name(name: str) -> bool:
@@ -51,7 +53,8 @@ def look_at(name: str) -> Looked:
         files = _files(name)
         texts = [exported(_home(name))] if _is_gpg(name) else read_files(name, files)
         digest = hashlib.sha256(b"".join(hashlib.sha256(text).digest() for text in texts)).digest()
-        return Looked(digest, texts[0] if _is_gpg(name) else None)
+        places = [""] if _is_gpg(name) or files == [name] else [os.path.relpath(file, name) for file in files]
+        return Looked(digest, tuple(zip(places, texts)))
     except OSError as error:
         raise unreadable(name, error) from None
     except GpgFailed as error:

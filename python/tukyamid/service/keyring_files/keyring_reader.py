@@ -1,9 +1,12 @@
-"""The certificates of a keyring, as the verifier reads them. The command's `--keyring` takes them from it too."""
+"""The certificates of a keyring, as the verifier reads them. The command's `--keyring` takes them from it too.
+
+The verifier reads copies. A keyring's own files may be something else by then: an endless device, say, or a FIFO."""
 
 from __future__ import annotations
 
 import asyncio
 import contextlib
+import os
 import subprocess
 import tempfile
 from collections.abc import Sequence
@@ -16,6 +19,9 @@ from .watched_files import Unreadable
 _SECONDS = 300
 _MOST_TOLD = 1 << 16
 _UNREADABLE = 3
+_TEXT = "keyring"  # No name in a certificate directory.
+
+Files = Sequence[tuple[str, bytes]]
 
 
 @dataclass(frozen=True)
@@ -25,18 +31,21 @@ class Certificates:
     left_out: tuple[str, ...]
 
 
-async def read_certificates(verifier: Sequence[str], name: str, text: bytes | None) -> Certificates:
-    """Has the verifier read a file or a certificate directory, or this text of the keyring. Unreadable if nothing can
-    be read; NotVerified if the verifier isn't there or fails."""
-    words = [*verifier, "--public", "--certificates", "--", name if text is None else "-"]
-    with tempfile.TemporaryFile() as told:
+async def read_certificates(verifier: Sequence[str], name: str, files: Files) -> Certificates:
+    """Has the verifier read these files of a keyring. Unreadable if nothing can be read; NotVerified if the verifier
+    isn't there or fails."""
+    with tempfile.TemporaryFile() as told, tempfile.TemporaryDirectory(prefix="tukyamid-") as folder:
+        text = os.path.join(folder, _TEXT)
+        await asyncio.to_thread(_copy, files, folder, text)
+        is_text = os.path.exists(text)
+        words = [*verifier, "--public", "--certificates", "--", "-" if is_text else folder]
         try:
             async with asyncio.timeout(_SECONDS):
-                octets, status = await _run(words, text, told.fileno())
+                octets, status = await _run(words, text if is_text else os.devnull, told.fileno())
         except TimeoutError:
             raise Unreadable(f"{name}: the verifier didn't read it within {_SECONDS} seconds") from None
         told.seek(0)
-        said = [_without_front(line, name, text is None)
+        said = [_without_front(line, name, "-:" if is_text else folder)
                 for line in told.read(_MOST_TOLD).decode("utf-8", "replace").splitlines()]
     if status not in (0, 1, _UNREADABLE):
         raise NotVerified(f"the verifier failed: {said[-1] if said else f'it ended with status {status}'}")
@@ -46,15 +55,21 @@ async def read_certificates(verifier: Sequence[str], name: str, text: bytes | No
     return Certificates(octets, left_out)
 
 
-async def _run(words: Sequence[str], text: bytes | None, told: int) -> tuple[tuple[bytes, ...], int]:
-    """The certificates that the verifier writes, and its exit status."""
-    with tempfile.TemporaryFile() as given:
-        given.write(text or b"")
-        given.seek(0)
+def _copy(files: Files, folder: str, text: str) -> None:
+    """Writes the files of a certificate directory into a folder, or a keyring that is one text."""
+    for file, octets in files:
+        place = os.path.join(folder, file) if file else text
+        os.makedirs(os.path.dirname(place), exist_ok=True)
+        with open(place, "xb") as copy:
+            copy.write(octets)
+
+
+async def _run(words: Sequence[str], given: str, told: int) -> tuple[tuple[bytes, ...], int]:
+    """The certificates that the verifier writes, and its exit status. Its standard input is a file."""
+    with open(given, "rb") as stdin:
         try:
             process = await asyncio.create_subprocess_exec(
-                *words, stdin=given if text is not None else subprocess.DEVNULL, stdout=subprocess.PIPE, stderr=told,
-                limit=PIECE)
+                *words, stdin=stdin, stdout=subprocess.PIPE, stderr=told, limit=PIECE)
         except OSError as error:
             raise NotVerified(f"the verifier can't be started: {error}") from None
     assert process.stdout is not None
@@ -72,7 +87,7 @@ async def _run(words: Sequence[str], text: bytes | None, told: int) -> tuple[tup
             await process.wait()
 
 
-def _without_front(line: str, name: str, is_named: bool) -> str:
-    """What the verifier says of a keyring, without its own name. Standard input is the keyring."""
+def _without_front(line: str, name: str, front: str) -> str:
+    """What the verifier says of a keyring, without its own name, and with the keyring's in place of what it read."""
     line = line.removeprefix("wot-verdicts: ")
-    return line if is_named or not line.startswith("-: ") else f"{name}{line[1:]}"
+    return name + line.removeprefix(front.removesuffix(":")) if line.startswith(front) else line

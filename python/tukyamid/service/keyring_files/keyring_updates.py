@@ -154,7 +154,7 @@ class Keyrings:
     async def _read(self, name: str, stamp: Stamp, looked: Looked) -> Contents:
         """What a keyring has. Without a verifier it is recorded as one whose signatures all wait."""
         try:
-            read = await read_certificates(self._verification.program()[:-2], name, looked.exported)
+            read = await read_certificates(self._verification.program()[:-2], name, looked.files)
         except (NotVerified, OSError) as error:
             self._unread.add(name)
             self._files.note_read(name, stamp)

@@ -83,11 +83,17 @@ def _is_new(folder: str) -> bool:
 
 
 def _read(file: str, most: int) -> bytes | None:
-    """What a file has; None if that is more than `most`. Opening it doesn't wait: it may have become a FIFO."""
+    """What a file has; None if that is more than `most`. What was opened is looked at: by now it may be a device, or a
+    FIFO, on which opening doesn't wait. It may also grow while it is read."""
     number = os.open(file, os.O_RDONLY | os.O_NONBLOCK | os.O_CLOEXEC | os.O_NOCTTY)
-    with open(number, "rb") as opened:
+    try:
         about = os.fstat(number)
         if not stat.S_ISREG(about.st_mode):
             raise Unreadable(f"{file}: this isn't a regular file")
-        text = opened.read(most + 1) if about.st_size <= most else None  # It may grow while it is read.
-    return text if text is not None and len(text) <= most else None
+        if about.st_size > most:
+            return None
+        with open(number, "rb", closefd=False) as opened:
+            text = opened.read(most + 1)
+    finally:
+        os.close(number)
+    return text if len(text) <= most else None
