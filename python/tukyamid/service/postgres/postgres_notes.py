@@ -1,4 +1,4 @@
-"""What a service notes in the shared database beside the changes of the keyring. Its connection is its own, since a
+"""What a service notes in the shared database beside the changes of the keyring. It has a connection to itself, since a
 turn may be under way on the other one."""
 
 import contextlib
