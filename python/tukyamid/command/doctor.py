@@ -147,12 +147,17 @@ def _age(path: Path, status: Mapping[str, str]) -> Iterator[Finding]:
 
 
 def _page() -> Iterator[Finding]:
-    """What `tukyamid web` needs, and nothing else does."""
+    """What `tukyamid web` needs, and nothing else does. Without the last one it shows no QR codes."""
     from ..web.page_files import D3
     find_libraries()
-    found = importlib.util.find_spec("aiohttp") is not None, any(map(os.path.isfile, D3))
-    missing = [name for name, is_there in zip(("python3-aiohttp", "libjs-d3"), found) if not is_there]
-    if missing:
+    parts = {"python3-aiohttp": importlib.util.find_spec("aiohttp") is not None,
+             "libjs-d3": any(map(os.path.isfile, D3)),
+             "python3-qrcode": importlib.util.find_spec("qrcode") is not None}
+    missing = [name for name, is_there in parts.items() if not is_there]
+    if missing == ["python3-qrcode"]:
+        yield Finding("page", State.NOTE, "tukyamid web works, but shows no QR codes: python3-qrcode isn't installed",
+                      "apt install python3-qrcode")
+    elif missing:
         yield Finding("page", State.NOTE, f"tukyamid web needs what isn't installed: {', '.join(missing)}",
                       f"apt install {' '.join(missing)}")
     else:

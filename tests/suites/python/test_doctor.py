@@ -77,7 +77,17 @@ class Doctor(unittest.TestCase):
             self.assertNotIn("libjs-d3", one.text)
         with mock.patch("importlib.util.find_spec", return_value=None):
             (one,) = self.found("page")
-            self.assertIn("python3-aiohttp", one.mend)
+            for package in "python3-aiohttp", "python3-qrcode":
+                self.assertIn(package, one.mend)
+
+    def test_the_page_without_qr_codes(self):
+        """It works, so only the QR codes are called missing."""
+        (self.home / "d3.js").touch()
+        with (mock.patch("tukyamid.web.page_files.D3", [str(self.home / "d3.js")]),
+              mock.patch("importlib.util.find_spec", lambda name: None if name == "qrcode" else mock.sentinel.found)):
+            (one,) = self.found("page")
+        self.assertEqual((one.state, one.mend), (State.NOTE, "apt install python3-qrcode"))
+        self.assertIn("shows no QR codes", one.text)
 
     @needs_engine
     def test_a_service_of_another_version(self):
