@@ -4,8 +4,9 @@ Writes lines of JSON: how far it is, with the tables that are there so far, and 
 import json
 import os
 import sys
-from collections import Counter
+from collections import defaultdict
 from collections.abc import Iterable, Iterator
+from time import monotonic as clock
 from typing import Any
 
 from ..client import connect
@@ -18,8 +19,11 @@ FULL, PARTIAL, ANY = 120, 40, 1
 VIEW = "overview"
 ORDER = "bindings", "introducers", "ending", "hashes", "islands"
 MOST_INTRODUCERS = 200
+# The bindings that are asked about one by one. Of more, a list of all bindings costs less.
+MOST_ASKED = 500
+PAUSE = 0.3
 
-Bindings = dict[tuple[str, bytes], int]
+Binding = tuple[str, bytes]
 
 
 def say(**said: Any) -> None:
@@ -32,33 +36,34 @@ class Overview:
 
     def __init__(self, engine: Engine, facts: Facts, time: int, roots: dict[str, int]) -> None:
         self._engine, self._facts, self._time, self._roots = engine, facts, time, roots
-        self._tables: list[overview_tables.Table] = []
+        self._tables: dict[str, overview_tables.Table] = {}
+        self._progress = "looking for what depends on whom"
+        self._said_at = 0.0
         self._about: dict[str, Any] = {"time": time, "roots": roots, "keys": len(facts.created)}
         engine.open_view(VIEW, time)
         for fpr, amount in roots.items():
             engine.set_root(VIEW, fpr, amount)
 
     def every_table(self) -> Iterator[overview_tables.Table]:
-        """The tables, in an order in which what takes longest comes last."""
-        self._say("counting the bindings")
+        """The tables, in an order in which what takes longest comes last. A later one takes the place of one of its
+        name."""
         full, partial, some = (self._reached(amount) for amount in (FULL, PARTIAL, ANY))
         yield self._counts(full, partial, some)
         yield overview_tables.ending(self._facts, self._time)
         yield overview_tables.hashes(self._facts)
         yield overview_tables.islands(self._facts, frozenset(fpr for fpr, _ in some))
-        yield self._introducers(full, some)
+        yield from self._introducers(full, some)
 
     def gather(self) -> None:
         """Makes the tables, and says those that are there so far whenever one is."""
+        say(progress="counting the bindings", tables=[], **self._about)
         for table in self.every_table():
-            self._tables = sorted([*self._tables, table], key=lambda one: ORDER.index(one["name"]))
-            self._say("looking for what depends on whom")
-        say(tables=self._tables, **self._about)
+            self._tables[table["name"]] = table
+            tables = sorted(self._tables.values(), key=lambda one: ORDER.index(one["name"]))
+            say(**{"progress": self._progress} if self._progress else {}, tables=tables, **self._about)
+            self._said_at = clock()
 
-    def _say(self, progress: str) -> None:
-        say(progress=progress, tables=self._tables, **self._about)
-
-    def _reached(self, amount: int) -> set[tuple[str, bytes]]:
+    def _reached(self, amount: int) -> set[Binding]:
         return {(one.fpr, one.user_id) for one in self._engine.list(VIEW, amount)}
 
     def _counts(self, full: set[Any], partial: set[Any], some: set[Any]) -> overview_tables.Table:
@@ -69,39 +74,65 @@ class Overview:
                                      "How far the user IDs of all keys are authenticated, from these roots and at "
                                      "this time.", ("reach", "amount", "bindings"), rows)
 
-    def _introducers(self, full: set[tuple[str, bytes]], some: set[tuple[str, bytes]]) -> overview_tables.Table:
-        """What would be lost without each key that is on a path, as the engine answers when it is taken out."""
+    def _introducers(self, full: set[Binding], some: set[Binding]) -> Iterator[overview_tables.Table]:
+        """What would be lost without each key that is on a path, as the engine answers when it is taken out: the table
+        as far as it is, with those first that are on most paths, and at last all of it."""
         on_paths = self._on_paths(some)
-        rows = []
-        for at, (fpr, paths) in enumerate(on_paths.most_common(MOST_INTRODUCERS), 1):
-            self._say(f"leaving out introducer {at} of {min(len(on_paths), MOST_INTRODUCERS)}")
-            lost_full, lost = self._lost_without(fpr, full, some)
-            rows.append((self._facts.name(fpr), "root" if fpr in self._roots else "introducer", paths, lost_full, lost,
-                         fpr))
-        rows.sort(key=lambda row: (-row[3], -row[4], -row[2]))
-        return overview_tables.table("introducers", "Introducers, by what depends on them",
-                                     "How many bindings of others have the key on a path, wouldn't reach full amount "
-                                     "without it, and wouldn't be reached at all.",
-                                     ("user ID", "as", "on a path of", "no longer full", "no path left", "key"), rows)
+        asked = sorted(on_paths, key=lambda fpr: -len(on_paths[fpr]))[:MOST_INTRODUCERS]
+        rows: list[tuple[str, str, int, int, int, str]] = []
+        for fpr in asked:
+            lost_full, lost = self._lost_without(fpr, on_paths[fpr], full, some)
+            rows.append((self._facts.name(fpr), "root" if fpr in self._roots else "introducer", len(on_paths[fpr]),
+                         lost_full, lost, fpr))
+            if len(rows) < len(asked) and self._is_due():
+                self._progress = f"left out introducer {len(rows)} of {len(asked)}"
+                yield _table_of_introducers(rows)
+        self._progress = ""
+        yield _table_of_introducers(rows)
 
-    def _on_paths(self, bindings: Iterable[tuple[str, bytes]]) -> Counter[str]:
-        """How many bindings of others each issuer is on a path of."""
-        found: Counter[str] = Counter()
+    def _is_due(self) -> bool:
+        """Whether what is there so far was last said a while ago."""
+        return clock() - self._said_at > PAUSE
+
+    def _on_paths(self, bindings: Iterable[Binding]) -> dict[str, list[Binding]]:
+        """The bindings of others that have each issuer on a path."""
+        found: defaultdict[str, list[Binding]] = defaultdict(list)
         for fpr, user_id in sorted(bindings):
             paths = self._engine.ask(VIEW, fpr, FULL, user_id).paths
-            found.update({step.issuer for path in paths for step in path.steps} - {fpr})
+            for issuer in {step.issuer for path in paths for step in path.steps} - {fpr}:
+                found[issuer].append((fpr, user_id))
         return found
 
-    def _lost_without(self, fpr: str, full: set[tuple[str, bytes]], some: set[tuple[str, bytes]]) -> tuple[int, int]:
+    def _lost_without(self, fpr: str, carried: list[Binding], full: set[Binding],
+                      some: set[Binding]) -> tuple[int, int]:
+        """How many bindings of others aren't full without a key, and how many have no path. An answer whose paths don't
+        have the key stays the same without it, so that only the others are asked about. Without the only root, no path
+        begins."""
+        if set(self._roots) == {fpr}:
+            return sum(one[0] != fpr for one in full), sum(one[0] != fpr for one in some)
         octets = self._engine.export(fpr)
         self._engine.drop(fpr)
         try:
-            left_full, left = self._reached(FULL), self._reached(ANY)
+            left_full, left = self._still_reached(carried)
         finally:
             self._engine.import_certificates(octets)
-        lost_full, lost = ({one for one in before if one[0] != fpr} - after
-                           for before, after in ((full, left_full), (some, left)))
-        return len(lost_full), len(lost)
+        return (sum(one in full and one not in left_full for one in carried), sum(one not in left for one in carried))
+
+    def _still_reached(self, carried: list[Binding]) -> tuple[set[Binding], set[Binding]]:
+        """Which of these bindings are full, and which have a path, as the keyring is now."""
+        if len(carried) > MOST_ASKED:
+            return self._reached(FULL), self._reached(ANY)
+        amounts = {one: self._engine.ask(VIEW, one[0], FULL, one[1]).amount for one in carried}
+        return ({one for one, amount in amounts.items() if amount >= FULL},
+                {one for one, amount in amounts.items() if amount >= ANY})
+
+
+def _table_of_introducers(rows: list[tuple[str, str, int, int, int, str]]) -> overview_tables.Table:
+    rows.sort(key=lambda row: (-row[3], -row[4], -row[2]))
+    return overview_tables.table("introducers", "Introducers, by what depends on them",
+                                 "How many bindings of others have the key on a path, wouldn't reach full amount "
+                                 "without it, and wouldn't be reached at all.",
+                                 ("user ID", "as", "on a path of", "no longer full", "no path left", "key"), rows)
 
 
 def main(words: list[str]) -> int:

@@ -8,7 +8,7 @@ import { addressOfKey, standpoint, state } from "./state.js";
 const PAUSE = 500;
 const SHOWN = 50;
 let shownFor = "";
-let shownTables = 0;
+let latest = null;
 
 export async function showOverview() {
   const asked = standpoint();
@@ -16,13 +16,12 @@ export async function showOverview() {
   if (id === shownFor && byId("tables").dataset.done) return;
   if (id !== shownFor) fill(byId("tables"));
   shownFor = id;
-  shownTables = 0;
   delete byId("tables").dataset.done;
   while (state.view === "overview" && id === shownFor) {
     try {
       const reply = await call("overview", asked);
       if (reply === null) return;
-      if (reply.tables?.length && (!reply.progress || reply.tables.length !== shownTables)) show(reply);
+      if (reply.tables?.length) show(reply);
       if (reply.tables && !reply.progress) return;
       showProgress(reply.progress);
     } catch (failure) {
@@ -40,20 +39,36 @@ function showProgress(text) {
 
 function show(reply) {
   const box = byId("tables");
-  shownTables = reply.tables.length;
-  fill(box,
+  latest = reply;
+  if (!byId("all-tables")) fill(box, ...aboutOf(reply), make("div", { id: "all-tables" }));
+  let place = byId("all-tables").firstElementChild;
+  for (const table of reply.tables) {
+    if (place?.dataset.name !== table.name) {
+      byId("all-tables").insertBefore(tableOf(table), place);
+    } else {
+      if (place.dataset.rows !== String(table.count)) {  // It has grown meanwhile.
+        place.replaceWith(tableOf(table));
+        place = byId(`table-${table.name}`).closest("section");
+      }
+      place = place.nextElementSibling;
+    }
+  }
+  if (reply.progress) return;
+  box.dataset.done = "yes";
+  fill(byId("overview-state"));
+}
+
+/** What the overview is about, and what can be done with all of it. */
+function aboutOf(reply) {
+  return [
     make("p", {}, `${count(reply.keys, "key")}, as of ${day(reply.time)}, from `,
       state.roots.length ? "" : "no root",
       state.roots.flatMap((root, place) => [place ? ", " : "", name(state.names.get(root.fingerprint)
         || root.fingerprint), ` (${root.amount})`]), "."),
     make("div", { class: "row" },
       make("button", { type: "button", id: "json", onclick: () => save("overview.json", "application/json",
-        `${JSON.stringify(reply, null, 1)}\n`) }, "All as JSON"),
-      make("button", { type: "button", onclick: again }, "Refresh")),
-    reply.tables.map(tableOf));
-  if (reply.progress) return;
-  box.dataset.done = "yes";
-  fill(byId("overview-state"));
+        `${JSON.stringify(latest, null, 1)}\n`) }, "All as JSON"),
+      make("button", { type: "button", onclick: again }, "Refresh"))];
 }
 
 function again() {
@@ -64,7 +79,8 @@ function again() {
 function tableOf(table) {
   const title = `table-${table.name}`;
   const rest = table.count - table.rows.length;
-  return make("section", { class: "card", "aria-labelledby": title },
+  return make("section", {
+    class: "card", "aria-labelledby": title, "data-name": table.name, "data-rows": table.count },
     make("h2", { id: title }, table.title), make("p", { class: "soft" }, table.about),
     chartOf(table),
     table.rows.length ? rowsOf(table, title) : make("p", {}, "None."),
