@@ -20,7 +20,7 @@ from .page_requests import Standpoint
 from .said import said_of
 
 MOST_USER_IDS = 50
-MOST_BY = 2000
+MOST_RANKED = 2000
 FULL = 120
 VIEW = "key"
 
@@ -28,7 +28,7 @@ VIEW = "key"
 class _Vouched(NamedTuple):
     """A certification of a user ID of the key, what the engine says about it, and what it adds to an answer."""
     issuer: str | None
-    user_id: bytes
+    question: Question
     reason: Reason
     worth: int
 
@@ -69,7 +69,7 @@ class KeyPage:
         of them."""
         certificate = self._keyring.certificate(self._fpr)
         if certificate is None:
-            return {"count": 0, "begin": begin, "items": [], "names": {}}
+            return {"count": 0, "begin": begin, "items": [], "names": {}, "worth": 0, "ranked": 0}
         questions = [Question(self._view, self._fpr, user_id, FULL)
                      for user_id in list(certificate.user_ids)[:MOST_USER_IDS]]
         sought = self._vouched(certificate, questions)
@@ -77,10 +77,10 @@ class KeyPage:
         items = []
         for issuer in shown:
             known = self._names.note(issuer if len(issuer) >= 40 else None)
-            said = [self._said(one.issuer, certificate, one.user_id, one.reason, one.worth)
-                    for one in sorted(sought[issuer], key=_Vouched.rank)]
+            said = [self._said(certificate, one) for one in sorted(sought[issuer], key=_Vouched.rank)]
             items.append({"key": issuer, "known": known, "certifications": said})
-        return {"count": len(sought), "begin": begin, "items": items, "names": self._names.found}
+        return {"count": len(sought), "begin": begin, "items": items, "names": self._names.found,
+                "worth": sum(any(one.worth for one in said) for said in sought.values()), "ranked": len(sought)}
 
     def _vouched(self, certificate: Certificate, questions: list[Question]) -> dict[str, list[_Vouched]]:
         """The certifications by others, by who made them: the key, or what the signature names."""
@@ -93,7 +93,7 @@ class KeyPage:
                     continue
                 named = issuer or self._named(certificate, question.user_id, reason.number)
                 if named != self._fpr and named != key_id(self._fpr):
-                    found[named].append(_Vouched(issuer, question.user_id, reason, worth.get(reason.number, 0)))
+                    found[named].append(_Vouched(issuer, question, reason, worth.get(reason.number, 0)))
         return found
 
     @staticmethod
@@ -103,31 +103,50 @@ class KeyPage:
         return (signature.said.issuer or signature.said.key_id or "") if signature is not None else ""
 
     def vouches_for(self, begin: int, most: int) -> dict[str, Any]:
-        """Whom the key vouches for, the introducers that it makes first."""
+        """Whom the key vouches for, those first that get most through it, and of these the introducers that it makes.
+        Of very many the first are sorted so."""
         signed = list(self._client.certified(self._fpr))
+        worth = {one.fpr: self._through_the_key(one.fpr) for one in signed[:MOST_RANKED]}
+        signed[:MOST_RANKED] = sorted(signed[:MOST_RANKED], key=lambda one: (-worth[one.fpr], -one.depth))
         items = []
         for one in signed[begin:begin + most]:
             certificate = self._keyring.certificate(one.fpr)
             if certificate is not None:
                 self._names.note(one.fpr)
                 items.append({"key": one.fpr, "known": True, "certifications": list(self._by_the_key(certificate))})
-        return {"count": len(signed), "begin": begin, "items": items, "names": self._names.found}
+        return {"count": len(signed), "begin": begin, "items": items, "names": self._names.found,
+                "worth": sum(map(bool, worth.values())), "ranked": min(len(signed), MOST_RANKED)}
+
+    def _through_the_key(self, fpr: str) -> int:
+        """The greatest amount that a user ID of another key gets through a certification by this one."""
+        answers = [self._view.ask(fpr, FULL, one.user_id) for one in self._client.find("key", fpr)]
+        return max((sum(path.amount for path in answer.paths
+                        if any(step.issuer == self._fpr and step.target == fpr for step in path.steps))
+                    for answer in answers), default=0)
 
     def _by_the_key(self, certificate: Certificate) -> Iterator[dict[str, Any]]:
-        """What this key has said about another one's user IDs."""
+        """What this key has said about another one's user IDs, that first which is worth most."""
+        found = []
         for user_id, signatures in certificate.user_ids.items():
             theirs = {one.number for one in _naming(signatures, self._fpr)
                       if self._keyring.index.issuer(certificate.fpr, one.number) == self._fpr}
-            explanation = self._view.explain(certificate.fpr, user_id) if theirs else None
-            amount = self._view.ask(certificate.fpr, FULL, user_id).amount if theirs else 0
-            for reason in explanation.reasons if explanation is not None else ():
-                if reason.number in theirs:
-                    yield {**self._said(self._fpr, certificate, user_id, reason, 0), "reached": amount}
+            question = Question(self._view, certificate.fpr, user_id, FULL) if theirs else None
+            if question is None or question.explanation is None:
+                continue
+            worth = _worths(question)
+            found += [_Vouched(self._fpr, question, reason, worth.get(reason.number, 0))
+                      for reason in question.explanation.reasons if reason.number in theirs]
+        for one in sorted(found, key=_Vouched.rank):
+            yield {**self._said(certificate, one), "reached": one.question.amount}
 
-    def _said(self, issuer: str | None, certificate: Certificate, user_id: bytes, reason: Reason,
-              worth: int) -> dict[str, Any]:
-        one = certification_of(issuer, certificate.fpr, user_id, reason, certificate.signature(user_id, reason.number))
-        return {**said_of(one), "word": reason.word, "meaning": reason.word.meaning, "worth": worth}
+    @staticmethod
+    def _said(certificate: Certificate, vouched: _Vouched) -> dict[str, Any]:
+        """What a certification says, and why it adds nothing if it doesn't."""
+        user_id, reason = vouched.question.user_id, vouched.reason
+        one = certification_of(vouched.issuer, certificate.fpr, user_id, reason,
+                               certificate.signature(user_id, reason.number))
+        meaning = reason.word.meaning if vouched.worth else vouched.question.others([reason])[0].meaning
+        return {**said_of(one), "word": reason.word, "meaning": meaning, "worth": vouched.worth}
 
 
 def _worths(question: Question) -> dict[str, int]:

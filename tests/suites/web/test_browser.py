@@ -75,7 +75,8 @@ class Asked(InBrowser):
         self.open("Frank", "Frank <frank@example.org>")
         self.browser.wait_text(".verdict", "0 of 120: no path leads here from your roots.")
         self.assertFalse(self.browser.element("#picture").is_displayed())
-        self.browser.wait_text("#standpoint", "Seen from Alice <alice@example.net> (120), as of 2025-12-01.")
+        self.browser.wait_text("#standpoint", "Seen from your root Alice <alice@example.net> (amount 120), "
+                               "as of 2025-12-01.")
         self.browser.wait_text("#others", "the issuer's key is revoked, with effect at all times")
 
     def test_the_time_is_moved(self):

@@ -6,7 +6,7 @@ import subprocess
 from browser import Browser, needs_browser
 from made import Made
 from outside import folder
-from page import Page, needs_page
+from page import HOSTILE, Page, needs_page
 from test_access import INTERACTIVE
 from test_browser import CAROL, DAVE
 from test_places import ALICE, BOB, ERIN, FRANK, Places
@@ -24,7 +24,7 @@ class Key(Places):
         self.assertEqual((self.browser.text("#by-count"), self.browser.text("#for-count")), ("1", "4"))
         self.browser.wait_text("#key-user-ids", "✓ authenticated 120 of 120")
         (by,) = self.lines("#vouched-by > ul > li")
-        for part in ALICE, "✓ counts", "2025-02-01", "adds 120", "makes it an introducer for anyone at example.org":
+        for part in ALICE, "✓ adds 120", "2025-02-01", "makes it an introducer for anyone at example.org":
             self.assertIn(part, by)
         vouched = {text.split("\n")[0]: text for text in self.lines("#vouches-for > ul > li")}
         self.assertEqual(set(vouched), {f"{CAROL} ✓ 120 of 120", f"{DAVE} ◐ 60 of 120", f"{ERIN} ✗ 0 of 120",
@@ -36,6 +36,25 @@ class Key(Places):
         self.assertEqual([text.split("\n")[0] for text in self.lines("#vouched-by > ul > li")], [ALICE, BOB])
         self.open_key("Dave", DAVE)
         self.assertEqual([text.split("\n")[0] for text in self.lines("#vouched-by > ul > li")], [CAROL, BOB])
+
+    def test_whom_it_vouches_for_is_sorted_by_what_that_is_worth(self):
+        """Carol gets 60 from Bob. Dave isn't within Bob's scope, what he says of Frank has expired, and Erin's key is
+        revoked. Alice gives Bob, and those with hostile names, 120 and makes them introducers, and Carol 60."""
+        self.open_key("Bob", BOB)
+        self.assertEqual(self.browser.text("#for-worth"), "1 of 4 get an amount through this key; these come first.")
+        vouched = self.lines("#vouches-for > ul > li")
+        self.assertTrue(vouched[0].startswith(f"{CAROL} ✓ 120 of 120\n✓ adds 60"), vouched)
+        said = "\n".join(vouched[1:])
+        for why in ("✓ counts, adds nothing its issuer isn't trusted this far: a depth, a scope or what is left",
+                    "✗ doesn’t count it has expired;",
+                    "✓ counts, adds nothing no path may end here: the key is revoked"):
+            self.assertIn(why, said)
+        self.open_key("Alice", ALICE)
+        self.assertEqual(self.browser.text("#for-worth"),
+                         f"{2 + len(HOSTILE)} of {3 + len(HOSTILE)} get an amount through this key; these come first.")
+        first = [text.split("\n")[1].split(" for ")[0] for text in self.lines("#vouches-for > ul > li")]
+        self.assertEqual([text[:10].strip() for text in first],
+                         ["✓ adds 120"] * (1 + len(HOSTILE)) + ["✓ adds 60", "✓ counts,"])
 
     def test_if_it_were_gone(self):
         self.open_key("Bob", BOB)

@@ -6,12 +6,13 @@ import { keyLink } from "./links.js";
 import { light } from "./picture.js";
 import { scopeText } from "./scopes.js";
 import { learn, nameOf, state, subject } from "./state.js";
-import { word } from "./words.js";
+import { MEANINGS, termsIn } from "./terms.js";
+import { explained, word } from "./words.js";
 
 /** The sentence, as nodes: "120 of 120, by two paths from Alice". */
 export function sentence(reply) {
   const said = [make("strong", { class: "sum" }, `${reply.amount} of ${reply.wanted}`)];
-  if (!reply.paths.length) return [...said, why(reply)];
+  if (!reply.paths.length) return [...said, ...why(reply)];
   const roots = [...new Set(reply.paths.map((path) => path.root))];
   said.push(`, by ${inWords(reply.paths.length, "path")} from `);
   roots.forEach((root, place) => {
@@ -22,8 +23,7 @@ export function sentence(reply) {
 }
 
 function why(reply) {
-  if (reply.word !== "ok") return `: ${reply.meaning}.`;
-  return ": no path leads here from your roots.";
+  return explained(reply.word !== "ok" ? `: ${reply.meaning}.` : ": no path leads here from your roots.");
 }
 
 export function showAnswer(element, reply, binding, present) {
@@ -95,7 +95,8 @@ export function showOthers(element, reply) {
     return;
   }
   const total = reply.others.reduce((sum, one) => sum + one.count, 0);
-  fill(element, make("p", { class: "soft" }, `${count(total, "certification")} on no path.`),
+  fill(element, make("p", { class: "soft" }, ...explained(`${count(total, "certification")} on no path. Each has an `
+    + "amount, a depth and perhaps a scope.")),
     reply.others.map((group) => groupOf(group, total <= 12)));
 }
 
@@ -105,7 +106,8 @@ function groupOf(group, isOpen) {
   const list = make("ul", { class: "others" });
   const box = make("details", { class: "group" },
     make("summary", {}, make("span", { class: "tally" }, group.count.toLocaleString("en")), " ",
-      make("span", {}, meaning)), list);
+      make("span", {}, meaning)),
+    make("p", { class: "soft small" }, termsIn(meaning).map((term) => `${term}: ${MEANINGS[term]} `)), list);
   const shown = { list, word: group.word, begin: 0, count: group.count };
   box.addEventListener("toggle", () => { if (box.open && !list.childElementCount) more(shown); });
   box.open = isOpen;

@@ -61,11 +61,16 @@ export const cut = (text, most) => ([...text].length <= most ? text : `${[...tex
 
 const measure = document.createElement("canvas").getContext("2d");
 
-/** As much of a text as a width has room for, in the page's font at a size and weight. */
-export function fitted(text, width, size, weight = 400) {
+/** The width of a text in the page's font at a size and weight. */
+export function widthOf(text, size, weight = 400) {
   measure.font = `${weight} ${size}px ${getComputedStyle(document.body).fontFamily}`;
+  return measure.measureText(text).width;
+}
+
+/** As much of a text as a width has room for. */
+export function fitted(text, width, size, weight = 400) {
   const letters = [...cut(text, 200)];
-  if (measure.measureText(letters.join("")).width <= width) return letters.join("");
+  if (widthOf(letters.join(""), size, weight) <= width) return letters.join("");
   let [fits, most] = [0, letters.length];
   while (fits < most) {
     const middle = Math.ceil((fits + most) / 2);

@@ -7,7 +7,7 @@ import { bindingLink, issuerLink } from "./links.js";
 import { showLife } from "./life.js";
 import { scopeNodes } from "./scopes.js";
 import { addressOf, learn, nameOf, standpoint, state } from "./state.js";
-import { word } from "./words.js";
+import { explained, word } from "./words.js";
 
 const FIRST = 20;
 const MORE = 50;
@@ -42,7 +42,7 @@ function show(reply) {
   for (const part of document.querySelectorAll("#key .known")) part.hidden = !reply.there;
   fill(byId("key-summary"),
     make("p", { class: reply.word === "ok" ? "soft" : "warn" }, !reply.there ? "This key isn’t in the keyring."
-      : reply.word === "ok" ? `A key in order, created ${day(reply.created)}.` : `${reply.meaning}.`),
+      : reply.word === "ok" ? `A key in order, created ${day(reply.created)}.` : explained(`${reply.meaning}.`)),
     reply.root && make("p", {}, make("span", { class: "badge rooted" }, "your root"), " You trust this key yourself, ",
       "with ", word("amount"), ` ${reply.root}.`),
     fingerprintOf(reply.fingerprint));
@@ -58,7 +58,7 @@ function userIdOf(reply, one) {
   const said = { yes: "✓ authenticated", part: "◐ partly authenticated", no: "✗ not authenticated" }[sort];
   return make("li", { class: sort }, bindingLink(reply.fingerprint, one.spelled, one.user_id), " ",
     make("span", { class: "badge" }, said), " ", make("span", {}, `${one.amount} of ${one.wanted}`), " ",
-    make("span", { class: "soft" }, one.word === "ok" ? "" : `${one.meaning}. `),
+    make("span", { class: "soft" }, one.word === "ok" ? "" : explained(`${one.meaning}. `)),
     make("a", { class: "why", href: addressOf({ view: "ask", binding: {
       fingerprint: reply.fingerprint, spelled: one.spelled, user_id: one.user_id }, without: [], suppose: [] }),
     "aria-label": `${one.reached ? "How" : "Why not"}: ${one.user_id}` }, one.reached ? "How?" : "Why not?"));
@@ -93,7 +93,7 @@ function codeOf({ rows, text }) {
 /** One of the two lists, some of it at a time. */
 async function showVouched(side, element, asked) {
   const list = make("ul", { class: "vouched" });
-  fill(element, list);
+  fill(element, make("p", { class: "soft", id: `${side}-worth` }), list);
   fill(byId(`${side}-count`), "…");
   await more(side, list, asked, 0, FIRST);
 }
@@ -107,6 +107,7 @@ async function more(side, list, asked, begin, most) {
     if (reply === null) return;
     learn(reply.names);
     fill(byId(`${side}-count`), reply.count.toLocaleString("en"));
+    fill(byId(`${side}-worth`), ...worthOf(side, reply));
     list.append(...reply.items.map((item) => itemOf(side, item)));
     const left = reply.count - begin - reply.items.length;
     if (!reply.count) list.append(make("li", { class: "soft" }, "Nobody."));
@@ -114,6 +115,15 @@ async function more(side, list, asked, begin, most) {
   } catch (failure) {
     fill(waiting, make("span", { class: "warn" }, `This couldn’t be loaded: ${failure.message}.`));
   }
+}
+
+/** How many of them matter to an answer, and so come first. */
+function worthOf(side, reply) {
+  if (!reply.count) return [];
+  const [number, all] = [reply.worth.toLocaleString("en"), reply.ranked.toLocaleString("en")];
+  const said = side === "by" ? `${number} of ${all} add to the `
+    : `${number} of ${reply.ranked < reply.count ? `the first ${all}` : all} get an `;
+  return [said, word("amount"), side === "by" ? "; these come first." : " through this key; these come first."];
 }
 
 function furtherOf(side, list, asked, begin, left) {
@@ -141,12 +151,11 @@ function reachedOf(item) {
 function aboutCertification(side, one, called) {
   const counts = one.word === "edge";
   const parts = [make("span", { class: counts ? "yes" : "no" }, make("span", { class: "badge" },
-    counts ? "✓ counts" : "✗ doesn’t count")), " "];
-  if (!counts) parts.push(`${one.meaning}; `);
+    !counts ? "✗ doesn’t count" : one.worth ? `✓ adds ${one.worth}` : "✓ counts, adds nothing")), " "];
+  if (!one.worth) parts.push(...explained(`${one.meaning.replace(/^counts(, but|:) /, "")}; `));
   if (one.user_id !== called || side === "by") parts.push("for ", name(one.user_id), ", ");
   const ends = one.ends === null ? "" : ` to ${day(one.ends)}`;
   parts.push(make("span", { class: "soft" }, `${day(one.made)}${ends}`));
-  if (one.worth) parts.push(`, adds ${one.worth}`);
   if (one.amount < 120) parts.push(", ", word("amount"), ` ${one.amount}`);
   if (one.depth) parts.push(make("br"), ...introduction(one));
   return parts;

@@ -1,12 +1,16 @@
 // Where the keys and the certifications of some paths stand in a drawing: rows from the roots down to the target.
 
-export const BOX = { width: 200, height: 58 };
-const SLOT = 236;
-const ROW = BOX.height + 104;
+export const HEIGHT = 58;
+const ROW = HEIGHT + 104;
 const MARGIN = 16;
+// The widths of boxes, and of what a box and the room beside it take; on a narrow screen they are smaller.
+const WIDE = { box: 200, slot: 236, margin: MARGIN };
+const NARROW = { box: 120, slot: 146, margin: 18 };
+const LEAST_ROOM = 480;
 
 /** Keys with the middle of their tops, certifications with the points of their lines and the middle of their labels. */
-export function layOut(paths) {
+export function layOut(paths, room) {
+  const { box, slot, margin } = room < LEAST_ROOM ? NARROW : WIDE;
   const target = paths[0].steps.at(-1).target;
   const keys = new Map();
   const edges = gather(paths, keys);
@@ -15,13 +19,14 @@ export function layOut(paths) {
   for (const key of keys.values()) (rows[key.far] ??= []).push(key);
   for (const edge of edges) edge.stops = stopsOf(edge, keys, rows);
   order(rows, edges, keys);
-  const width = 2 * MARGIN + Math.max(...rows.map((row) => row.length)) * SLOT - (SLOT - BOX.width);
+  const width = 2 * margin + Math.max(...rows.map((row) => row.length)) * slot - (slot - box);
   rows.forEach((row, far) => row.forEach((one, at) => {
-    one.x = width / 2 + (at - (row.length - 1) / 2) * SLOT;
+    one.x = width / 2 + (at - (row.length - 1) / 2) * slot;
     one.y = MARGIN + (rows.length - 1 - far) * ROW;
   }));
   for (const edge of edges) trace(edge, edges, keys);
-  return { keys: [...keys.values()], edges, target, width, height: 2 * MARGIN + (rows.length - 1) * ROW + BOX.height };
+  const height = 2 * MARGIN + (rows.length - 1) * ROW + HEIGHT;
+  return { keys: [...keys.values()], edges, target, width, height, box };
 }
 
 /** The certifications of all paths, each once, with the amounts of its paths. */
@@ -81,9 +86,9 @@ function order(rows, edges, keys) {
 function trace(edge, edges, keys) {
   const from = keys.get(edge.step.issuer);
   const to = keys.get(edge.step.target);
-  const middle = BOX.height / 2;
+  const middle = HEIGHT / 2;
   const passed = edge.stops.map((stop) => [stop.x, stop.y + middle]);
-  edge.points = [[from.x, from.y + BOX.height], ...passed, [to.x, to.y - 3]];
+  edge.points = [[from.x, from.y + HEIGHT], ...passed, [to.x, to.y - 3]];
   if (edge.stops.length) {
     const stop = edge.stops[Math.floor(edge.stops.length / 2)];
     edge.label = [stop.x, stop.y + middle];

@@ -16,19 +16,27 @@ import { attachMainSearch } from "./search.js";
 import { addressOf, change, learn, read, state, subject, VIEWS, whenChanged } from "./state.js";
 import { showTime } from "./time.js";
 import { leaveOut, showWhatIf } from "./whatif.js";
-import { showWords } from "./words.js";
+import { showWords, word } from "./words.js";
 
 let shownPlace = "";
+let hasBegun = false;
 
-async function begin() {
+function begin() {
+  byId("loading").hidden = !byId("loading").dataset.failed;
   attachMainSearch((one) => change({ binding: one, without: [], suppose: [], view: "ask" }));
-  if (!await load()) return;
   document.querySelector(".skip").addEventListener("click", (event) => {
     event.preventDefault();  // It leads within this place, and is no other one.
     byId("main").focus();
   });
   whenChanged(show);
   window.addEventListener("popstate", () => { Object.assign(state, read(location.hash)); show(); });
+  start();
+}
+
+/** Shows the place that the address names, once there is a server that says what the page begins with. */
+async function start() {
+  if (!await load()) return;
+  hasBegun = true;
   Object.assign(state, read(location.hash));
   show();
   if (state.view === "start") byId("sought").focus();
@@ -49,7 +57,8 @@ async function load() {
     fill(byId("notes"), notesOf(reply));
     return true;
   } catch (failure) {
-    fill(byId("notes"), make("p", { class: "warn", role: "alert" }, `${failure.message}.`));
+    fill(byId("notes"), make("p", { class: "warn", role: "alert" }, `There is nothing to show: ${failure.message}. `,
+      make("button", { type: "button", id: "start-again", onclick: start }, "Try again")));
     return false;
   }
 }
@@ -65,11 +74,13 @@ function notesOf(reply) {
 /** From where one looks, in a sentence. */
 function standpointOf() {
   const roots = state.roots.flatMap((root, at) => [
-    at ? ", " : "", keyLink(root.fingerprint), ` (${root.amount})`]);
-  return ["Seen from ", ...(roots.length ? roots : ["no root yet"]), `, as of ${day(state.time)}.`];
+    at ? ", " : "", keyLink(root.fingerprint), ` (amount ${root.amount})`]);
+  return ["Seen from ", ...(roots.length ? ["your ", word("root"), state.roots.length > 1 ? "s " : " ", ...roots]
+    : ["no root yet"]), `, as of ${day(state.time)}.`];
 }
 
 function show() {
+  if (!hasBegun) return;
   fill(byId("standpoint"), standpointOf());
   for (const view of VIEWS) {
     byId(view).hidden = state.view !== view;

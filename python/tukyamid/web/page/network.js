@@ -5,11 +5,13 @@ import { beginning } from "./beginning.js";
 import { byId, count, draw, fill, fitted, make } from "./dom.js";
 import { keyLink } from "./links.js";
 import { addressOf, addressOfKey, learn, nameOf, standpoint, state } from "./state.js";
+import { explain } from "./tips.js";
 import { HEIGHT, layOutTree, lineBetween } from "./tree_layout.js";
 import { word } from "./words.js";
 import { frame } from "./zoom.js";
 
 const PAUSE = 300;
+const MOST_SAID = 3;
 let shownFor = "";
 let latest = null;
 
@@ -46,11 +48,13 @@ new ResizeObserver(([entry]) => {
 
 function show(reply) {
   learn(Object.fromEntries(reply.nodes.filter((one) => one.sort === "key").map((one) => [one.id, one.name])));
-  fill(byId("counts"),
+  const isKnown = reply.done || reply.total > 0;  // Else nobody has been looked for yet.
+  fill(byId("counts"), isKnown && [
     countOf("yes", "✓", reply.full, "fully", word("authenticated")),
     countOf("part", "◐", reply.part, "partly", "authenticated"),
-    countOf("no", "✗", reply.none, "not", "authenticated"));
-  fill(byId("network-state"), reply.done ? "" : `${reply.asked.toLocaleString("en")} of `
+    countOf("no", "✗", reply.none, "not", "authenticated")]);
+  fill(byId("network-state"), reply.done ? "" : !isKnown ? "Looking for who is authenticated…"
+    : `${reply.asked.toLocaleString("en")} of `
     + `${count(reply.total, "user ID")} asked about so far…`);
   drawNetwork(reply);
 }
@@ -59,9 +63,15 @@ const countOf = (sort, sign, number, ...said) => make("p", { class: `count ${sor
   make("span", { class: "badge" }, `${sign} ${number.toLocaleString("en")}`), " ",
   ...said.flatMap((one) => [one, " "]));
 
+/** How to read the picture, for somebody who sees one for the first time. */
+const aboutPicture = () => [
+  "Each box is a key. Lines begin at your ", word("root"), ", and lead from left to right or downwards, from a key to ",
+  "one that it vouches for. The ", word("amount"), " says how much trust arrives. Choose a box to see whose it is."];
+
 function drawNetwork(reply) {
   const element = byId("network");
   element.hidden = !reply.nodes.length;
+  fill(byId("network-about"), reply.nodes.length ? aboutPicture() : []);
   if (!reply.nodes.length) return;
   const room = Math.floor(element.getBoundingClientRect().width) - 4;
   element.dataset.room = room;
@@ -72,7 +82,7 @@ function drawNetwork(reply) {
     viewBox: `0 0 ${width} ${height}`, width, height, class: "tree", role: "group",
     "aria-label": "Who vouches for whom, from your roots" });
   const lines = reply.links.filter((link) => link.tree || isWide);
-  for (const link of lines) svg.append(linkOf(link, byName.get(link.from), byName.get(link.to), isWide));
+  for (const link of lines) svg.append(...linkOf(link, byName.get(link.from), byName.get(link.to), isWide));
   for (const node of nodes) {
     if (node.sort === "group" || String(node.parent).startsWith("group ")) {
       svg.append(draw("path", {
@@ -80,20 +90,26 @@ function drawNetwork(reply) {
     }
   }
   const focused = document.activeElement?.getAttribute?.("data-id");
-  svg.append(...nodes.map(nodeOf));
+  svg.append(...nodes.map((node) => nodeOf(node, reply.links)));
   const { area } = frame(element, svg, "The network", "network");
   if (focused) [...area.querySelectorAll("a")].find((one) => one.getAttribute("data-id") === focused)?.focus();
 }
 
-/** A line has the name of what it says; one that doesn't lead down the tree is thin. */
+/** A line has the name of what it says; one that doesn't lead down the tree is thin. Around it is room for a finger. */
 function linkOf(link, from, to, isWide) {
   const inGroup = link.tree && to.parent !== from.id;  // The line leads through the group that it is in.
-  return draw("path", {
-    class: `line ${link.tree ? "" : "beside"}`, d: inGroup ? "" : lineBetween(from, to, isWide) },
-  draw("title", {}, `${nameOf(link.from)} vouches for ${nameOf(link.to)}`));
+  const d = inGroup ? "" : lineBetween(from, to, isWide);
+  return [draw("path", { class: `line ${link.tree ? "" : "beside"}`, d }, draw("title", {}, vouches(link))),
+    explain(draw("path", { class: "touch", d }), () => [saidOf(link)])];
 }
 
-function nodeOf(node) {
+const vouches = (link) => `${nameOf(link.from)} vouches for ${nameOf(link.to)}`;
+
+/** What a line says, in a sentence. */
+const saidOf = (link) => `${vouches(link)}, with amount ${link.amount}${link.depth
+  ? `, and makes it an introducer (depth ${link.depth})` : ""}.`;
+
+function nodeOf(node, links) {
   const isKey = node.sort === "key";
   const sort = !isKey ? "group" : node.root ? "root" : node.amount >= 120 ? "yes" : "part";
   const [upper, lower] = isKey ? [node.name || node.id, aboutKey(node)] : [groupName(node), aboutGroup(node)];
@@ -104,12 +120,22 @@ function nodeOf(node) {
   const link = draw("a", {
     href, class: `node ${sort}`, transform: `translate(${node.x} ${node.y})`, "data-id": node.id,
     "aria-label": `${upper}: ${lower}`, ...(isKey ? {} : { "aria-expanded": String(node.open) }) },
-  draw("title", {}, upper),
   draw("rect", { width: node.width, height: HEIGHT, rx: 9 }),
   draw("text", { x: 10, y: 18, class: "main" }, fitted(isKey ? upper.replace(/ <[^<>]*>$/, "") : upper, room,
     13.5, 600)),
   draw("text", { x: 10, y: 35, class: "small" }, fitted(lower, room, 12)));
-  return link;
+  return isKey ? explain(link, () => sentencesOf(node, links)) : link;
+}
+
+/** What a box says, and the lines that lead to it. */
+function sentencesOf(node, links) {
+  const to = links.filter((link) => link.to === node.id);
+  const reached = node.amount >= 120 ? "fully authenticated" : "partly authenticated";
+  return [node.name || node.id,
+    node.root ? `Your root, with amount ${node.root}.` : `${node.amount} of 120: ${reached}.`,
+    node.through > 0 && `It leads to ${count(node.through, "other key")}.`,
+    ...to.slice(0, MOST_SAID).map(saidOf),
+    to.length > MOST_SAID && `And ${count(to.length - MOST_SAID, "more key")}.`].filter(Boolean);
 }
 
 function aboutKey(node) {

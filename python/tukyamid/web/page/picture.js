@@ -1,10 +1,11 @@
 // The paths drawn from the roots down to the target: a row for each distance from it, a line for each certification.
 
-import { layOut, BOX } from "./layout.js";
-import { cut, day, draw, fill, fitted } from "./dom.js";
+import { HEIGHT, layOut } from "./layout.js";
+import { cut, day, draw, fill, fitted, widthOf } from "./dom.js";
 import { fold } from "./folding.js";
 import { scopeText } from "./scopes.js";
 import { addressOfKey, nameOf, state } from "./state.js";
+import { explain } from "./tips.js";
 import { frame } from "./zoom.js";
 
 const LINE = 15;
@@ -17,7 +18,8 @@ export function showPicture(element, reply, all = false) {
   if (!reply.paths.length) return;
   const { paths, folds } = all ? { paths: reply.paths, folds: new Map() } : fold(reply.paths);
   const unfold = () => { showPicture(element, reply, true); element.querySelector(".area").focus(); };
-  const { area, fit } = frame(element, drawn(reply, paths, folds, unfold), "The paths, drawn", "paths");
+  const room = element.getBoundingClientRect().width;
+  const { area, fit } = frame(element, drawn(reply, paths, folds, unfold, room), "The paths, drawn", "paths");
   if (area.scrollWidth > 2 * area.clientWidth) fit();
   area.scrollLeft = (area.scrollWidth - area.clientWidth) / 2;  // The target is in the middle.
 }
@@ -29,8 +31,8 @@ export function light(place) {
   }
 }
 
-function drawn(reply, shown, folds, unfold) {
-  const network = layOut(shown);
+function drawn(reply, shown, folds, unfold, room) {
+  const network = layOut(shown, room);
   const paths = reply.paths.length === 1 ? "One path" : `${reply.paths.length} paths`;
   const svg = draw("svg", {
     viewBox: `0 0 ${network.width} ${network.height}`, width: network.width, height: network.height, role: "group",
@@ -40,7 +42,7 @@ function drawn(reply, shown, folds, unfold) {
     id: "tip", viewBox: "0 0 8 8", refX: 7, refY: 4, markerWidth: 7, markerHeight: 7, orient: "auto",
   }, draw("path", { d: "M0 0 8 4 0 8z", class: "tip" }))));
   svg.append(...network.edges.map(lineOf), ...network.keys.map((key) => (folds.has(key.fpr)
-    ? foldOf(key, folds.get(key.fpr), unfold) : boxOf(key, reply, network.target))));
+    ? foldOf(key, folds.get(key.fpr), network.box, unfold) : boxOf(key, reply, network))));
   svg.append(...network.edges.map(labelOf));
   return svg;
 }
@@ -55,45 +57,64 @@ function lineOf(edge) {
     draw("path", { d: `M${edge.points[0].join(" ")}${ways.join("")}`, "marker-end": "url(#tip)" }));
 }
 
-/** What the certification says, beside its line. */
+/** What the certification says, beside its line. A tip says it in sentences, with the words explained. */
 function labelOf(edge) {
   const { step, amounts } = edge;
-  if (step.folded) return labelAt(edge.label, [`${amounts.length} certifications`,
-    `together ${amounts.reduce((sum, one) => sum + one, 0)}`]);
+  const whole = amounts.reduce((sum, one) => sum + one, 0);
+  if (step.folded) {
+    return explain(labelAt(edge.label, [`${amounts.length} certifications`, `together ${whole}`]), () => [
+      `${amounts.length} arrows in one: certifications of many keys, on whose paths the amount is ${whole} together.`]);
+  }
   const said = [`amount ${amounts.join(" + ")} of ${step.amount}`, `depth ${step.depth}, made ${day(step.made)}`];
   if (step.ends !== null) said.push(`ends ${day(step.ends)}`);
   if (step.scopes.length) said.push(cut(`for ${scopeText(step)}`, MOST_CHARACTERS));
-  return labelAt(edge.label, said);
+  return explain(labelAt(edge.label, said), () => sentencesOf(step, whole), step.scopes.length ? ["scope"] : []);
+}
+
+/** What an arrow says, in sentences. */
+function sentencesOf(step, used) {
+  const [issuer, target] = [step.issuer, step.target].map(nameOf);
+  const lines = [`The arrow is a certification: ${issuer} vouches for ${step.user_id}.`,
+    used < step.amount ? `Its amount is ${step.amount}. These paths use ${used} of it.`
+      : `Its amount is ${step.amount}, and all of it is used.`];
+  const whom = step.scopes.length ? scopeText(step) : "everyone";
+  lines.push(step.depth === 0 ? "Its depth is 0: it vouches for this name alone."
+    : `Its depth is ${step.depth}: it makes ${target} an introducer for ${whom}.`);
+  return lines;
 }
 
 function labelAt([x, y], said) {
   const top = y - ((said.length - 1) * LINE) / 2 + 4;
-  return draw("g", { class: "label" }, ...said.map((text, at) => draw("text", {
+  const width = Math.max(...said.map((text, at) => widthOf(text, at ? 11.5 : 13)));
+  return draw("g", { class: "label", role: "button", tabindex: "0", "aria-label": said.join(", ") },
+  draw("rect", { x: x - width / 2, y: top - LINE + 3, width, height: said.length * LINE }),
+  ...said.map((text, at) => draw("text", {
     x, y: top + at * LINE, "text-anchor": "middle", class: at ? "small" : "main" }, text)));
 }
 
 /** Keys that are drawn as one, until one asks for each. */
-function foldOf(key, keys, unfold) {
+function foldOf(key, keys, width, unfold) {
   const box = draw("g", {
     class: "key fold", role: "button", tabindex: "0", "aria-label": `${keys.length} keys side by side: show each`,
-    transform: `translate(${key.x - BOX.width / 2} ${key.y})`, onclick: unfold,
+    transform: `translate(${key.x - width / 2} ${key.y})`, onclick: unfold,
     onkeydown: (event) => { if (event.key === "Enter" || event.key === " ") { event.preventDefault(); unfold(); } } },
-  draw("rect", { width: BOX.width, height: BOX.height, rx: 10 }),
-  draw("text", { x: BOX.width / 2, y: 24, class: "main", "text-anchor": "middle" }, `${keys.length} keys`),
-  draw("text", { x: BOX.width / 2, y: 43, class: "small", "text-anchor": "middle" }, "▸ show each"));
+  draw("rect", { width, height: HEIGHT, rx: 10 }),
+  draw("text", { x: width / 2, y: 24, class: "main", "text-anchor": "middle" }, `${keys.length} keys`),
+  draw("text", { x: width / 2, y: 43, class: "small", "text-anchor": "middle" }, "▸ show each"));
   return box;
 }
 
-function boxOf(key, reply, target) {
+function boxOf(key, reply, { target, box: width }) {
   const root = state.roots.find((one) => one.fingerprint === key.fpr);
   const sort = key.fpr === target ? (reply.reached ? "target yes" : "target part") : root ? "root" : "";
-  const below = root ? `root, amount ${root.amount}` : `${key.fpr.slice(0, 8)}…${key.fpr.slice(-8)}`;
+  const digits = width < 160 ? 6 : 8;
+  const below = root ? `root, amount ${root.amount}` : `${key.fpr.slice(0, digits)}…${key.fpr.slice(-digits)}`;
   return draw("a", {
     href: addressOfKey(key.fpr), class: `key ${sort}`, "aria-label": `${nameOf(key.fpr)}, ${below}`,
-    transform: `translate(${key.x - BOX.width / 2} ${key.y})` },
+    transform: `translate(${key.x - width / 2} ${key.y})` },
     draw("title", {}, `${nameOf(key.fpr)} ${key.fpr}`),
-    draw("rect", { width: BOX.width, height: BOX.height, rx: 10 }),
-    draw("text", { x: BOX.width / 2, y: 24, class: "main", "text-anchor": "middle" },
-      fitted(nameOf(key.fpr).replace(/ <[^<>]*>$/, ""), BOX.width - 16, 13, 650)),
-    draw("text", { x: BOX.width / 2, y: 43, class: "small", "text-anchor": "middle" }, cut(below, 28)));
+    draw("rect", { width, height: HEIGHT, rx: 10 }),
+    draw("text", { x: width / 2, y: 24, class: "main", "text-anchor": "middle" },
+      fitted(nameOf(key.fpr).replace(/ <[^<>]*>$/, ""), width - 16, 13, 650)),
+    draw("text", { x: width / 2, y: 43, class: "small", "text-anchor": "middle" }, cut(below, 28)));
 }

@@ -5,7 +5,9 @@ import { byId, count, draw, fill, fitted, make, name } from "./dom.js";
 import { keyLink } from "./links.js";
 import { scopeText } from "./scopes.js";
 import { addressOfKey, learn, nameOf, state, subject } from "./state.js";
+import { explain } from "./tips.js";
 import { HEIGHT, layOutTree, lineBetween } from "./tree_layout.js";
+import { explained } from "./words.js";
 import { frame } from "./zoom.js";
 
 /** Shows it below an answer; nothing if the answer is reached. */
@@ -25,7 +27,7 @@ export async function showReach(answer) {
 }
 
 function shownOf(reply) {
-  if (reply.target) return [make("p", {}, `Nobody can vouch for it now: ${reply.target}.`)];
+  if (reply.target) return [make("p", {}, ...explained(`Nobody can vouch for it now: ${reply.target}.`))];
   if (!reply.chains.length) {
     return [make("p", {}, reply.amount ? "Nobody else has certified this user ID."
       : "Nobody has certified this user ID, so no path can lead here.")];
@@ -54,10 +56,10 @@ function whyOf(step) {
   const [issuer, target] = [step.issuer, step.target].map((key) => name(shortName(key)));
   const first = step.certifications.find((one) => one.word !== "edge") ?? step.certifications[0];
   switch (step.broken) {
-    case "uncounted": return ["What ", issuer, " says of ", target, ` doesn’t count: ${first.meaning}`];
+    case "uncounted": return ["What ", issuer, " says of ", target, ...explained(` doesn’t count: ${first.meaning}`)];
     case "depth": return Math.max(...step.certifications.map((one) => one.depth)) === 0
-      ? [issuer, " vouches for ", target, ", but doesn’t make it an introducer"]
-      : [issuer, " makes ", target, " an introducer, but for fewer steps than follow"];
+      ? [issuer, " vouches for ", target, ...explained(", but doesn’t make it an introducer")]
+      : [issuer, " makes ", target, ...explained(" an introducer, but for fewer steps than follow")];
     case "scope": return [issuer, " relies on ", target, " only for ",
       step.certifications.map(scopeText).filter(Boolean).join(" or "), ", and ", name(state.binding.user_id),
       " isn’t"];
@@ -102,13 +104,13 @@ function boxOf(node) {
   const said = node.apart ? "✗ no way leads here" : root ? `root, amount ${root.amount}`
     : isBroken ? `✗ ${briefly(node.step)}` : "✓ so far";
   const called = shortName(node.key);
-  return draw("a", {
+  return explain(draw("a", {
     href: addressOfKey(node.key), class: `node ${isBroken ? "no" : root ? "root" : "yes"}`,
     transform: `translate(${node.x} ${node.y})`, "aria-label": `${called}: ${said}` },
-  draw("title", {}, nameOf(node.key)),
   draw("rect", { width: node.width, height: HEIGHT, rx: 9 }),
   draw("text", { x: 10, y: 18, class: "main" }, fitted(called, node.width - 20, 13.5, 600)),
-  draw("text", { x: 10, y: 35, class: "small" }, fitted(said, node.width - 20, 12)));
+  draw("text", { x: 10, y: 35, class: "small" }, fitted(said, node.width - 20, 12))),
+  () => [nameOf(node.key), `${said}.`]);
 }
 
 function briefly(step) {

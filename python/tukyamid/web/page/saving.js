@@ -17,6 +17,7 @@ function alone(svg, width, height) {
   });
   for (const link of copy.querySelectorAll("a")) link.removeAttribute("href");  // It has the page's secret address.
   for (const one of copy.querySelectorAll("[tabindex]")) one.removeAttribute("tabindex");
+  for (const one of copy.querySelectorAll(".touch")) one.remove();  // It is for fingers alone.
   const paper = document.createElementNS("http://www.w3.org/2000/svg", "rect");
   const colour = getComputedStyle(document.documentElement).getPropertyValue("--paper").trim();
   for (const [name, value] of Object.entries({ width, height, fill: colour })) paper.setAttribute(name, value);

@@ -2,28 +2,13 @@
 
 import { byId, fill, make } from "./dom.js";
 import { addressOf } from "./state.js";
-
-const WORDS = {
-  "amount": "How much trust something carries, from 0 to 255. 120 is full trust, 60 is half of it.",
-  "authenticated": "You can be confident that this name belongs to this key: paths from your roots add up to 120.",
-  "certification": "A signature by which somebody vouches that a name belongs to a key.",
-  "depth": "How many more steps a path may take after this one. With 0 it vouches for this one name alone.",
-  "fingerprint": "The digits that name one key and no other. Compare them with the owner before you rely on a key.",
-  "introducer": "Somebody whose certifications you rely on, because a certification on their key says so.",
-  "island": "Keys that vouch for one another, and to which no path leads from your roots.",
-  "path": "Certifications from one of your roots to a key, each made by the key that the one before it certifies.",
-  "revoked": "Its maker has taken it back.",
-  "root": "A key that you trust yourself, usually your own. Every path begins at a root.",
-  "scope": "The names for which an introducer's certifications count, such as those of one domain.",
-  "user ID": "A name and an address on a key. Anybody can write any name on a key: somebody has to vouch for it.",
-};
+import { MEANINGS, parts } from "./terms.js";
 
 let shown = null;
 
 /** A word with its sentence, which is shown beside it on demand. */
 export function word(term, text = term) {
-  const tip = make("span", { role: "tooltip", class: "tip", hidden: true }, WORDS[term], " ",
-    make("a", { href: addressOf({ view: "words" }) }, "All words"));
+  const tip = make("span", { role: "tooltip", class: "tip", hidden: true }, MEANINGS[term], " ", allWords());
   const button = make("button", {
     type: "button", class: "word", "aria-expanded": "false", "aria-label": `${text}: what is that?`,
     onclick: () => show(box), onfocus: () => show(box) }, text);
@@ -32,6 +17,13 @@ export function word(term, text = term) {
     onfocusout: (event) => { if (!box.contains(event.relatedTarget)) hide(box); } }, button, tip);
   return box;
 }
+
+/** A text as nodes, in which each term is explained where it stands first. */
+export const explained = (text) => parts(text).filter((part) => part.text).map((part) =>
+  (part.term ? word(part.term, part.text) : part.text));
+
+/** Where all words are. */
+export const allWords = () => make("a", { href: addressOf({ view: "words" }) }, "All words");
 
 function show(box) {
   if (shown && shown !== box) hide(shown);
@@ -57,6 +49,6 @@ document.addEventListener("keydown", (event) => {
 
 /** All words, with their sentences. */
 export function showWords() {
-  fill(byId("glossary"), Object.keys(WORDS).sort().flatMap((term) => [
-    make("dt", {}, term), make("dd", {}, WORDS[term])]));
+  fill(byId("glossary"), Object.keys(MEANINGS).sort().flatMap((term) => [
+    make("dt", {}, term), make("dd", {}, MEANINGS[term])]));
 }

@@ -64,7 +64,7 @@ export function frame(element, svg, label, file) {
 function drag(area) {
   let from = null;
   area.addEventListener("pointerdown", (event) => {
-    if (event.pointerType !== "mouse" || event.button !== 0 || event.target.closest("a")) return;
+    if (event.pointerType !== "mouse" || event.button !== 0 || event.target.closest("a, [role=button]")) return;
     from = { x: event.clientX + area.scrollLeft, y: event.clientY + area.scrollTop };
     area.setPointerCapture(event.pointerId);
     area.classList.add("dragged");
