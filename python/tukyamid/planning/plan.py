@@ -142,9 +142,9 @@ class Search:
         known = self._name(target)
         free = None
         for user_id in sorted(user_ids, key=lambda one: (one != known, one)):
-            if target == self._target.fpr and user_id == self._target.user_id:
-                continue
-            if self._has_edge(issuer, target, user_id):
+            if self._is_target(target, user_id):
+                yield user_id  # A smaller amount may leave more to other paths.
+            elif self._has_edge(issuer, target, user_id):
                 yield user_id
             elif free is None:
                 free = user_id
@@ -200,7 +200,11 @@ class Search:
     def _all_by(self, issuer: str, labels: dict[str, int]) -> Iterator[Certifies]:
         yield Certifies(issuer, self._target.fpr, self._target.user_id)
         for target in self._introduced(issuer, labels):
-            yield from (Certifies(issuer, target, user_id, MOST_DEPTH) for user_id in self._on(issuer, target)[:1])
+            user_ids = [one for one in self._on(issuer, target) if not self._is_target(target, one)]
+            yield from (Certifies(issuer, target, user_id, MOST_DEPTH) for user_id in user_ids[:1])
+
+    def _is_target(self, fpr: str, user_id: bytes) -> bool:
+        return (fpr, user_id) == (self._target.fpr, self._target.user_id)
 
 
 def _combine(base: Certifications, one: Certifies) -> bool:
