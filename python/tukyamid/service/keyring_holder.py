@@ -20,10 +20,12 @@ _LONGEST_SILENCE = 3.0  # Seconds in which a primary that isn't cut off has hear
 
 
 class Holding:
-    def __init__(self, access: Access, room: Room) -> None:
+    def __init__(self, access: Access, room: Room, most_age: float | None = None) -> None:
+        """`most_age` is how old an answer may be, in seconds; None is as old as it is."""
         self._access = access
         self._room = room
         self._held: Hub | Sliced | None = None
+        self._most_age = most_age
 
     @property
     def held(self) -> Hub | Sliced:
@@ -48,6 +50,12 @@ class Holding:
     def age(self) -> float:
         """For how many seconds changes of other services may have been missed."""
         return self.held.age if isinstance(self.held, SharedHub | SharedSliced) else 0.0
+
+    @property
+    def is_too_old(self) -> bool:
+        """Whether an answer isn't known to be as young as it has to be. At first nothing is known."""
+        return self._most_age is not None and isinstance(self._held, SharedHub | SharedSliced) and (
+            self.standby is None or self.age > self._most_age)
 
     def lag(self) -> float:
         """For how many seconds lines have waited for the engines."""

@@ -51,8 +51,10 @@ class Sitting(Protocol):
 class Desk(Holding):
     """`budget` is how many certificates an engine may hold."""
 
-    def __init__(self, program: Sequence[str], most_engines: int, access: Access, budget: int) -> None:
-        super().__init__(access, Room(access.database, replace(MOST, certificates=min(budget, MOST.certificates))))
+    def __init__(self, program: Sequence[str], most_engines: int, access: Access, budget: int,
+                 most_age: float | None = None) -> None:
+        most = replace(MOST, certificates=min(budget, MOST.certificates))
+        super().__init__(access, Room(access.database, most), most_age)
         self.sitting: set[Sitting] = set()
         self._waiting = WaitingLines(self._resumed, access.tell)
         self._program = program

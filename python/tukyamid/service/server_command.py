@@ -78,6 +78,8 @@ def _add_words_of_serve(words: argparse.ArgumentParser) -> None:
     words.add_argument("--views", metavar="N", type=_count, default=256, help="the most views of one client (256)")
     words.add_argument("--patience", metavar="SECONDS", type=_seconds, default=60.0,
                        help="disconnect a client that reads none of its replies for this long (60)")
+    words.add_argument("--max-age", metavar="SECONDS", type=_seconds,
+                       help="refuse questions if others' changes may have been missed for longer than this (never)")
     words.add_argument("--directory", metavar="FOLDER", type=Path, default=None,
                        help="the certificate directory of load and store (pgp.cert.d in the user's data folder)")
     words.add_argument("--verifier", metavar="PROGRAM", help="the program wot-verdicts")
@@ -85,8 +87,7 @@ def _add_words_of_serve(words: argparse.ArgumentParser) -> None:
 
 
 def _mode(text: str) -> int:
-    mode = int(text, 8)
-    if not 0 <= mode <= 0o7777:
+    if not 0 <= (mode := int(text, 8)) <= 0o7777:
         raise ValueError
     return mode
 
@@ -124,10 +125,10 @@ def serve(given: argparse.Namespace) -> int:
 
         async def run() -> None:
             access = Access(database, order)
-            hub = Desk([*_program(given), "run"], given.engines, access, given.budget)
+            hub = Desk([*_program(given), "run"], given.engines, access, given.budget, given.max_age)
             directory = Directory([*_program(given), "run"], (given.directory or default_directory()).absolute())
-            ending = Deadline(access.tell).begin
-            await Service(hub, Keyrings(hub, _verifier(given)), directory, settings, ending).serve(doors)
+            keyrings, ending = Keyrings(hub, _verifier(given)), Deadline(access.tell).begin
+            await Service(hub, keyrings, directory, settings, ending).serve(doors)
 
         _run(run)
     return ENDED

@@ -13,6 +13,11 @@ OF_THE_WHOLE = CHANGES | OF_THE_DIRECTORY | {b"list", b"absence", b"check", b"ke
                                              b"cursor"}
 MAY_CHANGE = CHANGES | OF_THE_DIRECTORY
 
+# Questions are refused while their answers may be too old. Those without an effect also if that is known only later.
+WITHOUT_EFFECT = OF_A_VIEW | OF_THE_KEYRING
+QUESTIONS = WITHOUT_EFFECT | {b"dump", b"watch", b"cursor"}
+QUESTIONS_OF_THE_SERVICE = frozenset((b"find", b"issuers", b"certified", b"holders", b"excerpt", b"log", b"unverified"))
+
 # With what the service itself refuses a line, or a client.
 REFUSED_LINE = b"refused line\n"
 REFUSED_LONG = b"refused long\n"

@@ -21,7 +21,7 @@ from ..storage.database import Binding, DatabaseFault, Figures, Finder, Source
 from ..storage.group_commit import FAULT
 from ..storage.last_known import LastKnown
 from ..storage.shared_database import Shared
-from .command_kinds import MAY_CHANGE, REFUSED_LINE, REFUSED_READ_ONLY
+from .command_kinds import MAY_CHANGE, QUESTIONS_OF_THE_SERVICE, REFUSED_LINE, REFUSED_READ_ONLY
 from .engine_replies import asked
 from .excerpts import tell_excerpt
 from .outbox import Pieces, Slot
@@ -76,12 +76,17 @@ class Answering:
                 async with self._directory.lock:
                     reply = await self._of_directory(session, line)
             else:
-                reply = await self._of_service(session, line)
+                reply = FAULT if self._would_be_too_old(line) else await self._of_service(session, line)
+                if self._would_be_too_old(line):  # By now.
+                    reply = FAULT
         except DatabaseFault:
             reply = FAULT
         except DirectoryFailed as failed:
             reply = failed.reply
         session.outbox.answer(slot, reply)
+
+    def _would_be_too_old(self, line: bytes) -> bool:
+        return self._hub.is_too_old and line.partition(b" ")[2].partition(b" ")[0] in QUESTIONS_OF_THE_SERVICE
 
     async def _of_directory(self, session: Session, line: bytes) -> bytes | None:
         word, _, rest = line.partition(b" ")

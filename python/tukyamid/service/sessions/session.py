@@ -12,8 +12,8 @@ from ..sliced.sliced_keyring import Sliced
 from ..storage.database import Actor, Snapshot
 from ..storage.group_commit import FAULT
 from .client_rights import NOBODY, Rights, actor_of
-from .command_kinds import (ALONE, CHANGES, MAY_CHANGE, OF_A_VIEW, OF_THE_DIRECTORY, OF_THE_KEYRING, REFUSED_CLIENTS,
-                            REFUSED_LINE, REFUSED_LONG, REFUSED_READ_ONLY)
+from .command_kinds import (ALONE, CHANGES, MAY_CHANGE, OF_A_VIEW, OF_THE_DIRECTORY, OF_THE_KEYRING, QUESTIONS,
+                            REFUSED_CLIENTS, REFUSED_LINE, REFUSED_LONG, REFUSED_READ_ONLY, WITHOUT_EFFECT)
 from .cursors import Cursors
 from .long_replies import dump_of
 from .incoming_lines import Intake
@@ -25,7 +25,6 @@ from .watches import Watches
 
 # Does the lines that the service itself answers, and those of the certificate directory.
 Helper = Callable[["Session", Slot, bytes], Coroutine[None, None, None]]
-NEVER_OPEN = b"-"
 _MOST_LINES = 64
 _MOST_OCTETS = 1 << 20
 _UNREAD_OCTETS = 1 << 17
@@ -77,10 +76,9 @@ class Session(asyncio.BufferedProtocol):
         return _BUFFER
 
     def buffer_updated(self, nbytes: int) -> None:
-        if self._transport.is_closing():
-            return
-        self.intake.take(bytes(memoryview(_BUFFER)[:nbytes]))
-        self._begin_lines()
+        if not self._transport.is_closing():
+            self.intake.take(bytes(memoryview(_BUFFER)[:nbytes]))
+            self._begin_lines()
 
     def eof_received(self) -> bool:
         """Behind the last line feed is no line: its sender may have died within it."""
@@ -117,7 +115,7 @@ class Session(asyncio.BufferedProtocol):
         self._begin_lines()
 
     def stop(self, is_at_once: bool = False) -> None:
-        """Takes no more lines; those that were taken are answered. At once: those that wait to be taken aren't."""
+        """Takes no more lines; those taken are answered. At once: those that wait to be taken aren't."""
         self._is_ended = True
         if is_at_once:
             self.intake.lines.clear()
@@ -148,11 +146,10 @@ class Session(asyncio.BufferedProtocol):
         if self._changes.is_reading or not self.hub.takes(line):
             return False
         if not self.outbox.is_done:
-            if len(slots) >= _MOST_LINES or self.outbox.octets + len(line) > _MOST_OCTETS:
+            if len(slots) >= _MOST_LINES or self.outbox.octets + len(line) > _MOST_OCTETS or word in ALONE:
                 return False
-            if word in ALONE or not slots or slots[-1].word in ALONE or self._changes.waiting and word not in CHANGES:
-                return False
-            if word == b"watch" and any(slot.word == b"watch" for slot in slots):
+            if not slots or slots[-1].word in ALONE or self._changes.waiting and word not in CHANGES or (
+                    word == b"watch" and any(slot.word == b"watch" for slot in slots)):
                 return False
         return self.intake.has_room(word, line)  # At last: where it has none, the client waits for others' lines.
 
@@ -161,8 +158,9 @@ class Session(asyncio.BufferedProtocol):
         slot = Slot(word, len(line or b""))
         self.outbox.add(slot)
         self.intake.begin(slot)
-        if line is None:
-            self.outbox.answer(slot, REFUSED_LONG)
+        is_too_old = word in QUESTIONS and self.hub.is_too_old
+        if line is None or is_too_old:
+            self.outbox.answer(slot, FAULT if is_too_old else REFUSED_LONG)
             return
         if word in OF_THE_DIRECTORY and self.rights.may_change or word == b"service":
             self._task = self._loop.create_task(self._help(slot, line))
@@ -194,7 +192,9 @@ class Session(asyncio.BufferedProtocol):
 
     def _answered(self, slot: Slot, reply: bytes | Pieces | None, count: int) -> None:
         try:
-            if reply is None:
+            if reply is not None and slot.word in WITHOUT_EFFECT and self.hub.is_too_old:
+                reply = FAULT  # It has grown old meanwhile.
+            elif reply is None:
                 self.hub.tell(f"client {self.number} is disconnected: its line killed the engine several times")
             elif slot.finish is not None and isinstance(reply, bytes):
                 reply = slot.finish(reply, count)
@@ -209,7 +209,7 @@ class Session(asyncio.BufferedProtocol):
         if not is_name(name):
             self.outbox.answer(slot, REFUSED_LINE)
         elif view is None:
-            self.hub.ask(b"%s %s%s%s" % (word, NEVER_OPEN, space, rest), partial(self._answered, slot))
+            self.hub.ask(b"%s -%s%s" % (word, space, rest), partial(self._answered, slot))  # No view has this name.
         elif self.hub.early is not None:
             self.hub.early.question(word, view.value, space + rest, partial(self._answered, slot))
         else:
