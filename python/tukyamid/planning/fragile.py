@@ -28,19 +28,22 @@ MOST_INTRODUCED, MOST_MOMENTS = 5, 200
 
 
 class Safer(Value):
-    """A certification by a root with which `count` of the bindings would no longer rest on the one carrier."""
-    __slots__ = ("certification", "count")
+    """A certification by a root with which `count` of the bindings would no longer rest on the one carrier, the
+    `first` one among them."""
+    __slots__ = ("certification", "count", "first")
 
-    def __init__(self, certification: Certifies, count: int) -> None:
-        self.certification, self.count = certification, count
+    def __init__(self, certification: Certifies, count: int, first: Binding) -> None:
+        self.certification, self.count, self.first = certification, count, first
 
 
 class Carrier(Value):
-    """A key, or a certification `edge` of it, without which these bindings would fall below the amount."""
-    __slots__ = ("fpr", "edge", "bindings", "safer")
+    """A key, or a certification `edge` of it, without which these bindings would fall below the amount. `numbers` are
+    those of the signatures that make the edge."""
+    __slots__ = ("fpr", "edge", "bindings", "numbers", "safer")
 
-    def __init__(self, fpr: str, edge: Edge | None, bindings: tuple[Binding, ...], safer: Safer | None = None) -> None:
-        self.fpr, self.edge, self.bindings, self.safer = fpr, edge, bindings, safer
+    def __init__(self, fpr: str, edge: Edge | None, bindings: tuple[Binding, ...], numbers: tuple[str, ...] = (),
+                 safer: Safer | None = None) -> None:
+        self.fpr, self.edge, self.bindings, self.numbers, self.safer = fpr, edge, bindings, numbers, safer
 
 
 class Fall(Value):
@@ -112,7 +115,7 @@ class Look:
         for number in numbers:
             self._engine.unjudge(number)
         try:
-            return self._safer(Carrier(issuer, edge, self._fallen(bindings)))
+            return self._safer(Carrier(issuer, edge, self._fallen(bindings), tuple(numbers)))
         finally:
             for number in numbers:
                 self._engine.judge_good(number, issuer)
@@ -141,20 +144,22 @@ class Look:
         best: Safer | None = None
         if len(carrier.bindings) == 1 and carrier.fpr not in self._roots:
             direct = Certifies(self._root, *carrier.bindings[0])
-            best = Safer(direct, 1) if self._saved(direct, carrier.bindings) else None
+            best = self._saved(direct, carrier.bindings)
         for fpr, count in sorted(certified.items(), key=lambda pair: (-pair[1], pair[0]))[:MOST_INTRODUCED]:
             name = self._keyring.name(fpr)
             if name is None or best is not None and count <= best.count:
                 continue
             made = Certifies(self._root, fpr, name, 1)
             saved = self._saved(made, carrier.bindings)
-            best = Safer(made, saved) if saved and (best is None or saved > best.count) else best
+            best = saved if saved and (best is None or saved.count > best.count) else best
         return carrier.but(safer=best)
 
-    def _saved(self, one: Certifies, bindings: tuple[Binding, ...]) -> int:
-        answers = [self._trials.answer(fpr, self._wanted, user_id, (one,)) for fpr, user_id in bindings]
+    def _saved(self, one: Certifies, bindings: tuple[Binding, ...]) -> Safer | None:
+        """What the certification would make safe; None if nothing."""
+        saved = [(fpr, user_id) for fpr, user_id in bindings
+                 if self._trials.answer(fpr, self._wanted, user_id, (one,)).amount >= self._wanted]
         self._trials.suppose(())
-        return sum(answer.amount >= self._wanted for answer in answers)
+        return Safer(one, len(saved), saved[0]) if saved else None
 
     def _falls(self, days: int, reached: list[Binding]) -> Iterable[Fall]:
         """The bindings that fall at each moment at which something ends."""

@@ -5,7 +5,8 @@ from __future__ import annotations
 from typing import TYPE_CHECKING, Any
 
 from ..formats.phrases import count, cut, day
-from ..protocol.spelling import for_people
+from ..protocol.spelling import for_people, write_user_id
+from .supposition_forms import as_object as supposition
 
 if TYPE_CHECKING:
     from collections.abc import Iterable, Sequence
@@ -27,19 +28,32 @@ def tables(found: Fragile, name: Name) -> list[Table]:
     own = f" Another {count(found.own, 'binding')} rest on a root's own certification." if found.own else ""
     return [
         _table("keys", "Keys that bindings rest on alone", f"Without the key, as many of the {found.reached} bindings "
-               f"would fall below {found.wanted}.", ("user ID", "bindings", "which", "safer with", "key"), keys),
+               f"would fall below {found.wanted}.", ("user ID", "bindings", "which", "safer with", "key"), keys,
+               [_as_objects(one, name) for one in found.keys]),
         _table("certifications", "Certifications that bindings rest on alone",
                f"Without the certification, as many bindings would fall below {found.wanted}.{own}",
-               ("by", "of", "bindings", "which", "safer with", "key"), made),
+               ("by", "of", "bindings", "which", "safer with", "key"), made,
+               [_as_objects(one, name) for one in found.certifications]),
         _table("falls", f"What falls within {count(found.days, 'day')}", "Bindings that fall when a key or a "
                "certification ends, unless somebody makes a new one.", ("day", "what ends", "bindings", "which"),
                falls),
     ]
 
 
-def _table(name: str, title: str, about: str, columns: Iterable[str], rows: Sequence[tuple[object, ...]]) -> Table:
+def _table(name: str, title: str, about: str, columns: Iterable[str], rows: Sequence[tuple[object, ...]],
+           safer: Sequence[dict[str, Any] | None] = ()) -> Table:
     return {"name": f"fragile-{name}", "title": title, "about": about, "columns": list(columns),
-            "rows": [list(row) for row in rows[:MOST_ROWS]], "count": len(rows)}
+            "rows": [list(row) for row in rows[:MOST_ROWS]], "count": len(rows), "safer": list(safer[:MOST_ROWS])}
+
+
+def _as_objects(one: Carrier, name: Name) -> dict[str, Any] | None:
+    """What to suppose, and what to leave out, so that the first of the bindings shows that it is safe then."""
+    if one.safer is None:
+        return None
+    fpr, user_id = one.safer.first
+    return {"suppose": supposition(one.safer.certification, name),
+            "without": [{"signature": number} for number in one.numbers] or [{"key": one.fpr}],
+            "binding": {"fingerprint": fpr, "spelled": write_user_id(user_id), "user_id": for_people(user_id)}}
 
 
 def _which(bindings: tuple[tuple[str, bytes], ...]) -> str:

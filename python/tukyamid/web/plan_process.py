@@ -10,7 +10,7 @@ from ..client import connect
 from ..formats.phrases import Called
 from ..keyrings.keyring import Keyring
 from ..keyrings.service_keyring import served_keyring
-from ..planning import meeting_text
+from ..planning import meeting_sheet, meeting_text
 from ..planning.fragile_making import fragile_in
 from ..planning.fragile_tables import tables
 from ..planning.meeting_making import meeting_of
@@ -41,7 +41,8 @@ def _answer(keyring: Keyring, asked: dict[str, Any]) -> dict[str, Any]:
     meeting = meeting_of(keyring, asked["who"], time, roots, wanted, asked["depth"], tell=_tell)
     shown = meeting_text.as_object(meeting, called.of)
     names = {fpr: called.of(fpr) for fpr in meeting.comers}
-    return {"time": time, "roots": roots, **shown, "names": names}
+    sheet = meeting_sheet.show(meeting, time, called.of)
+    return {"time": time, "roots": roots, **shown, "names": names, "sheet": sheet}
 
 
 def _tell(text: str) -> None:

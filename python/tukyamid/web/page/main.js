@@ -6,10 +6,12 @@ import { whatIsHeld } from "./beginning.js";
 import { byId, count, day, fill, make } from "./dom.js";
 import { showKey } from "./key.js";
 import { keyLink } from "./links.js";
+import { showMeeting } from "./meeting.js";
 import { showNetwork } from "./network.js";
 import { showOverview } from "./overview.js";
 import { showPicture } from "./picture.js";
 import { showEnough } from "./enough.js";
+import { showFragile } from "./fragile.js";
 import { showProof } from "./proof.js";
 import { showReach } from "./reach.js";
 import { attachMainSearch } from "./search.js";
@@ -90,8 +92,14 @@ function show() {
   }
   const about = state.binding && state.view === "ask" ? state.binding.user_id : "who vouches for whom";
   document.title = `Tukyamid: ${about}`;
-  ({ start: showNetwork, key: showKey, ask, overview: showOverview, words: showWords })[state.view]();
+  ({ start: showNetwork, key: showKey, ask, overview: showOverview, plans: showPlans,
+    words: showWords })[state.view]();
   arrive();
+}
+
+function showPlans() {
+  showMeeting();
+  showFragile();
 }
 
 /** At another place the page is at its top, and the focus on the place's title, so that a screen reader says it. */
@@ -100,7 +108,7 @@ function arrive() {
   if (shownPlace && place !== shownPlace) {
     window.scrollTo(0, 0);
     byId({ start: "start-title", key: "key-title", ask: "answer-title", overview: "overview-title",
-      words: "words-title" }[state.view]).focus({ preventScroll: true });
+      plans: "plans-title", words: "words-title" }[state.view]).focus({ preventScroll: true });
   }
   shownPlace = place;
 }

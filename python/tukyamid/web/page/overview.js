@@ -3,7 +3,7 @@
 import { call } from "./asking.js";
 import { byId, count, day, fill, make, name, save, short } from "./dom.js";
 import { keyLink } from "./links.js";
-import { addressOfKey, standpoint, state } from "./state.js";
+import { addressOf, addressOfKey, standpoint, state } from "./state.js";
 
 const PAUSE = 500;
 const SHOWN = 50;
@@ -68,7 +68,8 @@ function aboutOf(reply) {
     make("div", { class: "row" },
       make("button", { type: "button", id: "json", onclick: () => save("overview.json", "application/json",
         `${JSON.stringify(latest, null, 1)}\n`) }, "All as JSON"),
-      make("button", { type: "button", onclick: again }, "Refresh"))];
+      make("button", { type: "button", onclick: again }, "Refresh"),
+      make("a", { href: addressOf({ view: "plans" }), id: "to-fragile" }, "What is fragile"))];
 }
 
 function again() {
@@ -76,7 +77,8 @@ function again() {
   showOverview();
 }
 
-function tableOf(table) {
+/** A table. Its `cells` make the cells of some columns, by the column's name. */
+export function tableOf(table) {
   const title = `table-${table.name}`;
   const rest = table.count - table.rows.length;
   return make("section", {
@@ -114,6 +116,8 @@ function rowsOf(table, title) {
 /** A cell. The key, and the name that is its, lead to the key's place. */
 function cellOf(table, row, at, cell) {
   const about = { role: "cell", "data-label": table.columns[at] };
+  const made = table.cells?.[table.columns[at]];
+  if (made) return make("td", about, made(row, cell));
   if (typeof cell === "number") return make("td", { ...about, class: "number" }, cell.toLocaleString("en"));
   const key = row[table.columns.indexOf("key")];
   if (table.columns[at] === "key") return make("td", about, make("a", { href: addressOfKey(cell) }, short(cell)));

@@ -2,7 +2,7 @@
 
 import { readable, spelled } from "./spelling.js";
 
-export const VIEWS = ["start", "key", "ask", "overview", "words"];
+export const VIEWS = ["start", "key", "ask", "overview", "plans", "words"];
 
 export const state = {
   view: "start", binding: null, wanted: 120, now: 0, time: 0, roots: [], firstRoots: [], without: [], suppose: [],
@@ -38,7 +38,7 @@ export const standpoint = () => ({
 export function addressOf(changed = {}) {
   const one = { ...state, ...changed };
   const words = new URLSearchParams();
-  if (one.binding && one.view !== "start" && one.view !== "overview") {
+  if (one.binding && !["start", "overview", "plans"].includes(one.view)) {
     words.set("key", one.binding.fingerprint);
     if (one.view === "ask") words.set("uid", readable(one.binding.spelled));
   }

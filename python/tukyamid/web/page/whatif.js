@@ -3,6 +3,7 @@
 import { supposedList } from "./enough.js";
 import { byId, make, name, refill, short } from "./dom.js";
 import { attachSearch } from "./search.js";
+import { supposingForm } from "./supposing.js";
 import { change, nameOf, state } from "./state.js";
 
 /** Leaves out a key or a certification. */
@@ -33,6 +34,7 @@ export function showWhatIf(reply, present) {
       : make("p", { class: "soft" }, "Nothing. The list of the paths has a button for each certification."),
     triedOf(reply),
     supposedList(reply),
+    supposingForm(),
     make("p", { id: "if-answer", role: "status", class: "beside" }, ...beside(reply, present)));
 }
 
