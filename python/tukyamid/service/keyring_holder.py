@@ -124,3 +124,6 @@ class Holding:
 
     async def find(self, look: Callable[[Finder], _R]) -> _R:
         return await self._access.find(look)
+
+    async def search(self, look: Callable[[Finder], _R]) -> _R:
+        return await self._access.search(look)

@@ -27,6 +27,7 @@ from .storage.shared_database import Shared
 
 _PATIENCE_AT_THE_END = 4
 _LARGEST_LOG = 128 << 20  # Octets.
+_MOST_SPOOLED = 256 << 20  # Octets of long replies of one user that aren't read.
 # Called when the service is to end, with what takes its sockets' files away: it ends within a bound then.
 Begun = Callable[[Callable[[], None]], None]
 
@@ -161,6 +162,7 @@ class Service:
                 elif session.intake.holds_up_others(now, patience):
                     session.drop("doesn't finish its long line")
             self._drop_slowest()
+            self._drop_largest()
             self._hub.cut_stuck()
             if self._sessions or self._keyrings.is_busy:
                 self._last_used = now
@@ -178,6 +180,16 @@ class Service:
         reading = [session for session in self._sessions if session.outbox.pinned_since < float("inf")]
         if reading and self._hub.database.log_octets() > _LARGEST_LOG:
             min(reading, key=lambda one: one.outbox.pinned_since).drop("reads the keyring too slowly")
+
+    def _drop_largest(self) -> None:
+        """Of a user whose unread replies take too much of the disk, drops those that have waited for longest."""
+        taken: dict[int, int] = {}
+        spooling = [session for session in self._sessions if session.outbox.spooled]
+        for session in sorted(spooling, key=lambda one: -one.outbox.spooled_since):
+            user = session.actor.uid
+            taken[user] = taken.get(user, 0) + session.outbox.spooled
+            if taken[user] > _MOST_SPOOLED:
+                session.drop("leaves too long a reply unread")
 
     async def _take_no_more(self, acceptor: Acceptor) -> None:
         """Closes the sockets. Who has connected by then is served: first nobody new finds the file, then those that

@@ -1,5 +1,6 @@
 """A service that another user has forged: neither the command, nor a program that uses the Python package, asks it."""
 
+import os
 import sys
 from pathlib import Path
 
@@ -11,6 +12,7 @@ from made import Made, trust  # noqa: E402
 CREATED, WHEN = 1_100_000_000, 1_200_000_000
 CAROL = "Carol <carol@example.org>"
 PLAIN = """
+import os
 import sys
 from tukyamid import connect
 with connect(sys.argv[1], user=int(sys.argv[2]) if sys.argv[2:] else None) as service:
@@ -75,6 +77,21 @@ class Forged(Users):
         status, out, said = self.alice.tukyamid(*self.question)
         self.assertEqual((status, out), (3, ""))
         self.assertIn("has to be a directory that only you can use", said)
+
+    def test_where_the_users_own_folder_would_be_made(self):
+        """Without a directory of the session's, the user's is below /tmp, where anybody can come first."""
+        place = Path(f"/tmp/tukyamid-{self.alice.number}")
+        self.assertFalse(os.path.lexists(place))
+        makes = (lambda: self.mallory.make(place, 0o777), place.rmdir), \
+            (lambda: place.symlink_to(self.alice.home), place.unlink), (lambda: os.mkfifo(place, 0o666), place.unlink)
+        for make, remove in makes:
+            make()
+            self.addCleanup(lambda remove=remove: os.path.lexists(place) and remove())
+            os.chown(place, self.mallory.number, self.mallory.number, follow_symlinks=False)
+            status, out, said = self.alice.tukyamid(*self.question, XDG_RUNTIME_DIR="")
+            self.assertEqual((status, out), (3, ""))
+            self.assertIn(f"{place} has to be a directory that only you can use; set XDG_RUNTIME_DIR", said)
+            remove()
 
     def test_a_forgery_that_came_into_the_users_own_folder(self):
         """Its folder is in order by now. Whose the service is, the kernel still says."""

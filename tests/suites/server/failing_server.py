@@ -4,12 +4,14 @@
     change TEXT     the database can't make a change whose words in the log have this text
     snapshot        what was kept can't be read
     room            there is no room for a temporary file
+    slow            reading which keyrings are watched takes longer than the time between two looks for clients
 """
 
 import errno
 import os
 import sys
 import tempfile
+import time
 from pathlib import Path
 
 sys.path.insert(0, str(Path(__file__).resolve().parents[3] / "python"))
@@ -39,6 +41,17 @@ table_changes.Writing.make = failing(table_changes.Writing.make,
                                      lambda change, now: any(text in change.what for text in faults("change")))
 sqlite_reads.SqliteSnapshot.certificates = failing(sqlite_reads.SqliteSnapshot.certificates,
                                                    lambda: bool(faults("snapshot")))
+
+
+def slow(call):
+    def instead(self):
+        if faults("slow"):
+            time.sleep(1.5)
+        return call(self)
+    return instead
+
+
+sqlite_reads.SqliteFinder.sources = slow(sqlite_reads.SqliteFinder.sources)
 
 
 def in_a_room(make):

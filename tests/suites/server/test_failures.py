@@ -31,6 +31,49 @@ class Missing(unittest.TestCase):
 
 
 @needs_engine
+class Slow(unittest.TestCase):
+    def test_a_service_without_clients_ends(self):
+        """That it looks now and then whether keyrings wait is no use of it."""
+        with tempfile.TemporaryDirectory(prefix="tukyamid-failures-") as folder:
+            faults = Path(folder) / "faults"
+            faults.write_text("slow\n")
+            with Server("--idle", "6", folder=folder, program=FAILING_SERVER,
+                        environment={"FAULTS": str(faults)}) as server:
+                self.assertEqual(server.process.wait(PATIENCE), 0)
+
+
+@needs_engine
+class FullLog(unittest.TestCase):
+    """The log is often on the same disk as the database, and full with it."""
+
+    def setUp(self):
+        self.folder = Path(tempfile.mkdtemp(prefix="tukyamid-failures-"))
+        self.addCleanup(shutil.rmtree, self.folder)
+        (self.folder / "said").symlink_to("/dev/full")
+        self.lines = World(count=6).lines()
+        self.server = self.enterContext(Server(folder=self.folder))
+        self.client = self.enterContext(Client(self.server.path))
+
+    def test_changes_that_cannot_be_stored(self):
+        """They are refused, although that can't be logged, and no question sees them."""
+        half = len(self.lines) // 2
+        made = [self.client.tell(line) for line in self.lines[:half]]
+        self.assertTrue(all(reply.startswith(b"ok") for reply in made), made)
+        self.server.database.rename(self.folder / "elsewhere")
+        self.client.send(*self.lines[half:])
+        self.assertEqual({self.client.read_line() for _ in self.lines[half:]}, {FAULT})
+        keys = alone([*self.lines[:half], b"keys"])[-1]
+        self.client.send(b"keys")
+        self.assertEqual([self.client.read_line() + b"\n" for _ in keys.splitlines()], keys.splitlines(keepends=True))
+        (self.folder / "elsewhere").rename(self.server.database)
+        self.server.wait_for(lambda: self.client.tell(self.lines[half]).startswith(b"ok"))
+        self.client.send(*self.lines[half:], b"dump")
+        replies = self.client.end()
+        self.assertTrue(replies.endswith(alone([*self.lines, b"dump"])[-1]), replies[:300])
+        self.assertEqual(self.server.stop(), 0)
+
+
+@needs_engine
 class Unexpected(unittest.TestCase):
     def setUp(self):
         self.folder = Path(tempfile.mkdtemp(prefix="tukyamid-failures-"))

@@ -136,8 +136,9 @@ class Keyrings:
         for name in (*changed, *unread):
             async with self._lock:
                 await self._look_after(name)
-        async with self._lock:
-            await self._verify_what_waits()
+        if not all(one.is_verified for one in await self._recorded()):  # Otherwise nothing is to be done: it isn't busy.
+            async with self._lock:
+                await self._verify_what_waits()
 
     async def _recorded(self) -> list[Source]:
         self._known = await self._in_database.value()

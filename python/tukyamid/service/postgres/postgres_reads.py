@@ -7,7 +7,7 @@ from collections.abc import Iterator
 from time import monotonic
 from typing import TYPE_CHECKING, Any
 
-from ..storage.database import Actor, Binding, DatabaseFault, Figures, LogEntry, Source
+from ..storage.database import AFTER_ALL, Actor, Binding, DatabaseFault, Figures, LogEntry, Source
 from ..storage.part_search import with_part
 from ..storage.sqlite_reads import CERTIFIED, HOLDERS
 from .postgres_connection import Connected, Servers, Wire, faults
@@ -143,9 +143,9 @@ class PostgresFinder(Connected):
     def certified(self, fpr: bytes) -> list[tuple[bytes, int]]:
         return [(target, depth) for target, depth in self._rows(CERTIFIED, fpr)]
 
-    def log(self, count: int) -> list[LogEntry]:
-        rows = self._rows("SELECT number, time, uid, pid, what, machine FROM changes "
-                               "ORDER BY number DESC LIMIT ?", count)
+    def log(self, count: int, before: int = AFTER_ALL) -> list[LogEntry]:
+        rows = self._rows("SELECT number, time, uid, pid, what, machine FROM changes WHERE number < ? "
+                          "ORDER BY number DESC LIMIT ?", before, count)
         return [LogEntry(number, time, Actor(uid, pid), os.fsdecode(what + b" on " + machine))
                 for number, time, uid, pid, what, machine in rows]
 

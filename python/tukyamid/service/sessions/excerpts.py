@@ -44,7 +44,7 @@ async def tell_excerpt(desk: Desk, text: bytes) -> bytes | Pieces:
     if match is None:
         return REFUSED_LINE
     of = Wanted(match[1], tuple(bytes.fromhex(fpr.decode()) for fpr in match[2].split()))
-    return await desk.find(lambda _: _excerpt(desk.database, of, desk.budget))
+    return await desk.search(lambda _: _excerpt(desk.database, of, desk.budget))
 
 
 def _excerpt(database: Database, of: Wanted, most: int) -> bytes | Pieces:

@@ -3,16 +3,16 @@
 from __future__ import annotations
 
 import asyncio
-import tempfile
 from collections import deque
 from collections.abc import Callable, Generator
 
+from .spooled_replies import Spooled, spooled
 from .user_shares import Share
 
-# A reply in pieces. The first piece has no octets: it is taken at once, and the others as the client reads.
-Pieces = Generator[bytes, None, None]
+# A reply in pieces, which are taken as the client reads. The first piece of a generator has no octets: it is taken at
+# once.
+Pieces = Generator[bytes, None, None] | Spooled
 
-_PIECE = 1 << 18
 _MOST_IN_MEMORY = 1 << 20
 
 
@@ -39,17 +39,6 @@ class Slot:
             share.end(self.kind)
 
 
-def spooled(reply: bytes) -> Pieces:
-    """A long reply, from a file without a name: so what nobody reads takes no memory."""
-    with tempfile.TemporaryFile(prefix="tukyamid-") as file:
-        file.write(reply)
-        del reply
-        file.seek(0)
-        yield b""  # Whoever has called this keeps no reply.
-        while piece := file.read(_PIECE):
-            yield piece
-
-
 class Outbox:
     """Slots in order. A reply that is long, or that comes in pieces, is written piece by piece as it is read."""
 
@@ -67,6 +56,8 @@ class Outbox:
         self._pump: Pieces | None = None
         self._written = 0
         self.pinned_since = float("inf")  # Since when a reply comes from the database as it was then.
+        self.spooled = 0  # The octets of a reply in a file, of which not all is read.
+        self.spooled_since = 0.0
         self._taken = (-1, 0.0)
 
     def add(self, slot: Slot) -> None:
@@ -97,7 +88,7 @@ class Outbox:
         slot.reply, slot.is_answered = reply, True
         if slot.share is not None:
             slot.end()
-        if reply is not None and not isinstance(reply, bytes):
+        if isinstance(reply, Generator):
             self.pinned_since = self._loop.time()
         if self.slots and self.slots[0] is slot:
             self.deliver()
@@ -119,7 +110,7 @@ class Outbox:
             elif isinstance(reply, bytes) and len(reply) <= _MOST_IN_MEMORY:
                 self._write(reply)
             elif isinstance(reply, bytes):
-                self._start(spooled(reply))
+                self._start_spooled(reply)
             else:
                 self._start(reply)
         self._more()
@@ -168,9 +159,18 @@ class Outbox:
         self._written += len(octets)
         self._buffer.append(octets)
 
+    def _start_spooled(self, reply: bytes) -> None:
+        try:
+            self._start(spooled(reply))
+        except OSError as error:  # The disk is full. Without this reply, no later one would belong to its line.
+            self._give_up(error)
+
     def _start(self, pump: Pieces) -> None:
         self.flush()
-        next(pump)
+        if isinstance(pump, Spooled):
+            self.spooled, self.spooled_since = pump.octets, self._loop.time()
+        else:
+            next(pump)
         self._pump = pump
         self._loop.call_soon(self._run_pump)
 
@@ -193,7 +193,7 @@ class Outbox:
             self._loop.call_soon(self._run_pump)
 
     def _end_pump(self) -> None:
-        self.pinned_since = float("inf")
+        self.pinned_since, self.spooled = float("inf"), 0
         if self._pump is not None:
             self._pump.close()
             self._pump = None

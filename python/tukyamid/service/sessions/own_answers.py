@@ -21,6 +21,7 @@ from ..storage.database import Binding, DatabaseFault, Figures, Finder, Source
 from ..storage.group_commit import FAULT
 from ..storage.last_known import LastKnown
 from ..storage.shared_database import Shared
+from .change_log import tell_log
 from .command_kinds import MAY_CHANGE, QUESTIONS_OF_THE_SERVICE, REFUSED_LINE, REFUSED_READ_ONLY
 from .engine_replies import asked
 from .excerpts import tell_excerpt
@@ -46,6 +47,8 @@ _FOUND_BY: dict[bytes, Callable[[Finder, bytes], list[Binding]]] = {
     b"first": lambda finder, sought: finder.by_part(_text(sought), MOST_FIRST),
     b"key": lambda finder, sought: finder.by_key(bytes.fromhex(_text(sought))),
 }
+
+_SEARCHES = frozenset((b"part", b"first"))  # These read all user IDs.
 
 # Names and values that the service knows of itself.
 Status = Callable[[], list[tuple[str, object]]]
@@ -111,14 +114,15 @@ class Answering:
             case b"issuers" if _FPR.fullmatch(text):
                 return await self._tell_issuers(session, bytes.fromhex(text.decode()))
             case b"certified" if _FPR.fullmatch(text):
-                signed = await session.hub.find(lambda finder: finder.certified(bytes.fromhex(text.decode())))
-                return listed(b"service certified", [b"on %d %s" % (depth, hexlify(fpr)) for fpr, depth in signed])
+                return await session.hub.find(lambda finder: listed(b"service certified", [
+                    b"on %d %s" % (depth, hexlify(fpr))
+                    for fpr, depth in finder.certified(bytes.fromhex(text.decode()))]))
             case b"holders" if _KEY.fullmatch(text):
                 return await self._tell_holders(session, text.decode().lower())
             case b"excerpt":
                 return await tell_excerpt(session.hub, text)
             case b"log" if _COUNT.fullmatch(text):
-                return await self._tell_log(session, int(text))
+                return await tell_log(session.hub, int(text))
             case b"unverified" if line == b"service unverified":
                 return await self._tell_unverified(session)
             case b"keyring":
@@ -181,15 +185,18 @@ class Answering:
             return REFUSED_LINE
         if word not in _FOUND_BY or word == b"key" and not _KEY.fullmatch(sought):
             return REFUSED_LINE
-        look = _FOUND_BY[word]
-        bindings = await session.hub.find(lambda finder: look(finder, octets))
-        return listed(b"service find", [f"bind {one.fpr} {write_user_id(one.user_id)}".encode() for one in bindings])
+        look = session.hub.search if word in _SEARCHES else session.hub.find
+        return await look(lambda finder: listed(b"service find", [
+            f"bind {one.fpr} {write_user_id(one.user_id)}".encode() for one in _FOUND_BY[word](finder, octets)]))
 
     async def _tell_issuers(self, session: Session, fpr: bytes) -> bytes:
-        issuers = await session.hub.find(lambda finder: finder.issuers(fpr))
-        if issuers is None:
-            return _REFUSED_ABSENT
-        return listed(b"service issuers", [f"by {number.hex()} {issuer.hex()}".encode() for number, issuer in issuers])
+        def look(finder: Finder) -> bytes:
+            issuers = finder.issuers(fpr)
+            if issuers is None:
+                return _REFUSED_ABSENT
+            return listed(b"service issuers", [f"by {one.hex()} {issuer.hex()}".encode() for one, issuer in issuers])
+
+        return await session.hub.find(look)
 
     @staticmethod
     async def _tell_holders(session: Session, key: str) -> bytes:
@@ -202,12 +209,6 @@ class Answering:
         holders = [(keys[0], octets) for octets in found
                    if (keys := keys_of(octets)) and (len(key) == 16 or key in keys)]
         return listed(b"service holders", [f"holder {fpr} ".encode() + hexlify(octets) for fpr, octets in holders])
-
-    async def _tell_log(self, session: Session, count: int) -> bytes:
-        entries = await session.hub.find(lambda finder: finder.log(count))
-        return listed(b"service log", [
-            f"change {one.number} {one.time} {one.actor.uid} {one.actor.pid} ".encode() + shown(one.what)
-            for one in entries])
 
     async def _of_keyring(self, session: Session, text: bytes) -> bytes:
         word, _, spelled = text.partition(b" ")

@@ -11,6 +11,7 @@ from pathlib import Path
 from typing import Protocol
 
 BAD = b""
+AFTER_ALL = (1 << 63) - 1  # A number that no change has.
 
 
 class DatabaseFault(Exception):
@@ -148,8 +149,8 @@ class Finder(Protocol):
     def certified(self, fpr: bytes) -> list[tuple[bytes, int]]:
         """The other certificates that have a good signature by this key, each with the greatest depth of these."""
 
-    def log(self, count: int) -> list[LogEntry]:
-        """The last changes, the newest first."""
+    def log(self, count: int, before: int = AFTER_ALL) -> list[LogEntry]:
+        """The last changes before the one of this number, the newest first."""
 
     def sources(self) -> list[Source]: ...
 

@@ -1,10 +1,11 @@
-"""The way to the database for everything that the service does in parallel: one thread writes, one looks up what people
-seek, which may take long, and one reads what questions rest on."""
+"""The way to the database for everything that the service does in parallel: one thread writes, one looks up what an
+index finds, one searches, which may take long, and one reads what questions rest on."""
 
 from __future__ import annotations
 
 import asyncio
-import sys
+import contextlib
+import os
 from collections.abc import Callable
 from concurrent.futures import ThreadPoolExecutor
 from time import monotonic
@@ -15,6 +16,7 @@ from tukyamid.protocol.spelling import for_people
 from .database import Database, Finder
 
 _R = TypeVar("_R")
+_STANDARD_ERROR = 2
 LONGEST_SILENCE = 30.0  # Seconds: no server takes longer for what is looked up, unless it is stopped.
 
 
@@ -49,10 +51,37 @@ class Calls:
             asked.cut()
 
 
+class Lookups(Calls):
+    """A thread that looks things up in the database, with a connection of its own."""
+
+    def __init__(self, database: Database, name: str) -> None:
+        super().__init__(name)
+        self._database = database
+        self._finder: Finder | None = None
+
+    async def look(self, look: Callable[[Finder], _R]) -> _R:
+        return await self.make(lambda: look(self._opened()))
+
+    def cut_stuck(self) -> None:
+        self.cut_if_stuck(self._finder)
+
+    def close(self) -> None:
+        self.executor.shutdown()
+        if self._finder is not None:
+            self._finder.close()
+
+    def _opened(self) -> Finder:
+        if self._finder is None:
+            self._finder = self._database.finder()
+        return self._finder
+
+
 def say(text: object) -> None:
-    """Writes a line of the log. Strangers' names may be in it, so nothing in it steers a terminal or ends the line."""
+    """Writes a line of the log. Strangers' names may be in it, so nothing in it steers a terminal or ends the line. If
+    the disk is full, the line is lost: whoever reports something goes on."""
     shown = for_people(str(text).encode("utf-8", "surrogateescape"), "\\")
-    print(f"tukyamid-server: {shown}", file=sys.stderr, flush=True)
+    with contextlib.suppress(OSError):
+        os.write(_STANDARD_ERROR, f"tukyamid-server: {shown}\n".encode("utf-8", "backslashreplace"))
 
 
 class Access:
@@ -60,9 +89,8 @@ class Access:
         self.database = database
         self.writing = ThreadPoolExecutor(1, "writing")
         self.parts: object = None  # What `read` asks, as whoever calls it says.
-        self._finding = Calls("finding")
+        self._finding, self._searching = Lookups(database, "finding"), Lookups(database, "searching")
         self._reading = Calls("reading")
-        self._finder: Finder | None = None
         self._order = order
 
     def tell(self, text: str) -> None:
@@ -83,8 +111,12 @@ class Access:
         return await asyncio.get_running_loop().run_in_executor(self.writing, call)
 
     async def find(self, look: Callable[[Finder], _R]) -> _R:
-        """Looks something up in the database, beside commits."""
-        return await self._finding.make(lambda: look(self._opened()))
+        """Looks something up in the database that takes little time, beside commits."""
+        return await self._finding.look(look)
+
+    async def search(self, look: Callable[[Finder], _R]) -> _R:
+        """Looks something up that may take long: who only looks something up doesn't wait for it."""
+        return await self._searching.look(look)
 
     async def read(self, call: Callable[[], _R]) -> _R:
         """Calls what reads parts of the database."""
@@ -92,16 +124,12 @@ class Access:
 
     def cut_stuck(self) -> None:
         """Ends what a server hasn't answered for long: whoever waits for it meets that as a fault."""
-        self._finding.cut_if_stuck(self._finder)
+        self._finding.cut_stuck()
+        self._searching.cut_stuck()
         self._reading.cut_if_stuck(self.parts)
 
-    def _opened(self) -> Finder:
-        if self._finder is None:
-            self._finder = self.database.finder()
-        return self._finder
-
     def close(self) -> None:
-        for executor in (self.writing, self._finding.executor, self._reading.executor):
+        for executor in (self.writing, self._reading.executor):
             executor.shutdown()
-        if self._finder is not None:
-            self._finder.close()
+        self._finding.close()
+        self._searching.close()

@@ -6,7 +6,7 @@ from collections.abc import Callable, Iterator
 from contextlib import closing
 from pathlib import Path
 
-from .database import Actor, Binding, DatabaseFault, Figures, LogEntry, Source
+from .database import AFTER_ALL, Actor, Binding, DatabaseFault, Figures, LogEntry, Source
 from .part_search import with_part
 
 _BINDINGS = "SELECT fingerprint, user_id FROM user_ids JOIN keys ON keys.id = certificate"
@@ -118,8 +118,9 @@ class SqliteFinder:
     def certified(self, fpr: bytes) -> list[tuple[bytes, int]]:
         return [(_octets(target), _number(depth)) for target, depth in self._rows(CERTIFIED, fpr)]
 
-    def log(self, count: int) -> list[LogEntry]:
-        rows = self._rows("SELECT number, time, uid, pid, what FROM changes ORDER BY number DESC LIMIT ?", count)
+    def log(self, count: int, before: int = AFTER_ALL) -> list[LogEntry]:
+        rows = self._rows("SELECT number, time, uid, pid, what FROM changes WHERE number < ? "
+                          "ORDER BY number DESC LIMIT ?", before, count)
         return [LogEntry(_number(row[0]), _number(row[1]), Actor(_number(row[2]), _number(row[3])), str(row[4]))
                 for row in rows]
 
