@@ -3,8 +3,12 @@
 Other users of the machine can reach the loopback interface, so the address has a random token. A page of another origin
 can send requests here, and can point a name of its own at this machine (DNS rebinding). So the Host header has to be
 ours, and an Origin, if there is one, too. Whatever isn't right has the same short answer.
+
+When the command has ended, another user can listen at its port. So the page is told a secret that no request has, and
+each answer to a call is sealed with it: the page believes no other.
 """
 
+import hashlib
 import hmac
 import secrets
 from collections.abc import Awaitable, Callable
@@ -30,11 +34,16 @@ HEADERS = {
 }
 
 
+NONCE, SEAL = "Tukyamid-Nonce", "Tukyamid-Seal"
+_PLACE_OF_THE_SECRET = b'<meta name="seal" content="'
+
+
 class Guard:
     """The token of this server, and what it lets through."""
 
     def __init__(self) -> None:
         self.token = secrets.token_urlsafe(32)
+        self._secret = secrets.token_hex(32)
         self._hosts: frozenset[str] = frozenset()
 
     def bind(self, port: int) -> str:
@@ -42,14 +51,27 @@ class Guard:
         self._hosts = frozenset(f"{name}:{port}" for name in ("127.0.0.1", "localhost"))
         return f"http://127.0.0.1:{port}/{self.token}/"
 
+    def with_secret(self, page: bytes) -> bytes:
+        """The page with the secret, which is its own and this server's."""
+        return page.replace(_PLACE_OF_THE_SECRET, _PLACE_OF_THE_SECRET + self._secret.encode(), 1)
+
+    def _seal(self, request: web.Request, response: web.StreamResponse) -> web.StreamResponse:
+        """Seals the answer to a call, if its sender wants to know whose it is."""
+        nonce = request.headers.get(NONCE)
+        if nonce is not None and isinstance(response, web.Response) and isinstance(response.body, bytes):
+            text = nonce.encode("utf-8", "replace") + b"\n" + response.body
+            response.headers[SEAL] = hmac.new(bytes.fromhex(self._secret), text, hashlib.sha256).hexdigest()
+        return response
+
     def middleware(self) -> Callable[[web.Request, Handler], Awaitable[web.StreamResponse]]:
         async def guarded(request: web.Request, handler: Handler) -> web.StreamResponse:
             if not self._is_ours(request):
                 return _with_headers(web.Response(status=403, text="Not here.\n"))
             try:
-                return _with_headers(await handler(request))
+                response = await handler(request)
             except web.HTTPException as failure:
-                return _with_headers(web.Response(status=failure.status, text=f"{failure.reason}.\n"))
+                response = web.Response(status=failure.status, text=f"{failure.reason}.\n")
+            return _with_headers(self._seal(request, response))
         made: Callable[[web.Request, Handler], Awaitable[web.StreamResponse]] = web.middleware(guarded)
         return made
 

@@ -22,8 +22,10 @@ class Server:
     """Listens on the loopback interface, on a port that it finds unless one is given."""
 
     def __init__(self, files: Mapping[str, Served], calls: Mapping[str, Call], port: int) -> None:
-        self._files, self._calls = files, calls
         self._guard = Guard()
+        page = files[""]
+        self._files = {**files, "": page._replace(octets=self._guard.with_secret(page.octets))}
+        self._calls = calls
         self._socket = socket.socket(socket.AF_INET, socket.SOCK_STREAM)
         self._socket.setsockopt(socket.SOL_SOCKET, socket.SO_REUSEADDR, 1)
         self._socket.bind(("127.0.0.1", port))

@@ -30,6 +30,22 @@ class Restoring(InAFolder):
         self.assertEqual(list(self.folder.glob("*damaged*")), [])
         self.assertEqual({entry: entry.read_bytes() for entry in before}, before)
 
+    def test_a_copy_that_has_nothing(self):
+        """SQLite takes an empty file for a database; the keyring stays all the same. Nothing waits for a FIFO."""
+        with closing(Sqlite(self.path)) as database:
+            database.fill(World(count=6).imports[4::5], "a test", NOBODY)
+            before = script_of(database)
+        (self.folder / "empty").touch()
+        os.mkfifo(self.folder / "fifo")
+        with closing(sqlite3.connect(self.folder / "without-tables")) as raw:
+            raw.execute("VACUUM")
+        for name in "empty", "without-tables", "fifo", "/dev/zero", "missing":
+            status, said = self.command("restore", "--database", "keyring.db", name)
+            self.assertEqual(status, 1, name)
+            self.assertRegex(said, "nothing is in it|there is no such file")
+        with closing(Sqlite(self.path)) as database:
+            self.assertEqual(script_of(database), before)
+
     def test_each_damaged_one_is_kept_with_its_log(self):
         with closing(Sqlite(self.path)) as database:
             database.backup(self.folder / "copy")

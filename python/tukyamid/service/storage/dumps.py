@@ -71,12 +71,16 @@ def restore(path: Path, copy: Path) -> Path | None:
 @contextlib.contextmanager
 def opened_copy(copy: Path) -> Iterator[Sqlite]:
     """A whole copy, as a database of this version. The copy's own file is only read."""
+    if not copy.is_file():  # A FIFO would be waited for.
+        raise DatabaseFault(f"{copy}: there is no such file")
     with TemporaryDirectory(prefix="tukyamid-") as folder:
         own = Path(folder) / "copy.db"
         try:
             with closing(sqlite3.connect(f"{copy.absolute().as_uri()}?mode=ro", uri=True)) as read, \
                     closing(sqlite3.connect(own)) as written:
                 read.backup(written)
+                if not written.execute("SELECT count(*) FROM sqlite_schema").fetchone()[0]:
+                    raise DatabaseFault(f"{copy}: nothing is in it")  # As in a file that a full disk has cut.
         except sqlite3.Error as error:
             raise DatabaseFault(f"{copy}: {error}") from None
         try:

@@ -7,7 +7,10 @@ const LATE = 4000;
 const PATIENCE = 30000;
 const MAY_TAKE_LONG = new Set(["add", "plan", "gone", "reach", "proof"]);
 const PAUSES = [300, 1000, 2000, 4000];  // Before each further try; the last one again and again.
+const FOREIGN = "what answers at this page’s address isn’t the command that opened it: close this page";
 const TRIES_OF_SERVICE = 3;
+// A secret of this page and its server, for when the server has ended and another user's program listens at its port.
+const SECRET = document.querySelector("meta[name=seal]").content;
 const underWay = new Map();
 const troubles = new Map();
 
@@ -45,10 +48,14 @@ async function once(what, asked, signal, patience) {
   const over = patience ? setTimeout(giveUp, patience) : 0;
   const late = setTimeout(() => tell(signal, "This takes longer than usual. Still waiting for the answer…"), LATE);
   try {
+    const nonce = crypto.randomUUID();
     const reply = await fetch(`call/${what}`, {
-      method: "POST", headers: { "Content-Type": "application/json" }, body: JSON.stringify(asked),
-      signal: own.signal });
-    const value = await reply.json().catch(() => ({ error: `the server answered with status ${reply.status}` }));
+      method: "POST", headers: { "Content-Type": "application/json", "Tukyamid-Nonce": nonce },
+      body: JSON.stringify(asked), signal: own.signal });
+    const text = await reply.text();
+    const seal = reply.headers.get("Tukyamid-Seal") ?? "";
+    if (SECRET && !await isSealed(`${nonce}\n${text}`, seal)) return { error: FOREIGN, status: 403 };
+    const value = read(text) ?? { error: `the server answered with status ${reply.status}` };
     return value.error ? { error: value.error, status: reply.status } : { value };
   } catch (failure) {
     if (signal.aborted || !(failure instanceof TypeError || own.signal.aborted)) throw failure;
@@ -59,6 +66,19 @@ async function once(what, asked, signal, patience) {
     clearTimeout(late);
     tell(signal, null);
   }
+}
+
+/** Whether this page's own server has sealed a text. */
+async function isSealed(text, seal) {
+  const key = await crypto.subtle.importKey(
+    "raw", octetsOf(SECRET), { name: "HMAC", hash: "SHA-256" }, false, ["verify"]);
+  return crypto.subtle.verify("HMAC", key, octetsOf(seal), new TextEncoder().encode(text));
+}
+
+const octetsOf = (digits) => Uint8Array.from(digits.match(/../g) ?? [], (two) => parseInt(two, 16));
+
+function read(text) {
+  try { return JSON.parse(text); } catch { return null; }
 }
 
 const pause = (milliseconds, signal) => new Promise((done, fail) => {
