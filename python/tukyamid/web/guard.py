@@ -4,7 +4,7 @@ Other users of the machine can reach the loopback interface, so the address has 
 can send requests here, and can point a name of its own at this machine (DNS rebinding). So the Host header has to be
 ours, and an Origin, if there is one, too. Whatever isn't right has the same short answer.
 
-When the command has ended, another user can listen at its port. So the page is told a secret that no request has, and
+When the command has ended, another user can listen at its port. So the page contains a secret that no request has, and
 each answer to a call is sealed with it: the page believes no other.
 """
 
@@ -52,7 +52,7 @@ class Guard:
         return f"http://127.0.0.1:{port}/{self.token}/"
 
     def with_secret(self, page: bytes) -> bytes:
-        """The page with the secret, which is its own and this server's."""
+        """The page with the secret, which only the page and this server have."""
         return page.replace(_PLACE_OF_THE_SECRET, _PLACE_OF_THE_SECRET + self._secret.encode(), 1)
 
     def _seal(self, request: web.Request, response: web.StreamResponse) -> web.StreamResponse:

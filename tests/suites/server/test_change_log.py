@@ -34,11 +34,11 @@ class ChangeLog(Shares):
         self.begin_with(1300, lambda place: f"change {place}")
         for count in 1, 249, 250, 251, 1300, 1301, 999_999:
             self.client.send(b"service log %d" % count)
-            told = int(self.client.read_line().removeprefix(b"service log "))
-            self.assertEqual(told, min(count, self.last))
-            lines = [self.client.read_line().split(b" ", 5) for _ in range(told)]
-            self.assertEqual([int(line[1]) for line in lines], [*range(self.last, self.last - told, -1)])
-            expected = [b"change %d" % place for place in range(1299, 1299 - min(told, 1300), -1)]
+            found = int(self.client.read_line().removeprefix(b"service log "))
+            self.assertEqual(found, min(count, self.last))
+            lines = [self.client.read_line().split(b" ", 5) for _ in range(found)]
+            self.assertEqual([int(line[1]) for line in lines], [*range(self.last, self.last - found, -1)])
+            expected = [b"change %d" % place for place in range(1299, 1299 - min(found, 1300), -1)]
             self.assertEqual([line[5] for line in lines[:1300]], expected)
             self.assertEqual(lines[0][3:5], [b"7", b"8"])
 
@@ -58,7 +58,7 @@ class ChangeLog(Shares):
         self.assertGreater(before, 0)
 
     def test_what_nobody_reads(self):
-        """A user's unread replies take no more of the disk than they may, and the user is told by being disconnected."""
+        """A user's unread replies take no more of the disk than they may; then who reads nothing is disconnected."""
         self.begin_with(3000, lambda place: "x" * 10_000)
         strangers = [self.stranger() for _ in range(12)]
         for stranger in strangers:

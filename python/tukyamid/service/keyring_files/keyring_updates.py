@@ -136,7 +136,7 @@ class Keyrings:
         for name in (*changed, *unread):
             async with self._lock:
                 await self._look_after(name)
-        if not all(one.is_verified for one in await self._recorded()):  # Otherwise nothing is to be done: it isn't busy.
+        if not all(one.is_verified for one in await self._recorded()):  # Otherwise it isn't busy.
             async with self._lock:
                 await self._verify_what_waits()
 

@@ -11,7 +11,7 @@ from ..line_intake import Desk
 from ..storage.database import Database
 from ..storage.partial_reads import HasParts, Parts, SharedParts
 from .command_kinds import REFUSED_LINE
-from .outbox import Pieces
+from .outbox import Generated, Pieces
 
 REFUSED_EXCERPT = b"refused full excerpt\n"
 _WORDS = re.compile(rb"(from|about|key|reach|to)((?: (?:[0-9a-fA-F]{40}|[0-9a-fA-F]{64})){1,256})")
@@ -79,7 +79,7 @@ def _frozen(database: HasParts) -> Parts:
     return frozen
 
 
-def _written(parts: Parts, fprs: Sequence[bytes], count: int) -> Pieces:
+def _written(parts: Parts, fprs: Sequence[bytes], count: int) -> Generated:
     try:
         yield b""
         yield b"service excerpt %d\n" % count

@@ -5,10 +5,10 @@ from binascii import hexlify
 from ..engines.program_run import pieces
 from ..storage.database import Snapshot
 from ..storage.partial_reads import Parts
-from .outbox import Pieces
+from .outbox import Generated
 
 
-def dump_of(snapshot: Snapshot, views: list[bytes]) -> Pieces:
+def dump_of(snapshot: Snapshot, views: list[bytes]) -> Generated:
     """The reply to `dump`: the keyring, and the client's views."""
     try:
         yield b""
@@ -19,7 +19,7 @@ def dump_of(snapshot: Snapshot, views: list[bytes]) -> Pieces:
         snapshot.close()
 
 
-def keys_of(parts: Parts) -> Pieces:
+def keys_of(parts: Parts) -> Generated:
     """The reply to `keys`."""
     try:
         yield b""

@@ -11,7 +11,8 @@ from .user_shares import Share
 
 # A reply in pieces, which are taken as the client reads. The first piece of a generator has no octets: it is taken at
 # once.
-Pieces = Generator[bytes, None, None] | Spooled
+Generated = Generator[bytes, None, None]
+Pieces = Generated | Spooled
 
 _MOST_IN_MEMORY = 1 << 20
 

@@ -185,9 +185,11 @@ class Answering:
             return REFUSED_LINE
         if word not in _FOUND_BY or word == b"key" and not _KEY.fullmatch(sought):
             return REFUSED_LINE
-        look = session.hub.search if word in _SEARCHES else session.hub.find
-        return await look(lambda finder: listed(b"service find", [
-            f"bind {one.fpr} {write_user_id(one.user_id)}".encode() for one in _FOUND_BY[word](finder, octets)]))
+        def look(finder: Finder) -> bytes:
+            return listed(b"service find", [f"bind {one.fpr} {write_user_id(one.user_id)}".encode()
+                                            for one in _FOUND_BY[word](finder, octets)])
+
+        return await (session.hub.search(look) if word in _SEARCHES else session.hub.find(look))
 
     async def _tell_issuers(self, session: Session, fpr: bytes) -> bytes:
         def look(finder: Finder) -> bytes:
