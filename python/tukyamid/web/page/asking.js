@@ -10,7 +10,7 @@ const PAUSES = [300, 1000, 2000, 4000];  // Before each further try; the last on
 const FOREIGN = "what answers at this page’s address isn’t the command that opened it: close this page";
 const TRIES_OF_SERVICE = 3;
 // A secret of this page and its server, for when the server has ended and another user's program listens at its port.
-const SECRET = document.querySelector("meta[name=seal]").content;
+const SECRET = document.querySelector("meta[name=seal]")?.content ?? "";
 const underWay = new Map();
 const troubles = new Map();
 
