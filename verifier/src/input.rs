@@ -9,6 +9,9 @@ use sequoia_openpgp::armor::{Kind, Reader, ReaderMode};
 
 use crate::notice::{Notice, What};
 
+/// How many octets are read of a file: as many as the service reads of a watched keyring.
+const MOST_OCTETS: u64 = 512 << 20;
+
 /// Octets that are packets, and where they come from.
 pub struct Text {
     pub name: String,
@@ -106,13 +109,23 @@ pub fn is_standard_input(path: &Path) -> bool {
 
 fn read_file(path: &Path, filed: Option<String>) -> io::Result<Raw> {
     let octets = if is_standard_input(path) {
-        let mut octets = Vec::new();
-        io::stdin().lock().read_to_end(&mut octets)?;
-        octets
+        read_bounded(io::stdin().lock(), 0)?
     } else {
-        fs::read(path)?
+        let file = fs::File::open(path)?;
+        let size = file.metadata()?.len();
+        read_bounded(file, size)?
     };
     Ok(Raw(Text { name: path.display().to_string(), octets, filed }))
+}
+
+/// Reads to the end, unless that is too far: a device may have no end. `size` is what to expect.
+fn read_bounded(file: impl Read, size: u64) -> io::Result<Vec<u8>> {
+    let mut octets = Vec::with_capacity(size.min(MOST_OCTETS) as usize);
+    file.take(MOST_OCTETS + 1).read_to_end(&mut octets)?;
+    if octets.len() as u64 > MOST_OCTETS {
+        return Err(invalid("it has more than 512 MiB; give it in several files"));
+    }
+    Ok(octets)
 }
 
 /// The packets of all armored keys of a text.

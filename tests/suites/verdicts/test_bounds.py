@@ -1,5 +1,6 @@
 """Keys that are too large to be used, and certificates that take too long: what a stranger can have the verifier do."""
 
+import os
 import subprocess
 import tempfile
 import time
@@ -51,6 +52,17 @@ class Bounds(unittest.TestCase):
                 script = Script(self.write("ring.pgp", text))
                 expected = dict.fromkeys(numbers, f"good {key.fingerprint}") if is_used else {}
                 self.assertEqual((script.imports, script.verdicts), ([text], expected))
+
+    def test_a_file_without_an_end(self):
+        """A device, a file of 100 GB that takes no room, and standard input: memory grows to a bound alone."""
+        sparse = self.write("sparse.pgp", b"")
+        os.truncate(sparse, 100 << 30)
+        for path in "/dev/zero", sparse, "-":
+            with self.subTest(path), open("/dev/zero", "rb") as zeros:
+                run = subprocess.run(["prlimit", "--as=4294967296", PROGRAM, path], stdin=zeros, capture_output=True,
+                                     text=True, timeout=60, check=False)
+                self.assertEqual((run.returncode, run.stdout), (3, ""))
+                self.assertEqual(run.stderr, f"wot-verdicts: {path}: it has more than 512 MiB; give it in several files\n")
 
     def test_a_hostile_key_costs_no_time(self):
         """Each of these signatures took a second."""
