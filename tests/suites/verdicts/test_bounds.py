@@ -61,8 +61,8 @@ class Bounds(unittest.TestCase):
             with self.subTest(path), open("/dev/zero", "rb") as zeros:
                 run = subprocess.run(["prlimit", "--as=4294967296", PROGRAM, path], stdin=zeros, capture_output=True,
                                      text=True, timeout=60, check=False)
-                self.assertEqual((run.returncode, run.stdout), (3, ""))
-                self.assertEqual(run.stderr, f"wot-verdicts: {path}: it has more than 512 MiB; give it in several files\n")
+                said = f"wot-verdicts: {path}: it has more than 512 MiB; give it in several files\n"
+                self.assertEqual((run.returncode, run.stdout, run.stderr), (3, "", said))
 
     def test_a_hostile_key_costs_no_time(self):
         """Each of these signatures took a second."""
