@@ -3,10 +3,9 @@
 import time
 
 from alone_cluster import OneServer
-from clusters import wait_for
 from outside import Client
 from relay import Relay
-from talking import change, status_of
+from talking import change
 
 BOUND = 60  # Seconds: no connection takes longer than five, no change longer than twelve, on a machine that is busy.
 # Statements of each connection, of the one that changes something, and of the one that hears of changes.
@@ -47,7 +46,6 @@ class Silent(OneServer):
                 if word != LISTENING:  # That connection isn't the one that changes something.
                     self.assertEqual(reply, b"fault database")
                 self.relay.watch = lambda message: False
-                wait_for(lambda: status_of(server)[b"state"] == b"ok")
                 change(server, self.world.imports[place + 1:place + 2])
 
 
