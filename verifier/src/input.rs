@@ -1,8 +1,9 @@
 //! Files and folders as texts of packets, out of their armor.
 
 use std::fmt::Display;
-use std::fs;
+use std::fs::{self, File, OpenOptions};
 use std::io::{self, Read};
+use std::os::unix::fs::OpenOptionsExt;
 use std::path::{Path, PathBuf};
 
 use sequoia_openpgp::armor::{Kind, Reader, ReaderMode};
@@ -11,6 +12,8 @@ use crate::notice::{Notice, What};
 
 /// How many octets are read of a file: as many as the service reads of a watched keyring.
 const MOST_OCTETS: u64 = 512 << 20;
+/// The octets of a certificate directory's files in all.
+const MOST_OF_FOLDER: u64 = 512 << 20;
 
 /// Octets that are packets, and where they come from.
 pub struct Text {
@@ -36,7 +39,7 @@ pub fn read_raw(paths: &[PathBuf], notices: &mut Vec<Notice>) -> io::Result<Vec<
         let read = if path.is_dir() {
             read_folder(path, notices, &mut texts)
         } else {
-            read_file(path, None).map(|text| texts.push(text))
+            read_file(path).map(|text| texts.push(text))
         };
         read.map_err(|error| named(&path.display(), error))?;
     }
@@ -69,9 +72,10 @@ fn named(name: &dyn Display, error: io::Error) -> io::Error {
 /// special name `trust-root`.
 fn read_folder(folder: &Path, notices: &mut Vec<Notice>, texts: &mut Vec<Raw>) -> io::Result<()> {
     let before = texts.len();
+    let mut left = MOST_OF_FOLDER;
     let root = folder.join("trust-root");
     if root.is_file() {
-        texts.push(read_file(&root, None)?);
+        texts.push(read_entry(&root, None, &mut left)?);
     }
     for front in names(folder, &[2])? {
         let inner = folder.join(&front);
@@ -79,7 +83,7 @@ fn read_folder(folder: &Path, notices: &mut Vec<Notice>, texts: &mut Vec<Raw>) -
             continue;
         }
         for rest in names(&inner, &[38, 62])? {
-            texts.push(read_file(&inner.join(&rest), Some(format!("{front}{rest}")))?);
+            texts.push(read_entry(&inner.join(&rest), Some(format!("{front}{rest}")), &mut left)?);
         }
     }
     if texts.len() == before {
@@ -107,15 +111,32 @@ pub fn is_standard_input(path: &Path) -> bool {
     path == Path::new("-")
 }
 
-fn read_file(path: &Path, filed: Option<String>) -> io::Result<Raw> {
+/// A file of a certificate directory. `left` is what its files may still have. Nothing but a file is read: a FIFO has
+/// maybe nobody who writes to it.
+fn read_entry(path: &Path, filed: Option<String>, left: &mut u64) -> io::Result<Raw> {
+    let name = path.display().to_string();
+    let read = || {
+        let file = OpenOptions::new().read(true).custom_flags(libc::O_NONBLOCK | libc::O_NOCTTY).open(path)?;
+        let about = file.metadata()?;
+        if !about.is_file() {
+            return Err(invalid("it isn't a regular file"));
+        }
+        read_bounded(file, about.len())
+    };
+    let octets = read().map_err(|error| named(&name, error))?;
+    *left = left.checked_sub(octets.len() as u64).ok_or_else(|| invalid("its files have more than 512 MiB"))?;
+    Ok(Raw(Text { name, octets, filed }))
+}
+
+fn read_file(path: &Path) -> io::Result<Raw> {
     let octets = if is_standard_input(path) {
         read_bounded(io::stdin().lock(), 0)?
     } else {
-        let file = fs::File::open(path)?;
+        let file = File::open(path)?;
         let size = file.metadata()?.len();
         read_bounded(file, size)?
     };
-    Ok(Raw(Text { name: path.display().to_string(), octets, filed }))
+    Ok(Raw(Text { name: path.display().to_string(), octets, filed: None }))
 }
 
 /// Reads to the end, unless that is too far: a device may have no end. `size` is what to expect.
