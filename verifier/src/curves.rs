@@ -101,6 +101,11 @@ pub fn is_curve_of(material: &[u8]) -> bool {
     CURVES.iter().any(|(front, _)| material.starts_with(front))
 }
 
+/// Whether one of the curves is named anywhere in some octets.
+pub fn is_named_in(octets: &[u8]) -> bool {
+    CURVES.iter().any(|(front, _)| octets.windows(front.len()).any(|some| some == *front))
+}
+
 impl PublicKey {
     /// None unless the material is one of the curves and a point on it.
     pub fn read(material: &[u8]) -> Option<PublicKey> {

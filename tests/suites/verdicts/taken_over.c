@@ -1,5 +1,6 @@
-/* A verifier that was taken over: preloaded into one, this tries what it shouldn't be able to do, once the program
-   writes its first output. For each attempt standard error has a line: its name, and 0 or the number of its error. */
+/* A program that was taken over: preloaded into one, this tries what it shouldn't be able to do, once the program reads
+   or writes the text of TAKEN_OVER_AT, or writes its first output if there is none. For each attempt standard error
+   has a line: its name, and 0 or the number of its error. */
 #define _GNU_SOURCE
 #include <errno.h>
 #include <fcntl.h>
@@ -45,11 +46,29 @@ static void try_all(void) {
         tell("exec", execv("/bin/true", words));
 }
 
-ssize_t write(int descriptor, const void *octets, size_t length) {
+static void try_once(void) {
     static int is_done;
-    if (descriptor == 1 && !is_done) {
+    if (!is_done) {
         is_done = 1;
         try_all();
     }
+}
+
+static int is_at(const void *octets, size_t length) {
+    const char *at = getenv("TAKEN_OVER_AT");
+    return at && length >= strlen(at) && !memcmp(octets, at, strlen(at));
+}
+
+ssize_t write(int descriptor, const void *octets, size_t length) {
+    const char *at = getenv("TAKEN_OVER_AT");
+    if (at ? is_at(octets, length) : descriptor == 1)
+        try_once();
     return syscall(SYS_write, descriptor, octets, length);
+}
+
+ssize_t read(int descriptor, void *octets, size_t length) {
+    ssize_t got = syscall(SYS_read, descriptor, octets, length);
+    if (got > 0 && is_at(octets, got))
+        try_once();
+    return got;
 }

@@ -33,6 +33,11 @@ pub fn date(seconds: u32) -> String {
     formatted(seconds, b"%a %b %e %H:%M:%S %Y %Z\0", libc::localtime_r)
 }
 
+/// Has the C library read what the local time is, as long as it can open the file.
+pub fn read_zone() {
+    date(0);
+}
+
 /// `2024-02-22`, in universal time.
 pub fn day(seconds: u32) -> String {
     formatted(seconds, b"%Y-%m-%d\0", libc::gmtime_r)

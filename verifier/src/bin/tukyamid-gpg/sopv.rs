@@ -22,7 +22,7 @@ use crate::service::Service;
 use crate::status::upper;
 use crate::streams::descriptor;
 use crate::trust::{Level, Trust};
-use crate::verifying::{held_by, now};
+use crate::verifying::{bound_for_good, bounds, confine, held_by, now};
 
 const HELP: &str = "\
 usage: tukyamid-sopv version [--backend|--extended|--sop-spec|--sopv]
@@ -135,16 +135,19 @@ impl Request {
         let name = self.signatures.as_deref().unwrap_or_default();
         let file = File::open(path_of(name)?);
         let octets = file.and_then(|mut file| read_signatures(&mut file)).map_err(|error| missing(name, &error))?;
+        let reading = bounds().map_err(failed)?;
         let bodies = signatures_of(&octets).map_err(|error| (Exit::BadData, error.to_string()))?;
+        drop(reading);
         let lines = self.lines(&bodies, &mut |take| copy_pieces(&mut io::stdin().lock(), take))?;
         print(&lines)
     }
 
     fn inline_verify(&self) -> Result<()> {
-        let failed = |error: io::Error| (Exit::Failed, error.to_string());
         let mut file = descriptor(0).and_then(spool::of_file).map_err(failed)?;
         let bad = |error: io::Error| (Exit::BadData, error.to_string());
+        let reading = bounds().map_err(failed)?;
         let message = Message::read(&mut file).map_err(bad)?;
+        drop(reading);
         message.check().map_err(|why| (Exit::BadData, why.to_owned()))?;
         let mut content = spool::unnamed().map_err(failed)?;
         let lines = self.lines(&message.signatures, &mut |take| {
@@ -182,7 +185,7 @@ impl Request {
             false => None,
         };
         let given = self.given()?;
-        let found = examined(bodies, &given, self.now, feed, service.as_mut())?;
+        let found = self.examined(bodies, &given, feed, service.as_mut())?;
         let mut lines = String::new();
         for one in found {
             if let Some(by) = self.signer(&one, &given, &config, service.as_mut())? {
@@ -201,6 +204,41 @@ impl Request {
         let paths: Result<Vec<PathBuf>> = files.map(|name| path_of(name)).collect();
         let texts = read_all(&paths?, &mut Vec::new()).map_err(|error| (Exit::MissingInput, error.to_string()))?;
         Ok(texts.into_iter().map(|text| text.octets).collect())
+    }
+
+    /// What each signature comes to, by the given certificates and those that the service holds.
+    #[allow(clippy::type_complexity)]
+    fn examined(
+        &self,
+        bodies: &[Vec<u8>],
+        given: &[Vec<u8>],
+        feed: &mut dyn FnMut(&mut dyn FnMut(&[u8]) -> io::Result<()>) -> io::Result<()>,
+        service: Option<&mut Service>,
+    ) -> Result<Vec<Found>> {
+        if bodies.len() > crate::verifying::MOST_SIGNATURES {
+            return Err((Exit::BadData, "there are too many signatures".to_owned()));
+        }
+        let reading = bounds().map_err(failed)?;
+        let mut held: Vec<Certificate> =
+            given.iter().flat_map(|octets| certificates(octets, true, |_, _| {})).collect();
+        if let Some(service) = service {
+            let said: Vec<_> = bodies.iter().map(|body| said_of(body)).collect();
+            let found =
+                held_by(service, &said).map_err(|_| (Exit::Failed, "the service doesn't answer".to_owned()))?;
+            held.extend(found);
+        }
+        drop(reading);
+        // A file of verifications is made in the end.
+        let confined = if self.verifications.is_none() { confine(&held) } else { bound_for_good() };
+        confined.map_err(failed)?;
+        let holders = Holders::of(&held);
+        let mut examination = Examination::new(bodies, &holders, self.now);
+        feed(&mut |piece| {
+            examination.update(piece);
+            Ok(())
+        })
+        .map_err(|error| (Exit::BadData, error.to_string()))?;
+        Ok(examination.finish())
     }
 
     /// Who made it, with a key that is usable now, and that is in a file or reached by the engine.
@@ -236,34 +274,6 @@ impl Request {
     }
 }
 
-/// What each signature comes to, by the given certificates and those that the service holds.
-#[allow(clippy::type_complexity)]
-fn examined(
-    bodies: &[Vec<u8>],
-    given: &[Vec<u8>],
-    now: u32,
-    feed: &mut dyn FnMut(&mut dyn FnMut(&[u8]) -> io::Result<()>) -> io::Result<()>,
-    service: Option<&mut Service>,
-) -> Result<Vec<Found>> {
-    if bodies.len() > crate::verifying::MOST_SIGNATURES {
-        return Err((Exit::BadData, "there are too many signatures".to_owned()));
-    }
-    let mut held: Vec<Certificate> = given.iter().flat_map(|octets| certificates(octets, true, |_, _| {})).collect();
-    if let Some(service) = service {
-        let said: Vec<_> = bodies.iter().map(|body| said_of(body)).collect();
-        let found = held_by(service, &said).map_err(|_| (Exit::Failed, "the service doesn't answer".to_owned()))?;
-        held.extend(found);
-    }
-    let holders = Holders::of(&held);
-    let mut examination = Examination::new(bodies, &holders, now);
-    feed(&mut |piece| {
-        examination.update(piece);
-        Ok(())
-    })
-    .map_err(|error| (Exit::BadData, error.to_string()))?;
-    Ok(examination.finish())
-}
-
 /// `2024-02-22T22:13:20Z KEY CERTIFICATE mode:binary`.
 fn line_of(one: &Found, by: &By) -> String {
     let mode = if one.said.kind == TEXT { "text" } else { "binary" };
@@ -287,6 +297,10 @@ fn path_of(name: &str) -> Result<PathBuf> {
         None if !name.starts_with('@') => Ok(PathBuf::from(name)),
         _ => Err((Exit::UnsupportedPrefix, format!("{name}: this name isn't known"))),
     }
+}
+
+fn failed(error: io::Error) -> (Exit, String) {
+    (Exit::Failed, error.to_string())
 }
 
 fn missing(name: &str, error: &io::Error) -> (Exit, String) {

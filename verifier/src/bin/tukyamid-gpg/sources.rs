@@ -4,6 +4,7 @@ use std::ffi::OsString;
 use std::fs::File;
 use std::io::{self, Seek, SeekFrom, Write};
 use std::os::unix::io::RawFd;
+use std::path::Path;
 
 use tukyamid_verify::message::{copy_pieces, signatures_of, Message};
 use tukyamid_verify::spool;
@@ -116,14 +117,46 @@ impl Data {
         }
     }
 
+    /// Opens what isn't open yet. Of several files, those that a caller may write in turn are left for later.
+    pub fn opened(self, names: &Names) -> Result<Opened, Failed> {
+        match self {
+            Data::Apart(files) => {
+                let is_one = files.len() == 1;
+                let open = |name: OsString| {
+                    let can_wait = !is_one && names.descriptor_of(&name).is_none() && !Path::new(&name).is_file();
+                    let file = (!can_wait).then(|| names.open(&name)).transpose();
+                    file.map(|file| (name.clone(), file)).map_err(|error| unopened(&name, &error))
+                };
+                files.into_iter().map(open).collect::<Result<_, _>>().map(Opened::Apart)
+            }
+            Data::Within(message, file) => Ok(Opened::Within(message, file)),
+        }
+    }
+}
+
+/// Data whose files are open, but for those that are opened only when their turn comes.
+pub enum Opened {
+    Apart(Vec<(OsString, Option<File>)>),
+    Within(Message, File),
+}
+
+impl Opened {
+    /// Whether nothing more has to be opened.
+    pub fn is_open(&self) -> bool {
+        match self {
+            Opened::Apart(files) => files.iter().all(|(_, file)| file.is_some()),
+            Opened::Within(..) => true,
+        }
+    }
+
     /// Hands on all of it, piece by piece.
     pub fn feed(&mut self, names: &Names, to: &mut dyn FnMut(&[u8]) -> io::Result<()>) -> Result<(), Failed> {
         match self {
-            Data::Apart(files) => files.iter().try_for_each(|name| {
-                let mut file = names.open(name).map_err(|error| unopened(name, &error))?;
-                copy_pieces(&mut file, to).map_err(|error| unopened(name, &error))
+            Opened::Apart(files) => files.iter_mut().try_for_each(|(name, file)| {
+                let opened = file.take().map_or_else(|| names.open(name), Ok);
+                opened.and_then(|mut file| copy_pieces(&mut file, to)).map_err(|error| unopened(name, &error))
             }),
-            Data::Within(message, file) => message.copy_data(file, to).map_err(|error| unread(&error)),
+            Opened::Within(message, file) => message.copy_data(file, to).map_err(|error| unread(&error)),
         }
     }
 }

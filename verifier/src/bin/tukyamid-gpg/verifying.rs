@@ -1,10 +1,11 @@
 //! Verifying what a caller names: who holds the keys, what the signatures come to, and how far the signers are trusted.
 
 use std::fs::File;
-use std::io::Write;
+use std::io::{self, Seek, SeekFrom, Write};
 use std::time::{SystemTime, UNIX_EPOCH};
 
 use tukyamid_verify::certificate::{certificates, Certificate};
+use tukyamid_verify::confinement::{self, Bounds};
 use tukyamid_verify::holders::Holders;
 use tukyamid_verify::said::Said;
 use tukyamid_verify::signature::Issuer;
@@ -14,6 +15,7 @@ use crate::answer::{settle, Answer, Outcome};
 use crate::config::{Config, Policy};
 use crate::contents::Target;
 use crate::examine::{said_of, sought_for, Code, Examination, Found, Verdict};
+use crate::human;
 use crate::inputs::Names;
 use crate::service::Service;
 use crate::socket::Away;
@@ -25,6 +27,10 @@ use crate::words::{Call, Command};
 pub const MOST_SIGNATURES: usize = 64;
 /// The octets of the certificates that may have made the signatures.
 const MOST_OCTETS: usize = 1 << 23;
+/// The memory of a run: data are read in pieces.
+const MEMORY: u64 = 1 << 30;
+/// The processor time that reading signatures and certificates may take, before any data are looked at.
+const SECONDS: u64 = 300;
 
 impl From<Away> for Failed {
     fn from(away: Away) -> Failed {
@@ -78,7 +84,7 @@ impl Verifying<'_> {
 
     fn write(&self, answer: &mut Answer, mut content: Content) -> Result<(), String> {
         let names = self.names();
-        let length = content.file.metadata().map_err(|error| error.to_string())?.len();
+        let length = content.file.seek(SeekFrom::End(0)).map_err(|error| error.to_string())?;
         if content.is_cleartext {
             answer.status.line("PLAINTEXT 74 0 ");
         } else {
@@ -113,12 +119,16 @@ impl Verifying<'_> {
     /// What each signature comes to. `said` gets what they say of themselves as soon as they are read.
     fn outcomes(&self, said: &mut Vec<Said>, answer: &mut Answer) -> Result<(Vec<Outcome>, Option<Content>), Failed> {
         let names = self.names();
-        let Signed { bodies, mut data, again, notes } = Signed::open(self.call, &names)?;
+        let reading = bounds().map_err(broken)?;
+        let Signed { bodies, data, again, notes } = Signed::open(self.call, &names)?;
         if bodies.len() > MOST_SIGNATURES {
             return Err(Failed::Broken(format!("there are more than {MOST_SIGNATURES} signatures")));
         }
         said.extend(bodies.iter().map(|body| said_of(body)));
+        // A service that is started hasn't these bounds.
+        drop(reading);
         let mut service = Service::open(self.config.socket.as_deref())?.limited();
+        let reading = bounds().map_err(broken)?;
         let held = held_by(&mut service, said)?;
         let holders = Holders::of(&held);
         let is_known = said.iter().any(|one| !holders.named(&one.issuers).is_empty());
@@ -128,6 +138,9 @@ impl Verifying<'_> {
         }
         notes.iter().for_each(|note| answer.say(note));
         let mut content = self.content_of(data.has_content(), data.is_cleartext())?;
+        let mut data = data.opened(&names)?;
+        drop(reading);
+        self.confine(&held, data.is_open(), content.is_some())?;
         let mut examination = Examination::new(&bodies, &holders, self.now);
         data.feed(&names, &mut |piece| {
             examination.update(piece);
@@ -149,6 +162,17 @@ impl Verifying<'_> {
         Ok((settle(outcomes?, self.policy).into_iter().flatten().collect(), content))
     }
 
+    /// Leaves this process nothing but what is open, unless a file still has to be opened: one of several data, or the
+    /// one that is made in the end of what is signed.
+    fn confine(&self, held: &[Certificate], is_open: bool, has_content: bool) -> Result<(), Failed> {
+        let names = self.names();
+        let is_made = self.call.output.as_ref().map_or(false, |name| names.descriptor_of(name).is_none());
+        if !is_open || (has_content && is_made) {
+            return bound_for_good().map_err(broken);
+        }
+        confine(held).map_err(broken)
+    }
+
     /// Where what is signed is kept meanwhile, if the caller wants it.
     fn content_of(&self, is_there: bool, is_cleartext: bool) -> Result<Option<Content>, Failed> {
         let is_wanted = self.call.output.is_some() || self.call.command != Command::Verify;
@@ -161,6 +185,24 @@ impl Verifying<'_> {
     fn names(&self) -> Names {
         Names { has_special: self.call.has_special_names }
     }
+}
+
+/// Bounds for reading what strangers wrote, as long as what is returned exists.
+pub fn bounds() -> io::Result<Bounds> {
+    Bounds::begin(MEMORY, SECONDS)
+}
+
+/// Gives up all that verifying by these certificates doesn't need, before data and keys are looked at.
+pub fn confine(held: &[Certificate]) -> io::Result<()> {
+    human::read_zone();
+    bound_for_good()?;
+    confinement::close_asking(held)
+}
+
+/// Bounds the memory, and gives up whatever rights another program would have.
+pub fn bound_for_good() -> io::Result<()> {
+    confinement::enter_with_open_files()?;
+    confinement::limit_memory(MEMORY)
 }
 
 /// The certificates that may have made these signatures.
