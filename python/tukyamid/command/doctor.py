@@ -3,7 +3,6 @@ says what is missing, and names the command that mends it."""
 
 from __future__ import annotations
 
-import argparse
 import importlib.util
 import os
 import shutil
@@ -21,6 +20,7 @@ from ..protocol.spelling import for_people
 from ..records import Value
 from ..third_party import find_libraries
 from ..version import VERSION, version_text
+from .parser import Parser
 
 if TYPE_CHECKING:
     from ..setup.trial import Trial
@@ -55,9 +55,9 @@ def run(words: Sequence[str] = ()) -> int:
     return NO_ANSWER if any(one.state is State.BAD for one in findings) else WELL
 
 
-def parser() -> argparse.ArgumentParser:
+def parser() -> Parser:
     """The parser of its words."""
-    words = argparse.ArgumentParser(
+    words = Parser(
         prog="tukyamid doctor", description="Checks the installation. Says what is missing, and how to fix it.",
         epilog="Exit status: 0 questions can be answered, 3 something that is needed for that is missing.")
     words.add_argument("--engine", metavar="PROGRAM", help="the engine's program")

@@ -45,6 +45,11 @@ class Parser(argparse.ArgumentParser):
     """A parser whose errors are WrongWords."""
 
     def error(self, message: str) -> NoReturn:
+        _, is_unknown, words = message.partition("unrecognized arguments: ")
+        names = [word.partition("=")[0] for word in words.split()] if is_unknown else []
+        for name in names:
+            if any(name in (option.name, option.short) for option in options.QUESTION):
+                raise WrongWords(f"{name} goes with questions, such as tukyamid list; {self.prog} doesn't take it")
         raise WrongWords(message)
 
 

@@ -131,6 +131,15 @@ class Words(Asking):
         self.fails(run([COMMAND, "--no-service", "--root", carol, "list"]), 2, "an input is missing: give --keyring")
         self.fails(run([COMMAND, "--anew", "--root", carol, "list"]), 2, "--anew goes with an input: give --keyring")
 
+    def test_options_of_questions(self):
+        """A command that has nothing to do with them says so, wherever they are."""
+        for command in ["root", "list"], ["keyring", "list"], ["status"], ["log"], ["doctor"], ["setup", "git"]:
+            for option in ["--format", "json"], ["--keyring=file"], ["--time", "2024-01-01"], ["--paths"]:
+                name = option[0].partition("=")[0]
+                for words in [*command, *option], [*option, *command]:
+                    with self.subTest(words):
+                        self.fails(run([COMMAND, *words]), 2, f"{name} goes with questions")
+
     def test_usage_has_two_lines(self):
         done = run([COMMAND])
         self.assertEqual((done.returncode, done.stdout), (2, b""))

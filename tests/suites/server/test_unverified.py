@@ -1,6 +1,7 @@
 """Keyrings whose signatures wait to be verified: the verifier is missing, fails, is slow, or was interrupted."""
 
 import os
+import re
 import shutil
 import tempfile
 import unittest
@@ -11,6 +12,11 @@ from world import World
 
 TRUSTING = HERE / "trusting_verifier.py"
 # Stands for a verifier that takes long: as long as the file HOLD is there, it verifies nothing. It reads keyrings.
+# One whose first verdicts come one by one, each more than a second after the one before.
+STEADY = """#!/bin/sh
+[ "$1" = --public ] && exec {trusting} "$@"
+{trusting} "$@" | {{ for number in 1 2 3; do read -r line && echo "$line"; sleep 1.1; done; cat; }}
+"""
 SLOW = """#!/bin/sh
 [ "$1" = --public ] && exec {trusting} "$@"
 while [ -e {hold} ]; do sleep 0.02; done
@@ -97,6 +103,19 @@ class Unverified(unittest.TestCase):
         self.install()
         with self.server() as server, Client(server.path) as client:
             self.wait_until_verified(server, client)
+
+    def test_progress_goes_up(self):
+        """The count is that of all signatures so far, however the verifier's verdicts come."""
+        self.install(STEADY.format(trusting=TRUSTING))
+        with self.server() as server, Client(server.path) as client:
+            client.send(b"service keyring add " + self.name)
+            said = []
+            while (line := client.read_line()).startswith(b"service progress "):
+                said += re.findall(rb"^service progress signatures ([0-9]+) of ", line)
+        counts = [int(count) for count in said]
+        self.assertRegex(line, b"^ok keyring ")
+        self.assertNotEqual(counts, [])
+        self.assertEqual(counts, sorted(set(counts)))
 
     def test_a_client_that_goes_meanwhile(self):
         """What waits is verified all the same, and until then said to wait."""

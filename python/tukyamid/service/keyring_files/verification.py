@@ -43,18 +43,21 @@ class Progress:
         self._say, self._what = say, what
         self._of = "" if total is None else f" of {total}"
         self._next = asyncio.get_running_loop().time() + _PROGRESS_SECONDS
+        self._count = 0
 
-    def reach(self, count: int) -> None:
+    def advance(self) -> None:
+        """One more is done."""
+        self._count += 1
         now = asyncio.get_running_loop().time()
         if now >= self._next:
             self._next = now + _PROGRESS_SECONDS
-            self._say(f"{self._what} {count}{self._of}")
+            self._say(f"{self._what} {self._count}{self._of}")
 
 
 async def make_changes(hub: Desk, lines: Iterable[bytes], actor: Actor, progress: Progress) -> int:
     """Has these changes made, some of them ahead of their replies; returns the number of refused ones. DatabaseFault if
     the database couldn't take some of them."""
-    room, refused, failed, count = asyncio.Semaphore(_AHEAD), 0, 0, 0
+    room, refused, failed = asyncio.Semaphore(_AHEAD), 0, 0
 
     def done(reply: bytes | None, _: int) -> None:
         nonlocal refused, failed
@@ -62,10 +65,10 @@ async def make_changes(hub: Desk, lines: Iterable[bytes], actor: Actor, progress
         failed += reply is not None and reply.startswith(b"fault ")
         room.release()
 
-    for count, line in enumerate(lines, 1):
+    for line in lines:
         await room.acquire()
         hub.change(line, actor, done)
-        progress.reach(count)
+        progress.advance()
     for _ in range(_AHEAD):
         await room.acquire()
     if failed:
@@ -175,7 +178,6 @@ class Verification:
         async for lines in lines_with(b"verdict ", stdout):
             count += len(lines) - await make_changes(self._hub, lines, actor, progress)
             self.left = max(0, total - count)
-            progress.reach(count)
         return count
 
 
