@@ -23,6 +23,7 @@ from .sessions.client_rights import Rights
 from .sessions.own_answers import Answering
 from .sessions.session import Session
 from .sessions.user_shares import Shares, bounds
+from .storage.log_growth import LogGrowth
 from .storage.shared_database import Shared
 
 _PATIENCE_AT_THE_END = 4
@@ -59,6 +60,7 @@ class Service:
         self._ending = ending
         self._answering = Answering(hub, directory, keyrings, self._status)
         self._sessions: set[Session] = set()
+        self._log = LogGrowth()
         self._count = 0
         self._end = asyncio.Event()
         self._last_used = 0.0
@@ -178,7 +180,7 @@ class Service:
     def _drop_slowest(self) -> None:
         """Drops the client that has read for longest from the database as it was: its log grows until that is over."""
         reading = [session for session in self._sessions if session.outbox.pinned_since < float("inf")]
-        if reading and self._hub.database.log_octets() > _LARGEST_LOG:
+        if self._log.grown(self._hub.database.log_octets(), bool(reading)) > _LARGEST_LOG:
             min(reading, key=lambda one: one.outbox.pinned_since).drop("reads the keyring too slowly")
 
     def _drop_largest(self) -> None:

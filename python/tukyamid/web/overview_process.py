@@ -1,19 +1,20 @@
 """Makes an overview: `python3 -m tukyamid.web.overview_process SOCKET`, with a standpoint as JSON on standard input.
 Writes lines of JSON: how far it is, with the tables that are there so far, and at last all of them."""
 
+import gc
 import json
 import os
 import sys
 from collections import defaultdict
 from collections.abc import Iterable, Iterator
 from time import monotonic as clock
-from typing import Any
+from typing import Any, BinaryIO, cast
 
 from ..client import connect
 from ..client.engine import Engine
-from ..protocol.refusals import TukyamidError
+from ..protocol.refusals import ServiceEnded, TukyamidError
 from . import overview_tables
-from .dump_facts import Facts
+from .dump_facts import Facts, Script
 
 FULL, PARTIAL, ANY = 120, 40, 1
 VIEW = "overview"
@@ -21,6 +22,8 @@ ORDER = "bindings", "introducers", "ending", "hashes", "islands"
 MOST_INTRODUCERS = 200
 # The bindings that are asked about one by one. Of more, a list of all bindings costs less.
 MOST_ASKED = 500
+# As many bindings are listed in the time that a question about one takes.
+LISTED_PER_ASKED = 8
 PAUSE = 0.3
 
 Binding = tuple[str, bytes]
@@ -47,7 +50,7 @@ class Overview:
     def every_table(self) -> Iterator[overview_tables.Table]:
         """The tables, in an order in which what takes longest comes last. A later one takes the place of one of its
         name."""
-        full, partial, some = (self._reached(amount) for amount in (FULL, PARTIAL, ANY))
+        full, partial, some = self._levels()
         yield self._counts(full, partial, some)
         yield overview_tables.ending(self._facts, self._time)
         yield overview_tables.hashes(self._facts)
@@ -65,6 +68,17 @@ class Overview:
 
     def _reached(self, amount: int) -> set[Binding]:
         return {(one.fpr, one.user_id) for one in self._engine.list(VIEW, amount)}
+
+    def _levels(self) -> tuple[set[Binding], set[Binding], set[Binding]]:
+        """The bindings that are authenticated fully, partly and to any amount."""
+        some = self._reached(ANY)
+        if len(some) * LISTED_PER_ASKED > self._facts.bindings:
+            return self._reached(FULL), self._reached(PARTIAL), some
+        amounts = self._amounts(some)
+        return ({one for one in some if amounts[one] >= FULL}, {one for one in some if amounts[one] >= PARTIAL}, some)
+
+    def _amounts(self, bindings: Iterable[Binding]) -> dict[Binding, int]:
+        return {one: self._engine.ask(VIEW, one[0], FULL, one[1]).amount for one in bindings}
 
     def _counts(self, full: set[Any], partial: set[Any], some: set[Any]) -> overview_tables.Table:
         rows = [("full", f"{FULL} or more", len(full)), ("partial", f"{PARTIAL} to {FULL - 1}", len(partial - full)),
@@ -122,7 +136,7 @@ class Overview:
         """Which of these bindings are full, and which have a path, as the keyring is now."""
         if len(carried) > MOST_ASKED:
             return self._reached(FULL), self._reached(ANY)
-        amounts = {one: self._engine.ask(VIEW, one[0], FULL, one[1]).amount for one in carried}
+        amounts = self._amounts(carried)
         return ({one for one, amount in amounts.items() if amount >= FULL},
                 {one for one, amount in amounts.items() if amount >= ANY})
 
@@ -137,6 +151,7 @@ def _table_of_introducers(rows: list[tuple[str, str, int, int, int, str]]) -> ov
 
 def main(words: list[str]) -> int:
     os.nice(5)
+    gc.disable()  # What is gathered stays to the end and has no cycles; to look for them takes half of the time.
     asked = json.loads(sys.stdin.read())
     try:
         _survey(words[0], asked["time"], asked["roots"])
@@ -152,7 +167,9 @@ def _survey(socket: str, time: int, roots: dict[str, int]) -> None:
     with Engine() as engine:
         say(progress="copying the keyring")
         with connect(socket) as client:
-            engine.feed(facts.gather(iter(client.dump())))
+            is_whole = engine.restore(cast(BinaryIO, Script(facts.gather(iter(client.dump())))))
+        if not is_whole:
+            raise ServiceEnded("the keyring couldn't be copied")
         Overview(engine, facts, time, roots).gather()
 
 

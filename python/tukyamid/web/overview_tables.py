@@ -1,6 +1,6 @@
 """The tables of an overview that rest on certificates and verdicts alone: what ends soon, weak hashes, and islands."""
 
-from collections import Counter, defaultdict
+from collections import defaultdict
 from collections.abc import Iterable
 from typing import Any
 
@@ -48,22 +48,18 @@ def _end_of_key(created: int, own: list[Fact], time: int) -> int | None:
 
 def hashes(facts: Facts) -> Table:
     """The hash algorithms of certifications by others, and how many count for nothing because of them."""
-    counted: Counter[int] = Counter()
-    refused: Counter[int] = Counter()
-    newest: defaultdict[int, int] = defaultdict(int)
+    made: defaultdict[int, list[int]] = defaultdict(list)
     for _, fact in facts.good:
-        counted[fact.algorithm] += 1
-        newest[fact.algorithm] = max(newest[fact.algorithm], fact.made)
-        refused[fact.algorithm] += not _is_admitted(fact)
-    rows = [(_NAMES.get(one, f"number {one}"), counted[one], refused[one], day(newest[one]))
-            for one in sorted(counted, key=lambda one: (one in _STRONG, -counted[one]))]
+        made[fact.algorithm].append(fact.made)
+    rows = [(_NAMES.get(one, f"number {one}"), len(made[one]), sum(not _is_admitted(one, time) for time in made[one]),
+             day(max(made[one]))) for one in sorted(made, key=lambda one: (one in _STRONG, -len(made[one])))]
     return table("hashes", "Hash algorithms", "Verified certifications of others' keys. Those by SHA-1 and RIPEMD-160 "
                  "count only if they were created before February 2013, and those by MD5 never.",
                  ("algorithm", "certifications", "too weak to count", "newest"), rows)
 
 
-def _is_admitted(fact: Fact) -> bool:
-    return fact.algorithm in _STRONG or (fact.algorithm in (2, 3) and fact.made < SHA1_ENDS)
+def _is_admitted(algorithm: int, made: int) -> bool:
+    return algorithm in _STRONG or (algorithm in (2, 3) and made < SHA1_ENDS)
 
 
 def islands(facts: Facts, reached: frozenset[str]) -> Table:
@@ -91,7 +87,7 @@ def _groups(facts: Facts) -> list[list[str]]:
             fpr = leader[fpr]
         return fpr
     for issuer, fact in facts.good:
-        if issuer in leader:
+        if leader.get(issuer, leader[fact.fpr]) != leader[fact.fpr]:  # Most of them have the same leader soon.
             leader[find(issuer)] = find(fact.fpr)
     groups: defaultdict[str, list[str]] = defaultdict(list)
     for fpr in leader:

@@ -10,13 +10,16 @@ from test_places import OVERLAPS, Places
 
 MADE = 1_700_000_000
 INTRODUCERS, OF_EACH, DOMAINS, STRANGERS = 3, 600, 4, 70
-REACHED = INTRODUCERS * OF_EACH + INTRODUCERS + 1
+NAMELESS = b" <no@example.org>"
+REACHED = INTRODUCERS * OF_EACH + INTRODUCERS + 2
 
 
 def thousands():
-    """A root, three introducers, 600 keys of four domains that each of them has certified, and 70 strangers."""
+    """A root, three introducers, 600 keys of four domains that each of them has certified, somebody whose user ID is an
+    address alone, and 70 strangers."""
     made = [Made(1).direct(MADE)]
     root = made[0].certified(b"Root <root@example.org>", made[0], MADE)
+    made.append(Made(999).direct(MADE).certified(NAMELESS, root, MADE + 2))
     for number in range(INTRODUCERS):
         introducer = Made(2 + number).direct(MADE).certified(
             b"Introducer %d <i%d@example.org>" % (number, number), root, MADE + 1, trust(1, 120))
@@ -79,6 +82,15 @@ class Thousands(Places):
         self.browser.driver.back()
         self.browser.wait("return !document.querySelector('.tree').textContent.includes('d0.example')")
 
+    def test_each_box_has_a_name(self):
+        self.open_start()
+        names = self.browser.run("return [...document.querySelectorAll('.tree .main')].map((one) => one.textContent)")
+        self.assertIn("<no@example.org>", names)
+        self.assertTrue(all(names), names)
+        counts = self.browser.run("return [...document.querySelectorAll('.tree .group .small')]"
+                                  ".map((one) => one.textContent)")
+        self.assertEqual(counts, [f"▸ click to open, ✓ {OF_EACH}"] * INTRODUCERS)
+
     def test_on_a_phone(self):
         self.browser.size(360, 740)
         self.open_start()
@@ -93,5 +105,5 @@ class Thousands(Places):
         self.follow("Introducer 0", ".tree")
         self.browser.wait_text("#for-count", f"{OF_EACH}")
         self.browser.wait_text("#vouches-for", f"Show more ({OF_EACH - 20} keys left)")
-        self.browser.click("#vouches-for button")
+        self.browser.click("#vouches-for li:last-child > button")
         self.browser.wait_text("#vouches-for", f"Show more ({OF_EACH - 70} keys left)")

@@ -46,6 +46,9 @@ export const byId = (id) => document.getElementById(id);
 /** A name of others: it may be written from right to left, and mustn't turn what stands beside it. */
 export const name = (text) => make("bdi", { class: "name" }, text);
 
+/** A user ID without its address where there is little room. One that is nothing but an address stays as it is. */
+export const withoutAddress = (text) => text.replace(/ <[^<>]*>$/, "").trim() || text.trim();
+
 /** A fingerprint, short where there is little room; the whole of it is its title. */
 export const short = (fpr) => make("code", { title: fpr }, `${fpr.slice(0, 8)}…${fpr.slice(-8)}`);
 

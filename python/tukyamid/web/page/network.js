@@ -2,7 +2,7 @@
 
 import { call } from "./asking.js";
 import { beginning } from "./beginning.js";
-import { byId, count, draw, fill, fitted, make } from "./dom.js";
+import { byId, count, draw, fill, fitted, make, withoutAddress } from "./dom.js";
 import { keyLink } from "./links.js";
 import { addressOf, addressOfKey, learn, nameOf, standpoint, state } from "./state.js";
 import { explain } from "./tips.js";
@@ -121,9 +121,10 @@ function nodeOf(node, links) {
     href, class: `node ${sort}`, transform: `translate(${node.x} ${node.y})`, "data-id": node.id,
     "aria-label": `${upper}: ${lower}`, ...(isKey ? {} : { "aria-expanded": String(node.open) }) },
   draw("rect", { width: node.width, height: HEIGHT, rx: 9 }),
-  draw("text", { x: 10, y: 18, class: "main" }, fitted(isKey ? upper.replace(/ <[^<>]*>$/, "") : upper, room,
+  draw("text", { x: 10, y: 18, class: "main" }, fitted(isKey ? withoutAddress(upper) : upper, room,
     13.5, 600)),
-  draw("text", { x: 10, y: 35, class: "small" }, fitted(lower, room, 12)));
+  draw("text", { x: 10, y: 35, class: "small" }, fitted(isKey ? lower : lower.replace(/(\S+) fully.*/, "✓ $1"), room,
+    12)));
   return isKey ? explain(link, () => sentencesOf(node, links)) : link;
 }
 

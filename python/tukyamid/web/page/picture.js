@@ -1,7 +1,7 @@
 // The paths drawn from the roots down to the target: a row for each distance from it, a line for each certification.
 
 import { HEIGHT, layOut } from "./layout.js";
-import { cut, day, draw, fill, fitted, widthOf } from "./dom.js";
+import { cut, day, draw, fill, fitted, widthOf, withoutAddress } from "./dom.js";
 import { fold } from "./folding.js";
 import { scopeText } from "./scopes.js";
 import { addressOfKey, nameOf, state } from "./state.js";
@@ -115,6 +115,6 @@ function boxOf(key, reply, { target, box: width }) {
     draw("title", {}, `${nameOf(key.fpr)} ${key.fpr}`),
     draw("rect", { width, height: HEIGHT, rx: 10 }),
     draw("text", { x: width / 2, y: 24, class: "main", "text-anchor": "middle" },
-      fitted(nameOf(key.fpr).replace(/ <[^<>]*>$/, ""), width - 16, 13, 650)),
+      fitted(withoutAddress(nameOf(key.fpr)), width - 16, 13, 650)),
     draw("text", { x: width / 2, y: 43, class: "small", "text-anchor": "middle" }, cut(below, 28)));
 }

@@ -1,7 +1,7 @@
 // How far an answer gets that isn't reached: chains from the roots to the key, and where each of them breaks.
 
 import { call } from "./asking.js";
-import { byId, count, draw, fill, fitted, make, name } from "./dom.js";
+import { byId, count, draw, fill, fitted, make, name, withoutAddress } from "./dom.js";
 import { keyLink } from "./links.js";
 import { scopeText } from "./scopes.js";
 import { addressOfKey, learn, nameOf, state, subject } from "./state.js";
@@ -69,7 +69,7 @@ function whyOf(step) {
   }
 }
 
-const shortName = (key) => nameOf(key).replace(/ <[^<>]*>$/, "");
+const shortName = (key) => withoutAddress(nameOf(key));
 
 /** The chains as a tree from the left; those with the same beginning share it. */
 function drawChains(element, reply) {
