@@ -53,7 +53,7 @@ def answer(given: Given, show: Callable[[Report], str], tell: Tell) -> tuple[str
         roots = Roots(given, inputs).find(at)
         found, supposed = _asked(given, ask, keyring, at, roots.amounts)
         shown = tuple(one.but(strict=given.strict) for one in found.assessments)
-        notes = (*roots.notes, *found.notes, *_notes_on_waiting(keyring, shown, waiting))
+        notes = (*roots.notes, *found.notes, *notes_on_waiting(keyring, shown, waiting))
         report = Report(given.question or "", given.amount, at, found.roots or roots.amounts, shown, _Names(keyring),
                         notes, supposed)
         return show(report), report.reached
@@ -71,7 +71,7 @@ def _asked(given: Given, ask: Ask, keyring: Keyring, at: int,
         return ask(scratch.view(at, roots)), supposed
 
 
-def _notes_on_waiting(keyring: Keyring, found: tuple[Assessment, ...], waiting: Waiting | None) -> Iterator[str]:
+def notes_on_waiting(keyring: Keyring, found: tuple[Assessment, ...], waiting: Waiting | None) -> Iterator[str]:
     """The note on signatures that wait to be verified. NoAnswer if they could change the answer."""
     if waiting is None:
         return

@@ -161,6 +161,10 @@ class Keyring:
                 self._certificates[fpr] = None
         return self._certificates[fpr]
 
+    def kept(self) -> int:
+        """How many certificates have been looked up, and are kept."""
+        return len(self._certificates)
+
     def name(self, fpr: str) -> bytes | None:
         """A user ID to show for a key: its primary one by its newest self-signatures, else the first; or None."""
         certificate = self.certificate(fpr)

@@ -35,6 +35,9 @@ class Wanted(Given):
 
 def run(words: Sequence[str]) -> int:
     """Serves the page, and returns the exit status."""
+    if "--public" in words:
+        from ..public import public_command
+        return public_command.run(words)
     given = _read(words)
     if given is not None:
         _serve(given)
@@ -85,6 +88,8 @@ def parser() -> Parser:
     group = made.add_argument_group("the page")
     group.add_argument("--time", metavar="TIME", type=typed(read_time), help="the time that the page shows first (now)")
     group.add_argument("--port", metavar="N", type=typed(_read_port), default=0, help="the port (any free one)")
+    group.add_argument("--public", action="store_true",
+                       help="answer everyone, and change nothing: see tukyamid web --public --help")
     group.add_argument("--no-browser", action="store_true", help="print the address, but don't open a browser")
     group.add_argument("--cache", metavar="FOLDER", help="where verified keyrings are kept")
     group.add_argument("--verifier", metavar="PROGRAM", help="the program wot-verdicts")

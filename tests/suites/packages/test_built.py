@@ -56,6 +56,7 @@ class Built(unittest.TestCase):
             "python3-tukyamid": ["usr/bin/tukyamid", "usr/share/man/man1/tukyamid.1.gz",
                                  "usr/lib/python3/dist-packages/tukyamid/py.typed",
                                  "usr/lib/python3/dist-packages/tukyamid/client/aio/__init__.py",
+                                 "usr/lib/python3/dist-packages/tukyamid/public/openapi.json",
                                  "usr/lib/python3/dist-packages/tukyamid/web/page/index.html",
                                  "usr/lib/python3/dist-packages/tukyamid/web/page/main.js",
                                  "usr/share/bash-completion/completions/tukyamid",
@@ -186,6 +187,7 @@ class Completion(unittest.TestCase):
         self.assertEqual(self.bash("tukyamid", "lookup", "--ema"), ["--email"])
         self.assertEqual(sorted(self.bash("tukyamid", "--format", "")), ["colons", "dot", "html", "json", "tree"])
         for words, found in [(["verify", "--th"], ["--threshold"]), (["web", "--po"], ["--port"]),
+                             (["web", "--pub"], ["--public"]), (["web", "--me"], ["--metrics"]),
                              (["keyring", "re"], ["remove"]), (["doctor", "--so"], ["--socket"]),
                              (["check", "--ro"], ["--root"]), (["status", "--th"], [])]:
             self.assertEqual(self.bash("tukyamid", *words), found)

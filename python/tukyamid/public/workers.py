@@ -1,0 +1,124 @@
+"""The processes that answer questions. Each answers one at a time; one that takes too long is ended, with all that it
+has started, and another takes its place."""
+
+from __future__ import annotations
+
+import asyncio
+import contextlib
+import os
+import signal
+import sys
+from collections.abc import Awaitable
+from pathlib import Path
+from typing import NamedTuple, TypeVar
+
+from ..protocol.refusals import TukyamidError
+
+T = TypeVar("T")
+LONGEST = 1 << 20
+MOST_WAITING = 256
+# What starts a program of its own, or reads much, has half of the workers at most.
+LONG_CALLS = frozenset({"path", "absence", "proof", "list"})
+
+
+class Reply(NamedTuple):
+    """A status of HTTP, and the JSON of the answer or the error."""
+    status: int
+    body: bytes
+
+
+class Refusal(TukyamidError):
+    """A question that isn't answered now, though it may be later; `sort` names the reason in the metrics."""
+
+    def __init__(self, sort: str, reason: str) -> None:
+        super().__init__(reason)
+        self.sort = sort
+
+
+class _Worker:
+    """One process, which is started when it is needed."""
+
+    def __init__(self, socket: str) -> None:
+        self._socket = socket
+        self._process: asyncio.subprocess.Process | None = None
+
+    async def ask(self, line: bytes) -> Reply:
+        process = self._process or await self._start()
+        assert process.stdin is not None and process.stdout is not None
+        process.stdin.write(line)
+        await process.stdin.drain()
+        status, size = map(int, (await process.stdout.readline()).split())
+        return Reply(status, await process.stdout.readexactly(size))
+
+    async def _start(self) -> asyncio.subprocess.Process:
+        package = str(Path(__file__).resolve().parents[2])
+        self._process = await asyncio.create_subprocess_exec(
+            sys.executable, "-m", "tukyamid.public.worker", self._socket, stdin=asyncio.subprocess.PIPE,
+            stdout=asyncio.subprocess.PIPE, stderr=asyncio.subprocess.DEVNULL, limit=LONGEST, start_new_session=True,
+            env={**os.environ, "PYTHONPATH": package})
+        return self._process
+
+    async def end(self) -> None:
+        process, self._process = self._process, None
+        if process is not None:
+            with contextlib.suppress(ProcessLookupError):
+                os.killpg(process.pid, signal.SIGKILL)
+            await process.wait()
+
+
+class Workers:
+    """`count` processes; a question may take `seconds`, and may wait as long for a process."""
+
+    def __init__(self, socket: str, count: int, seconds: float) -> None:
+        self._free: asyncio.LifoQueue[_Worker] = asyncio.LifoQueue()
+        self._all = [_Worker(socket) for _ in range(count)]
+        for worker in self._all:
+            self._free.put_nowait(worker)
+        self._long = asyncio.Semaphore(max(1, count // 2))
+        self._seconds = seconds
+        self.waiting = self.busy = 0
+
+    async def ask(self, call: str, line: bytes) -> Reply:
+        """The reply to a question. Refusal if there are too many, or if it takes too long."""
+        if self.waiting >= MOST_WAITING:
+            raise Refusal("crowded", "too many questions wait to be answered")
+        self.waiting += 1
+        try:
+            if call not in LONG_CALLS:
+                return await self._answered(line)
+            await self._in_time(self._long.acquire())
+            try:
+                return await self._answered(line)
+            finally:
+                self._long.release()
+        finally:
+            self.waiting -= 1
+
+    async def _in_time(self, waited: Awaitable[T]) -> T:
+        try:
+            return await asyncio.wait_for(waited, self._seconds)
+        except TimeoutError:
+            raise Refusal("crowded", "too many questions are under way") from None
+
+    async def _answered(self, line: bytes) -> Reply:
+        worker = await self._in_time(self._free.get())
+        self.busy, is_whole = self.busy + 1, False
+        try:
+            async with asyncio.timeout(self._seconds):
+                reply = await worker.ask(line)
+            is_whole = True
+            return reply
+        except TimeoutError:
+            raise Refusal("costly", f"this question takes more than {self._seconds:g} seconds, and isn't answered "
+                          "here; ask an installed tukyamid") from None
+        except (ValueError, OSError, EOFError) as error:
+            raise Refusal("ended", f"what answers questions has ended: {type(error).__name__}") from None
+        finally:
+            self.busy -= 1
+            if not is_whole:
+                await worker.end()
+            self._free.put_nowait(worker)
+
+    async def close(self) -> None:
+        for worker in self._all:
+            await worker.end()
