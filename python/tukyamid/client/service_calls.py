@@ -42,7 +42,8 @@ class ServiceCalls(Calls, ABC):
     def excerpt(self, word: str, fprs: Iterable[str]) -> Listing[bytes]:
         """Lines `import` and `verdict` that make a part of the keyring: a `key` alone; `from` some keys, whoever trust
         signatures lead to, and with `reach` all that those have certified; `about` keys, the issuers of their
-        signatures too, and with `to` whoever leads to these."""
+        signatures too, and with `to` whoever leads to these. `question` is for asking about the first key from the
+        others as roots."""
         return self.do(service_lines.Excerpt(word, fprs))
 
     def log(self, count: int) -> Listing[Change]:

@@ -4,13 +4,13 @@ waits for the one before it. Each call still sends its own line, unless it is am
 from __future__ import annotations
 
 from ..fast_imports import TYPE_CHECKING
-from ..keyrings.keyring import VIEW
+from ..keyrings.keyring import VIEW, WHOLE
 from ..protocol import commands
-from ..protocol.service_lines import Find, Issuers, Unverified
+from ..protocol.service_lines import MOST_OF_AN_EXCERPT, Excerpt, Find, Issuers, Unverified
 from . import option_values
 
 if TYPE_CHECKING:
-    from collections.abc import Iterator
+    from collections.abc import Iterable, Iterator
 
     from ..protocol.command_base import Line
     from .parsed_words import Given
@@ -19,17 +19,40 @@ _KEY_ID_DIGITS = 16
 
 
 def lines_ahead(given: Given, at: int) -> list[bytes]:
-    """The lines of a question at this time. It has none if its roots have to be looked up first, or if something is
-    supposed: the service never hears of that."""
+    """The lines of a question at this time. It has none if its roots have to be looked up first."""
     roots = dict(given.root)
-    if not roots or given.gpg or given.suppose or given.question == "path" or any(map(_is_key_id, roots)):
+    if not roots or given.gpg or given.question == "path" or any(map(_is_key_id, roots)):
         return []
+    if given.suppose:
+        return _unique(_supposing(given, at, roots))
     lines: list[Line] = [Unverified(), *map(commands.Export, roots), commands.Close(VIEW), commands.Time(VIEW, at)]
     lines += [commands.Root(VIEW, fpr, amount) for fpr, amount in roots.items()]
     lines += _about(given)
     if given.question != "list" or given.paths:
         lines += map(Issuers, roots)  # For their names.
+    return _unique(lines)
+
+
+def _unique(lines: Iterable[Line]) -> list[bytes]:
     return list(dict.fromkeys(line.line() for line in lines))
+
+
+def _supposing(given: Given, at: int, roots: Iterable[str]) -> Iterator[Line]:
+    """What is asked for an engine in which something is supposed: what is there already, but nothing supposed."""
+    yield Unverified()
+    yield from map(commands.Export, roots)
+    if given.question not in ("authenticate", "explain") or given.email:
+        return
+    fpr = option_values.read_key(given.words[0])
+    named = {key for one in given.suppose for key in (one.issuer, one.key) if one.issuer}
+    if not any(map(_is_key_id, (fpr, *named))):
+        yield from map(commands.Export, sorted({fpr, *named}))
+        leading = sorted({*roots, *(named - {fpr})})
+        if leading:
+            yield Excerpt("question", [fpr, *leading][:MOST_OF_AN_EXCERPT])
+        yield from (commands.Close(WHOLE), commands.Time(WHOLE, at))
+        yield commands.Explain(WHOLE, fpr, option_values.read_user_id(given.words[1]))
+        yield from map(Issuers, [fpr, *roots])
 
 
 def _is_key_id(key: str) -> bool:

@@ -24,6 +24,7 @@ if TYPE_CHECKING:
     from .verified_cache import Entry, Held, Store
 
 VIEW = "client"
+WHOLE = "whole"  # The view of what holds without what is supposed.
 Bindings = list[tuple[str, bytes]]
 
 

@@ -20,7 +20,7 @@ class Certificate:
     """A key, its direct signatures, and its user IDs with theirs."""
 
     def __init__(self, key: bytes) -> None:
-        self.fpr = key_fingerprint(key)
+        self.key, self.fpr = key, key_fingerprint(key)
         self.created = int.from_bytes(key[1:5], "big")
         self.direct: list[Signature] = []
         self.user_ids: dict[bytes, list[Signature]] = {}

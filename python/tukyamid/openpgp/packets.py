@@ -10,6 +10,11 @@ if TYPE_CHECKING:
 KEY, USER_ID, ATTRIBUTE, SUBKEY, SIGNATURE = 6, 13, 17, 14, 2
 
 
+def packet(kind: int, body: bytes) -> bytes:
+    """A packet in the OpenPGP format, with a length of four octets."""
+    return bytes([0xC0 | kind, 0xFF]) + len(body).to_bytes(4, "big") + body
+
+
 def packets(octets: bytes) -> Iterator[tuple[int, bytes]]:
     """The packets of octets as (type, body), in either format; ValueError if one is malformed."""
     at = 0

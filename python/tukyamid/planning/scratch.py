@@ -9,12 +9,13 @@ from __future__ import annotations
 
 from ..client.engine import Engine
 from ..fast_imports import TYPE_CHECKING
-from ..keyrings.keyring import Keyring
+from ..keyrings.keyring import WHOLE, Keyring
 from ..openpgp.certificates import CERTIFICATIONS, key_fingerprint
 from ..openpgp.packets import packets
 from ..patience import ended_after
 from ..protocol.reasons import ReasonWord
 from ..protocol.replies import Explanation
+from ..protocol.service_lines import MOST_OF_AN_EXCERPT
 from .supposed_index import SupposedIndex
 from .supposed_signatures import Signature, supposed
 from .suppositions import Certifies, Revokes, WithoutKey, WithoutSignature
@@ -43,7 +44,6 @@ class ScratchEngine(Engine):
         self._without = frozenset(one.number for one in suppositions if isinstance(one, WithoutSignature))
         self._introduced = {one.target for one in suppositions if isinstance(one, Certifies) and one.depth}
         self._loaded: set[tuple[str, str]] = set()
-        self._bodies: dict[str, bytes] = {}
         self._untaken: list[Signature] = []
         self._named: set[str] = set()
         self._roots: dict[str, set[str]] = {}
@@ -62,7 +62,7 @@ class ScratchEngine(Engine):
     def _take_supposed(self) -> None:
         """Takes what is supposed, with its keys, unless that was done before."""
         if self._untaken:
-            self.need("key", self._named)
+            self.need("key", [fpr for fpr in self._named if ("question", fpr) not in self._loaded])
             self.take([line for one in self._untaken for line in one.lines()])
             self._untaken.clear()
 
@@ -72,9 +72,8 @@ class ScratchEngine(Engine):
         return supposed(one, self._key(one.target), time, others)
 
     def _key(self, fpr: str) -> bytes:
-        if fpr not in self._bodies:
-            self._bodies[fpr] = next(packets(self._keyring.engine.export(fpr)))[1]
-        return self._bodies[fpr]
+        certificate = self._keyring.certificate(fpr)
+        return certificate.key if certificate is not None else next(packets(self._keyring.engine.export(fpr)))[1]
 
     def _of_that_second(self, one: Certifies | Revokes, time: int) -> list[str]:
         """The numbers of the issuer's certifications of this user ID that were created at a time."""
@@ -107,8 +106,16 @@ class ScratchEngine(Engine):
             yield line
 
     def _need_slice(self, view: str, fpr: str) -> None:
-        self.need("from", [*self._roots.get(view, ()), *self._introduced])
-        self.need("key", [fpr])
+        """Loads what a question about a key from a view's roots needs: no path goes on behind that key."""
+        leading = {*self._roots.get(view, ()), *((self._introduced | self._named) - {fpr})}
+        missing = sorted(one for one in leading if ("question", one) not in self._loaded)
+        if not missing:
+            self.need("key", [fpr])
+        elif not (self._keyring.index.is_whole and self._loaded):
+            for start in range(0, len(missing), MOST_OF_AN_EXCERPT - 1):
+                wanted = [fpr, *missing[start:start + MOST_OF_AN_EXCERPT - 1]]
+                self.take(self._there(self._keyring.index.excerpt("question", wanted)))
+        self._loaded.update([("key", fpr), *(("question", one) for one in missing)])
         self._take_supposed()
 
     def open_view(self, view: str, time: int) -> None:
@@ -142,7 +149,7 @@ class ScratchEngine(Engine):
     def _whole_at(self, time: int) -> View:
         """A view of the whole keyring at a time."""
         if self._whole is None or self._whole.time != time:
-            self._whole = self._keyring.view(time, {}, "whole")
+            self._whole = self._keyring.view(time, {}, WHOLE)
         return self._whole
 
     def _merged(self, found: Reason, whole: Reason | None, fpr: str) -> Reason:

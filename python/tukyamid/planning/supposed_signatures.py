@@ -6,7 +6,7 @@ from __future__ import annotations
 from itertools import count
 
 from ..fast_imports import TYPE_CHECKING
-from ..openpgp.packets import KEY, SIGNATURE, USER_ID
+from ..openpgp.packets import KEY, SIGNATURE, USER_ID, packet
 from ..openpgp.signatures import REVOCATION, signature_number
 from .suppositions import FULL, Certifies, Revokes
 
@@ -68,8 +68,3 @@ def _version(fpr: bytes) -> int:
 
 def _subpacket(kind: int, content: bytes) -> bytes:
     return b"\xff" + (len(content) + 1).to_bytes(4, "big") + bytes([kind]) + content
-
-
-def packet(kind: int, body: bytes) -> bytes:
-    """A packet in the OpenPGP format, with a length of four octets."""
-    return bytes([0xC0 | kind, 0xFF]) + len(body).to_bytes(4, "big") + body

@@ -16,7 +16,7 @@ if TYPE_CHECKING:
     from collections.abc import Iterable
 
 
-EXCERPTS = ("key", "from", "reach", "about", "to")
+EXCERPTS = ("key", "from", "reach", "about", "to", "question")
 MOST_OF_AN_EXCERPT = 256
 
 
@@ -145,7 +145,7 @@ class CertifiedBy(ListingCommand[Certified]):
 class Excerpt(ListingCommand[bytes]):
     """Asks for lines that make a part of the keyring in an engine: a `key` alone; `from` some keys, whoever trust
     signatures lead to, and with `reach` all that those have certified; `about` keys, the issuers of their signatures
-    too, and with `to` whoever leads to these."""
+    too, and with `to` whoever leads to these. `question` is for asking about the first key from the others as roots."""
     __slots__ = ("word", "fprs")
     form, item = "service excerpt {0.word} {0.text}", bytes
 

@@ -3,7 +3,7 @@
 import random
 from types import SimpleNamespace
 
-from made import CREATED, Made, packet, subpacket, trust
+from made import CREATED, Made, key_lasts, packet, signature_lasts, subpacket, trust
 from tukyamid import Engine
 from tukyamid.keyrings.keyring import Keyring
 from tukyamid.openpgp.signatures import signature_number
@@ -16,7 +16,7 @@ SCOPE = subpacket(6, b"even\0")  # User IDs of this kind alone.
 class Network:
     """Keys with one or two user IDs. `lines` make it in an engine, and `edges` are (issuer, target, user ID)."""
 
-    def __init__(self, seed, count, certifications=3.0):
+    def __init__(self, seed, count, certifications=3.0, has_ends=False):
         self.random = random.Random(seed)
         made = [Made(number) for number in range(count)]
         self.user_ids = {}
@@ -33,8 +33,24 @@ class Network:
             more = [trust(self.random.choice(DEPTHS), self.random.choice([40, 60, 120, 120]))]
             more += [SCOPE] if self.random.random() < 0.1 else []
             target.certified(self.random.choice(self.user_ids[target.fpr]), issuer, CREATED + 1000, *more)
+        if has_ends:
+            self._end_some(made)
         self.keys = {one.fpr: one.key for one in made}
         self.octets = [one.octets for one in made]
+
+    def _end_some(self, made):
+        """Revokes some keys and certifications, and lets others end before NOW."""
+        for one in made:
+            drawn = self.random.random()
+            if drawn < 0.05:
+                one.direct(CREATED + 2000, kind=0x20)
+            elif drawn < 0.1:
+                one.direct(CREATED + 2000, key_lasts(5000))
+        for _ in range(len(made) // 3):
+            issuer, target = self.random.sample(made, 2)
+            ends = {"kind": 0x30} if self.random.random() < 0.5 else {}
+            more = () if ends else (trust(2, 120), signature_lasts(5000))
+            target.certified(self.random.choice(self.user_ids[target.fpr]), issuer, CREATED + 2000, *more, **ends)
 
     def filled(self):
         """An engine that has all of it, and who made its signatures."""

@@ -55,6 +55,17 @@ class Complete(unittest.TestCase):
                 without, having = without + counts[0], having + counts[1]
         self.assertGreater(min(without, having), 10)  # Both are there to be compared.
 
+    def test_revoked_and_expired(self):
+        without, having = 0, 0
+        for seed in range(200, 208):
+            network = Network(seed, 6 + seed % 9, 2.5, has_ends=True)
+            picked = network.random.sample(network.fprs, 4)
+            with self.subTest(seed=seed):
+                counts = self.compare(network, {picked[0]: 120, picked[1]: 60}, [picked[0], picked[2]],
+                                      self.bindings_of(network, 3), (40, 60, 120)[seed % 3])
+                without, having = without + counts[0], having + counts[1]
+        self.assertGreater(min(without, having), 3)  # Both are there to be compared.
+
     def test_a_depth_that_is_enough_while_a_greater_one_is_not(self):
         """Two roots R and S, of 80 and 120, and a key X that has certified T. If R makes X an introducer of depth 1,
         three paths of 40 lead to T: by X, by a chain from R, and by a chain from S that ends with B. With more depth

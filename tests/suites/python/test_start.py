@@ -155,11 +155,13 @@ class Questions(test_service.Services):
         relay = Relay(beside / "tukyamid.socket", service)
         self.addCleanup(relay.close)
         bob = [self.root, "authenticate", self.fpr["Bob"], PEOPLE["Bob"]]
-        answers = [run([COMMAND, "--time=2025-12-01", *bob], env={**self.environment, "XDG_RUNTIME_DIR": str(place)})
-                   for place in (self.runtime, beside)]
-        self.assertEqual([(done.returncode, done.stderr) for done in answers], [(0, b"")] * 2)
-        self.assertEqual(answers[0].stdout, answers[1].stdout)
-        self.assertEqual(relay.trips, 1)
+        suppose = f"{self.fpr['Alice']} certifies {self.fpr['Bob']} {PEOPLE['Bob']} depth 1"
+        for trips, more in enumerate(([], ["--suppose", suppose]), 1):
+            answers = [run([COMMAND, "--time=2025-12-01", *more, *bob],
+                           env={**self.environment, "XDG_RUNTIME_DIR": str(place)}) for place in (self.runtime, beside)]
+            self.assertEqual([(done.returncode, done.stderr) for done in answers], [(0, b"")] * 2)
+            self.assertEqual(answers[0].stdout, answers[1].stdout)
+            self.assertEqual(relay.trips, trips)
 
     def test_names_outside_ascii_are_compared_though_no_library_is_imported_before(self):
         done = run([COMMAND, self.root, "--email", "lookup", "carol@b\u00fccher.example"], env=self.environment)

@@ -81,8 +81,8 @@ class Injected(unittest.TestCase):
                 b"absence p %s 120 %s" % (fpr, user_id), b"pending", b"keys", b"export " + fpr,
                 b"cursor c over p 1", b"cursor c next 2", b"cursor c close", b"watch w off", b"store " + fpr,
                 b"load " + fpr, b"dump", b"service status", b"service find part user", b"service find first user",
-                b"service issuers " + fpr, b"service certified " + fpr,
-                b"service excerpt reach " + fpr, b"service log 3", b"service keyring list",
+                b"service issuers " + fpr, b"service certified " + fpr, b"service excerpt reach " + fpr,
+                b"service excerpt question " + fpr, b"service log 3", b"service keyring list",
                 b"service keyring add " + os.fsencode(self.keyring),
                 b"service keyring remove " + os.fsencode(self.keyring), verdict + b"none", b"view p close"]
 

@@ -21,8 +21,8 @@ REFUSED = b"refused line"
 
 
 class Lines(unittest.TestCase):
-    def start(self, *options, count=6, is_filled=True):
-        self.world = World(count=count)
+    def start(self, *options, count=6, depths=(0, 1, 2, 255), is_filled=True):
+        self.world = World(count=count, depths=depths)
         self.folder = Path(tempfile.mkdtemp(prefix="tukyamid-lines-"))
         self.addCleanup(shutil.rmtree, self.folder)
         self.server = self.enterContext(Server(

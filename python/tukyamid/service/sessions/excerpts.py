@@ -3,7 +3,7 @@
 from __future__ import annotations
 
 import re
-from collections.abc import Collection, Iterator, Sequence
+from collections.abc import Collection, Sequence
 from dataclasses import dataclass
 
 from ..engines.program_run import pieces
@@ -12,16 +12,18 @@ from ..storage.database import Database
 from ..storage.partial_reads import HasParts, Parts, SharedParts
 from .command_kinds import REFUSED_LINE
 from .outbox import Generated, Pieces
+from .thin_parts import ThinParts
 
 REFUSED_EXCERPT = b"refused full excerpt\n"
-_WORDS = re.compile(rb"(from|about|key|reach|to)((?: (?:[0-9a-fA-F]{40}|[0-9a-fA-F]{64})){1,256})")
+_WORDS = re.compile(rb"(from|about|key|question|reach|to)((?: (?:[0-9a-fA-F]{40}|[0-9a-fA-F]{64})){1,256})")
 
 
 @dataclass(frozen=True)
 class Wanted:
     """The certificates that are wanted: `key` is these keys alone; `from` also whoever trust signatures lead to from
     them, and `reach` all that those have certified; `about` also the issuers of their signatures, and `to` whoever
-    leads to these by trust signatures."""
+    leads to these by trust signatures. `question` is the first key, and whoever trust signatures lead to from the
+    others: the first as it is kept, and of the others only what a path to the first can go along."""
     word: bytes
     fprs: tuple[bytes, ...]
 
@@ -34,6 +36,8 @@ class Wanted:
                 return {*self.fprs, *(one for fpr in self.fprs for one in parts.issuers(fpr, most))}
             case b"to":
                 return {*self.fprs, *(one for fpr in self.fprs for one in parts.leading_to(fpr, most))}
+            case b"question":
+                return {self.fprs[0], *parts.slice_of(self.fprs[1:], most)}
         members = parts.slice_of(self.fprs, most)
         return members if self.word == b"from" else {*members, *parts.certified_by(members)}
 
@@ -57,8 +61,9 @@ def _excerpt(database: Database, of: Wanted, most: int) -> bytes | Pieces:
         if len(fprs) > most:
             parts.close()
             return REFUSED_EXCERPT
-        counts = {fpr: parts.count_lines(fpr) for fpr in sorted(fprs)}
-        return _written(parts, [fpr for fpr, count in counts.items() if count], sum(counts.values()))
+        thin = ThinParts(parts, fprs if of.word == b"question" else (), of.fprs[0])
+        counts = {fpr: thin.count_lines(fpr) for fpr in sorted(fprs)}
+        return _written(parts, thin, [fpr for fpr, count in counts.items() if count], sum(counts.values()))
     except BaseException:
         parts.close()
         raise
@@ -79,17 +84,10 @@ def _frozen(database: HasParts) -> Parts:
     return frozen
 
 
-def _written(parts: Parts, fprs: Sequence[bytes], count: int) -> Generated:
+def _written(parts: Parts, thin: ThinParts, fprs: Sequence[bytes], count: int) -> Generated:
     try:
         yield b""
         yield b"service excerpt %d\n" % count
-        yield from pieces(_lines(parts, fprs))
+        yield from pieces(line for fpr in fprs for line in thin.lines(fpr))
     finally:
         parts.close()
-
-
-def _lines(parts: Parts, fprs: Sequence[bytes]) -> Iterator[bytes]:
-    for fpr in fprs:
-        part = parts.part(fpr)
-        assert part is not None
-        yield from part.lines()
