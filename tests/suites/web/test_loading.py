@@ -13,20 +13,23 @@ from test_places import Places
 # The command, but its server refuses these files until the page is loaded once more, and the call `begin` three times.
 REFUSING = """
 import sys
-from tukyamid.web import page_calls, web_command
+from tukyamid.web import http_server, page_calls, web_command
 files = sys.argv[1].split(",")
 class Once(dict):
     loads = 0
     def get(self, name):
         self.loads += name == ""
         return None if self.loads == 1 and name in files else super().get(name)
-read, begin, left = web_command.read_files, page_calls.Calls.begin, [3 if "begin" in files else 0]
+make, begin, left = http_server.Server.__init__, page_calls.Calls.begin, [3 if "begin" in files else 0]
+def made(self, *words):
+    make(self, *words)
+    self._files = Once(self._files)
 async def refused(self, asked):
     if left[0]:
         left[0] -= 1
         raise OSError("no service today")
     return await begin(self, asked)
-web_command.read_files, page_calls.Calls.begin = lambda: Once(read()), refused
+http_server.Server.__init__, page_calls.Calls.begin = made, refused
 sys.exit(web_command.run(sys.argv[2:]))
 """
 
