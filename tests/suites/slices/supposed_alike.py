@@ -1,5 +1,10 @@
 """What is supposed, and planned, over two services that hold the same keyring."""
 
+import os
+from unittest import mock
+
+from outside import PROGRAM
+
 from tukyamid.client import connect
 from tukyamid.keyrings.service_keyring import served_keyring
 from tukyamid.planning.plan_making import plan_for
@@ -15,6 +20,7 @@ class Alike:
     """A network of 40 keys, of which few are introducers, so that a slice has some of them."""
 
     def __init__(self, case, seed=3):
+        case.enterContext(mock.patch.dict(os.environ, {"TUKYAMID_ENGINE": str(PROGRAM)}))
         self.case, self.world = case, World(seed, 40, (0, 0, 0, 0, 1))
         self.fprs = [fpr.decode() for fpr in self.world.fprs]
         self.lines = self.world.lines()
