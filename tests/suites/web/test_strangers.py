@@ -16,7 +16,8 @@ from plain import ROOT
 SERVER = """
 import asyncio
 from tukyamid.web.http_server import Server
-server = Server({}, {}, 0)
+from tukyamid.web.page_files import read_files
+server = Server(read_files(), {}, 0)
 asyncio.run(server.run(lambda: print(server.address, flush=True)))
 """
 FEW_FILES = 64
