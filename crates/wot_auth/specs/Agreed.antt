@@ -7,7 +7,7 @@ use Rattle.wot_edge.specs.Answer.{IsAnswer}
 use Rattle.wot_edge.specs.Path.{Question, asks}
 use Rattle.wot_edge.specs.Record.{Record, Has, IsRecord}
 use Rattle.wot_search.specs.Asked.{HasAll}
-use Rattle.wot_layer.specs.Looked.{Widens}
+use Rattle.wot_first_path.specs.Looked.{Widens}
 use Rattle.wot_reach.specs.Reach.{Table}
 use Rattle.wot_auth.specs.declared.answer.Answer.{Answer}
 use Rattle.wot_auth.specs.declared.ask.Binding.{Binding}

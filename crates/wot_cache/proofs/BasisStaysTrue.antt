@@ -9,23 +9,23 @@ use Rattle.std.proofs.lemmas.Bool.{leb-false, leb-true}
 use Rattle.wot_types.specs.declared.fpr.Fpr.{Fpr}
 use Rattle.wot_types.specs.FprLaws.{same_fpr-true}
 use Rattle.wot_verdict.specs.Verdicts as verdicts
-use Rattle.wot_part.specs.Certificate.{Signature}
-use Rattle.wot_part.specs.Counts.{all_sigs}
+use Rattle.wot_component.specs.Certificate.{Signature}
+use Rattle.wot_component.specs.Counts.{all_sigs}
 use Rattle.wot_auth.specs.declared.answer.Answer.{Answer}
 use Rattle.wot_edge.specs.Answer.{IsAnswer, amount_of}
 use Rattle.wot_edge.specs.Path.{Question}
-use Rattle.wot_held.specs.declared.kept.Kept.{Kept}
-use Rattle.wot_held.specs.Import.{IsOneChange, KeepsAll}
-use Rattle.wot_held.specs.Keyring.{Keyring, is_fpr, kept_at, stamp_at}
-use Rattle.wot_held.specs.Kept.{AreStamped}
-use Rattle.wot_held.specs.Later.{IsLater, IsLaterAt, IsUnaltered, SaysSame}
+use Rattle.wot_keyring_spec.specs.declared.kept.Kept.{Kept}
+use Rattle.wot_keyring_spec.specs.Import.{IsOneChange, KeepsAll}
+use Rattle.wot_keyring_spec.specs.Keyring.{Keyring, is_fpr, kept_at, stamp_at}
+use Rattle.wot_keyring_spec.specs.Kept.{AreStamped}
+use Rattle.wot_keyring_spec.specs.Later.{IsLater, IsLaterAt, IsUnaltered, SaysSame}
 use Rattle.wot_index.specs.Log.{HasChangedSince, Logged, is_listed}
-use Rattle.wot_kept.specs.declared.answers.KeptAnswer.{KeptAnswer}
+use Rattle.wot_answers.specs.declared.answers.KeptAnswer.{KeptAnswer}
 use Rattle.wot_looked.specs.declared.looked.Looked.{Looked}
-use Rattle.wot_kept.specs.declared.fault.AskFault.{AskFault}
-use Rattle.wot_kept.specs.declared.fault.AskFault.TheVariants as asked
+use Rattle.wot_answers.specs.declared.fault.AskFault.{AskFault}
+use Rattle.wot_answers.specs.declared.fault.AskFault.TheVariants as asked
 use Rattle.wot_cache.specs.declared.view.View.{View}
-use Rattle.wot_kept.specs.Answers.{AllAnswers, AllStill, IsOf, IsRight}
+use Rattle.wot_answers.specs.Answers.{AllAnswers, AllStill, IsOf, IsRight}
 use Rattle.wot_looked.specs.Looked.{Amounts, AreStill}
 use Rattle.wot_cache.specs.Basis.{AllIn, AreCalm, AreViewsOn, Basis, CarriesOn, HasAmount, HasGrown, Includes, IsFreeOf}
 use Rattle.wot_cache.specs.Basis.{IsKeptAt, IsKeptOn, IsKeyringOn, IsPresent, IsSameOrClosed, IsUndisturbed, RestsAt}
@@ -36,8 +36,8 @@ use Rattle.wot_cache.specs.Question.{OfQuestion, question_in}
 use Rattle.wot_cache.specs.State.{Engine, StaysButMarks, state_of}
 use Rattle.wot_cache.specs.Turns.{Turns}
 use Rattle.wot_cache.specs.Views.{TellsOpen, Views, view_at}
-use Rattle.wot_kept.specs.CaseLaws.{if_some}
-use Rattle.wot_kept.specs.RightLaws.{of_question, stamp_past}
+use Rattle.wot_answers.specs.CaseLaws.{if_some}
+use Rattle.wot_answers.specs.RightLaws.{of_question, stamp_past}
 use Rattle.wot_cache.proofs.OpenViewsMarks.{made_as}
 
 itself : (n : ℕ) → n ≤ n

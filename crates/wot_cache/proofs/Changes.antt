@@ -6,12 +6,12 @@ use Rattle.wot_types.specs.declared.fpr.Fpr.{Fpr}
 use Rattle.wot_policy.specs.declared.policy.Policy.{Policy}
 use Rattle.wot_policy.specs.declared.rows.Ask.{Ask}
 use Rattle.wot_policy.specs.declared.rows.PolicyRows.{PolicyRows}
-use Rattle.wot_held.specs.declared.kept.Kept.{Kept}
-use Rattle.wot_held.specs.Held.{Held, held_of, cert_in}
-use Rattle.wot_held.specs.Import.{IsOneChange, imported, importing}
-use Rattle.wot_held.specs.Judging.{IsJudging}
-use Rattle.wot_held.specs.Keyring.{Keyring, cert_at, is_fpr}
-use Rattle.wot_kept.specs.Answers.{AllAnswers}
+use Rattle.wot_keyring_spec.specs.declared.kept.Kept.{Kept}
+use Rattle.wot_keyring_spec.specs.Held.{Held, held_of, cert_in}
+use Rattle.wot_keyring_spec.specs.Import.{IsOneChange, imported, importing}
+use Rattle.wot_keyring_spec.specs.Judging.{IsJudging}
+use Rattle.wot_keyring_spec.specs.Keyring.{Keyring, cert_at, is_fpr}
+use Rattle.wot_answers.specs.Answers.{AllAnswers}
 use Rattle.wot_cache.specs.Changes.{ChangesKeyring, IsImported}
 use Rattle.wot_cache.specs.Inside.{Networks}
 use Rattle.wot_cache.specs.Marks.{shown}

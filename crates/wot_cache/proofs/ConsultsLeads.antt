@@ -4,11 +4,11 @@ use Rattle.std.specs.Prelude.{IsSomeAnd}
 use Rattle.std.specs.List.{AllByRecursion}
 use Rattle.std.specs.Map.{lookup}
 use Rattle.std.specs.Option.{option_map_or}
-use Rattle.wot_held.specs.Keyring.{Keyring}
-use Rattle.wot_kept.specs.declared.answers.KeptAnswer.{KeptAnswer}
-use Rattle.wot_kept.specs.declared.parts.Parts.{Parts}
-use Rattle.wot_kept.specs.Answers.{AllAnswers, AreAllRight, AreRight, Entries, IsFoundBy, OfView, OthersKept}
-use Rattle.wot_kept.specs.Answers.{RestsOnLeads, WereKeptOr, answers_for}
+use Rattle.wot_keyring_spec.specs.Keyring.{Keyring}
+use Rattle.wot_answers.specs.declared.answers.KeptAnswer.{KeptAnswer}
+use Rattle.wot_answers.specs.declared.parts.Parts.{Parts}
+use Rattle.wot_answers.specs.Answers.{AllAnswers, AreAllRight, AreRight, Entries, IsFoundBy, OfView, OthersKept}
+use Rattle.wot_answers.specs.Answers.{RestsOnLeads, WereKeptOr, answers_for}
 use Rattle.wot_types.specs.declared.fpr.Fpr.{Fpr}
 use Rattle.wot_looked.specs.Looked.{Amounts}
 use Rattle.wot_cache.specs.declared.view.View.{View}
@@ -19,8 +19,8 @@ use Rattle.wot_cache.specs.State.{Engine}
 use Rattle.wot_cache.specs.Turns.{Turns}
 use Rattle.wot_cache.specs.Parts.{ArePartsOf}
 use Rattle.wot_cache.specs.Views.{Views, is_name, view_at}
-use Rattle.wot_kept.specs.RightLaws.{right_found}
-use Rattle.wot_kept.proofs.WereKept.{kept_itself, kept_or}
+use Rattle.wot_answers.specs.RightLaws.{right_found}
+use Rattle.wot_answers.proofs.WereKept.{kept_itself, kept_or}
 use Rattle.wot_cache.proofs.PartsAnswer.{AreSeen}
 
 abbrev RestIn : Keyring → Entries → Type 0

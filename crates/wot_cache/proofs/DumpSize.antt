@@ -4,12 +4,12 @@ use Rattle.std.proofs.Common.{◌∙◌}
 use Rattle.std.proofs.lemmas.Grind.{flat_map-append}
 use Rattle.std.specs.List.{AllByRecursion, flat_map}
 use Rattle.wot_types.specs.declared.fpr.Fpr.{Fpr}
-use Rattle.wot_words.specs.StateLine.{most_octets, spelling}
-use Rattle.wot_words.specs.declared.state_line.StateLine.{StateLine}
+use Rattle.wot_fields.specs.StateLine.{most_octets, spelling}
+use Rattle.wot_fields.specs.declared.state_line.StateLine.{StateLine}
 use Rattle.wot_keyring.specs.Dump as keyrings
 use Rattle.wot_keyring.specs.Dump.{AreLines, command_line_of, lines_of, most_dumped}
-use Rattle.wot_held.specs.Held.{held_of}
-use Rattle.wot_held.specs.Kept.{AreSmall}
+use Rattle.wot_keyring_spec.specs.Held.{held_of}
+use Rattle.wot_keyring_spec.specs.Kept.{AreSmall}
 use Rattle.wot_cache.specs.Views.{Views, AreWithinLimits}
 use Rattle.wot_cache.specs.State.{Engine, state_of}
 use Rattle.wot_cache.specs.Dump.{commands_of, root_of, view_commands}

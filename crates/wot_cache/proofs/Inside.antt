@@ -14,18 +14,18 @@ use Rattle.wot_types.specs.Fpr.{fpr_cmp}
 use Rattle.wot_types.specs.FprLaws.{fpr_total}
 use Rattle.wot_types.specs.ViewName.{view_name_cmp}
 use Rattle.wot_edge.specs.Roots.{IsRoots, root_amount}
-use Rattle.wot_held.specs.Import.{IsOneChange}
-use Rattle.wot_held.specs.Keyring.{Keyring}
-use Rattle.wot_held.specs.Later.{IsLater}
+use Rattle.wot_keyring_spec.specs.Import.{IsOneChange}
+use Rattle.wot_keyring_spec.specs.Keyring.{Keyring}
+use Rattle.wot_keyring_spec.specs.Later.{IsLater}
 use Rattle.wot_network.specs.Net.{Net, Fits}
 use Rattle.wot_cache.specs.declared.view.View.{View}
-use Rattle.wot_kept.specs.Answers.{AllAnswers}
+use Rattle.wot_answers.specs.Answers.{AllAnswers}
 use Rattle.wot_cache.specs.Inside.{IsEngine, AllFit, FitLater, Networks}
 use Rattle.wot_cache.specs.Turns.{Turns}
 use Rattle.wot_cache.specs.Views.{Views, AreWithinLimits, is_name, view_at, with_amount, amount_fault, root_fault}
 use Rattle.wot_cache.specs.Views.{without_view}
-use Rattle.wot_kept.specs.EntryLaws.{each_inserted, each_set, each_removed, each_found, length_removed, length_inserted, length_replaced}
-use Rattle.wot_kept.specs.RightLaws.{LaterStill, all_right_later}
+use Rattle.wot_answers.specs.EntryLaws.{each_inserted, each_set, each_removed, each_found, length_removed, length_inserted, length_replaced}
+use Rattle.wot_answers.specs.RightLaws.{LaterStill, all_right_later}
 
 -- ---- roots
 

@@ -5,11 +5,11 @@ use Rattle.std.proofs.lemmas.Grind.{flat_map-append}
 use Rattle.std.proofs.lemmas.List.{length-map}
 use Rattle.std.specs.List.{AllByRecursion, flat_map}
 use Rattle.wot_types.specs.declared.limits.Limits.{Limits}
-use Rattle.wot_held.specs.Held.{held_of}
-use Rattle.wot_held.specs.Kept.{AreSmall}
+use Rattle.wot_keyring_spec.specs.Held.{held_of}
+use Rattle.wot_keyring_spec.specs.Kept.{AreSmall}
 use Rattle.wot_keyring.specs.Dump as keyrings
 use Rattle.wot_edge.specs.Roots.{IsRoots}
-use Rattle.wot_words.specs.declared.state_line.StateLine.{StateLine}
+use Rattle.wot_fields.specs.declared.state_line.StateLine.{StateLine}
 use Rattle.wot_keyring.specs.Dump.{AreLines, command_line_of, lines_of}
 use Rattle.wot_cache.specs.Views.{Views, AreWithinLimits}
 use Rattle.wot_cache.specs.declared.view.View.{View}

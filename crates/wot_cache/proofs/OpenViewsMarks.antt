@@ -13,17 +13,17 @@ use Rattle.std.proofs.lemmas.Map.Made.{lookup-map_values}
 use Rattle.wot_types.specs.declared.fpr.Fpr.{Fpr}
 use Rattle.wot_types.specs.declared.memory.Memory.{Memory}
 use Rattle.wot_types.specs.ViewName.{view_name_cmp}
-use Rattle.wot_held.specs.Keyring.{Keyring}
+use Rattle.wot_keyring_spec.specs.Keyring.{Keyring}
 use Rattle.wot_network.specs.Net.{Net, Marks, marks_of}
 use Rattle.wot_cache.specs.declared.view.View.{View}
-use Rattle.wot_kept.specs.Answers.{AllAnswers, OthersKept}
+use Rattle.wot_answers.specs.Answers.{AllAnswers, OthersKept}
 use Rattle.wot_cache.specs.Inside.{AllFit, AreOfOpen, IsEngine, Networks, network_at}
 use Rattle.wot_cache.specs.Marks.{End, IsForgotten, IsMadeFor, IsRefreshed, OthersStay, end_at, end_in, marks_by}
 use Rattle.wot_cache.specs.Marks.{marks_in, marks_shown, shown}
 use Rattle.wot_cache.specs.State.{Engine, OtherMarksStay, marks_at}
 use Rattle.wot_cache.specs.Turns.{Turns}
 use Rattle.wot_cache.specs.Views.{MovesTime, SetsAmount, Views, is_name, view_at, with_amount}
-use Rattle.wot_kept.specs.EntryLaws.{none_set, none_put}
+use Rattle.wot_answers.specs.EntryLaws.{none_set, none_put}
 
 -- ---- names
 

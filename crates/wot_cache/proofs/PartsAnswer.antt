@@ -6,12 +6,12 @@ use Rattle.wot_types.specs.declared.fpr.Fpr.{Fpr}
 use Rattle.wot_types.specs.declared.limits.Limits.{Limits}
 use Rattle.wot_edge.specs.Path.{Question}
 use Rattle.wot_auth.specs.declared.answer.Answer.{Answer}
-use Rattle.wot_held.specs.Keyring.{Keyring}
+use Rattle.wot_keyring_spec.specs.Keyring.{Keyring}
 use Rattle.wot_network.specs.Net.{IsRight, Net, Present}
 use Rattle.wot_network.specs.Roads.{present_of}
-use Rattle.wot_kept.specs.declared.parts.Parts.{Parts}
+use Rattle.wot_answers.specs.declared.parts.Parts.{Parts}
 use Rattle.wot_cache.specs.declared.view.View.{View}
-use Rattle.wot_kept.specs.Answers.{AllAnswers, AreAllRight}
+use Rattle.wot_answers.specs.Answers.{AllAnswers, AreAllRight}
 use Rattle.wot_cache.specs.Inside.{IsEngine, IsReady, Networks, network_at}
 use Rattle.wot_cache.specs.Parts.{ArePartsOf}
 use Rattle.wot_cache.specs.Question.{IsLocalTo, IsTold, asked_of, asked_over, present_in, question_in}

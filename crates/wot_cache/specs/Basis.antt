@@ -6,12 +6,12 @@ use Rattle.wot_types.specs.declared.fpr.Fpr.{Fpr}
 use Rattle.wot_edge.specs.declared.path.Path.{Path}
 use Rattle.wot_edge.specs.Answer.{IsAnswer, amount_of}
 use Rattle.wot_edge.specs.Path.{Question, asks}
-use Rattle.wot_held.specs.Keyring.{Keyring, certificates_in, is_fpr, stamp_at}
-use Rattle.wot_held.specs.Later.{IsUnaltered}
+use Rattle.wot_keyring_spec.specs.Keyring.{Keyring, certificates_in, is_fpr, stamp_at}
+use Rattle.wot_keyring_spec.specs.Later.{IsUnaltered}
 use Rattle.wot_index.specs.Log.{Logged, is_listed}
 use Rattle.wot_network.specs.Told.{record_of}
 use Rattle.wot_looked.specs.declared.looked.Looked.{Looked}
-use Rattle.wot_kept.specs.declared.asked.Asked.{Asked}
+use Rattle.wot_answers.specs.declared.asked.Asked.{Asked}
 use Rattle.wot_cache.specs.declared.view.View.{View}
 use Rattle.wot_cache.specs.Question.{OfQuestion}
 use Rattle.wot_cache.specs.State.{Engine}

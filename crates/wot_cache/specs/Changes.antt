@@ -1,7 +1,7 @@
 -- What a change of the keyring does to an engine.
 use Rattle.std.specs.Prelude.{◌≡◌, ℕ, List}
 use Rattle.wot_policy.specs.declared.rows.PolicyRows.{PolicyRows}
-use Rattle.wot_held.specs.Import.{IsOneChange, imported, importing}
+use Rattle.wot_keyring_spec.specs.Import.{IsOneChange, imported, importing}
 use Rattle.wot_cache.specs.State.{Engine, IsStateAfter}
 
 -- Only the keyring changed, and at most once: its limits, the views, their marks, their turns and what is kept for them

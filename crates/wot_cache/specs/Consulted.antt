@@ -2,8 +2,8 @@
 use Rattle.std.specs.Prelude.{ℕ, List, IsSomeAnd}
 use Rattle.std.specs.List.{AllByRecursion}
 use Rattle.wot_types.specs.declared.fpr.Fpr.{Fpr}
-use Rattle.wot_kept.specs.declared.answers.KeptAnswer.{KeptAnswer}
-use Rattle.wot_kept.specs.Answers.{Entries, IsAmong, IsFoundBy, OthersKept, RestsOnLeads, WereKeptOr, answers_for}
+use Rattle.wot_answers.specs.declared.answers.KeptAnswer.{KeptAnswer}
+use Rattle.wot_answers.specs.Answers.{Entries, IsAmong, IsFoundBy, OthersKept, RestsOnLeads, WereKeptOr, answers_for}
 use Rattle.wot_cache.specs.declared.view.View.{View}
 use Rattle.wot_cache.specs.State.{Engine}
 use Rattle.wot_cache.specs.Views.{view_at}

@@ -9,11 +9,11 @@ use Rattle.wot_types.specs.declared.fpr.Fpr.{Fpr}
 use Rattle.wot_types.specs.declared.limits.Limits.{Limits}
 use Rattle.wot_edge.specs.Roots.{IsRoots}
 use Rattle.wot_policy.specs.declared.rows.PolicyRows.{PolicyRows}
-use Rattle.wot_words.specs.declared.state_line.StateLine.{StateLine}
-use Rattle.wot_words.specs.declared.state_line.StateLine.TheVariants.{Time, Root}
+use Rattle.wot_fields.specs.declared.state_line.StateLine.{StateLine}
+use Rattle.wot_fields.specs.declared.state_line.StateLine.TheVariants.{Time, Root}
 use Rattle.wot_keyring.specs.Dump as keyrings
 use Rattle.wot_keyring.specs.Dump.{after_all, judged_by}
-use Rattle.wot_held.specs.Keyring.{Keyring}
+use Rattle.wot_keyring_spec.specs.Keyring.{Keyring}
 use Rattle.wot_cache.specs.declared.view.View.{View}
 use Rattle.wot_cache.specs.declared.view.ViewFault.{ViewFault}
 use Rattle.wot_cache.specs.Turns.{no_turns}

@@ -2,12 +2,12 @@
 use Rattle.std.specs.Prelude.{◌≡◌, ℕ, List, Option, None, IsSomeAnd}
 use Rattle.std.specs.List.{AllByRecursion}
 use Rattle.std.specs.Map.{lookup}
-use Rattle.wot_held.specs.Keyring.{Keyring}
-use Rattle.wot_held.specs.Kept.{AreSmall}
-use Rattle.wot_held.specs.Later.{IsLater}
+use Rattle.wot_keyring_spec.specs.Keyring.{Keyring}
+use Rattle.wot_keyring_spec.specs.Kept.{AreSmall}
+use Rattle.wot_keyring_spec.specs.Later.{IsLater}
 use Rattle.wot_network.specs.Net.{Net, Fits, IsRight}
 use Rattle.wot_cache.specs.declared.view.View.{View}
-use Rattle.wot_kept.specs.Answers.{AllAnswers, AreAllRight}
+use Rattle.wot_answers.specs.Answers.{AllAnswers, AreAllRight}
 use Rattle.wot_cache.specs.Turns.{Turns, AreTurnsOf}
 use Rattle.wot_cache.specs.Views.{Views, AreWithinLimits, is_name, view_at}
 

@@ -3,16 +3,16 @@
 use Rattle.std.specs.Prelude.{◌≡◌, ◌≤◌, ◌+◌, ◌-◌, ◌^◌, ℕ, false, min, List, [], map}
 use Rattle.std.specs.Prelude.{Result, Option, None, IfSome, OnOk}
 use Rattle.std.specs.Option.{option_map_or}
-use Rattle.wot_held.specs.Keyring.{Keyring}
+use Rattle.wot_keyring_spec.specs.Keyring.{Keyring}
 use Rattle.wot_network.specs.Net.{Net, Marks, AreMarksOf, StayCurrent, marks_of, stale_edges, stale_signatures}
 use Rattle.wot_cache.specs.declared.present.Networked.{Networked}
 use Rattle.wot_cache.specs.declared.view.View.{View}
-use Rattle.wot_kept.specs.Answers.{AllAnswers}
+use Rattle.wot_answers.specs.Answers.{AllAnswers}
 use Rattle.wot_cache.specs.Inside.{Networks, network_at}
 use Rattle.wot_cache.specs.State.{Engine, StaysButMarks, OtherMarksStay, ViewMarks, marks_at}
 use Rattle.wot_cache.specs.Turns.{Turns}
 use Rattle.wot_cache.specs.Views.{Views, is_name, view_at}
-pub use Rattle.wot_kept.specs.Names.{IsForgotten}
+pub use Rattle.wot_answers.specs.Names.{IsForgotten}
 
 abbrev pub marks_by : Option Net → Marks
 marks_by found = option_map_or (λ (n : Net). marks_of n.lines) found []

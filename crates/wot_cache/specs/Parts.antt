@@ -1,9 +1,9 @@
 -- What an engine lends at once to a listing or an explanation.
 use Rattle.std.specs.Prelude.{◌≡◌}
-use Rattle.wot_held.specs.Keyring.{Keyring}
+use Rattle.wot_keyring_spec.specs.Keyring.{Keyring}
 use Rattle.wot_network.specs.Net.{Present}
 use Rattle.wot_network.specs.Roads.{present_of}
-use Rattle.wot_kept.specs.declared.parts.Parts.{Parts}
+use Rattle.wot_answers.specs.declared.parts.Parts.{Parts}
 use Rattle.wot_cache.specs.declared.view.View.{View}
 
 -- the keyring and the time of a view's roads

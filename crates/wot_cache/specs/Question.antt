@@ -1,16 +1,16 @@
--- The question from a view. What is claimed of its answer is said in wot_kept.
+-- The question from a view. What is claimed of its answer is said in wot_answers.
 use Rattle.std.specs.Prelude.{ℕ, List, IfSome}
 use Rattle.wot_types.specs.declared.fpr.Fpr.{Fpr}
 use Rattle.wot_edge.specs.Path.{Question, asks}
-use Rattle.wot_held.specs.Keyring.{Keyring, certificates_in}
+use Rattle.wot_keyring_spec.specs.Keyring.{Keyring, certificates_in}
 use Rattle.wot_network.specs.Local.{IsLocal}
 use Rattle.wot_network.specs.Net.{Present, told_of}
 use Rattle.wot_network.specs.Told.{record_of}
 use Rattle.wot_cache.specs.declared.view.View.{View}
 use Rattle.wot_cache.specs.State.{Engine, State, state_of}
 use Rattle.wot_cache.specs.Views.{view_at}
-pub use Rattle.wot_kept.specs.Question.{AreWithinRoots, IsAnswerAround, IsOnlyAnswer, IsTold, TellsSpent}
-pub use Rattle.wot_kept.specs.Question.{asked_of, asked_over, present_in}
+pub use Rattle.wot_answers.specs.Question.{AreWithinRoots, IsAnswerAround, IsOnlyAnswer, IsTold, TellsSpent}
+pub use Rattle.wot_answers.specs.Question.{asked_of, asked_over, present_in}
 
 -- The question with which confidence a user ID belongs to the target, from a view: over the certification network of
 -- the current certificates and verdicts at the view's time, from the view's roots.

@@ -6,12 +6,12 @@ use Rattle.std.specs.Option.{unwrap_or}
 use Rattle.wot_types.specs.declared.fpr.Fpr.{Fpr}
 use Rattle.wot_types.specs.declared.limits.Limits.{Limits}
 use Rattle.wot_key.specs.Key.{fpr_of}
-use Rattle.wot_part.specs.Certificate.{Certificate}
-use Rattle.wot_held.specs.Held.{Held, nothing, held_of}
-use Rattle.wot_held.specs.Keyring.{Keyring}
-use Rattle.wot_held.specs.Keyring as keyrings
+use Rattle.wot_component.specs.Certificate.{Certificate}
+use Rattle.wot_keyring_spec.specs.Held.{Held, nothing, held_of}
+use Rattle.wot_keyring_spec.specs.Keyring.{Keyring}
+use Rattle.wot_keyring_spec.specs.Keyring as keyrings
 use Rattle.wot_network.specs.Net.{Marks}
-use Rattle.wot_kept.specs.Answers.{AllAnswers}
+use Rattle.wot_answers.specs.Answers.{AllAnswers}
 use Rattle.wot_cache.specs.Turns.{Turns, no_turns}
 use Rattle.wot_cache.specs.Views.{Views, is_name, with_time, with_root, without_view}
 

@@ -11,12 +11,12 @@ use Rattle.wot_types.specs.declared.limits.Limit.TheVariants as words
 use Rattle.wot_types.specs.Fpr.{fpr_cmp}
 use Rattle.wot_types.specs.ViewName.{view_name_cmp}
 use Rattle.wot_edge.specs.Roots.{root_amount}
-use Rattle.wot_kept.specs.declared.fault.AskFault.{AskFault}
-use Rattle.wot_kept.specs.declared.fault.AskFault.TheVariants as asked
+use Rattle.wot_answers.specs.declared.fault.AskFault.{AskFault}
+use Rattle.wot_answers.specs.declared.fault.AskFault.TheVariants as asked
 use Rattle.wot_cache.specs.declared.view.View.{View}
 use Rattle.wot_cache.specs.declared.view.ViewFault.{ViewFault}
 use Rattle.wot_cache.specs.declared.view.ViewFault.TheVariants as faults
-pub use Rattle.wot_kept.specs.Names.{is_name}
+pub use Rattle.wot_answers.specs.Names.{is_name}
 
 -- the open views in the order of their names, which are seen as octets
 abbrev pub Views : Type 0

@@ -1,8 +1,8 @@
 //! What the answers to a set of questions depend on, so that it is known without asking again that none has changed.
-//! The machine keeps one for all watches, and wot_watching asks it and renews it. It stands on the turns of views, the
-//! keyring's log of changes and the kept answers.
+//! The machine keeps one for all watches, and wot_watch_commands asks it and renews it. It stands on the turns of
+//! views, the keyring's log of changes and the kept answers.
 ghost use Rattle.std.specs.Prelude.{◌≡◌, false, true, IfSome};
-ghost use Rattle.wot_kept.specs.Answers.{AreAllRight, IsRight};
+ghost use Rattle.wot_answers.specs.Answers.{AreAllRight, IsRight};
 ghost use Rattle.wot_cache.specs.Basis.{empty_at, is_in, AllIn, AreCalm, HasGrown, Includes, IsFreeOf, IsKeptSum};
 
 use crate::engine::Engine;
@@ -10,7 +10,7 @@ use crate::view::View;
 use std::alloc::Global;
 use std::collections::BTreeSet;
 use std::marker::Model;
-use wot_kept::{AllAnswers, Asked, KeptAnswer};
+use wot_answers::{AllAnswers, Asked, KeptAnswer};
 use wot_keyring::Keyring;
 use wot_looked::{Looked, are_still};
 use wot_types::{Fpr, ViewName};

@@ -15,9 +15,9 @@ use crate::view::View;
 use crate::views::Views;
 use std::alloc::Global;
 use wot_edge::Roots;
+use wot_fields::StateLine;
 use wot_keyring::{Keyring, put_line};
 use wot_types::{Fpr, Memory, ViewName};
-use wot_words::StateLine;
 
 /// A law: if the keyring's commands restore what it holds, the engine's commands restore its state.
 pub fn replayed()

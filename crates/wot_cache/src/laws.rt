@@ -1,15 +1,15 @@
-//! Laws of the definitions. Each function does nothing: its contract is the law. wot_machine and wot_watching call
-//! them for cursors and watches: what a change leaves alone, and what an answer depends on.
+//! Laws of the definitions. Each function does nothing: its contract is the law. wot_machine and wot_watch_commands
+//! call them for cursors and watches: what a change leaves alone, and what an answer depends on.
 ghost use Rattle.std.specs.Prelude.{◌≤◌, ℕ, List, length};
 ghost use Rattle.wot_types.specs.declared.fpr.Fpr.{Fpr};
-ghost use Rattle.wot_held.specs.Import.{IsOneChange};
-ghost use Rattle.wot_held.specs.Keyring.{Keyring};
+ghost use Rattle.wot_keyring_spec.specs.Import.{IsOneChange};
+ghost use Rattle.wot_keyring_spec.specs.Keyring.{Keyring};
 ghost use Rattle.wot_cache.specs.Basis.{ClosingGoesOn, IsKeptOn, IsKeyringOn, OtherViewsStay, TurnGoesOn};
 ghost use Rattle.wot_cache.specs.Basis.{RestsOnLater, RestsOnMore};
 ghost use Rattle.wot_cache.specs.Inside.{FitLater};
 ghost use Rattle.wot_cache.specs.State.{Engine, StaysButMarks};
 ghost use Rattle.wot_cache.specs.Views.{Views, with_root, with_time};
-ghost use Rattle.wot_kept.specs.RightLaws.{LaterStill};
+ghost use Rattle.wot_answers.specs.RightLaws.{LaterStill};
 
 use wot_keyring::laws::later_is_order;
 use wot_network::laws::fits_later;

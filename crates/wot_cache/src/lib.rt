@@ -16,5 +16,5 @@ mod views;
 pub use basis::Basis;
 pub use engine::Engine;
 pub use view::{NoView, View, ViewFault};
-pub use wot_kept::{AskFault, Asked, KeptAnswer, Parts};
+pub use wot_answers::{AskFault, Asked, KeptAnswer, Parts};
 pub use wot_looked::Looked;

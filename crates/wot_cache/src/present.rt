@@ -14,7 +14,7 @@ ghost use Rattle.wot_cache.specs.Views.{view_at, TellsOpen};
 use crate::networks::{self, Networks};
 use crate::views::{self, Views};
 use std::alloc::Global;
-use wot_kept::{AskFault, Parts};
+use wot_answers::{AskFault, Parts};
 use wot_keyring::Keyring;
 use wot_network::laws::stale_are_some;
 use wot_types::{Memory, Steps, ViewName};

@@ -1,11 +1,11 @@
 -- All places of a certificate, one after the other.
 use Rattle.std.proofs.Common.{◌≡◌, ℕ, ◌+◌, ◌≤◌, List, map, ap, ◌∙◌, arith}
 use Rattle.wot_policy.specs.declared.rows.PolicyRows.{PolicyRows}
-use Rattle.wot_part.specs.Certificate.{Component, Signature, part_with, unite_parts, unite_sigs}
-use Rattle.wot_part.specs.Counts.{sum_of}
-use Rattle.wot_part.specs.Growing.{sound_weight}
-use Rattle.wot_part.specs.Judged.{if_sound, judged_sig}
-use Rattle.wot_part.specs.Totals.{cap, Counts}
+use Rattle.wot_component.specs.Certificate.{Component, Signature, part_with, unite_parts, unite_sigs}
+use Rattle.wot_component.specs.Counts.{sum_of}
+use Rattle.wot_component.specs.Growing.{sound_weight}
+use Rattle.wot_component.specs.Judged.{if_sound, judged_sig}
+use Rattle.wot_component.specs.Totals.{cap, Counts}
 
 pub all_four : (i j k l d u t s D U T S : ℕ) → i + d ≡ D → j + u ≡ U → k + t ≡ T → l + s ≡ S
     → (((i + j) + k) + l) + (d + u + t + s) ≡ D + U + T + S

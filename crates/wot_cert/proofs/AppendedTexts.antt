@@ -2,7 +2,7 @@
 use Rattle.std.proofs.Common.{◌≡◌, ℕ, List, [], ◌++◌, Result, Ok, Err, IsErrAnd, sym, ap, ◌∙◌, subst, append_assoc}
 use Rattle.std.proofs.Common.{append-nil}
 use Rattle.std.proofs.lemmas.Result.{on_ok_weaker}
-use Rattle.wot_part.specs.Text.{Appends}
+use Rattle.wot_component.specs.Text.{Appends}
 
 -- After success, all of the text is there.
 pub all_of : {A : Type 0} (f : A → List ℕ) (a b more : List ℕ) (x y : A) → x ≡ y → b ≡ a ++ more → more ≡ f x

@@ -4,11 +4,11 @@ use Rattle.std.specs.Prelude.{filter}
 use Rattle.std.specs.List.{AllByRecursion}
 use Rattle.wot_packet.specs.Spelling.{AreShort, Spelled}
 use Rattle.wot_cert.specs.Assembly.{Section, cut_at, cut_on, keys_of, certificate_of, certificates_of, has_readable_key}
-use Rattle.wot_part.specs.Certificate.{Certificate, fresh, unmarked, unmarked_sig, part_with, on_key, on_user_id}
-use Rattle.wot_part.specs.Certificate.{on_attribute, on_subkey}
+use Rattle.wot_component.specs.Certificate.{Certificate, fresh, unmarked, unmarked_sig, part_with, on_key, on_user_id}
+use Rattle.wot_component.specs.Certificate.{on_attribute, on_subkey}
 use Rattle.wot_cert.specs.Drafting.{Group, Sketch, sketched, part_drafted, completed}
 use Rattle.wot_cert.specs.Packets.{is_key}
-use Rattle.wot_part.specs.Whole.{IsCertificate}
+use Rattle.wot_component.specs.Whole.{IsCertificate}
 use Rattle.wot_cert.proofs.CertificateWithKey.{completed-is, completed-whole, sketched-whole}
 use Rattle.wot_cert.proofs.Same.{same_cert}
 

@@ -10,18 +10,18 @@ use Rattle.wot_key.specs.declared.key.Key.{Key}
 use Rattle.wot_key.specs.Key.{created_in, is_readable, key_of, fpr_of, fingerprint_of, version_in}
 use Rattle.wot_packet.specs.Spelling.{AreShort, Spelled}
 use Rattle.wot_cert.specs.Packets.{is_signature, begins_component}
-use Rattle.wot_part.specs.Ranked.{put, placed, united, IsBelow, IsRising}
-use Rattle.wot_part.specs.Certificate.{Signature, Component, Certificate, fresh, kept, sig_cmp, part_cmp, unite_sigs}
-use Rattle.wot_part.specs.Certificate.{unite_part, unite_parts, on_key, on_user_id, on_attribute, on_subkey}
+use Rattle.wot_component.specs.Ranked.{put, placed, united, IsBelow, IsRising}
+use Rattle.wot_component.specs.Certificate.{Signature, Component, Certificate, fresh, kept, sig_cmp, part_cmp, unite_sigs}
+use Rattle.wot_component.specs.Certificate.{unite_part, unite_parts, on_key, on_user_id, on_attribute, on_subkey}
 use Rattle.wot_cert.specs.Assembly.{Section, cut_at, sigs_in, part_of, parts_of, certificate_with}
-use Rattle.wot_part.specs.Whole.{IsSigAt, AreSigsAt, IsPartOf, ArePartsOf, IsCertificate}
+use Rattle.wot_component.specs.Whole.{IsSigAt, AreSigsAt, IsPartOf, ArePartsOf, IsCertificate}
 use Rattle.wot_cert.specs.Drafting.{body_cmp, first_stays, unite_bodies, Group, group_cmp, unite_group, sig_bodies}
 use Rattle.wot_cert.specs.Drafting.{group_of, groups_of, Sketch, sketched, with_signature, groups_with, with_component}
 use Rattle.wot_cert.specs.Drafting.{part_drafted, completed, IsShort, IsShortGroup, IsShortSketch, SigsRise}
 use Rattle.wot_cert.specs.Drafting.{IsWholeSketch}
 use Rattle.std.proofs.lemmas.Cmp.{nat_list_cmp_total}
 use Rattle.std.proofs.lemmas.Map.Lookups.{exact_bytes}
-use Rattle.wot_part.proofs.Rank.{united_rises}
+use Rattle.wot_component.proofs.Rank.{united_rises}
 use Rattle.wot_cert.proofs.Sketches.{sketched-more, sketched-rises}
 
 -- ---- a change of the items that keeps their ranks keeps unions

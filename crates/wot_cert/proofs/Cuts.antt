@@ -8,7 +8,7 @@ use Rattle.wot_packet.specs.Spelling.{AreShort, Spelled, spelled_of, spelled_all
 use Rattle.wot_cert.specs.Packets.{is_key}
 use Rattle.std.specs.Prelude.{count_by, not, filter}
 use Rattle.std.proofs.lemmas.List.Sums.{sum_by-append}
-use Rattle.wot_part.specs.Certificate.{Certificate}
+use Rattle.wot_component.specs.Certificate.{Certificate}
 use Rattle.wot_cert.specs.Assembly.{Section, cut_at, keys_of, certificate_of, certificates_of, skipped_in}
 use Rattle.wot_cert.specs.Assembly.{has_readable_key}
 use Rattle.wot_cert.specs.Drafting.{BeginsWithKey, certs_in, skipped_by}

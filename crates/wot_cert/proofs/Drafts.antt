@@ -13,10 +13,10 @@ use Rattle.std.specs.BTreeMap.{is_at, insert_entry}
 use Rattle.std.specs.BTreeSet.{BTreeSet, insert_key}
 use Rattle.std.specs.Map.{lookup, remove_entry}
 use Rattle.std.specs.List.{AllByRecursion}
-use Rattle.wot_part.specs.Ranked.{put, placed, united, IsBelow, IsRising}
+use Rattle.wot_component.specs.Ranked.{put, placed, united, IsBelow, IsRising}
 use Rattle.wot_cert.specs.Drafting.{body_cmp, first_stays, unite_bodies, Group, group_cmp, put_group, bodies_in}
 use Rattle.wot_cert.specs.Drafting.{groups_in, without, sigs_at}
-use Rattle.wot_part.proofs.Rank.{only}
+use Rattle.wot_component.proofs.Rank.{only}
 
 -- ---- one more body
 

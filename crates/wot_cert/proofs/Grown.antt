@@ -2,22 +2,22 @@
 use Rattle.std.proofs.Common.{◌≡◌, ℕ, ◌+◌, ◌-◌, ◌≤◌, ◌<◌, ◌^◌, min, List, length, refl, sym, ap, ◌∙◌, subst, arith}
 use Rattle.wot_packet.specs.Writing.{written}
 use Rattle.wot_policy.specs.declared.rows.PolicyRows.{PolicyRows}
-use Rattle.wot_part.specs.declared.adds.Adds.{Adds}
+use Rattle.wot_component.specs.declared.adds.Adds.{Adds}
 use Rattle.wot_cert.specs.declared.places.Places.{Places}
-use Rattle.wot_part.specs.Certificate.{Certificate, unite}
-use Rattle.wot_part.specs.Counts.{weight_of, items_of}
+use Rattle.wot_component.specs.Certificate.{Certificate, unite}
+use Rattle.wot_component.specs.Counts.{weight_of, items_of}
 use Rattle.wot_cert.specs.Growing.{AreUnited, PlacesFollow}
-use Rattle.wot_part.specs.Judged.{judged, is_admitted_by}
-use Rattle.wot_part.specs.New.{judged_beside}
+use Rattle.wot_component.specs.Judged.{judged, is_admitted_by}
+use Rattle.wot_component.specs.New.{judged_beside}
 use Rattle.wot_cert.specs.Parts.{of_places}
-use Rattle.wot_part.specs.Text.{size_of}
-use Rattle.wot_part.specs.Totals.{AreTotals, cap}
-use Rattle.wot_part.specs.Whole.{IsCertificate}
+use Rattle.wot_component.specs.Text.{size_of}
+use Rattle.wot_component.specs.Totals.{AreTotals, cap}
+use Rattle.wot_component.specs.Whole.{IsCertificate}
 use Rattle.wot_cert.proofs.MergedMarks.{merged}
 use Rattle.wot_cert.proofs.Same.{same_cert}
-use Rattle.wot_part.proofs.TextSize.{size_is, union_items, first_items}
-use Rattle.wot_part.proofs.Weights.{unite_more}
-use Rattle.wot_part.proofs.Wholes.{marked_whole, unite_whole}
+use Rattle.wot_component.proofs.TextSize.{size_is, union_items, first_items}
+use Rattle.wot_component.proofs.Weights.{unite_more}
+use Rattle.wot_component.proofs.Wholes.{marked_whole, unite_whole}
 
 zero_more : (n d : ℕ) → n ≤ d → 0 + n ≤ d
 zero_more n d h = omega arith

@@ -3,18 +3,18 @@ use Rattle.std.proofs.Common.{◌≡◌, ℕ, ◌+◌, List, [], ◌∷◌, map,
 use Rattle.std.specs.declared.cmp.Ordering.TheVariants.{Equal}
 use Rattle.std.specs.List.{AllByRecursion}
 use Rattle.wot_policy.specs.declared.rows.PolicyRows.{PolicyRows}
-use Rattle.wot_part.specs.Ranked.{IsRising}
-use Rattle.wot_part.specs.Counts.{sum_of, part_weight}
-use Rattle.wot_part.specs.Certificate.{Signature, Component, Certificate, sig_cmp, part_cmp, kept, unite, unite_sigs}
-use Rattle.wot_part.specs.Certificate.{of_parts, unite_part, unite_parts, part_with}
-use Rattle.wot_part.specs.Judged.{judged_sig, judged, if_sound, sound_of, IsJudgedSig, IsJudgedPart, IsJudged}
-use Rattle.wot_part.specs.New.{stays, none, judged_sigs, judged_part, judged_parts, sound_new, sound_new_on}
-use Rattle.wot_part.specs.New.{judged_beside, sound_beside}
-use Rattle.wot_part.specs.Whole.{IsPartOf, ArePartsOf, IsCertificate}
-use Rattle.wot_part.proofs.New.{marked_union, weighed_union, all_new}
+use Rattle.wot_component.specs.Ranked.{IsRising}
+use Rattle.wot_component.specs.Counts.{sum_of, part_weight}
+use Rattle.wot_component.specs.Certificate.{Signature, Component, Certificate, sig_cmp, part_cmp, kept, unite, unite_sigs}
+use Rattle.wot_component.specs.Certificate.{of_parts, unite_part, unite_parts, part_with}
+use Rattle.wot_component.specs.Judged.{judged_sig, judged, if_sound, sound_of, IsJudgedSig, IsJudgedPart, IsJudged}
+use Rattle.wot_component.specs.New.{stays, none, judged_sigs, judged_part, judged_parts, sound_new, sound_new_on}
+use Rattle.wot_component.specs.New.{judged_beside, sound_beside}
+use Rattle.wot_component.specs.Whole.{IsPartOf, ArePartsOf, IsCertificate}
+use Rattle.wot_component.proofs.New.{marked_union, weighed_union, all_new}
 use Rattle.wot_cert.proofs.Same.{same_cert}
-use Rattle.wot_part.proofs.Walk.{sigs_total, kept_same, parts_total, parts_same}
-use Rattle.wot_part.proofs.Wholes.{united_all}
+use Rattle.wot_component.proofs.Walk.{sigs_total, kept_same, parts_total, parts_same}
+use Rattle.wot_component.proofs.Wholes.{united_all}
 
 any : {A : Type 0} (xs : List A) → AllByRecursion (λ _. Unit {0}) xs
 any [] = tt

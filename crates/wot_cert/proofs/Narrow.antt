@@ -6,7 +6,7 @@ use Rattle.std.specs.List.{flat_map}
 use Rattle.std.proofs.lemmas.List.{take_more, append-nil}
 use Rattle.std.proofs.lemmas.Bool.Decides.{nat_tests}
 use Rattle.wot_cert.specs.declared.spans.Bounds.{Bounds}
-use Rattle.wot_part.specs.Certificate.{Signature, Component, Certificate}
+use Rattle.wot_component.specs.Certificate.{Signature, Component, Certificate}
 use Rattle.wot_cert.specs.Span.{most, least, begin_of, sig_moments, moments_of, created_of}
 use Rattle.wot_cert.specs.Narrowed.{Narrowed}
 

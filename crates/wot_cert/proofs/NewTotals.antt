@@ -4,18 +4,18 @@ use Rattle.wot_types.specs.declared.fpr.Fpr.{Fpr}
 use Rattle.wot_key.specs.declared.key.Key.{Key}
 use Rattle.wot_packet.specs.Writing.{written}
 use Rattle.wot_policy.specs.declared.rows.PolicyRows.{PolicyRows}
-use Rattle.wot_part.specs.declared.adds.Adds.{Adds}
-use Rattle.wot_part.specs.Certificate.{Signature, Component, Certificate}
-use Rattle.wot_part.specs.Counts.{sum_of, part_weight, weight_of}
-use Rattle.wot_part.specs.Judged.{judged_sig}
-use Rattle.wot_part.specs.New.{judged_sigs, judged_part, judged_parts}
-use Rattle.wot_part.specs.Sizes.{sig_size, own_size}
-use Rattle.wot_part.specs.Totals.{AreTotals}
+use Rattle.wot_component.specs.declared.adds.Adds.{Adds}
+use Rattle.wot_component.specs.Certificate.{Signature, Component, Certificate}
+use Rattle.wot_component.specs.Counts.{sum_of, part_weight, weight_of}
+use Rattle.wot_component.specs.Judged.{judged_sig}
+use Rattle.wot_component.specs.New.{judged_sigs, judged_part, judged_parts}
+use Rattle.wot_component.specs.Sizes.{sig_size, own_size}
+use Rattle.wot_component.specs.Totals.{AreTotals}
 use Rattle.wot_cert.specs.Parts.{IsCertOf}
-use Rattle.wot_part.proofs.Follows.{totals_same}
-use Rattle.wot_part.proofs.NewWhole.{lists_whole}
-use Rattle.wot_part.proofs.TextSize.{size_is}
-use Rattle.wot_part.proofs.Weights.{sigs_weight, parts_weight}
+use Rattle.wot_component.proofs.Follows.{totals_same}
+use Rattle.wot_component.proofs.NewWhole.{lists_whole}
+use Rattle.wot_component.proofs.TextSize.{size_is}
+use Rattle.wot_component.proofs.Weights.{sigs_weight, parts_weight}
 
 module _ (r1 r2 r3 r4 : PolicyRows) (o1 : List Signature) (o2 o3 o4 : List Component) (c : Certificate)
     (d : List Signature) (u t s : List Component)

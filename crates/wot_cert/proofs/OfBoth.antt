@@ -2,10 +2,10 @@
 use Rattle.std.proofs.Common.{◌≡◌, ◌⊎◌, ◌↔◌, inl, inr, ℕ, List, [], ◌∷◌, refl, sym, ◌∙◌}
 use Rattle.std.specs.declared.cmp.Ordering.{Ordering}
 use Rattle.std.specs.declared.cmp.Ordering.TheVariants.{Less, Equal, Greater}
-use Rattle.wot_part.specs.Certificate.{Signature, Component, kept, part_cmp, sig_cmp, unite_part, unite_parts}
-use Rattle.wot_part.specs.Certificate.{unite_sigs}
-use Rattle.wot_part.specs.Ranked.{placed, put, united}
-use Rattle.wot_part.proofs.Bodies.{bodies_equal}
+use Rattle.wot_component.specs.Certificate.{Signature, Component, kept, part_cmp, sig_cmp, unite_part, unite_parts}
+use Rattle.wot_component.specs.Certificate.{unite_sigs}
+use Rattle.wot_component.specs.Ranked.{placed, put, united}
+use Rattle.wot_component.proofs.Bodies.{bodies_equal}
 use Rattle.wot_cert.specs.Both.{HasOne, HasPart, HasSig, HasSigOn}
 
 -- the same thing said of either of two

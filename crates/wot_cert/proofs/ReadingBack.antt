@@ -13,18 +13,18 @@ use Rattle.wot_packet.specs.Spelling.{AreShort, Spelled}
 use Rattle.wot_packet.specs.Writing.{CanBeWritten, placed, written, written_all}
 use Rattle.wot_cert.specs.Assembly.{Section, cut_at, certificate_of, certificates_of, has_readable_key, skipped_in}
 use Rattle.wot_cert.specs.Assembly.{keys_of}
-use Rattle.wot_part.specs.Certificate.{Signature, Component, Certificate, fresh, unmarked, unmarked_sig, part_with}
-use Rattle.wot_part.specs.Certificate.{sig_cmp, part_cmp, on_key, on_user_id, on_attribute, on_subkey}
+use Rattle.wot_component.specs.Certificate.{Signature, Component, Certificate, fresh, unmarked, unmarked_sig, part_with}
+use Rattle.wot_component.specs.Certificate.{sig_cmp, part_cmp, on_key, on_user_id, on_attribute, on_subkey}
 use Rattle.wot_cert.specs.Drafting.{body_cmp, first_stays, Group, group_cmp, unite_group, put_group, Sketch, sketched}
 use Rattle.wot_cert.specs.Drafting.{with_packet, part_drafted, completed}
 use Rattle.wot_cert.specs.Fault.{fault_at, fault_from, first_fault}
 use Rattle.wot_cert.specs.Packets.{is_key}
-use Rattle.wot_part.specs.Ranked.{IsBelow, IsRising}
-use Rattle.wot_part.specs.Text.{sigs_text, parts_text, text_of}
-use Rattle.wot_part.specs.Whole.{IsSigAt, IsPartOf, IsCertificate}
+use Rattle.wot_component.specs.Ranked.{IsBelow, IsRising}
+use Rattle.wot_component.specs.Text.{sigs_text, parts_text, text_of}
+use Rattle.wot_component.specs.Whole.{IsSigAt, IsPartOf, IsCertificate}
 use Rattle.wot_cert.proofs.CertificateWithKey.{completed-is}
 use Rattle.wot_cert.proofs.Cuts.{at-other}
-use Rattle.wot_part.proofs.Rank.{put_first}
+use Rattle.wot_component.proofs.Rank.{put_first}
 use Rattle.wot_cert.proofs.Same.{same_cert}
 use Rattle.wot_cert.proofs.Sketches.{sketched-more}
 

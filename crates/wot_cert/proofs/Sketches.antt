@@ -8,12 +8,12 @@ use Rattle.std.proofs.lemmas.Cmp.{nat_list_cmp_total}
 use Rattle.wot_packet.specs.declared.packet.Packet.{Packet}
 use Rattle.wot_packet.specs.Spelling.{Spelled, spelled_of, spelled_all}
 use Rattle.wot_cert.specs.Packets.{is_signature, begins_component}
-use Rattle.wot_part.specs.Ranked.{put}
+use Rattle.wot_component.specs.Ranked.{put}
 use Rattle.wot_cert.specs.Assembly.{Section, cut_at, cut_on}
 use Rattle.wot_cert.specs.Drafting.{body_cmp, first_stays, unite_bodies, Group, group_cmp, unite_group, unite_groups}
 use Rattle.wot_cert.specs.Drafting.{put_group, sig_bodies, group_of, groups_of, Sketch, sketch_of, sketched}
 use Rattle.wot_cert.specs.Drafting.{with_signature, with_component, with_packet, IsSketch}
-use Rattle.wot_part.proofs.Rank.{united_rises}
+use Rattle.wot_component.proofs.Rank.{united_rises}
 use Rattle.wot_cert.proofs.Cuts.{spelled-drop}
 
 -- ---- one packet more

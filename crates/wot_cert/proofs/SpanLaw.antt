@@ -7,8 +7,8 @@ use Rattle.std.proofs.lemmas.Bool.Decides.{nat_tests}
 use Rattle.std.specs.Option.{option_map_or}
 use Rattle.wot_types.specs.PlainLaws.{all_prefix, all_back, all_each, all_then, filter_same, map_same}
 use Rattle.wot_signature.specs.declared.facts.SigFacts.{SigFacts}
-use Rattle.wot_part.specs.Certificate.{Signature, Component, Certificate, said_by}
-use Rattle.wot_part.specs.Counts.{all_sigs, parts_in}
+use Rattle.wot_component.specs.Certificate.{Signature, Component, Certificate, said_by}
+use Rattle.wot_component.specs.Counts.{all_sigs, parts_in}
 use Rattle.wot_cert.specs.Span.{most, least, begin_of, end_of, span_of, InSpan, moments_of, sig_moments, facts_moments}
 use Rattle.wot_cert.specs.Span.{unless_zero, created_of, AreLiveAlike}
 use Rattle.wot_cert.specs.Time.{facts_live, is_live, live_part, live_at}

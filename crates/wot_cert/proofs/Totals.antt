@@ -1,14 +1,14 @@
 -- What a certificate brings in all.
 use Rattle.std.proofs.Common.{◌≡◌, ℕ, ◌+◌, ◌≤◌, ◌<◌, ◌^◌, length, arith, le_refl}
 use Rattle.wot_packet.specs.Writing.{written}
-use Rattle.wot_part.specs.declared.adds.Adds.{Adds}
-use Rattle.wot_part.specs.Certificate.{Signature, Certificate, unite}
-use Rattle.wot_part.specs.Counts.{sum_of, weight_of, items_of, signatures_of}
-use Rattle.wot_part.specs.Sizes.{sig_size, own_size, part_items, part_signatures, part_size, BringsSigs, BringsParts}
-use Rattle.wot_part.specs.Sizes.{IsSum, IsFew}
-use Rattle.wot_part.specs.Text.{size_of}
-use Rattle.wot_part.proofs.AddingParts.{signatures_least}
-use Rattle.wot_part.proofs.TextSize.{sum_least, some_octet, part_items_least, size_is}
+use Rattle.wot_component.specs.declared.adds.Adds.{Adds}
+use Rattle.wot_component.specs.Certificate.{Signature, Certificate, unite}
+use Rattle.wot_component.specs.Counts.{sum_of, weight_of, items_of, signatures_of}
+use Rattle.wot_component.specs.Sizes.{sig_size, own_size, part_items, part_signatures, part_size, BringsSigs, BringsParts}
+use Rattle.wot_component.specs.Sizes.{IsSum, IsFew}
+use Rattle.wot_component.specs.Text.{size_of}
+use Rattle.wot_component.proofs.AddingParts.{signatures_least}
+use Rattle.wot_component.proofs.TextSize.{sum_least, some_octet, part_items_least, size_is}
 
 -- what each of the lists brings
 pub record Brought (a u : Certificate) (d e f g : Adds) : Type 0 where

@@ -4,19 +4,19 @@ use Rattle.std.proofs.Common.{subst, arith}
 use Rattle.std.specs.declared.cmp.Ordering.{Ordering}
 use Rattle.std.specs.declared.cmp.Ordering.TheVariants.{Less, Equal, Greater}
 use Rattle.wot_packet.specs.Writing.{written}
-use Rattle.wot_part.specs.Certificate.{Signature, Component, Certificate, kept, sig_cmp, part_cmp, unite, unite_sigs}
-use Rattle.wot_part.specs.Certificate.{unite_part, unite_parts, part_with, with_each, unmarked}
-use Rattle.wot_part.specs.Counts.{sum_of, part_weight, weight_of, items_of, signatures_of}
-use Rattle.wot_part.specs.Judged.{if_sound, sound_of}
-use Rattle.wot_part.specs.Ranked.{put, placed, united}
-use Rattle.wot_part.specs.Sizes.{sig_size, own_size}
-use Rattle.wot_part.specs.Text.{sigs_text, parts_text, text_of, size_of}
-use Rattle.wot_part.specs.Whole.{IsCertificate}
+use Rattle.wot_component.specs.Certificate.{Signature, Component, Certificate, kept, sig_cmp, part_cmp, unite, unite_sigs}
+use Rattle.wot_component.specs.Certificate.{unite_part, unite_parts, part_with, with_each, unmarked}
+use Rattle.wot_component.specs.Counts.{sum_of, part_weight, weight_of, items_of, signatures_of}
+use Rattle.wot_component.specs.Judged.{if_sound, sound_of}
+use Rattle.wot_component.specs.Ranked.{put, placed, united}
+use Rattle.wot_component.specs.Sizes.{sig_size, own_size}
+use Rattle.wot_component.specs.Text.{sigs_text, parts_text, text_of, size_of}
+use Rattle.wot_component.specs.Whole.{IsCertificate}
 use Rattle.wot_cert.proofs.Same.{same_cert}
-use Rattle.wot_part.proofs.TextSize.{some_octet, size_is}
+use Rattle.wot_component.proofs.TextSize.{some_octet, size_is}
 use Rattle.wot_cert.proofs.UnionLaws.{commutes}
-use Rattle.wot_part.proofs.Weights.{put_more, united_more, unite_less, unite_more}
-use Rattle.wot_part.proofs.Wholes.{marked_as}
+use Rattle.wot_component.proofs.Weights.{put_more, united_more, unite_less, unite_more}
+use Rattle.wot_component.proofs.Wholes.{marked_as}
 
 module _ {A : Type 0} (R : A → A → Ordering) (join : A → A → A) (m : A → ℕ) (some : (x : A) → 1 ≤ m x)
     (least : (x y : A) → m x ≤ m (join x y)) (stays : (x y : A) → m (join x y) ≡ m x → join x y ≡ x) where

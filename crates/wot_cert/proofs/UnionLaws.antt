@@ -3,18 +3,18 @@ use Rattle.std.proofs.Common.{◌≡◌, ℕ, Bool, false, List, [], ◌∷◌, 
 use Rattle.std.specs.declared.cmp.Ordering.TheVariants.{Equal}
 use Rattle.std.specs.List.{AllByRecursion}
 use Rattle.wot_cert.specs.Assembly.{bare}
-use Rattle.wot_part.specs.Certificate.{Signature, Component, Certificate, fresh, kept, sig_cmp, part_cmp, unite}
-use Rattle.wot_part.specs.Certificate.{unite_sigs, unite_part, unite_parts, part_with, with_each, unmarked}
-use Rattle.wot_part.specs.Certificate.{unmarked_sig, on_key, on_user_id, on_attribute, on_subkey}
-use Rattle.wot_part.specs.Ranked.{IsRising}
-use Rattle.wot_part.specs.Whole.{IsSigAt, IsPartOf, ArePartsOf, IsCertificate}
-use Rattle.wot_part.proofs.Alike.{united-associates, united-commutes, united-itself}
-use Rattle.wot_part.proofs.Bodies.{bodies_equal}
+use Rattle.wot_component.specs.Certificate.{Signature, Component, Certificate, fresh, kept, sig_cmp, part_cmp, unite}
+use Rattle.wot_component.specs.Certificate.{unite_sigs, unite_part, unite_parts, part_with, with_each, unmarked}
+use Rattle.wot_component.specs.Certificate.{unmarked_sig, on_key, on_user_id, on_attribute, on_subkey}
+use Rattle.wot_component.specs.Ranked.{IsRising}
+use Rattle.wot_component.specs.Whole.{IsSigAt, IsPartOf, ArePartsOf, IsCertificate}
+use Rattle.wot_component.proofs.Alike.{united-associates, united-commutes, united-itself}
+use Rattle.wot_component.proofs.Bodies.{bodies_equal}
 use Rattle.wot_cert.proofs.CertificateWithKey.{map-united}
-use Rattle.wot_part.proofs.Rank.{only}
+use Rattle.wot_component.proofs.Rank.{only}
 use Rattle.wot_cert.proofs.Same.{same_cert}
-use Rattle.wot_part.proofs.Walk.{sigs_total, kept_same, parts_total, parts_same}
-use Rattle.wot_part.proofs.Wholes.{marked_as, marked_whole}
+use Rattle.wot_component.proofs.Walk.{sigs_total, kept_same, parts_total, parts_same}
+use Rattle.wot_component.proofs.Wholes.{marked_as, marked_whole}
 
 abbrev Rises : Component → Type 0
 Rises p = IsRising sig_cmp p.sigs

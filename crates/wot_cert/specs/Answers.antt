@@ -6,7 +6,7 @@ use Rattle.wot_cert.specs.declared.fault.MergeFault.{MergeFault}
 use Rattle.wot_cert.specs.declared.fault.MergeFault.TheVariants.{Clash, Memory}
 use Rattle.wot_cert.specs.declared.fault.CertFault.{CertFault}
 use Rattle.wot_cert.specs.declared.fault.CertFault.TheVariants as faults
-use Rattle.wot_part.specs.Certificate.{Certificate}
+use Rattle.wot_component.specs.Certificate.{Certificate}
 use Rattle.wot_cert.specs.Fault.{first_fault}
 
 -- `Clash` is returned if and only if the key bodies differ.

@@ -3,8 +3,8 @@ use Rattle.std.specs.Prelude.{ℕ, Bool, true, false, not, ◌==◌, List, [], �
 use Rattle.wot_key.specs.Key.{is_readable}
 use Rattle.wot_packet.specs.Spelling.{Spelled}
 use Rattle.wot_cert.specs.Packets.{is_key, is_signature, begins_component}
-use Rattle.wot_part.specs.Certificate.{Signature, Component, Certificate, fresh, unite_sigs, unite_parts}
-use Rattle.wot_part.specs.Certificate.{on_key, on_user_id, on_attribute, on_subkey}
+use Rattle.wot_component.specs.Certificate.{Signature, Component, Certificate, fresh, unite_sigs, unite_parts}
+use Rattle.wot_component.specs.Certificate.{on_key, on_user_id, on_attribute, on_subkey}
 
 -- ---- cutting a list of packets
 

@@ -1,6 +1,6 @@
 -- What is in a certificate, and what that says of two that were merged: the merge has what is in one of both.
 use Rattle.std.specs.Prelude.{◌≡◌, ◌⊎◌, ◌↔◌, ℕ, List, [], ◌∷◌}
-use Rattle.wot_part.specs.Certificate.{Signature, Component, Certificate, unite}
+use Rattle.wot_component.specs.Certificate.{Signature, Component, Certificate, unite}
 
 -- some item of the list is so
 abbrev pub HasOne : {A : Type 0} → (A → Type 0) → List A → Type 0

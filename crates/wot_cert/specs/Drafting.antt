@@ -14,9 +14,9 @@ use Rattle.wot_packet.specs.Spelling.{Spelled}
 use Rattle.wot_verdict.specs.Number.{IsBegunOn}
 use Rattle.wot_verdict.specs.declared.number.Numbering.{Numbering}
 use Rattle.wot_cert.specs.Packets.{is_key, is_signature, begins_component}
-use Rattle.wot_part.specs.Ranked.{put, united, IsRising}
-use Rattle.wot_part.specs.Certificate.{Component, Certificate, Signature}
-use Rattle.wot_part.specs.Certificate.{fresh, on_key, on_user_id, on_attribute, on_subkey}
+use Rattle.wot_component.specs.Ranked.{put, united, IsRising}
+use Rattle.wot_component.specs.Certificate.{Component, Certificate, Signature}
+use Rattle.wot_component.specs.Certificate.{fresh, on_key, on_user_id, on_attribute, on_subkey}
 use Rattle.wot_cert.specs.Assembly.{Section, cut_at, has_readable_key, certificate_of}
 use Rattle.wot_cert.specs.declared.draft.Draft.{Draft}
 

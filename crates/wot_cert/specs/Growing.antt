@@ -4,20 +4,20 @@ use Rattle.std.specs.Prelude.{Result}
 use Rattle.wot_policy.specs.declared.policy.Policy.{Policy}
 use Rattle.wot_policy.specs.declared.rows.PolicyRows.{PolicyRows}
 use Rattle.wot_policy.specs.Kept.{rows_of}
-use Rattle.wot_part.specs.declared.adds.Adds.{Adds}
+use Rattle.wot_component.specs.declared.adds.Adds.{Adds}
 use Rattle.wot_cert.specs.declared.growth.Growth.{Growth}
 use Rattle.wot_cert.specs.declared.places.Places.{Places}
-use Rattle.wot_part.specs.Asking.{AsksUpTo}
-use Rattle.wot_part.specs.Certificate.{Signature, Component, Certificate, sig_cmp, part_cmp}
-use Rattle.wot_part.specs.Certificate.{unite}
-use Rattle.wot_part.specs.Counts.{weight_of}
-use Rattle.wot_part.specs.Judged.{judged, sound_of}
+use Rattle.wot_component.specs.Asking.{AsksUpTo}
+use Rattle.wot_component.specs.Certificate.{Signature, Component, Certificate, sig_cmp, part_cmp}
+use Rattle.wot_component.specs.Certificate.{unite}
+use Rattle.wot_component.specs.Counts.{weight_of}
+use Rattle.wot_component.specs.Judged.{judged, sound_of}
 use Rattle.wot_cert.specs.Parts.{of_places}
-use Rattle.wot_part.specs.Ranked.{IsRising}
-use Rattle.wot_part.specs.Sizes.{sig_size, own_size}
-use Rattle.wot_part.specs.Totals.{AreTotals, Counts}
-use Rattle.wot_part.specs.Whole.{IsCertificate}
-use Rattle.wot_part.specs.Growing.{without_all, parts_back, sigs_grown, parts_grown}
+use Rattle.wot_component.specs.Ranked.{IsRising}
+use Rattle.wot_component.specs.Sizes.{sig_size, own_size}
+use Rattle.wot_component.specs.Totals.{AreTotals, Counts}
+use Rattle.wot_component.specs.Whole.{IsCertificate}
+use Rattle.wot_component.specs.Growing.{without_all, parts_back, sigs_grown, parts_grown}
 
 -- the certificate without what it grew by
 abbrev pub shrunk : Growth → Certificate → Certificate

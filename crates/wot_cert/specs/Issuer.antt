@@ -7,7 +7,7 @@ use Rattle.wot_signature.specs.declared.facts.SigFacts.{SigFacts}
 use Rattle.wot_verdict.specs.declared.verdict.Verdict.{Verdict}
 use Rattle.wot_verdict.specs.declared.verdict.Verdict.TheVariants.{Good}
 use Rattle.wot_verdict.specs.Verdicts.{Entries, verdict_at}
-use Rattle.wot_part.specs.Certificate.{Signature, said_by}
+use Rattle.wot_component.specs.Certificate.{Signature, said_by}
 
 -- the key with which a verdict is good
 abbrev pub good_by : Option Verdict → Option Fpr

@@ -1,6 +1,6 @@
 -- Bounds that moments narrow.
 use Rattle.std.specs.Prelude.{◌≡◌, ℕ, ◌+◌, nat_lt, max, List, ◌∷◌, ◌++◌, filter}
-use Rattle.wot_sig.specs.declared.said.Times.{Times}
+use Rattle.wot_kept_signature.specs.declared.said.Times.{Times}
 use Rattle.wot_cert.specs.declared.spans.Bounds.{Bounds}
 use Rattle.wot_cert.specs.Span.{begin_of, least, unless_zero}
 

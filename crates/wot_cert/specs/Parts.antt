@@ -4,13 +4,13 @@ use Rattle.wot_types.specs.declared.fpr.Fpr.{Fpr}
 use Rattle.wot_key.specs.declared.key.Key.{Key}
 use Rattle.wot_key.specs.Key.{key_of, fpr_of}
 use Rattle.wot_cert.specs.declared.places.Places.{Places}
-use Rattle.wot_part.specs.declared.sig.Marks.{Marks}
-use Rattle.wot_part.specs.Certificate.{Certificate, fresh, part_with, unite_parts, unite_sigs}
-use Rattle.wot_part.specs.Certificate.{on_key, on_user_id, on_attribute, on_subkey}
-use Rattle.wot_part.specs.Certificate.{of_parts}
-use Rattle.wot_part.specs.Copied.{copied}
+use Rattle.wot_component.specs.declared.sig.Marks.{Marks}
+use Rattle.wot_component.specs.Certificate.{Certificate, fresh, part_with, unite_parts, unite_sigs}
+use Rattle.wot_component.specs.Certificate.{on_key, on_user_id, on_attribute, on_subkey}
+use Rattle.wot_component.specs.Certificate.{of_parts}
+use Rattle.wot_component.specs.Copied.{copied}
 use Rattle.wot_cert.specs.Drafting.{Sketch, part_drafted}
-use Rattle.wot_part.specs.Whole.{IsCertificate}
+use Rattle.wot_component.specs.Whole.{IsCertificate}
 
 abbrev pub of_places : List ℕ → Places → Certificate
 of_places key p = of_parts key p.direct.items p.user_ids.items p.attributes.items p.subkeys.items

@@ -3,9 +3,9 @@ use Rattle.std.specs.Prelude.{◌≡◌, List, [], ◌∷◌, None, Ok}
 use Rattle.wot_packet.specs.Spelling.{AreShort, Spelled, Spells}
 use Rattle.wot_packet.specs.Reading.{packets_of}
 use Rattle.wot_cert.specs.Assembly.{certificates_of, skipped_in}
-use Rattle.wot_part.specs.Certificate.{Certificate, unmarked}
+use Rattle.wot_component.specs.Certificate.{Certificate, unmarked}
 use Rattle.wot_cert.specs.Fault.{first_fault}
-use Rattle.wot_part.specs.Text.{text_of}
+use Rattle.wot_component.specs.Text.{text_of}
 
 -- The text spells packets, and the plain reader returns them. They have no fault, no key is skipped, and exactly this
 -- certificate is assembled from them, without marks.

@@ -3,8 +3,8 @@ use Rattle.std.specs.Prelude.{ℕ, Bool, not, ◌&&◌, ◌||◌, ◌==◌, nat_
 use Rattle.std.specs.List.{list_all}
 use Rattle.wot_types.specs.declared.fpr.Fpr.{Fpr}
 use Rattle.wot_verdict.specs.Verdicts.{Entries}
-use Rattle.wot_part.specs.Certificate.{Signature}
-use Rattle.wot_part.specs.Judged.{is_true_of}
+use Rattle.wot_component.specs.Certificate.{Signature}
+use Rattle.wot_component.specs.Judged.{is_true_of}
 use Rattle.wot_cert.specs.Issuer.{counts_by}
 use Rattle.wot_cert.specs.Time.{made_of, is_live}
 

@@ -6,8 +6,8 @@ use Rattle.std.specs.Option.{option_map_or}
 use Rattle.wot_key.specs.Key.{created_in}
 use Rattle.wot_signature.specs.declared.facts.SigFacts.{SigFacts}
 use Rattle.wot_cert.specs.declared.moments.Span.{Span}
-use Rattle.wot_part.specs.Certificate.{Signature, Certificate, said_by}
-use Rattle.wot_part.specs.Counts.{all_sigs}
+use Rattle.wot_component.specs.Certificate.{Signature, Certificate, said_by}
+use Rattle.wot_component.specs.Counts.{all_sigs}
 use Rattle.wot_cert.specs.Time.{is_live}
 
 abbrev pub created_of : Certificate → ℕ

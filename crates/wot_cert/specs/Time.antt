@@ -5,8 +5,8 @@ use Rattle.std.specs.declared.cmp.Ordering.{Ordering}
 use Rattle.std.specs.Ordering.{nat_cmp, ordering_then}
 use Rattle.wot_types.specs.SigNumber.{number_cmp}
 use Rattle.wot_signature.specs.declared.facts.SigFacts.{SigFacts}
-use Rattle.wot_part.specs.Certificate.{Signature, Component, Certificate, said_by, sig_cmp}
-use Rattle.wot_part.specs.Judged.{is_true_of}
+use Rattle.wot_component.specs.Certificate.{Signature, Component, Certificate, said_by, sig_cmp}
+use Rattle.wot_component.specs.Judged.{is_true_of}
 
 -- when a signature was created; 0 if it doesn't say
 abbrev pub made_of : Signature → ℕ

@@ -1,14 +1,14 @@
 //! What a merge would add, without merging: how many keys, components, signatures and octets.
 //!
-//! It stands on `wot_part`, which says it of sorted lists. No crate of the program calls it: `Cert::grow` merges and
-//! says what was added.
+//! It stands on `wot_component`, which says it of sorted lists. No crate of the program calls it: `Cert::grow` merges
+//! and says what was added.
 ghost use Rattle.std.specs.Prelude.{◌≡◌, ◌<◌, ◌^◌, ◌+◌};
-ghost use Rattle.wot_part.specs.Certificate.{unite};
-ghost use Rattle.wot_part.specs.Counts.{items_of, signatures_of};
-ghost use Rattle.wot_part.specs.Text.{size_of};
+ghost use Rattle.wot_component.specs.Certificate.{unite};
+ghost use Rattle.wot_component.specs.Counts.{items_of, signatures_of};
+ghost use Rattle.wot_component.specs.Text.{size_of};
 
 use crate::{Adds, Cert};
-use wot_part::adds::{added_parts, added_sigs, plus};
+use wot_component::adds::{added_parts, added_sigs, plus};
 
 /// What the second certificate adds to the first.
 fn added(a: &Cert, b: &Cert) -> Adds

@@ -9,7 +9,7 @@ ghost use Rattle.wot_cert.specs.Packets.{is_key};
 ghost use Rattle.wot_cert.specs.Assembly.{cut_at, certificate_behind, certificates_of, skipped_in};
 ghost use Rattle.wot_cert.specs.Answers.{IsWhereReadable, TellsFirstFault};
 ghost use Rattle.wot_cert.specs.Drafting.{seen, sketched, BeginsWithKey, certs_in, skipped_by};
-ghost use Rattle.wot_part.specs.Whole.{IsCertificate};
+ghost use Rattle.wot_component.specs.Whole.{IsCertificate};
 
 use crate::draft::Draft;
 use crate::first_fault::first_fault_of;

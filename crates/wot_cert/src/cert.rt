@@ -1,36 +1,36 @@
 //! The type `Cert` and its calls: build, read, mark, merge, grow and shrink.
 //!
-//! It stands on `wot_part` and `places`; `export` and `adds` have its other calls. Their public clauses are what all
-//! crates above know of a certificate.
+//! It stands on `wot_component` and `places`; `export` and `adds` have its other calls. Their public clauses are what
+//! all crates above know of a certificate.
 ghost use Rattle.std.specs.Prelude.{◌≡◌, ◌≢◌, ◌+◌, ◌-◌, ◌<◌, ◌^◌, min, MatchBool, Some, true, false, []};
 ghost use Rattle.std.specs.Prelude.{OnOk, OnErr, IfOk, IfSome};
 ghost use Rattle.std.specs.Option.{MatchOption};
 ghost use Rattle.wot_key.specs.Key.{is_readable, key_of, fpr_of};
 ghost use Rattle.wot_cert.specs.Answers.{ClashesExactly, IsWhereReadable};
-ghost use Rattle.wot_part.specs.Asking.{Asks, AsksOnOk};
+ghost use Rattle.wot_component.specs.Asking.{Asks, AsksOnOk};
 ghost use Rattle.wot_cert.specs.Assembly.{bare};
 ghost use Rattle.wot_cert.specs.Drafting.{IsWholeSketch, completed, seen};
-ghost use Rattle.wot_part.specs.Certificate.{Certificate, unite, unmarked, with_each};
-ghost use Rattle.wot_part.specs.Certificate.{on_key, on_user_id, on_attribute, on_subkey};
-ghost use Rattle.wot_part.specs.Copied.{copied};
-ghost use Rattle.wot_part.specs.Counts.{items_of, signatures_of};
-ghost use Rattle.wot_part.specs.Judged.{judged, IsJudged, sound_of};
+ghost use Rattle.wot_component.specs.Certificate.{Certificate, unite, unmarked, with_each};
+ghost use Rattle.wot_component.specs.Certificate.{on_key, on_user_id, on_attribute, on_subkey};
+ghost use Rattle.wot_component.specs.Copied.{copied};
+ghost use Rattle.wot_component.specs.Counts.{items_of, signatures_of};
+ghost use Rattle.wot_component.specs.Judged.{judged, IsJudged, sound_of};
 ghost use Rattle.wot_cert.specs.Parts.{IsCertOf, of_places};
 ghost use Rattle.wot_cert.specs.Growing.{AsksForCert, LeadsBack, shrunk};
-ghost use Rattle.wot_part.specs.New.{judged_beside, sound_beside};
-ghost use Rattle.wot_part.specs.Text.{size_of};
+ghost use Rattle.wot_component.specs.New.{judged_beside, sound_beside};
+ghost use Rattle.wot_component.specs.Text.{size_of};
 ghost use Rattle.wot_policy.specs.Kept.{IsFaithful, rows_of};
-ghost use Rattle.wot_part.specs.Whole.{IsCertificate, AreSigsAt, ArePartsOf};
+ghost use Rattle.wot_component.specs.Whole.{IsCertificate, AreSigsAt, ArePartsOf};
 
 use crate::draft::Draft;
 use crate::places::Places;
 use crate::{Adds, Growth, MergeFault, Part, Sig};
 use std::alloc::Global;
 use std::marker::Model;
+use wot_component::judge::{judge_new, judge_new_parts};
+use wot_component::measure::totals_of;
+use wot_component::sig::Marks;
 use wot_key::{Key, fingerprint, read_key};
-use wot_part::judge::{judge_new, judge_new_parts};
-use wot_part::measure::totals_of;
-use wot_part::sig::Marks;
 use wot_policy::{Ask, Policy};
 use wot_types::{Fpr, Memory};
 
@@ -46,9 +46,9 @@ pub struct Cert {
 }
 
 impl Model for Cert {
-    ghost use Rattle.wot_part.specs.Certificate.{Certificate};
+    ghost use Rattle.wot_component.specs.Certificate.{Certificate};
     ghost use Rattle.wot_cert.specs.Parts.{IsCertOf, of_places};
-    ghost use Rattle.wot_part.specs.Totals.{AreTotals};
+    ghost use Rattle.wot_component.specs.Totals.{AreTotals};
 
     ghost Value = { Certificate };
 

@@ -11,7 +11,7 @@ pub struct CertList {
 
 impl Model for CertList {
     ghost use Rattle.std.specs.Prelude.{List};
-    ghost use Rattle.wot_part.specs.Certificate.{Certificate};
+    ghost use Rattle.wot_component.specs.Certificate.{Certificate};
 
     ghost Value = { List Certificate };
 

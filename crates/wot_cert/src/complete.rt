@@ -3,10 +3,10 @@
 //! It stands on `draft` and on `specs/Drafting.antt`. `places` calls it for each kind of component.
 ghost use Rattle.std.specs.Prelude.{◌≡◌, ◌<◌, ◌^◌, ◌++◌, ◌∷◌, [], OnOk, IfOk, map, length};
 ghost use Rattle.std.specs.List.{AllByRecursion};
-ghost use Rattle.wot_part.specs.Certificate.{fresh};
+ghost use Rattle.wot_component.specs.Certificate.{fresh};
 ghost use Rattle.wot_cert.specs.Drafting.{AddsFresh, IsShort, IsShortGroup, body_cmp, part_drafted};
 ghost use Rattle.wot_cert.specs.Drafting.{bodies_in, groups_in};
-ghost use Rattle.wot_part.specs.Ranked.{IsRising};
+ghost use Rattle.wot_component.specs.Ranked.{IsRising};
 
 use crate::draft::{Bodies, Groups};
 use crate::{Part, Sig};

@@ -4,7 +4,7 @@
 //! It stands on std's maps and on `specs/Drafting.antt`. `assembling` fills it.
 ghost use Rattle.std.specs.Prelude.{◌≡◌, [], OnOk};
 ghost use Rattle.wot_packet.specs.Spelling.{spelled_of};
-ghost use Rattle.wot_part.specs.Ranked.{put, IsRising};
+ghost use Rattle.wot_component.specs.Ranked.{put, IsRising};
 ghost use Rattle.wot_cert.specs.Drafting.{body_cmp, first_stays, unite_bodies, group_cmp, put_group};
 ghost use Rattle.wot_cert.specs.Drafting.{with_component, with_packet, bodies_in, groups_in, seen, IsSketch};
 ghost use Rattle.wot_cert.specs.Drafting.{without, sigs_at};

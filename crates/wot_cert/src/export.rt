@@ -4,9 +4,9 @@
 //! here.
 ghost use Rattle.std.specs.Prelude.{◌≡◌, ◌≤◌, ◌++◌, OnOk, OnErr};
 ghost use Rattle.std.specs.List.{AllByRecursion};
-ghost use Rattle.wot_part.specs.Fitting.{SigFits, PartFits};
+ghost use Rattle.wot_component.specs.Fitting.{SigFits, PartFits};
 ghost use Rattle.wot_cert.specs.ReadBack.{ReadBack};
-ghost use Rattle.wot_part.specs.Text.{Appends, components_text, sigs_text, part_text, parts_text, text_of};
+ghost use Rattle.wot_component.specs.Text.{Appends, components_text, sigs_text, part_text, parts_text, text_of};
 
 use crate::laws::read_back;
 use crate::{Cert, Part, Sig};

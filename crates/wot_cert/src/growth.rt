@@ -1,10 +1,10 @@
-//! The log of a merge in place: what was inserted, and where. `wot_part` writes and reads its steps, and `wot_keyring`
-//! keeps it until an import can't fail any more.
+//! The log of a merge in place: what was inserted, and where. `wot_component` writes and reads its steps, and
+//! `wot_keyring` keeps it until an import can't fail any more.
 ghost use Rattle.std.specs.Prelude.{◌≡◌, []};
 
 use crate::Adds;
 use std::alloc::Global;
-use wot_part::PartStep;
+use wot_component::PartStep;
 
 /// What a certificate grew by, in the order of insertion: enough to undo it without memory.
 #[derive(Drop)]

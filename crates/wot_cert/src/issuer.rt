@@ -4,7 +4,7 @@
 //! self-signatures above starts with it.
 ghost use Rattle.std.specs.Prelude.{◌≡◌, true, false};
 ghost use Rattle.std.specs.Option.{option_map_or};
-ghost use Rattle.wot_part.specs.Certificate.{said_by};
+ghost use Rattle.wot_component.specs.Certificate.{said_by};
 ghost use Rattle.wot_cert.specs.Issuer.{issuer_of as issuer_in, may_count as may_count_in};
 ghost use Rattle.wot_cert.specs.Issuer.{allows, good_by, issuer_with};
 

@@ -6,12 +6,12 @@ ghost use Rattle.wot_packet.specs.Spelling.{AreShort, Spelled};
 ghost use Rattle.wot_policy.specs.declared.rows.PolicyRows.{PolicyRows};
 ghost use Rattle.wot_cert.specs.Assembly.{bare, certificates_of};
 ghost use Rattle.wot_cert.specs.Both.{AreOfBoth, HasSig, IsOfBoth};
-ghost use Rattle.wot_part.specs.Certificate.{Certificate, unite, unmarked};
-ghost use Rattle.wot_part.specs.Counts.{items_of, signatures_of};
-ghost use Rattle.wot_part.specs.Judged.{IsJudged, judged, sound_of};
+ghost use Rattle.wot_component.specs.Certificate.{Certificate, unite, unmarked};
+ghost use Rattle.wot_component.specs.Counts.{items_of, signatures_of};
+ghost use Rattle.wot_component.specs.Judged.{IsJudged, judged, sound_of};
 ghost use Rattle.wot_cert.specs.ReadBack.{ReadBack};
-ghost use Rattle.wot_part.specs.Text.{size_of, text_of};
-ghost use Rattle.wot_part.specs.Whole.{IsCertificate, OfAnyThree, OfTwoOfOneKey};
+ghost use Rattle.wot_component.specs.Text.{size_of, text_of};
+ghost use Rattle.wot_component.specs.Whole.{IsCertificate, OfAnyThree, OfTwoOfOneKey};
 
 use wot_packet::laws::written_back;
 

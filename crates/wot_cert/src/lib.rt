@@ -1,6 +1,6 @@
 //! Certificates: assembled from packets, merged, marked by the policy, written, and their spans in time.
 //!
-//! It stands on `wot_part`, which has the lists of signatures and components, and on `wot_packet`, `wot_key` and
+//! It stands on `wot_component`, which has the lists of signatures and components, and on `wot_packet`, `wot_key` and
 //! `wot_policy`. `wot_keyring` keeps certificates, and `wot_standing` and `wot_live` read them.
 #![tactic(auto)]
 
@@ -28,5 +28,5 @@ pub use growth::Growth;
 pub use issuer::{issuer_from, issuer_of};
 pub use moments::Span;
 pub use spans::span;
-pub use wot_part::{Adds, Part, Sig};
-pub use wot_sig::{Terms, Times};
+pub use wot_component::{Adds, Part, Sig};
+pub use wot_kept_signature::{Terms, Times};

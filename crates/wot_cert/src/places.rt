@@ -1,6 +1,6 @@
 //! Everything in a certificate but its key: the signatures on the key, and the three lists of components.
 //!
-//! It stands on `wot_part` and `complete`, and on `specs/Parts.antt`. `Cert` forwards its calls to it.
+//! It stands on `wot_component` and `complete`, and on `specs/Parts.antt`. `Cert` forwards its calls to it.
 ghost use Rattle.std.specs.Prelude.{◌<◌, ◌^◌, [], OnOk, length};
 ghost use Rattle.wot_cert.specs.Drafting.{IsWholeSketch, seen};
 ghost use Rattle.wot_cert.specs.Growing.{AreUnited, AsksForCert, PlacesFollow, PlacesRise, StillLeadsBack, TakesBack};
@@ -15,10 +15,10 @@ use crate::draft::Draft;
 use crate::growth::Growth;
 use crate::{Adds, Cert, Part, Sig};
 use std::alloc::Global;
-use wot_part::growing::{put_parts, put_sigs};
-use wot_part::part::{push_copies as push_copies_of_parts, put_union as put_union_of_parts};
-use wot_part::shrinking::{take_parts_back, take_sigs_back};
-use wot_part::sig::{Marks, push_copies, put_union};
+use wot_component::growing::{put_parts, put_sigs};
+use wot_component::part::{push_copies as push_copies_of_parts, put_union as put_union_of_parts};
+use wot_component::shrinking::{take_parts_back, take_sigs_back};
+use wot_component::sig::{Marks, push_copies, put_union};
 use wot_policy::{Ask, Policy};
 use wot_types::Memory;
 

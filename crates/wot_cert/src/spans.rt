@@ -4,7 +4,7 @@
 //! missed here would keep stale edges; the contract rules that out.
 ghost use Rattle.std.specs.Prelude.{◌≡◌, ℕ, [], ◌∷◌};
 ghost use Rattle.std.specs.List.{flat_map};
-ghost use Rattle.wot_part.specs.Counts.{sigs_on};
+ghost use Rattle.wot_component.specs.Counts.{sigs_on};
 ghost use Rattle.wot_cert.specs.Narrowed.{Narrowed, times_moments};
 ghost use Rattle.wot_cert.specs.Span.{span_of, sig_moments, unless_zero, created_of};
 ghost use Rattle.wot_cert.specs.Span.{InSpan, AreLiveAlike};

@@ -12,9 +12,9 @@ use Rattle.wot_types.specs.declared.limits.Limit.TheVariants as words
 use Rattle.wot_types.specs.Limits.{standard_limits}
 use Rattle.wot_io.specs.Input as inputs
 use Rattle.wot_policy.specs.declared.rows.PolicyRows.{PolicyRows}
-use Rattle.wot_words.specs.StateLine.{IsHeard, spelling, state_line_of}
-use Rattle.wot_words.specs.declared.state_line.StateLine.{StateLine}
-use Rattle.wot_words.specs.declared.state_line.StateLine.TheVariants as sets
+use Rattle.wot_fields.specs.StateLine.{IsHeard, spelling, state_line_of}
+use Rattle.wot_fields.specs.declared.state_line.StateLine.{StateLine}
+use Rattle.wot_fields.specs.declared.state_line.StateLine.TheVariants as sets
 use Rattle.wot_script.specs.declared.command.Command.{Command}
 use Rattle.wot_script.specs.Grammar.{command_for, command_of}
 use Rattle.wot_script.specs.declared.reply.Reply.{Reply}
@@ -22,36 +22,36 @@ use Rattle.wot_script.specs.declared.reply.Reply.TheVariants as replies
 use Rattle.wot_script.specs.Replies.{is_refusal}
 use Rattle.wot_verdict.specs.declared.verdict.Verdict.{Verdict}
 use Rattle.wot_verdict.specs.declared.verdict.Verdict.TheVariants as said
-use Rattle.wot_held.specs.declared.imported.Imported.{Imported}
-use Rattle.wot_held.specs.declared.refusal.Refusal.{Refusal}
+use Rattle.wot_keyring_spec.specs.declared.imported.Imported.{Imported}
+use Rattle.wot_keyring_spec.specs.declared.refusal.Refusal.{Refusal}
 use Rattle.wot_keyring.specs.Dump as keyrings
 use Rattle.wot_keyring.specs.Dump.{AreLines, IsLine, after_all, lines_of, unless_over}
-use Rattle.wot_held.specs.Held.{Held, verdict_set}
-use Rattle.wot_held.specs.Import.{answer_to, importing}
-use Rattle.wot_held.specs.Verdict.{is_over}
+use Rattle.wot_keyring_spec.specs.Held.{Held, verdict_set}
+use Rattle.wot_keyring_spec.specs.Import.{answer_to, importing}
+use Rattle.wot_keyring_spec.specs.Verdict.{is_over}
 use Rattle.wot_certd.specs.World.{World}
 use Rattle.wot_cache.specs.declared.view.ViewFault.{ViewFault}
 use Rattle.wot_cache.specs.Views.{root_fault, time_fault, view_at}
 use Rattle.wot_cache.specs.State.{Engine, State, start, state_of, with_held, rooting, timing}
 use Rattle.wot_cache.specs.Dump.{CarriesOver, IsRestored, after, commands_of, unless_refused}
-use Rattle.wot_step.specs.declared.class.Class.{Class}
-use Rattle.wot_step.specs.declared.class.Class.TheVariants.{State as OfState, Cursor as OfCursor, Watch as OfWatch}
-use Rattle.wot_step.specs.Classes.{class_of}
-use Rattle.wot_step.specs.Classes.{is_own}
-use Rattle.wot_step.specs.Entry.{unused, use_by, use_of}
-use Rattle.wot_step.specs.Lines.{is_silent}
-use Rattle.wot_step.specs.Outcome.{Outcome, done, imports, set_verdict, only, unless}
-use Rattle.wot_step.specs.LineStep.{ReadLineStep, StateStep, ComesTo, CommandStep}
-use Rattle.wot_step.specs.Session.{Session, beginning}
-use Rattle.wot_step.specs.Scene.{Step}
-use Rattle.wot_step.specs.Served.{unserved}
-use Rattle.wot_step.specs.Transcript.{Run}
-use Rattle.wot_step.specs.Fresh.{IsMadeAnew, dumped}
-use Rattle.wot_step.proofs.CutLines.{lines_of-feed}
-use Rattle.wot_step.proofs.DirectoryGives.{over, uncalled_step}
-use Rattle.wot_step.proofs.Watched.{tells_nothing}
-use Rattle.wot_step.proofs.StepsByKind.{heard_read, looked_at}
-use Rattle.wot_step.proofs.Sessions.{counted_some, turned_some}
+use Rattle.wot_plain.specs.declared.class.Class.{Class}
+use Rattle.wot_plain.specs.declared.class.Class.TheVariants.{State as OfState, Cursor as OfCursor, Watch as OfWatch}
+use Rattle.wot_plain.specs.Classes.{class_of}
+use Rattle.wot_plain.specs.Classes.{is_own}
+use Rattle.wot_plain.specs.Entry.{unused, use_by, use_of}
+use Rattle.wot_plain.specs.Lines.{is_silent}
+use Rattle.wot_plain.specs.Outcome.{Outcome, done, imports, set_verdict, only, unless}
+use Rattle.wot_plain.specs.LineStep.{ReadLineStep, StateStep, ComesTo, CommandStep}
+use Rattle.wot_plain.specs.Session.{Session, beginning}
+use Rattle.wot_plain.specs.Scene.{Step}
+use Rattle.wot_plain.specs.Served.{unserved}
+use Rattle.wot_plain.specs.Transcript.{Run}
+use Rattle.wot_plain.specs.Fresh.{IsMadeAnew, dumped}
+use Rattle.wot_plain.proofs.CutLines.{lines_of-feed}
+use Rattle.wot_plain.proofs.DirectoryGives.{over, uncalled_step}
+use Rattle.wot_plain.proofs.Watched.{tells_nothing}
+use Rattle.wot_plain.proofs.StepsByKind.{heard_read, looked_at}
+use Rattle.wot_plain.proofs.Sessions.{counted_some, turned_some}
 
 -- a reply that is no refusal
 record Takes (P : Reply → State → Type 0) (new : State) : Type 0 where

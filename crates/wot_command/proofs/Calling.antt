@@ -8,8 +8,8 @@ use Rattle.wot_types.specs.declared.fpr.Fpr.{Fpr}
 use Rattle.wot_types.specs.declared.name.Name.{Name}
 use Rattle.wot_types.specs.declared.name.Name.TheVariants.{Cert}
 use Rattle.wot_io.specs.Counts.{Rose, last_count}
-use Rattle.wot_part.specs.Certificate.{Certificate}
-use Rattle.wot_held.specs.Held.{cert_in}
+use Rattle.wot_component.specs.Certificate.{Certificate}
+use Rattle.wot_keyring_spec.specs.Held.{cert_in}
 use Rattle.wot_policy.specs.declared.rows.PolicyRows.{PolicyRows}
 use Rattle.wot_script.specs.declared.reply.Reply.{Reply}
 use Rattle.wot_script.specs.declared.reply.Reply.TheVariants as replies
@@ -19,20 +19,20 @@ use Rattle.wot_certd.specs.Shelf as given_as
 use Rattle.wot_certd.specs.Shelf.{Becomes}
 use Rattle.wot_certd.specs.World.{Answer, World, after_replace, called, fails_next, read_answer}
 use Rattle.wot_cache.specs.State.{State}
-use Rattle.wot_step.specs.declared.class.Class.TheVariants.{State as OfState}
-use Rattle.wot_step.specs.declared.class.StateCommand.{StateCommand}
-use Rattle.wot_step.specs.declared.class.StateCommand.TheVariants as kinds
-use Rattle.wot_step.specs.declared.class.ShelfCall.TheVariants as calls
-use Rattle.wot_step.specs.Entry.{IsServed, IsWorldAfter, Use, WasGiven, has_failed, is_fault, put_for, unused}
-use Rattle.wot_step.specs.Entry.{use_by, world_after}
-use Rattle.wot_step.specs.LineStep.{DoesTo, ComesTo}
-use Rattle.wot_step.specs.Outcome.{load}
+use Rattle.wot_plain.specs.declared.class.Class.TheVariants.{State as OfState}
+use Rattle.wot_plain.specs.declared.class.StateCommand.{StateCommand}
+use Rattle.wot_plain.specs.declared.class.StateCommand.TheVariants as kinds
+use Rattle.wot_plain.specs.declared.class.ShelfCall.TheVariants as calls
+use Rattle.wot_plain.specs.Entry.{IsServed, IsWorldAfter, Use, WasGiven, has_failed, is_fault, put_for, unused}
+use Rattle.wot_plain.specs.Entry.{use_by, world_after}
+use Rattle.wot_plain.specs.LineStep.{DoesTo, ComesTo}
+use Rattle.wot_plain.specs.Outcome.{load}
 use Rattle.wot_command.specs.CommandRun.{StateRun, Seen}
-use Rattle.wot_step.specs.Served.{Served, unserved}
+use Rattle.wot_plain.specs.Served.{Served, unserved}
 use Rattle.wot_command.specs.Stored.{Puts, Stores}
 use Rattle.wot_stored.specs.Stored.{answer_of}
-use Rattle.wot_step.specs.Storing.{put_from, stored, stored_from, writing}
-use Rattle.wot_step.proofs.Results.{if_ok}
+use Rattle.wot_plain.specs.Storing.{put_from, stored, stored_from, writing}
+use Rattle.wot_plain.proofs.Results.{if_ok}
 
 -- ---- commands that don't use the certificate directory
 

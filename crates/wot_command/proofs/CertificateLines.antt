@@ -5,14 +5,14 @@ use Rattle.std.specs.List.{AllByRecursion}
 use Rattle.std.specs.Map.{lookup}
 use Rattle.std.proofs.lemmas.Map.Made.{lookup-map_values}
 use Rattle.wot_types.specs.declared.fpr.Fpr.{Fpr}
-use Rattle.wot_part.specs.Certificate.{Certificate}
-use Rattle.wot_part.specs.Text.{size_of}
-use Rattle.wot_held.specs.declared.kept.Kept.{Kept}
-use Rattle.wot_held.specs.Keyring.{Keyring, Entries, certificates_in, cert_at, is_fpr}
-use Rattle.wot_held.specs.Kept.{AreSized}
-use Rattle.wot_lines.specs.declared.lines.KeyLine.{KeyLine}
+use Rattle.wot_component.specs.Certificate.{Certificate}
+use Rattle.wot_component.specs.Text.{size_of}
+use Rattle.wot_keyring_spec.specs.declared.kept.Kept.{Kept}
+use Rattle.wot_keyring_spec.specs.Keyring.{Keyring, Entries, certificates_in, cert_at, is_fpr}
+use Rattle.wot_keyring_spec.specs.Kept.{AreSized}
+use Rattle.wot_reply_lines.specs.declared.lines.KeyLine.{KeyLine}
 use Rattle.wot_script.specs.declared.reply.Reply.TheVariants as replies
-use Rattle.wot_step.specs.Outcome.{key_line_of}
+use Rattle.wot_plain.specs.Outcome.{key_line_of}
 
 pub found : (k : Keyring) (fpr : Fpr) → cert_at k fpr ≡ lookup (is_fpr fpr) (certificates_in k)
 found k fpr = sym (lookup-map_values (λ (x : Kept). x.cert) (is_fpr fpr) k.certs)

@@ -6,17 +6,17 @@ use Rattle.std.specs.Result.{result_ok}
 use Rattle.wot_types.specs.declared.fpr.Fpr.{Fpr}
 use Rattle.wot_types.specs.declared.name.Name.{Name}
 use Rattle.wot_types.specs.declared.name.Name.TheVariants.{Cert}
-use Rattle.wot_part.specs.Certificate.{Certificate}
-use Rattle.wot_held.specs.Held.{cert_in}
+use Rattle.wot_component.specs.Certificate.{Certificate}
+use Rattle.wot_keyring_spec.specs.Held.{cert_in}
 use Rattle.wot_certd.specs.declared.shelf.ShelfFault.TheVariants.{Memory}
 use Rattle.wot_certd.specs.Shelf.{Becomes, Replaces}
 use Rattle.wot_certd.specs.World.{Answer, World, after_replace, called, fails_next, late_next, put_by_call, read_answer}
 use Rattle.wot_certd.specs.World.{with_entry}
 use Rattle.wot_cache.specs.State.{State}
-use Rattle.wot_step.specs.Entry.{IsServed, IsWorldAfter, MayPut, MayPutIn, MayReplace, MayReplaceIn, Use, WasGiven}
-use Rattle.wot_step.specs.Entry.{entry_for, put_for, stores}
-use Rattle.wot_step.specs.Served.{Served}
-use Rattle.wot_step.specs.Storing.{put_from, writing}
+use Rattle.wot_plain.specs.Entry.{IsServed, IsWorldAfter, MayPut, MayPutIn, MayReplace, MayReplaceIn, Use, WasGiven}
+use Rattle.wot_plain.specs.Entry.{entry_for, put_for, stores}
+use Rattle.wot_plain.specs.Served.{Served}
+use Rattle.wot_plain.specs.Storing.{put_from, writing}
 
 -- no call was made
 pub puts_still : (s : State) (use_ : Use) (world : Option World) → MayPut s use_ world world

@@ -4,10 +4,10 @@ use Rattle.std.proofs.Common.{OnOk, refl, sym, subst}
 use Rattle.std.specs.Prelude.{IfOk, IfSome, IsSomeAnd}
 use Rattle.wot_script.specs.declared.reply.Reply.{Reply}
 use Rattle.wot_types.specs.declared.fpr.Fpr.{Fpr}
-use Rattle.wot_held.specs.Keyring.{Keyring, certificates_in}
+use Rattle.wot_keyring_spec.specs.Keyring.{Keyring, certificates_in}
 use Rattle.wot_script.specs.declared.command.Command.{Command}
 use Rattle.wot_script.specs.Grammar.{command_of}
-use Rattle.wot_kept.specs.declared.parts.Parts.{Parts}
+use Rattle.wot_answers.specs.declared.parts.Parts.{Parts}
 use Rattle.wot_cache.specs.declared.view.View.{View}
 use Rattle.wot_cache.specs.Parts.{ArePartsOf}
 use Rattle.wot_cache.specs.State.{Engine, state_of}
@@ -16,9 +16,9 @@ use Rattle.wot_explain.specs.declared.explained.Explained.{Explained}
 use Rattle.wot_explain.specs.Explaining.{explanation}
 use Rattle.wot_explain.specs.Usable.{TellsEdges}
 use Rattle.wot_command.specs.EdgeLines.{EdgesAreTold, LineMarks, MarksEdges, MarksFrom}
-use Rattle.wot_step.specs.Lines.{heard, is_silent, longest}
-use Rattle.wot_step.specs.Listing.{Explains, explained, explained_from}
-use Rattle.wot_step.proofs.StepsByKind.{heard_read}
+use Rattle.wot_plain.specs.Lines.{heard, is_silent, longest}
+use Rattle.wot_plain.specs.Listing.{Explains, explained, explained_from}
+use Rattle.wot_plain.proofs.StepsByKind.{heard_read}
 
 marked : (k : Keyring) (t : ℕ) (fpr : Fpr) (uid : List ℕ) (o : Option Explained)
     → IfSome o (λ (told : Explained). TellsEdges k t fpr uid told.certs)

@@ -5,17 +5,17 @@ use Rattle.std.specs.Fn.{Shared}
 use Rattle.wot_policy.specs.declared.rows.Ask.{Ask}
 use Rattle.wot_policy.specs.declared.policy.Policy.{Policy}
 use Rattle.wot_policy.specs.Kept.{rows_of}
-use Rattle.wot_held.specs.Keyring.{Keyring}
-use Rattle.wot_held.specs.Kept.{IsJudgedBy}
+use Rattle.wot_keyring_spec.specs.Keyring.{Keyring}
+use Rattle.wot_keyring_spec.specs.Kept.{IsJudgedBy}
 use Rattle.wot_certd.specs.World.{World}
 use Rattle.wot_cache.specs.Changes.{ChangesKeyring}
 use Rattle.wot_cache.specs.State.{Engine, State}
 use Rattle.wot_script.specs.declared.command.Command.{Command}
 use Rattle.wot_script.specs.Grammar.{command_of}
-use Rattle.wot_step.specs.Entry.{MayPut, Use, entry_for, use_of}
-use Rattle.wot_step.specs.Lines.{heard, is_silent, longest}
-use Rattle.wot_step.proofs.StepsByKind.{heard_read}
-use Rattle.wot_step.proofs.Results.{any_err}
+use Rattle.wot_plain.specs.Entry.{MayPut, Use, entry_for, use_of}
+use Rattle.wot_plain.specs.Lines.{heard, is_silent, longest}
+use Rattle.wot_plain.proofs.StepsByKind.{heard_read}
+use Rattle.wot_plain.proofs.Results.{any_err}
 use Rattle.wot_command.proofs.DirectoryAfterFailure.{puts_still}
 use Rattle.wot_command.specs.Lasting.{CanChange, CanRun, ChangesHeld, ChangesOnce, IsJudging, StaysJudging, Touches}
 

@@ -6,28 +6,28 @@ use Rattle.wot_types.specs.declared.memory.Memory.{Memory}
 use Rattle.wot_policy.specs.declared.policy.Policy.{Policy}
 use Rattle.wot_policy.specs.declared.rows.PolicyRows.{PolicyRows}
 use Rattle.wot_policy.specs.Kept.{asked_more}
-use Rattle.wot_held.specs.declared.imported.Imported.{Imported}
-use Rattle.wot_held.specs.declared.refusal.Refusal.{Refusal}
-use Rattle.wot_held.specs.declared.refusal.Refusal.TheVariants as refusals
-use Rattle.wot_held.specs.Import.{AsksFor, IsAsked, importing}
-use Rattle.wot_held.specs.Keyring.{Keyring}
+use Rattle.wot_keyring_spec.specs.declared.imported.Imported.{Imported}
+use Rattle.wot_keyring_spec.specs.declared.refusal.Refusal.{Refusal}
+use Rattle.wot_keyring_spec.specs.declared.refusal.Refusal.TheVariants as refusals
+use Rattle.wot_keyring_spec.specs.Import.{AsksFor, IsAsked, importing}
+use Rattle.wot_keyring_spec.specs.Keyring.{Keyring}
 use Rattle.wot_script.specs.declared.command.Command.{Command}
 use Rattle.wot_script.specs.declared.reply.Reply.{Reply}
 use Rattle.wot_script.specs.Grammar.{command_of}
 use Rattle.wot_cache.specs.State.{Engine, IsStateAfter, State, state_of}
-use Rattle.wot_step.specs.declared.class.Class.{Class}
-use Rattle.wot_step.specs.declared.class.Class.TheVariants.{State as OfState}
-use Rattle.wot_step.specs.declared.class.StateCommand.TheVariants as kinds
-use Rattle.wot_step.specs.declared.class.Change.{Change}
-use Rattle.wot_step.specs.declared.class.Change.TheVariants as changes
-use Rattle.wot_step.specs.declared.class.ShelfCall.{ShelfCall}
-use Rattle.wot_step.specs.declared.class.ShelfCall.TheVariants as calls
-use Rattle.wot_step.specs.Classes.{class_of}
-use Rattle.wot_step.specs.declared.refusal.Refused.TheVariants.{Keyring as OfKeyring}
+use Rattle.wot_plain.specs.declared.class.Class.{Class}
+use Rattle.wot_plain.specs.declared.class.Class.TheVariants.{State as OfState}
+use Rattle.wot_plain.specs.declared.class.StateCommand.TheVariants as kinds
+use Rattle.wot_plain.specs.declared.class.Change.{Change}
+use Rattle.wot_plain.specs.declared.class.Change.TheVariants as changes
+use Rattle.wot_plain.specs.declared.class.ShelfCall.{ShelfCall}
+use Rattle.wot_plain.specs.declared.class.ShelfCall.TheVariants as calls
+use Rattle.wot_plain.specs.Classes.{class_of}
+use Rattle.wot_plain.specs.declared.refusal.Refused.TheVariants.{Keyring as OfKeyring}
 use Rattle.wot_command.specs.Asked.{AsksBy, AsksForNew, CallAsks, ChangeAsks, LineAsks, sound_in}
-use Rattle.wot_step.specs.Lines.{heard, is_silent, longest}
-use Rattle.wot_step.specs.Refused.{IsReplyTo}
-use Rattle.wot_step.proofs.StepsByKind.{heard_read}
+use Rattle.wot_plain.specs.Lines.{heard, is_silent, longest}
+use Rattle.wot_plain.specs.Refused.{IsReplyTo}
+use Rattle.wot_plain.proofs.StepsByKind.{heard_read}
 
 none_more : (n : ℕ) → n ≡ max n (min (n + 0) (2 ^ 64 - 1))
 none_more n = omega arith

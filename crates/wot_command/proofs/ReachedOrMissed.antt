@@ -8,7 +8,7 @@ use Rattle.wot_edge.specs.Path.{IsSpent, Question, use_of}
 use Rattle.wot_check.specs.Absence.{IsMade}
 use Rattle.wot_check.specs.Table.{Labels}
 use Rattle.wot_script.specs.declared.reply.Reply.TheVariants as replies
-use Rattle.wot_step.specs.Absent.{MissesBy, TellsAbsence}
+use Rattle.wot_plain.specs.Absent.{MissesBy, TellsAbsence}
 
 -- the reply is the sum
 pub told_reached : (q : Question) (wanted sum : ℕ) (paths : List Path) → IsAnswer q wanted paths → sum ≡ amount_of paths

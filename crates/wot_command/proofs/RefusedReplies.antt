@@ -6,11 +6,11 @@ use Rattle.wot_types.specs.declared.number.SigNumber.{SigNumber}
 use Rattle.wot_types.specs.Limits.{standard_limits}
 use Rattle.wot_policy.specs.declared.rows.PolicyRows.{PolicyRows}
 use Rattle.wot_verdict.specs.declared.verdict.Verdict.{Verdict}
-use Rattle.wot_held.specs.declared.refusal.Refusal.{Refusal}
-use Rattle.wot_held.specs.declared.refusal.Refusal.TheVariants as refusals
-use Rattle.wot_held.specs.declared.imported.Imported.{Imported}
-use Rattle.wot_held.specs.Import.{ImportReturns, ReturnsUnder, Demand, answer_under, any, importing, is_entry}
-use Rattle.wot_held.specs.Verdict.{TellsFull, is_over}
+use Rattle.wot_keyring_spec.specs.declared.refusal.Refusal.{Refusal}
+use Rattle.wot_keyring_spec.specs.declared.refusal.Refusal.TheVariants as refusals
+use Rattle.wot_keyring_spec.specs.declared.imported.Imported.{Imported}
+use Rattle.wot_keyring_spec.specs.Import.{ImportReturns, ReturnsUnder, Demand, answer_under, any, importing, is_entry}
+use Rattle.wot_keyring_spec.specs.Verdict.{TellsFull, is_over}
 use Rattle.wot_script.specs.declared.reply.Reply.{Reply}
 use Rattle.wot_script.specs.declared.reply.Reply.TheVariants as replies
 use Rattle.wot_certd.specs.World.{Answer}
@@ -18,8 +18,8 @@ use Rattle.wot_cache.specs.declared.view.ViewFault.{ViewFault}
 use Rattle.wot_cache.specs.declared.view.ViewFault.TheVariants as faults
 use Rattle.wot_cache.specs.State.{State, Engine, IsStateAfter, state_of}
 use Rattle.wot_cache.specs.Views.{TellsFault}
-use Rattle.wot_step.specs.Outcome.{unless, view_refusal, refusal, import, imports, load, set_verdict}
-use Rattle.wot_step.specs.LineStep.{ComesTo}
+use Rattle.wot_plain.specs.Outcome.{unless, view_refusal, refusal, import, imports, load, set_verdict}
+use Rattle.wot_plain.specs.LineStep.{ComesTo}
 
 pub view_gives : (s new changed : State) (o : Option ViewFault) (fault : ViewFault) (reply : Reply)
     → TellsFault {T = Unit {0}} (Err fault) o → new ≡ s → (reply ≡ view_refusal fault) × (fault ≢ faults.Memory) →

@@ -10,8 +10,8 @@ use Rattle.wot_script.specs.declared.reply.Reply.{Reply}
 use Rattle.wot_cache.specs.declared.view.View.{View}
 use Rattle.wot_cache.specs.Question.{question_in}
 use Rattle.wot_cache.specs.State.{State}
-use Rattle.wot_step.specs.Answer.{Asks, told}
-use Rattle.wot_step.proofs.Results.{if_ok}
+use Rattle.wot_plain.specs.Answer.{Asks, told}
+use Rattle.wot_plain.proofs.Results.{if_ok}
 
 pub each_short : (q : Question) (earlier paths : List Path) → EachNext q earlier paths →
     AllByRecursion (λ (p : Path). length p.steps ≤ 255) paths

@@ -1,19 +1,19 @@
 -- How often a line asks the policy: once for each well-formed signature that it adds. No reply depends on it.
 use Rattle.std.specs.Prelude.{◌≡◌, ℕ, ◌-◌, Option, Some, None, Result, OnOk}
-use Rattle.wot_part.specs.Judged.{sound_of}
-use Rattle.wot_held.specs.Import.{weigh}
+use Rattle.wot_component.specs.Judged.{sound_of}
+use Rattle.wot_keyring_spec.specs.Import.{weigh}
 use Rattle.wot_policy.specs.declared.policy.Policy.{Policy}
 use Rattle.wot_policy.specs.Kept.{asked_more}
 use Rattle.wot_script.specs.declared.command.Command.{Command}
 use Rattle.wot_cache.specs.State.{State}
-use Rattle.wot_step.specs.declared.class.Class.{Class}
-use Rattle.wot_step.specs.declared.class.Class.TheVariants.{State as OfState}
-use Rattle.wot_step.specs.declared.class.StateCommand.TheVariants as kinds
-use Rattle.wot_step.specs.declared.class.Change.{Change}
-use Rattle.wot_step.specs.declared.class.Change.TheVariants as changes
-use Rattle.wot_step.specs.declared.class.ShelfCall.{ShelfCall}
-use Rattle.wot_step.specs.declared.class.ShelfCall.TheVariants as calls
-use Rattle.wot_step.specs.Classes.{class_of}
+use Rattle.wot_plain.specs.declared.class.Class.{Class}
+use Rattle.wot_plain.specs.declared.class.Class.TheVariants.{State as OfState}
+use Rattle.wot_plain.specs.declared.class.StateCommand.TheVariants as kinds
+use Rattle.wot_plain.specs.declared.class.Change.{Change}
+use Rattle.wot_plain.specs.declared.class.Change.TheVariants as changes
+use Rattle.wot_plain.specs.declared.class.ShelfCall.{ShelfCall}
+use Rattle.wot_plain.specs.declared.class.ShelfCall.TheVariants as calls
+use Rattle.wot_plain.specs.Classes.{class_of}
 
 -- the number of well-formed signatures that are held
 abbrev pub sound_in : State → ℕ

@@ -3,9 +3,9 @@ use Rattle.std.specs.Prelude.{ℕ, List}
 use Rattle.wot_cache.specs.State.{Engine, state_of}
 use Rattle.wot_cache.specs.Views.{view_at}
 use Rattle.wot_command.specs.declared.checking.ClaimedAbsence.{ClaimedAbsence}
-use Rattle.wot_kept.specs.declared.parts.Parts.{Parts}
+use Rattle.wot_answers.specs.declared.parts.Parts.{Parts}
 use Rattle.wot_script.specs.declared.reply.Reply.{Reply}
-use Rattle.wot_step.specs.Absent.{Checks, ChecksBy, asked_from}
+use Rattle.wot_plain.specs.Absent.{Checks, ChecksBy, asked_from}
 
 -- the reply from a view
 abbrev pub ChecksFor : Engine → List ℕ → ClaimedAbsence → Reply → Type 0

@@ -7,19 +7,19 @@ use Rattle.wot_types.specs.declared.fpr.Fpr.{Fpr}
 use Rattle.wot_types.specs.declared.name.Name.{Name}
 use Rattle.wot_policy.specs.declared.rows.PolicyRows.{PolicyRows}
 use Rattle.wot_script.specs.declared.command.Command.{Command}
-use Rattle.wot_step.specs.declared.class.Class.{Class}
-use Rattle.wot_step.specs.declared.class.Class.TheVariants.{State as OfState}
-use Rattle.wot_step.specs.declared.class.StateCommand.{StateCommand}
-use Rattle.wot_step.specs.declared.class.StateCommand.TheVariants as kinds
-use Rattle.wot_step.specs.declared.class.ShelfCall.TheVariants as calls
+use Rattle.wot_plain.specs.declared.class.Class.{Class}
+use Rattle.wot_plain.specs.declared.class.Class.TheVariants.{State as OfState}
+use Rattle.wot_plain.specs.declared.class.StateCommand.{StateCommand}
+use Rattle.wot_plain.specs.declared.class.StateCommand.TheVariants as kinds
+use Rattle.wot_plain.specs.declared.class.ShelfCall.TheVariants as calls
 use Rattle.wot_script.specs.declared.reply.Reply.{Reply}
 use Rattle.wot_certd.specs.World.{World}
 use Rattle.wot_cache.specs.State.{State}
-use Rattle.wot_step.specs.Both.{Ends, ends}
-use Rattle.wot_step.specs.Entry.{IsServed, Use, has_failed, put_for, use_by, use_of}
-use Rattle.wot_step.specs.LineStep.{ReadLineStep, DoesTo, CommandStep}
-use Rattle.wot_step.specs.Session.{Session}
-use Rattle.wot_step.specs.Served.{Served}
+use Rattle.wot_plain.specs.Both.{Ends, ends}
+use Rattle.wot_plain.specs.Entry.{IsServed, Use, has_failed, put_for, use_by, use_of}
+use Rattle.wot_plain.specs.LineStep.{ReadLineStep, DoesTo, CommandStep}
+use Rattle.wot_plain.specs.Session.{Session}
+use Rattle.wot_plain.specs.Served.{Served}
 
 -- What a line sees of a certificate directory: its world, if that is known, and its count of faults.
 pub record Seen : Type 0 where

@@ -1,14 +1,14 @@
 -- Which lines of a reply to `explain` say `edge`: those of the usable edges, by the definition of edges alone.
 use Rattle.std.specs.Prelude.{◌≡◌, ◌⊎◌, ℕ, List, length, map, Option, Some, IfSome}
 use Rattle.wot_types.specs.declared.fpr.Fpr.{Fpr}
-use Rattle.wot_held.specs.Keyring.{Keyring, certificates_in}
+use Rattle.wot_keyring_spec.specs.Keyring.{Keyring, certificates_in}
 use Rattle.wot_script.specs.declared.command.Command.{Command}
-use Rattle.wot_step.specs.declared.class.Class.{Class}
-use Rattle.wot_step.specs.declared.class.Class.TheVariants.{State as OfState}
-use Rattle.wot_step.specs.declared.class.StateCommand.TheVariants as kinds
-use Rattle.wot_step.specs.declared.class.ViewQuestion.{ViewQuestion}
-use Rattle.wot_step.specs.declared.class.ViewQuestion.TheVariants as questions
-use Rattle.wot_step.specs.Classes.{class_of}
+use Rattle.wot_plain.specs.declared.class.Class.{Class}
+use Rattle.wot_plain.specs.declared.class.Class.TheVariants.{State as OfState}
+use Rattle.wot_plain.specs.declared.class.StateCommand.TheVariants as kinds
+use Rattle.wot_plain.specs.declared.class.ViewQuestion.{ViewQuestion}
+use Rattle.wot_plain.specs.declared.class.ViewQuestion.TheVariants as questions
+use Rattle.wot_plain.specs.Classes.{class_of}
 use Rattle.wot_script.specs.declared.reply.Reply.{Reply}
 use Rattle.wot_script.specs.declared.reply.Reply.TheVariants as replies
 use Rattle.wot_cache.specs.declared.view.View.{View}
@@ -18,7 +18,7 @@ use Rattle.wot_explain.specs.declared.explained.Explained.{Explained}
 use Rattle.wot_explain.specs.Explaining.{explanation}
 use Rattle.wot_explain.specs.Reasons.{Reason}
 use Rattle.wot_explain.specs.Usable.{TellsEdges}
-use Rattle.wot_step.specs.Listing.{explained_from, reason_line}
+use Rattle.wot_plain.specs.Listing.{explained_from, reason_line}
 
 -- The explanation of a user ID at a time has a step exactly for each usable edge.
 abbrev pub EdgesAreTold : Keyring → ℕ → Fpr → List ℕ → Type 0

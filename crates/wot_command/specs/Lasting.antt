@@ -1,17 +1,17 @@
 -- What a command may count on, and what it leaves for the next one.
 use Rattle.std.specs.Prelude.{◌≡◌, ◌≤◌, ◌<◌, ◌-◌, ◌^◌, ℕ, Bool, true, false, None, Option, OnErr, Result}
 use Rattle.wot_types.specs.Limits.{standard_limits}
-use Rattle.wot_held.specs.Import.{IsOneChange}
+use Rattle.wot_keyring_spec.specs.Import.{IsOneChange}
 use Rattle.wot_certd.specs.World.{World}
 use Rattle.wot_cache.specs.State.{Engine, State}
-use Rattle.wot_step.specs.declared.class.Change.TheVariants as changes
-use Rattle.wot_step.specs.declared.class.Class.{Class}
-use Rattle.wot_step.specs.declared.class.StateCommand.{StateCommand}
-use Rattle.wot_step.specs.declared.class.StateCommand.TheVariants as kinds
-use Rattle.wot_step.specs.declared.class.ViewChange.TheVariants as alterings
-use Rattle.wot_step.specs.Classes.{IsFit, IsSmall}
-use Rattle.wot_step.specs.Entry.{MayPut, Use, entry_for}
-pub use Rattle.wot_held.specs.Judging.{IsJudging, StaysJudging}
+use Rattle.wot_plain.specs.declared.class.Change.TheVariants as changes
+use Rattle.wot_plain.specs.declared.class.Class.{Class}
+use Rattle.wot_plain.specs.declared.class.StateCommand.{StateCommand}
+use Rattle.wot_plain.specs.declared.class.StateCommand.TheVariants as kinds
+use Rattle.wot_plain.specs.declared.class.ViewChange.TheVariants as alterings
+use Rattle.wot_plain.specs.Classes.{IsFit, IsSmall}
+use Rattle.wot_plain.specs.Entry.{MayPut, Use, entry_for}
+pub use Rattle.wot_keyring_spec.specs.Judging.{IsJudging, StaysJudging}
 
 -- What holds of every command that is read from a line: what it may want, and how long it may be.
 pub record IsRead (class : Class) : Type 0 where

@@ -2,9 +2,9 @@
 use Rattle.wot_cache.specs.State.{Engine, state_of}
 use Rattle.wot_cache.specs.Views.{view_at}
 use Rattle.wot_script.specs.declared.reply.Reply.{Reply}
-use Rattle.wot_step.specs.declared.asked.AskedBinding.{AskedBinding}
-use Rattle.wot_step.specs.Absent.{Misses}
-use Rattle.wot_step.specs.Answer.{Asks}
+use Rattle.wot_plain.specs.declared.asked.AskedBinding.{AskedBinding}
+use Rattle.wot_plain.specs.Absent.{Misses}
+use Rattle.wot_plain.specs.Answer.{Asks}
 
 -- the reply to `ask`
 abbrev pub AsksFor : Engine → AskedBinding → Reply → Type 0

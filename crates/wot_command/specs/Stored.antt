@@ -5,14 +5,14 @@ use Rattle.wot_types.specs.declared.fpr.Fpr.{Fpr}
 use Rattle.wot_types.specs.declared.name.Name.{Name}
 use Rattle.wot_types.specs.declared.name.Name.TheVariants.{Cert}
 use Rattle.wot_io.specs.Counts.{Rose}
-use Rattle.wot_part.specs.Certificate.{Certificate}
+use Rattle.wot_component.specs.Certificate.{Certificate}
 use Rattle.wot_script.specs.declared.reply.Reply.{Reply}
 use Rattle.wot_certd.specs.Shelf.{Becomes}
 use Rattle.wot_certd.specs.World.{after_replace, fails_next}
-use Rattle.wot_step.specs.Entry.{IsWorldAfter, WasGiven, has_failed}
+use Rattle.wot_plain.specs.Entry.{IsWorldAfter, WasGiven, has_failed}
 use Rattle.wot_command.specs.CommandRun.{Seen}
-use Rattle.wot_step.specs.Served.{Served}
-use Rattle.wot_step.specs.Storing.{stored, writing}
+use Rattle.wot_plain.specs.Served.{Served}
+use Rattle.wot_plain.specs.Storing.{stored, writing}
 
 -- The octets were put under the name, or the directory failed. It failed only if its count of faults rose.
 pub record Puts (name : Name) (octets : List ℕ) (before : Seen) (reply : Reply) (after : Seen) : Type 0 where

@@ -4,7 +4,7 @@ ghost use Rattle.std.specs.Prelude.{◌≡◌, ◌≤◌, length, map, IfOk};
 ghost use Rattle.wot_edge.specs.Answer.{amount_of};
 ghost use Rattle.wot_cache.specs.Marks.{IsRefreshed};
 ghost use Rattle.wot_command.specs.Questions.{MissesFor};
-ghost use Rattle.wot_step.specs.Absent.{MissesBy, asked_from, claim_line, claim_step, label_line, missed};
+ghost use Rattle.wot_plain.specs.Absent.{MissesBy, asked_from, claim_line, claim_step, label_line, missed};
 
 use std::alloc::Global;
 use wot_auth::authenticate;
@@ -12,11 +12,11 @@ use wot_cache::{Engine, Parts};
 use wot_check::Table;
 use wot_check::laws::answers_are_few;
 use wot_edge::{Path, Step};
+use wot_plain::{AskedBinding, Refused, reply_to};
 use wot_script::{
     ClaimLine, ClaimLines, ClaimStepLine, ClaimStepLines, LabelLine, LabelLines, Reply,
 };
 use wot_search::Consulted;
-use wot_step::{AskedBinding, Refused, reply_to};
 use wot_types::{Fpr, Memory, Steps};
 
 /// The reply to `absence`: why the answer to a question doesn't reach the amount `wanted`, from a view: its paths, and

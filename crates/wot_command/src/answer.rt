@@ -7,15 +7,15 @@ ghost use Rattle.wot_edge.specs.Answer.{amount_of};
 ghost use Rattle.wot_cache.specs.Marks.{IsRefreshed};
 ghost use Rattle.wot_cache.specs.State.{state_of};
 ghost use Rattle.wot_command.specs.Questions.{AsksFor};
-ghost use Rattle.wot_step.specs.Answer.{uid_at, step_line, path_lines, told as told_of};
+ghost use Rattle.wot_plain.specs.Answer.{uid_at, step_line, path_lines, told as told_of};
 
 use crate::listing::cert_of;
 use std::alloc::Global;
 use wot_auth::Answer;
 use wot_cache::Engine;
 use wot_edge::{Path, Step};
+use wot_plain::{AskedBinding, Refused, reply_to};
 use wot_script::{AnswerLine, AnswerLines, Reply};
-use wot_step::{AskedBinding, Refused, reply_to};
 use wot_types::{Fpr, Memory, Steps, UserId};
 
 /// The reply to `ask`: how confident one can be that a user ID belongs to a target, from a view. `wanted` is the amount

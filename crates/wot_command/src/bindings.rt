@@ -1,17 +1,17 @@
 //! The reply to `list`: the bindings that are authenticated to an amount, as a view sees them. It stands on
-//! wot_explain; wot_pacing prints the same lines in pieces.
+//! wot_explain; wot_cursor_commands prints the same lines in pieces.
 ghost use Rattle.std.specs.Prelude.{◌≡◌, ◌≤◌, length, IfOk};
 ghost use Rattle.wot_network.specs.Net.{told_of};
 ghost use Rattle.wot_network.specs.Roads.{present_of};
 ghost use Rattle.wot_cache.specs.Marks.{IsRefreshed};
 ghost use Rattle.wot_cache.specs.State.{state_of};
 ghost use Rattle.wot_cache.specs.Views.{view_at};
-ghost use Rattle.wot_step.specs.Listing.{Lists, ListsBy};
+ghost use Rattle.wot_plain.specs.Listing.{Lists, ListsBy};
 
 use std::alloc::Global;
 use wot_cache::{Engine, Parts};
+use wot_plain::{Refused, bind_lines, reply_to};
 use wot_script::Reply;
-use wot_step::{Refused, bind_lines, reply_to};
 use wot_types::{Memory, Steps, ViewName};
 
 /// The reply to `list`: the bindings that are authenticated to the amount `wanted`, from a view. Refused if the view

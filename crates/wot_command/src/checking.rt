@@ -2,16 +2,16 @@
 //! asks wot_check. Nothing is searched.
 ghost use Rattle.std.specs.Prelude.{◌≡◌, ◌<◌, ◌^◌, length, map, IfOk};
 ghost use Rattle.wot_check.specs.Table.{IsTable};
-ghost use Rattle.wot_lines.specs.Claims.{IsClaimSpelled};
+ghost use Rattle.wot_reply_lines.specs.Claims.{IsClaimSpelled};
 ghost use Rattle.wot_cache.specs.Marks.{IsRefreshed};
 ghost use Rattle.wot_command.specs.Claimed.{ChecksFor, ChecksOver};
-ghost use Rattle.wot_step.specs.Absent.{claim_in, sum_in, table_in, verdict_on};
+ghost use Rattle.wot_plain.specs.Absent.{claim_in, sum_in, table_in, verdict_on};
 
 use std::alloc::Global;
 use wot_cache::{Engine, Parts};
 use wot_check::{Checked, Claimed, Table};
+use wot_plain::{Refused, reply_to};
 use wot_script::{ClaimLine, ClaimLines, LabelLine, LabelLines, Reply};
-use wot_step::{Refused, reply_to};
 use wot_types::{Fpr, Memory, Steps, ViewName};
 
 /// What `check` is given: the user ID of a key, the paths that are claimed for it, and the labels of the table.

@@ -1,25 +1,25 @@
 //! What each command that changes something does to the engine, and its reply: imports, removals, verdicts and views.
-//! It stands on wot_cache's calls and on `Refused` of wot_step for their errors.
+//! It stands on wot_cache's calls and on `Refused` of wot_plain for their errors.
 ghost use Rattle.std.specs.Prelude.{◌≡◌, ◌<◌, ◌-◌, ◌^◌, [], length, None, true, IfOk, OnErr};
 ghost use Rattle.wot_types.specs.Limits.{standard_limits};
 ghost use Rattle.wot_policy.specs.Kept.{rows_of};
-ghost use Rattle.wot_held.specs.Kept.{StaysJudged};
+ghost use Rattle.wot_keyring_spec.specs.Kept.{StaysJudged};
 ghost use Rattle.wot_script.specs.Replies.{is_short};
 ghost use Rattle.wot_cache.specs.State.{marks_at, state_of, OtherMarksStay};
 ghost use Rattle.wot_cache.specs.Turns.{IsOneClosing, IsOneTurn};
 ghost use Rattle.wot_cache.specs.Views.{view_at};
 ghost use Rattle.wot_command.specs.Asked.{AsksForNew};
 ghost use Rattle.wot_command.specs.Lasting.{CanChange, ChangesHeld, IsJudging, StaysJudging};
-ghost use Rattle.wot_step.specs.Outcome.{import as import_, remove as remove_of, set_verdict as set_verdict_of};
-ghost use Rattle.wot_step.specs.Outcome.{clear_verdict as clear_verdict_of, time as time_of, root as root_of};
-ghost use Rattle.wot_step.specs.Outcome.{close as close_of};
-ghost use Rattle.wot_step.specs.LineStep.{ComesTo};
+ghost use Rattle.wot_plain.specs.Outcome.{import as import_, remove as remove_of, set_verdict as set_verdict_of};
+ghost use Rattle.wot_plain.specs.Outcome.{clear_verdict as clear_verdict_of, time as time_of, root as root_of};
+ghost use Rattle.wot_plain.specs.Outcome.{close as close_of};
+ghost use Rattle.wot_plain.specs.LineStep.{ComesTo};
 
 use wot_cache::{Engine, NoView};
 use wot_keyring::Absent;
+use wot_plain::{Missing, Refused, reply_to, reply_to_missing};
 use wot_policy::{Ask, Policy};
 use wot_script::Reply;
-use wot_step::{Missing, Refused, reply_to, reply_to_missing};
 use wot_types::{Fpr, Memory, SigNumber, ViewName};
 use wot_verdict::Verdict;
 

@@ -2,7 +2,7 @@
 //! `listing` calls it.
 ghost use Rattle.wot_policy.specs.declared.rows.PolicyRows.{PolicyRows};
 ghost use Rattle.wot_cache.specs.State.{Engine};
-ghost use Rattle.wot_step.specs.Fresh.{DumpMakesAnew};
+ghost use Rattle.wot_plain.specs.Fresh.{DumpMakesAnew};
 
 /// A law: the lines of a dump of an engine with the standard limits restore its state, by the contract of
 /// `Engine::dump`.

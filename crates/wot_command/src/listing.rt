@@ -5,20 +5,20 @@ ghost use Rattle.std.specs.List.{AllByRecursion};
 ghost use Rattle.std.specs.Option.{option_copied};
 ghost use Rattle.wot_types.specs.Limits.{standard_limits};
 ghost use Rattle.wot_policy.specs.declared.rows.PolicyRows.{PolicyRows};
-ghost use Rattle.wot_part.specs.Certificate.{Certificate};
-ghost use Rattle.wot_part.specs.Text.{size_of};
-ghost use Rattle.wot_held.specs.Held.{held_of, cert_in};
+ghost use Rattle.wot_component.specs.Certificate.{Certificate};
+ghost use Rattle.wot_component.specs.Text.{size_of};
+ghost use Rattle.wot_keyring_spec.specs.Held.{held_of, cert_in};
 ghost use Rattle.wot_cache.specs.State.{state_of};
-ghost use Rattle.wot_step.specs.Outcome.{key_line_of, keys as keys_of, export as export_of, dump as dump_of};
-ghost use Rattle.wot_step.specs.Fresh.{IsMadeAnew};
+ghost use Rattle.wot_plain.specs.Outcome.{key_line_of, keys as keys_of, export as export_of, dump as dump_of};
+ghost use Rattle.wot_plain.specs.Fresh.{IsMadeAnew};
 
 use crate::fresh::dump_makes_the_state_anew;
 use std::alloc::Global;
 use wot_cache::Engine;
 use wot_cert::Cert;
 use wot_keyring::CertsIter;
+use wot_plain::{Missing, reply_to_missing};
 use wot_script::{KeyLine, KeyLines, Octets, Reply};
-use wot_step::{Missing, reply_to_missing};
 use wot_types::{Fpr, Memory};
 
 /// A line for each of these certificates.

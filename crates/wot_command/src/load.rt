@@ -6,16 +6,16 @@ ghost use Rattle.wot_script.specs.Replies.{is_short};
 ghost use Rattle.wot_cache.specs.State.{state_of};
 ghost use Rattle.wot_command.specs.Asked.{AsksForNew};
 ghost use Rattle.wot_command.specs.Lasting.{CanChange, ChangesHeld, IsJudging, StaysJudging};
-ghost use Rattle.wot_step.specs.Both.{ends};
-ghost use Rattle.wot_step.specs.Entry.{MayPutTo, loads};
-ghost use Rattle.wot_step.specs.LineStep.{Loads};
+ghost use Rattle.wot_plain.specs.Both.{ends};
+ghost use Rattle.wot_plain.specs.Entry.{MayPutTo, loads};
+ghost use Rattle.wot_plain.specs.LineStep.{Loads};
 ghost use Rattle.wot_command.specs.CommandRun.{LoadsBy, seen};
 
 use wot_cache::Engine;
 use wot_certd::{Given, Shelf};
+use wot_plain::{Missing, Refused, reply_to, reply_to_missing};
 use wot_policy::{Ask, Policy};
 use wot_script::Reply;
-use wot_step::{Missing, Refused, reply_to, reply_to_missing};
 use wot_types::{Memory, Name};
 
 /// The reply to `load`: reads an entry of the certificate directory, and merges its one certificate with what is held.

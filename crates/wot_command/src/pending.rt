@@ -1,7 +1,7 @@
 //! The reply to `pending`: a line for each well-formed signature without a verdict. The verifier reads these lines.
 ghost use Rattle.std.specs.Prelude.{◌≡◌, map, IfOk};
 ghost use Rattle.wot_cache.specs.State.{state_of};
-ghost use Rattle.wot_step.specs.Listing.{hint_of, pending as pending_of, pending_line as pending_line_of};
+ghost use Rattle.wot_plain.specs.Listing.{hint_of, pending as pending_of, pending_line as pending_line_of};
 
 use std::alloc::Global;
 use wot_cache::Engine;

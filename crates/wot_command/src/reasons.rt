@@ -1,5 +1,5 @@
 //! The reply to `explain`: the word for the certificate, and a line for each certification on the user ID. It stands on
-//! wot_explain over the parts that a view sees. `specs/Listing.antt` of wot_step defines what its lines say,
+//! wot_explain over the parts that a view sees. `specs/Listing.antt` of wot_plain defines what its lines say,
 //! and `specs/EdgeLines.antt` which of them say `edge`.
 ghost use Rattle.std.specs.Prelude.{◌≡◌, map, IfOk, OnOk};
 ghost use Rattle.wot_network.specs.Net.{told_of};
@@ -9,13 +9,13 @@ ghost use Rattle.wot_cache.specs.State.{state_of};
 ghost use Rattle.wot_cache.specs.Views.{view_at};
 ghost use Rattle.wot_explain.specs.Usable.{AreRoadsOf};
 ghost use Rattle.wot_command.specs.EdgeLines.{EdgesAreTold, MarksFrom};
-ghost use Rattle.wot_step.specs.Listing.{Explains, explained_from, reason_line as reason_line_of};
+ghost use Rattle.wot_plain.specs.Listing.{Explains, explained_from, reason_line as reason_line_of};
 
 use std::alloc::Global;
 use wot_cache::{Engine, Parts};
 use wot_explain::Reason;
+use wot_plain::{Refused, reply_to};
 use wot_script::{ReasonLine, ReasonLines, Reply};
-use wot_step::{Refused, reply_to};
 use wot_types::{Fpr, Memory, Steps, ViewName};
 
 /// The reply to `explain`: why a certificate is or isn't usable for a user ID, and why each certification on it counts

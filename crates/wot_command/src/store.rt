@@ -2,11 +2,11 @@
 //! back. The keyring doesn't change. It stands on wot_certd, and on wot_stored for what is written.
 ghost use Rattle.std.specs.Prelude.{◌≡◌, ◌≤◌, None, Some, true, IfOk, OnErr};
 ghost use Rattle.wot_policy.specs.declared.rows.PolicyRows.{PolicyRows};
-ghost use Rattle.wot_held.specs.Held.{cert_in};
+ghost use Rattle.wot_keyring_spec.specs.Held.{cert_in};
 ghost use Rattle.wot_script.specs.Replies.{is_short};
 ghost use Rattle.wot_cache.specs.State.{State, state_of};
-ghost use Rattle.wot_step.specs.Both.{ends};
-ghost use Rattle.wot_step.specs.Entry.{MayPutTo, MayReplace, stores};
+ghost use Rattle.wot_plain.specs.Both.{ends};
+ghost use Rattle.wot_plain.specs.Entry.{MayPutTo, MayReplace, stores};
 ghost use Rattle.wot_command.specs.CommandRun.{StoresBy, across, seen};
 ghost use Rattle.wot_command.specs.Stored.{Puts, Stores};
 
@@ -15,8 +15,8 @@ use std::alloc::Global;
 use wot_cache::Engine;
 use wot_cert::Cert;
 use wot_certd::Shelf;
+use wot_plain::{Missing, Refused, reply_to, reply_to_missing};
 use wot_script::Reply;
-use wot_step::{Missing, Refused, reply_to, reply_to_missing};
 use wot_stored::{Unwritten, text_for};
 use wot_types::{Fpr, Memory, Name};
 

@@ -2,7 +2,7 @@
 use Rattle.std.proofs.Common.{◌≡◌, ◌↔◌, ℕ, List, Option, Some, None, refl, subst, sym}
 use Rattle.wot_io.specs.Input.{lines_of}
 use Rattle.wot_certd.specs.World.{World}
-use Rattle.wot_step.specs.Entry.{CallNothing}
+use Rattle.wot_plain.specs.Entry.{CallNothing}
 use Rattle.wot_engine.specs.Contents.{Contents, OnContents}
 
 abbrev pub of_three : List ℕ → List ℕ → World → Contents

@@ -1,8 +1,8 @@
 -- What follows for contents that are known: how a run starts, and which lines may use the directory.
 use Rattle.std.proofs.Common.{ℕ, List, Option, Some, None, ap}
 use Rattle.wot_certd.specs.World.{World}
-use Rattle.wot_step.specs.Transcript.{IsNow}
-use Rattle.wot_step.proofs.DirectoryGives.{IsUncalled}
+use Rattle.wot_plain.specs.Transcript.{IsNow}
+use Rattle.wot_plain.proofs.DirectoryGives.{IsUncalled}
 use Rattle.wot_engine.specs.Contents.{Contents, IsWorldOf, OnContents}
 
 -- the directory is in the world of the contents, if its world is known

@@ -8,7 +8,7 @@ use Rattle.std.specs.Str.{all_ascii_digits}
 use Rattle.std.specs.Str.Parse.{ParsesUnsigned, digits_value}
 use Rattle.std.proofs.lemmas.Bool.{and_parts, and_from, lt-ltb, le-leb, leb-true, ltb-true}
 use Rattle.std.proofs.lemmas.Str.Parse.{IsNumeralModel, numerals_by_value, parse_plain, tells_all_ascii_digits}
-use Rattle.wot_words.specs.Decimal.{decimal_up_to, is_decimal, positive_up_to}
+use Rattle.wot_fields.specs.Decimal.{decimal_up_to, is_decimal, positive_up_to}
 use Rattle.wot_engine.specs.Forms.{IsGenerated, IsRun}
 
 -- ---- decimals

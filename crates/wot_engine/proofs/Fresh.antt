@@ -5,13 +5,13 @@ use Rattle.wot_io.specs.ReaderState.{ReaderState}
 use Rattle.wot_io.specs.declared.lines.Line.TheVariants.{End}
 use Rattle.wot_io.specs.declared.lines.Line.{Line}
 use Rattle.wot_policy.specs.declared.rows.PolicyRows.{PolicyRows}
-use Rattle.wot_held.specs.Kept.{IsJudgedBy}
+use Rattle.wot_keyring_spec.specs.Kept.{IsJudgedBy}
 use Rattle.wot_certd.specs.World.{World}
 use Rattle.wot_cache.specs.State.{Engine, empty}
 use Rattle.wot_cursor.specs.Cursors.{Cursors}
 use Rattle.wot_watch.specs.Watches.{Watches}
 use Rattle.wot_machine.specs.Machine.{Machine, kept}
-use Rattle.wot_step.specs.Session.{Session, beginning, watched, session_of}
+use Rattle.wot_plain.specs.Session.{Session, beginning, watched, session_of}
 use Rattle.wot_engine.specs.Turn.{Replies, RepliesBehind}
 use Rattle.wot_engine.proofs.Held.{Held, Held-init}
 

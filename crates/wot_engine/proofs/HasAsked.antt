@@ -19,15 +19,15 @@ use Rattle.wot_cache.specs.State.{Engine, State, empty}
 use Rattle.wot_cursor.specs.Cursors.{Cursors}
 use Rattle.wot_watch.specs.Watches.{Watches}
 use Rattle.wot_command.specs.Asked.{LineAsks}
-use Rattle.wot_step.specs.Lines.{heard}
+use Rattle.wot_plain.specs.Lines.{heard}
 use Rattle.wot_machine.specs.Machine.{Machine, kept}
-use Rattle.wot_step.specs.Scene.{Scene, opening}
-use Rattle.wot_step.specs.Transcript.{octets_of}
-use Rattle.wot_step.specs.Watching.{ReportsWatches}
-use Rattle.wot_step.specs.Session.{Session, beginning, watched, session_of}
-use Rattle.wot_step.proofs.DirectoryGives.{over}
+use Rattle.wot_plain.specs.Scene.{Scene, opening}
+use Rattle.wot_plain.specs.Transcript.{octets_of}
+use Rattle.wot_plain.specs.Watching.{ReportsWatches}
+use Rattle.wot_plain.specs.Session.{Session, beginning, watched, session_of}
+use Rattle.wot_plain.proofs.DirectoryGives.{over}
 use Rattle.wot_command.proofs.PolicyAskedByLine.{asks_as}
-use Rattle.wot_step.proofs.StepsByKind.{heard_long}
+use Rattle.wot_plain.proofs.StepsByKind.{heard_long}
 use Rattle.wot_engine.specs.RunAsks.{AsksBy, AsksFirst, AsksFor, AsksInTurn, AsksOnce, MayAsk, MayAskNext, command_by}
 use Rattle.wot_engine.specs.RunAsks.{done, failed}
 use Rattle.wot_engine.specs.Ends.{IsEither}

@@ -13,10 +13,10 @@ use Rattle.wot_io.specs.Given as given
 use Rattle.wot_io.specs.declared.lines.Line.{Line}
 use Rattle.wot_policy.specs.declared.rows.PolicyRows.{PolicyRows}
 use Rattle.wot_certd.specs.World.{World}
-use Rattle.wot_step.specs.Session.{Session, beginning}
+use Rattle.wot_plain.specs.Session.{Session, beginning}
 use Rattle.wot_laws.specs.OneLine.{OneOutcome}
-use Rattle.wot_step.specs.Entry.{MayPut}
-use Rattle.wot_step.specs.Transcript.{octets_of}
+use Rattle.wot_plain.specs.Entry.{MayPut}
+use Rattle.wot_plain.specs.Transcript.{octets_of}
 use Rattle.wot_engine.specs.RunAsks.{command_by}
 use Rattle.wot_engine.specs.Held.{Moves, MovesOf}
 use Rattle.wot_engine.specs.Contents.{Contents, OnContents}

@@ -11,15 +11,15 @@ use Rattle.wot_gen.specs.Summary.{Tallies, amount_in}
 use Rattle.wot_types.specs.Limits.{standard_limits}
 use Rattle.wot_cache.specs.State.{empty}
 use Rattle.wot_machine.specs.Machine.{Machine, kept}
-use Rattle.wot_step.specs.Session.{Session, watched, session_of}
-use Rattle.wot_step.specs.Entry.{use_of}
-use Rattle.wot_step.specs.Lines.{heard}
+use Rattle.wot_plain.specs.Session.{Session, watched, session_of}
+use Rattle.wot_plain.specs.Entry.{use_of}
+use Rattle.wot_plain.specs.Lines.{heard}
 use Rattle.wot_command.specs.CommandRun.{Seen}
-use Rattle.wot_step.specs.Scene.{Scene, Step, opening}
+use Rattle.wot_plain.specs.Scene.{Scene, Step, opening}
 use Rattle.wot_machine.specs.Stepped.{Replied}
-use Rattle.wot_step.specs.Transcript.{Run, listed}
-use Rattle.wot_step.specs.Watching as watching
-use Rattle.wot_step.proofs.DirectoryGives.{Goes, goes, over}
+use Rattle.wot_plain.specs.Transcript.{Run, listed}
+use Rattle.wot_plain.specs.Watching as watching
+use Rattle.wot_plain.proofs.DirectoryGives.{Goes, goes, over}
 use Rattle.wot_laws.proofs.Runs.{Run-append}
 use Rattle.wot_engine.specs.Generated.{no_entries}
 use Rattle.wot_engine.specs.Played.{Adds, AddsReply, AddsTold, IsPlayed}

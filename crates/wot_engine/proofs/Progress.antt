@@ -9,11 +9,11 @@ use Rattle.wot_io.specs.Source.{Loses, LosesOf}
 use Rattle.wot_script.specs.declared.reply.Reply.{Reply}
 use Rattle.wot_script.specs.Replies.{reply_text}
 use Rattle.wot_certd.specs.World.{World}
-use Rattle.wot_step.specs.Session.{Session, beginning}
-use Rattle.wot_step.specs.Scene.{Scene, Step, opening}
-use Rattle.wot_step.specs.Transcript.{Run, IsNow, listed, octets_of}
-use Rattle.wot_step.proofs.DirectoryGives.{over}
-use Rattle.wot_step.proofs.CutLines.{lines_of-feed, whole_lines_of-feed, lines_of-last}
+use Rattle.wot_plain.specs.Session.{Session, beginning}
+use Rattle.wot_plain.specs.Scene.{Scene, Step, opening}
+use Rattle.wot_plain.specs.Transcript.{Run, IsNow, listed, octets_of}
+use Rattle.wot_plain.proofs.DirectoryGives.{over}
+use Rattle.wot_plain.proofs.CutLines.{lines_of-feed, whole_lines_of-feed, lines_of-last}
 use Rattle.wot_engine.specs.Contents.{Contents}
 use Rattle.wot_policy.specs.declared.rows.PolicyRows.{PolicyRows}
 

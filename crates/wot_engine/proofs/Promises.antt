@@ -4,7 +4,7 @@ use Rattle.std.specs.Prelude.{IsErrOf, String, string_bytes}
 use Rattle.wot_certd.specs.World.{World}
 use Rattle.wot_io.specs.Counts.{Rose}
 use Rattle.wot_policy.specs.declared.rows.PolicyRows.{PolicyRows}
-use Rattle.wot_step.specs.Both.{Ends}
+use Rattle.wot_plain.specs.Both.{Ends}
 use Rattle.wot_engine.specs.declared.run.Stop.{Stop}
 use Rattle.wot_engine.specs.declared.run.Stop.TheVariants.{Read, TooMuch, Write}
 use Rattle.wot_engine.specs.Contents.{Octets, Worlds}

@@ -9,19 +9,19 @@ use Rattle.wot_io.specs.Fill.{TakesLineOf, StopsOf}
 use Rattle.wot_script.specs.declared.reply.Reply.{Reply}
 use Rattle.wot_script.specs.Replies.{reply_text}
 use Rattle.wot_certd.specs.World.{World}
-use Rattle.wot_step.specs.Session.{Session}
+use Rattle.wot_plain.specs.Session.{Session}
 use Rattle.wot_laws.specs.OneLine.{OneOutcome}
-use Rattle.wot_step.specs.Scene.{Scene, opening}
-use Rattle.wot_step.specs.Entry.{MayPut, MayPutIn, Use, use_of}
-use Rattle.wot_step.specs.Lines.{heard}
-use Rattle.wot_step.specs.Transcript.{Run, RepliesTo, IsNow, octets_of}
+use Rattle.wot_plain.specs.Scene.{Scene, opening}
+use Rattle.wot_plain.specs.Entry.{MayPut, MayPutIn, Use, use_of}
+use Rattle.wot_plain.specs.Lines.{heard}
+use Rattle.wot_plain.specs.Transcript.{Run, RepliesTo, IsNow, octets_of}
 use Rattle.wot_engine.specs.Contents.{Contents}
 use Rattle.wot_engine.specs.Ended.{Finished, FinishedMost, FinishedTaken, IsBegun, IsLastTaken, IsLeft, IsTranscribed}
 use Rattle.wot_engine.specs.Ended.{MayPutNext, Reached, ReachedWhole}
 use Rattle.wot_engine.specs.Source.{IsTaken}
-use Rattle.wot_step.proofs.DirectoryGives.{over}
+use Rattle.wot_plain.proofs.DirectoryGives.{over}
 use Rattle.wot_laws.proofs.Runs.{Run-some, Run-append}
-use Rattle.wot_step.proofs.CutLines.{whole_lines_of-none}
+use Rattle.wot_plain.proofs.CutLines.{whole_lines_of-none}
 use Rattle.wot_policy.specs.declared.rows.PolicyRows.{PolicyRows}
 use Rattle.wot_engine.proofs.Progress.{IsPrefix, Stands, begins, comes_next, nil-both, take-prefix}
 

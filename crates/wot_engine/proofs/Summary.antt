@@ -16,8 +16,8 @@ use Rattle.wot_gen.specs.Script.{IsReadBack, commands_of, line_of, text_of}
 use Rattle.wot_gen.specs.declared.tally.Tally.{Tally}
 use Rattle.wot_gen.specs.Summary.{Tallies, amounts_in, transcript_digest, summary_text}
 use Rattle.wot_laws.specs.OneLine.{OneOutcome}
-use Rattle.wot_step.specs.Transcript.{RepliesTo}
-use Rattle.wot_step.proofs.CutLines.{lines_of-feed}
+use Rattle.wot_plain.specs.Transcript.{RepliesTo}
+use Rattle.wot_plain.proofs.CutLines.{lines_of-feed}
 use Rattle.wot_laws.proofs.Runs.{RepliesTo-some}
 use Rattle.wot_engine.specs.Generated.{IsSummary, SummaryBegun, Summarized, no_entries, script_lines, summary_of}
 use Rattle.wot_gen.specs.declared.summary.Summary.{Summary}

@@ -14,20 +14,20 @@ use Rattle.wot_script.specs.declared.command.Command.{Command}
 use Rattle.wot_script.specs.declared.reply.Reply.{Reply}
 use Rattle.wot_script.specs.Replies.{reply_text}
 use Rattle.wot_certd.specs.World.{World}
-use Rattle.wot_step.specs.Session.{Session, beginning}
-use Rattle.wot_step.specs.Entry.{IsServed, MayPut, Use, unused, use_of}
+use Rattle.wot_plain.specs.Session.{Session, beginning}
+use Rattle.wot_plain.specs.Entry.{IsServed, MayPut, Use, unused, use_of}
 use Rattle.wot_laws.specs.OneLine.{OneOutcome}
-use Rattle.wot_step.specs.Lines.{heard}
-use Rattle.wot_step.specs.LineStep.{LineStep}
-use Rattle.wot_step.specs.Scene.{Step, opening}
-use Rattle.wot_step.specs.Served.{Served}
-use Rattle.wot_step.specs.Watching.{ReportsWatches}
-use Rattle.wot_step.specs.Transcript.{Run, IsNow, listed, octets_of}
+use Rattle.wot_plain.specs.Lines.{heard}
+use Rattle.wot_plain.specs.LineStep.{LineStep}
+use Rattle.wot_plain.specs.Scene.{Step, opening}
+use Rattle.wot_plain.specs.Served.{Served}
+use Rattle.wot_plain.specs.Watching.{ReportsWatches}
+use Rattle.wot_plain.specs.Transcript.{Run, IsNow, listed, octets_of}
 use Rattle.wot_engine.specs.Ended.{AnsweredMost, FinishedMost, FinishedTaken, Reached, ReachedWhole, IsBegun, IsLeft}
 use Rattle.wot_engine.specs.Ended.{IsTranscribed}
-use Rattle.wot_step.proofs.DirectoryGives.{IsUncalled, goes, may_call, over}
+use Rattle.wot_plain.proofs.DirectoryGives.{IsUncalled, goes, may_call, over}
 use Rattle.wot_laws.proofs.Runs.{Run-one, Run-prefix}
-use Rattle.wot_step.proofs.StepsByKind.{heard_long}
+use Rattle.wot_plain.proofs.StepsByKind.{heard_long}
 use Rattle.wot_engine.specs.RunAsks.{command_by}
 use Rattle.wot_engine.specs.Contents.{Contents, OnContents}
 use Rattle.wot_engine.specs.Turn.{Replies, use_by}

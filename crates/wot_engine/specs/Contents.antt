@@ -4,8 +4,8 @@
 use Rattle.std.specs.Prelude.{◌≡◌, ℕ, List, Option, Some, None}
 use Rattle.wot_io.specs.Input.{lines_of}
 use Rattle.wot_certd.specs.World.{World}
-use Rattle.wot_step.specs.Both.{Ends}
-use Rattle.wot_step.specs.Entry.{CallNothing}
+use Rattle.wot_plain.specs.Both.{Ends}
+use Rattle.wot_plain.specs.Entry.{CallNothing}
 
 -- the octets of the source, those that had been written to the sink, and the world of the directory
 pub record Contents : Type 0 where

@@ -5,10 +5,10 @@ use Rattle.wot_io.specs.Input.{lines_of, whole_lines_of}
 use Rattle.wot_policy.specs.declared.rows.PolicyRows.{PolicyRows}
 use Rattle.wot_script.specs.declared.reply.Reply.{Reply}
 use Rattle.wot_certd.specs.World.{World}
-use Rattle.wot_step.specs.Entry.{MayPutIn, use_of}
-use Rattle.wot_step.specs.Lines.{heard}
-use Rattle.wot_step.specs.Scene.{Scene}
-use Rattle.wot_step.specs.Transcript.{IsNow, RepliesTo, octets_of, Transcript}
+use Rattle.wot_plain.specs.Entry.{MayPutIn, use_of}
+use Rattle.wot_plain.specs.Lines.{heard}
+use Rattle.wot_plain.specs.Scene.{Scene}
+use Rattle.wot_plain.specs.Transcript.{IsNow, RepliesTo, octets_of, Transcript}
 use Rattle.wot_engine.specs.Source.{IsTaken}
 use Rattle.wot_engine.specs.Contents.{Contents}
 

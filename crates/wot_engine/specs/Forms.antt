@@ -1,6 +1,6 @@
 -- The words after the program's name.
 use Rattle.std.specs.Prelude.{◌≡◌, ◌≢◌, ◌⊎◌, ℕ, List, [], ◌∷◌, Option, Some, None, codes}
-use Rattle.wot_words.specs.Decimal.{decimal_up_to, positive_up_to}
+use Rattle.wot_fields.specs.Decimal.{decimal_up_to, positive_up_to}
 use Rattle.wot_engine.specs.declared.form.Form.{Form}
 use Rattle.wot_engine.specs.declared.form.Form.TheVariants.{Run, Generate}
 

@@ -6,8 +6,8 @@ use Rattle.wot_script.specs.declared.reply.Reply.{Reply}
 use Rattle.wot_certd.specs.World.{World}
 use Rattle.wot_gen.specs.Script.{commands_of, text_of}
 use Rattle.wot_gen.specs.Summary.{amounts_in, transcript_digest, summary_text}
-use Rattle.wot_step.specs.Both.{Ends}
-use Rattle.wot_step.specs.Transcript.{RepliesTo}
+use Rattle.wot_plain.specs.Both.{Ends}
+use Rattle.wot_plain.specs.Transcript.{RepliesTo}
 use Rattle.wot_gen.specs.declared.summary.Summary.{Summary}
 
 -- an empty certificate directory in memory, none of whose calls fails

@@ -6,13 +6,13 @@ use Rattle.wot_certd.specs.Memory.{ShelfMemory}
 use Rattle.wot_certd.specs.World.{World}
 use Rattle.wot_gen.specs.declared.tally.Tally.{Tally}
 use Rattle.wot_gen.specs.Summary.{Tallies}
-use Rattle.wot_step.specs.Both.{Ends}
-use Rattle.wot_step.specs.Scene.{Scene, Step}
+use Rattle.wot_plain.specs.Both.{Ends}
+use Rattle.wot_plain.specs.Scene.{Scene, Step}
 use Rattle.wot_command.specs.CommandRun.{Seen}
 use Rattle.wot_machine.specs.Stepped.{Replied}
-use Rattle.wot_step.specs.Transcript.{RepliesTo, listed}
-use Rattle.wot_step.specs.Watching as watching
-use Rattle.wot_step.specs.Session.{Session}
+use Rattle.wot_plain.specs.Transcript.{RepliesTo, listed}
+use Rattle.wot_plain.specs.Watching as watching
+use Rattle.wot_plain.specs.Session.{Session}
 use Rattle.wot_engine.specs.Generated.{no_entries}
 
 -- The line had its step, and its reply and the watch lines after it were added to the tally.

@@ -4,7 +4,7 @@ use Rattle.std.specs.Prelude.{◌≡◌, ◌⊎◌, ◌↔◌, ℕ, List, Option
 use Rattle.wot_io.specs.Counts.{Rose}
 use Rattle.wot_io.specs.Filled.{IsAtEnd}
 use Rattle.wot_policy.specs.declared.rows.PolicyRows.{PolicyRows}
-use Rattle.wot_step.specs.Both.{Ends}
+use Rattle.wot_plain.specs.Both.{Ends}
 use Rattle.wot_engine.specs.Contents.{Octets, Worlds}
 use Rattle.wot_engine.specs.Ends.{IsEither}
 use Rattle.wot_engine.specs.Forms.{IsForm}

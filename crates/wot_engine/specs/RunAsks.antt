@@ -11,11 +11,11 @@ use Rattle.wot_script.specs.declared.reply.Reply.{Reply}
 use Rattle.wot_certd.specs.World.{World}
 use Rattle.wot_cache.specs.State.{State}
 use Rattle.wot_command.specs.Asked.{LineAsks}
-use Rattle.wot_step.specs.Both.{Ends}
-use Rattle.wot_step.specs.Lines.{heard}
-use Rattle.wot_step.specs.Scene.{Scene, Step, opening}
+use Rattle.wot_plain.specs.Both.{Ends}
+use Rattle.wot_plain.specs.Lines.{heard}
+use Rattle.wot_plain.specs.Scene.{Scene, Step, opening}
 use Rattle.wot_engine.specs.Source.{IsTaken}
-use Rattle.wot_step.specs.Session.{Session}
+use Rattle.wot_plain.specs.Session.{Session}
 use Rattle.wot_engine.specs.Ends.{IsEither}
 use Rattle.wot_engine.specs.Contents.{Octets, OnContents, Contents, Worlds}
 

@@ -8,7 +8,7 @@ use Rattle.wot_policy.specs.declared.policy.Policy.{Policy}
 use Rattle.wot_policy.specs.declared.rows.Ask.{Ask}
 use Rattle.wot_policy.specs.declared.rows.PolicyRows.{PolicyRows}
 use Rattle.wot_policy.specs.Kept.{IsFaithful, rows_of}
-use Rattle.wot_step.specs.Both.{Ends}
+use Rattle.wot_plain.specs.Both.{Ends}
 use Rattle.wot_engine.specs.Contents.{Octets, OnContents, Worlds}
 use Rattle.wot_engine.specs.Ended.{AnsweredMost, FinishedMost, FinishedTaken, IsBegun, IsLeft, IsTranscribed, Reached}
 use Rattle.wot_engine.specs.Ended.{ReachedWhole}

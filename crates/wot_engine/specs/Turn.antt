@@ -5,14 +5,14 @@ use Rattle.wot_io.specs.declared.lines.Line.TheVariants.{Text, Long, End}
 use Rattle.wot_policy.specs.declared.rows.PolicyRows.{PolicyRows}
 use Rattle.wot_script.specs.declared.reply.Reply.{Reply}
 use Rattle.wot_certd.specs.World.{World}
-use Rattle.wot_step.specs.Both.{Ends}
-use Rattle.wot_step.specs.Entry.{IsServed, Use, unused, use_of}
-use Rattle.wot_step.specs.Lines.{heard, longest}
-use Rattle.wot_step.specs.LineStep.{LineStep}
-use Rattle.wot_step.specs.Served.{Served}
-use Rattle.wot_step.specs.Watching.{ReportsWatches}
-use Rattle.wot_step.specs.Session.{Session}
-use Rattle.wot_step.specs.Transcript.{listed, octets_of}
+use Rattle.wot_plain.specs.Both.{Ends}
+use Rattle.wot_plain.specs.Entry.{IsServed, Use, unused, use_of}
+use Rattle.wot_plain.specs.Lines.{heard, longest}
+use Rattle.wot_plain.specs.LineStep.{LineStep}
+use Rattle.wot_plain.specs.Served.{Served}
+use Rattle.wot_plain.specs.Watching.{ReportsWatches}
+use Rattle.wot_plain.specs.Session.{Session}
+use Rattle.wot_plain.specs.Transcript.{listed, octets_of}
 
 -- what the line does with the certificate directory; nothing if it is too long
 abbrev pub use_by : Line → List ℕ → Use

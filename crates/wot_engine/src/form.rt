@@ -2,7 +2,7 @@
 //! specs/Forms.antt and in the usage text of the docs.
 ghost use Rattle.std.specs.Prelude.{◌≡◌, ◌≢◌, ◌≤◌, ◌↔◌, ◌∷◌, [], length, map, slice_index, true, false, codes};
 ghost use Rattle.std.specs.Prelude.{string_bytes, IsTrue, Some, None, if◌then◌else◌};
-ghost use Rattle.wot_words.specs.Decimal.{decimal_up_to, positive_up_to};
+ghost use Rattle.wot_fields.specs.Decimal.{decimal_up_to, positive_up_to};
 ghost use Rattle.wot_engine.specs.Forms.{IsFormOf};
 
 /// The largest number of keys in a script.

@@ -6,15 +6,15 @@ ghost use Rattle.std.specs.Prelude.{◌≡◌, ◌≢◌, ◌<◌, ◌≤◌, �
 ghost use Rattle.std.specs.Prelude.{IfSome, OnErr, OnOk, IsErrOf, None, vec_items};
 ghost use Rattle.wot_types.specs.Limits.{standard_limits};
 ghost use Rattle.wot_policy.specs.Kept.{IsFaithful, rows_of};
-ghost use Rattle.wot_held.specs.Kept.{IsJudgedBy};
+ghost use Rattle.wot_keyring_spec.specs.Kept.{IsJudgedBy};
 ghost use Rattle.wot_io.specs.Counts.{Rose};
 ghost use Rattle.wot_io.specs.Input.{HasNoFeed};
 ghost use Rattle.wot_io.specs.Sink.{GainsPrefix};
 ghost use Rattle.wot_cache.specs.State.{empty, state_of};
 ghost use Rattle.wot_command.specs.Lasting.{CanCount, IsJudging};
 ghost use Rattle.wot_machine.specs.Machine.{kept};
-ghost use Rattle.wot_step.specs.Both.{ends, itself};
-ghost use Rattle.wot_step.specs.Entry.{MayPutTo};
+ghost use Rattle.wot_plain.specs.Both.{ends, itself};
+ghost use Rattle.wot_plain.specs.Entry.{MayPutTo};
 ghost use Rattle.wot_engine.specs.RunAsks.{MayAsk, ReadAsks, RunAsks, command_by, done};
 ghost use Rattle.wot_engine.specs.Ends.{status_at};
 ghost use Rattle.wot_engine.specs.RunDoes.{Does, Runs, Takes};

@@ -4,7 +4,7 @@
 //! or there changes the rows of `docs/PROOF.md` under "The clauses".
 ghost use Rattle.std.specs.Prelude.{◌≡◌};
 ghost use Rattle.wot_policy.specs.Kept.{IsFaithful, rows_of};
-ghost use Rattle.wot_step.specs.Both.{ends, itself};
+ghost use Rattle.wot_plain.specs.Both.{ends, itself};
 ghost use Rattle.wot_engine.specs.Ends.{status_at};
 ghost use Rattle.wot_engine.specs.Promises.{Generates, HasCauses, HasStatus, Writes};
 ghost use Rattle.wot_engine.specs.RunAsks.{RunAsks};

@@ -10,14 +10,14 @@ use Rattle.wot_types.specs.declared.fpr.Fpr.{Fpr}
 use Rattle.wot_types.specs.PlainLaws.{all_prefix, all_back, all_each}
 use Rattle.wot_verdict.specs.Verdicts.{Entries, verdict_at}
 use Rattle.wot_verdict.specs.declared.verdict.Verdict.{Verdict}
-use Rattle.wot_part.specs.Certificate.{Certificate, Component, Signature, sig_cmp}
-use Rattle.wot_part.specs.Counts.{all_sigs, parts_in, sigs_on}
+use Rattle.wot_component.specs.Certificate.{Certificate, Component, Signature, sig_cmp}
+use Rattle.wot_component.specs.Counts.{all_sigs, parts_in, sigs_on}
 use Rattle.wot_cert.specs.Issuer.{good_by}
 use Rattle.wot_cert.specs.Time.{made_of}
 use Rattle.wot_edge.specs.Path.{step_of}
 use Rattle.wot_edge.specs.declared.path.Step.{Step}
-use Rattle.wot_held.specs.Keyring.{Certificates, is_fpr}
-use Rattle.wot_held.specs.Later.{SaysSame}
+use Rattle.wot_keyring_spec.specs.Keyring.{Certificates, is_fpr}
+use Rattle.wot_keyring_spec.specs.Later.{SaysSame}
 use Rattle.wot_live.specs.Edge.{edge_by}
 use Rattle.wot_network.specs.Local.{AgreeAt}
 use Rattle.wot_network.specs.Standings.{DecideStandings, DecideUserIds}

@@ -10,12 +10,12 @@ use Rattle.wot_types.specs.declared.fpr.Fpr.{Fpr}
 use Rattle.wot_signature.specs.declared.facts.SigFacts.{SigFacts}
 use Rattle.wot_verdict.specs.Verdicts.{Entries, verdict_at}
 use Rattle.wot_verdict.specs.declared.verdict.Verdict.{Verdict}
-use Rattle.wot_part.specs.Certificate.{Signature, Component, said_by, sig_cmp}
+use Rattle.wot_component.specs.Certificate.{Signature, Component, said_by, sig_cmp}
 use Rattle.wot_cert.specs.Issuer.{allows, good_by}
-use Rattle.wot_part.specs.Judged.{is_sound}
+use Rattle.wot_component.specs.Judged.{is_sound}
 use Rattle.wot_cert.specs.Revoked.{is_unrevoked}
 use Rattle.wot_cert.specs.Time.{is_live, made_of, facts_live}
-use Rattle.wot_held.specs.Keyring.{Certificates}
+use Rattle.wot_keyring_spec.specs.Keyring.{Certificates}
 use Rattle.wot_standing.specs.Standing.{newest_certification}
 use Rattle.wot_standing.specs.Usable.{is_after, is_usable}
 use Rattle.wot_standing.specs.declared.status.Standing.{Standing}

@@ -19,16 +19,16 @@ use Rattle.wot_types.specs.FprLaws.{same_fpr-true}
 use Rattle.wot_signature.specs.declared.facts.SigFacts.{SigFacts}
 use Rattle.wot_signature.specs.Signature.{facts_of}
 use Rattle.wot_verdict.specs.Verdicts.{Entries, verdict_at}
-use Rattle.wot_part.specs.Certificate.{Signature, Component, Certificate, said_by, sig_cmp}
+use Rattle.wot_component.specs.Certificate.{Signature, Component, Certificate, said_by, sig_cmp}
 use Rattle.wot_cert.specs.Issuer.{allows, good_by, issuer_with, counts_by}
-use Rattle.wot_part.specs.Ranked.{IsRising, IsBelow, greatest, higher, higher_of}
+use Rattle.wot_component.specs.Ranked.{IsRising, IsBelow, greatest, higher, higher_of}
 use Rattle.wot_cert.specs.Revoked.{is_unrevoked}
 use Rattle.wot_cert.specs.Time.{is_live, newness}
 use Rattle.wot_edge.specs.declared.edge.EdgeFacts.{EdgeFacts}
 use Rattle.wot_edge.specs.declared.path.Step.{Step}
 use Rattle.wot_edge.specs.Path.{step_of}
 use Rattle.wot_edge.specs.Record.{Has}
-use Rattle.wot_held.specs.Keyring.{Certificates, is_fpr}
+use Rattle.wot_keyring_spec.specs.Keyring.{Certificates, is_fpr}
 use Rattle.wot_live.specs.Edge.{edge_facts, edge_by, edge_on, edge_of, signature_place}
 use Rattle.wot_network.specs.Told.{is_usable_by}
 use Rattle.wot_standing.specs.declared.status.Standing.{Standing}

@@ -2,8 +2,8 @@
 use Rattle.std.proofs.Common.{ℕ, ◌≤◌, ◌<◌, ◌^◌, List, [], ◌∷◌, ◌++◌, length, arith, length-append}
 use Rattle.std.specs.List.{AllByRecursion}
 use Rattle.wot_packet.specs.Writing.{written}
-use Rattle.wot_part.specs.Certificate.{Signature, Component, Certificate}
-use Rattle.wot_part.specs.Text.{sigs_text, part_text, parts_text, size_of}
+use Rattle.wot_component.specs.Certificate.{Signature, Component, Certificate}
+use Rattle.wot_component.specs.Text.{sigs_text, part_text, parts_text, size_of}
 use Rattle.wot_live.specs.Found.{HasFew}
 
 one_written : (kind : ℕ) (body : List ℕ) → 1 ≤ length (written kind body)

@@ -5,14 +5,14 @@ use Rattle.std.specs.Prelude.{filter, if◌then◌else◌, nat_le}
 use Rattle.std.specs.List.{AllByRecursion}
 use Rattle.wot_types.specs.PlainLaws.{all_then}
 use Rattle.wot_types.specs.declared.fpr.Fpr.{Fpr}
-use Rattle.wot_part.specs.Certificate.{Component, Certificate}
+use Rattle.wot_component.specs.Certificate.{Component, Certificate}
 use Rattle.wot_edge.specs.Answer.{IsAnswer, amount_of}
 use Rattle.wot_edge.specs.Path.{Question, asks}
 use Rattle.wot_edge.specs.declared.path.Path.{Path}
 use Rattle.wot_edge.specs.Record.{IsRecord, Record}
-use Rattle.wot_held.specs.declared.kept.Kept.{Kept}
-use Rattle.wot_held.specs.Keyring.{Entries, stripped}
-use Rattle.wot_held.specs.Kept.{AreNamed}
+use Rattle.wot_keyring_spec.specs.declared.kept.Kept.{Kept}
+use Rattle.wot_keyring_spec.specs.Keyring.{Entries, stripped}
+use Rattle.wot_keyring_spec.specs.Kept.{AreNamed}
 use Rattle.wot_explain.specs.declared.bind.Bind.{Bind}
 use Rattle.wot_explain.specs.Listing.{Pair, pair_in, pair_of, pairs_in, pairs_of, pairs_of_all, IsListed, IsTheList}
 use Rattle.wot_explain.specs.Listing.{AddsListed, IsSummed, is_authenticated_to}

@@ -11,13 +11,13 @@ use Rattle.wot_types.specs.declared.fpr.Fpr.{Fpr}
 use Rattle.wot_types.specs.declared.place.Place.{Place}
 use Rattle.wot_types.specs.Fpr.{fpr_cmp}
 use Rattle.wot_types.specs.FprLaws.{fpr_total}
-use Rattle.wot_part.specs.Certificate.{Component, Certificate}
+use Rattle.wot_component.specs.Certificate.{Component, Certificate}
 use Rattle.wot_edge.specs.Answer.{amount_of}
 use Rattle.wot_edge.specs.Record.{Record}
-use Rattle.wot_held.specs.declared.kept.Kept.{Kept}
-use Rattle.wot_held.specs.From.{is_from, entries_from}
-use Rattle.wot_held.specs.Keyring.{Entries, stripped}
-use Rattle.wot_held.specs.Kept.{AreNamed}
+use Rattle.wot_keyring_spec.specs.declared.kept.Kept.{Kept}
+use Rattle.wot_keyring_spec.specs.From.{is_from, entries_from}
+use Rattle.wot_keyring_spec.specs.Keyring.{Entries, stripped}
+use Rattle.wot_keyring_spec.specs.Kept.{AreNamed}
 use Rattle.wot_explain.specs.declared.bind.Bind.{Bind}
 use Rattle.wot_explain.specs.Listing.{Pair, pair_of, pairs_in, pairs_of, pairs_of_all, IsListed, AddsListed}
 use Rattle.wot_explain.specs.Piece.{AddsPiece, IsThePiece, binds_after, comes_after, fpr_at, is_bind_after, piece_of}

@@ -6,11 +6,11 @@ use Rattle.std.specs.Option.{option_and_then, option_map, unwrap_or}
 use Rattle.std.proofs.lemmas.Map.Made.{lookup-map_values}
 use Rattle.wot_types.specs.declared.fpr.Fpr.{Fpr}
 use Rattle.wot_verdict.specs.Verdicts.{Entries}
-use Rattle.wot_part.specs.Certificate.{Component, Certificate}
-use Rattle.wot_part.specs.Text.{size_of}
+use Rattle.wot_component.specs.Certificate.{Component, Certificate}
+use Rattle.wot_component.specs.Text.{size_of}
 use Rattle.wot_edge.specs.Record.{Entry, Record, blank, entry_at}
-use Rattle.wot_held.specs.declared.kept.Kept.{Kept}
-use Rattle.wot_held.specs.Keyring.{Keyring, Certificates, is_fpr, cert_at, certificates_in}
+use Rattle.wot_keyring_spec.specs.declared.kept.Kept.{Kept}
+use Rattle.wot_keyring_spec.specs.Keyring.{Keyring, Certificates, is_fpr, cert_at, certificates_in}
 use Rattle.wot_live.specs.Found.{HasFew}
 use Rattle.wot_network.specs.Told.{entry_of, user_id_place, record_of}
 use Rattle.wot_standing.specs.Standing.{standing_of}

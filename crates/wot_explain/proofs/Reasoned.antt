@@ -6,11 +6,11 @@ use Rattle.std.specs.List.{slice_get}
 use Rattle.std.proofs.lemmas.Bool.{eqb-true, eq-eqb}
 use Rattle.wot_types.specs.declared.fpr.Fpr.{Fpr}
 use Rattle.wot_verdict.specs.Verdicts.{Entries}
-use Rattle.wot_part.specs.Certificate.{Signature, Component, Certificate, sig_cmp}
-use Rattle.wot_part.specs.Ranked.{IsRising}
+use Rattle.wot_component.specs.Certificate.{Signature, Component, Certificate, sig_cmp}
+use Rattle.wot_component.specs.Ranked.{IsRising}
 use Rattle.wot_edge.specs.Record.{Has, Record, entry_at}
 use Rattle.wot_edge.specs.declared.path.Step.{Step}
-use Rattle.wot_held.specs.Keyring.{Certificates, Keyring, cert_at, certificates_in}
+use Rattle.wot_keyring_spec.specs.Keyring.{Certificates, Keyring, cert_at, certificates_in}
 use Rattle.wot_live.specs.Edge.{signature_place}
 use Rattle.wot_standing.specs.Kinds.{is_certification}
 use Rattle.wot_standing.specs.Standing.{own}

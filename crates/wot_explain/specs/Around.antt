@@ -4,10 +4,10 @@ use Rattle.std.specs.List.{AllByRecursion}
 use Rattle.std.specs.Map.{lookup}
 use Rattle.wot_types.specs.declared.fpr.Fpr.{Fpr}
 use Rattle.wot_verdict.specs.Verdicts.{Entries, verdict_at}
-use Rattle.wot_part.specs.Certificate.{Certificate, Signature}
-use Rattle.wot_part.specs.Counts.{all_sigs}
+use Rattle.wot_component.specs.Certificate.{Certificate, Signature}
+use Rattle.wot_component.specs.Counts.{all_sigs}
 use Rattle.wot_cert.specs.Issuer.{good_by}
-use Rattle.wot_held.specs.Keyring.{Certificates, is_fpr}
+use Rattle.wot_keyring_spec.specs.Keyring.{Certificates, is_fpr}
 use Rattle.wot_network.specs.Local.{AgreeAt}
 use Rattle.wot_explain.specs.Explaining.{explanation}
 

@@ -3,12 +3,12 @@ use Rattle.std.specs.Prelude.{◌≡◌, ◌≤◌, ℕ, Bool, length, nat_le, L
 use Rattle.std.specs.List.{AllByRecursion}
 use Rattle.wot_types.specs.declared.fpr.Fpr.{Fpr}
 use Rattle.wot_verdict.specs.Verdicts.{Entries}
-use Rattle.wot_part.specs.Certificate.{Component, Certificate}
+use Rattle.wot_component.specs.Certificate.{Component, Certificate}
 use Rattle.wot_edge.specs.Answer.{IsAnswer, amount_of}
 use Rattle.wot_edge.specs.Path.{asks}
 use Rattle.wot_edge.specs.Record.{IsRecord, Record}
 use Rattle.wot_edge.specs.declared.path.Path.{Path}
-use Rattle.wot_held.specs.Keyring.{Certificates, Keyring, certificates_in}
+use Rattle.wot_keyring_spec.specs.Keyring.{Certificates, Keyring, certificates_in}
 use Rattle.wot_network.specs.Told.{record_of}
 use Rattle.wot_reach.specs.Reach.{IsReach}
 use Rattle.wot_standing.specs.Standing.{own}

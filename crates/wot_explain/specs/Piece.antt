@@ -9,7 +9,7 @@ use Rattle.wot_types.specs.declared.fpr.Fpr.{Fpr}
 use Rattle.wot_types.specs.declared.place.Place.{Place}
 use Rattle.wot_verdict.specs.Verdicts.{Entries}
 use Rattle.wot_edge.specs.Record.{Record}
-use Rattle.wot_held.specs.Keyring.{Certificates, Keyring, certificates_in}
+use Rattle.wot_keyring_spec.specs.Keyring.{Certificates, Keyring, certificates_in}
 use Rattle.wot_network.specs.Told.{record_of}
 use Rattle.wot_explain.specs.declared.bind.Bind.{Bind}
 use Rattle.wot_explain.specs.declared.sought.Page.{Page}

@@ -8,14 +8,14 @@ use Rattle.wot_types.specs.declared.fpr.Fpr.{Fpr}
 use Rattle.wot_types.specs.declared.number.SigNumber.{SigNumber}
 use Rattle.wot_verdict.specs.Verdicts.{Entries, verdict_at}
 use Rattle.wot_verdict.specs.declared.verdict.Verdict.{Verdict}
-use Rattle.wot_part.specs.Certificate.{Signature, Component, Certificate, sig_cmp}
+use Rattle.wot_component.specs.Certificate.{Signature, Component, Certificate, sig_cmp}
 use Rattle.wot_cert.specs.Issuer.{allows, good_by}
-use Rattle.wot_part.specs.Judged.{is_sound, is_true_of}
+use Rattle.wot_component.specs.Judged.{is_sound, is_true_of}
 use Rattle.wot_cert.specs.Revoked.{is_unrevoked}
 use Rattle.wot_cert.specs.Time.{is_live, made_of}
 use Rattle.wot_edge.specs.Path.{step_of}
 use Rattle.wot_edge.specs.declared.path.Step.{Step}
-use Rattle.wot_held.specs.Keyring.{Certificates, Keyring, certificates_in, is_fpr}
+use Rattle.wot_keyring_spec.specs.Keyring.{Certificates, Keyring, certificates_in, is_fpr}
 use Rattle.wot_live.specs.Edge.{edge_by}
 use Rattle.wot_standing.specs.Standing.{newest_certification, standing_of}
 use Rattle.wot_standing.specs.Usable.{is_after}

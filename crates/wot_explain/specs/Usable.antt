@@ -4,13 +4,13 @@ use Rattle.std.specs.List.{slice_get}
 use Rattle.std.specs.Map.{lookup}
 use Rattle.wot_types.specs.declared.fpr.Fpr.{Fpr}
 use Rattle.wot_verdict.specs.Verdicts.{Entries}
-use Rattle.wot_part.specs.Certificate.{Signature, Component, Certificate, sig_cmp}
-use Rattle.wot_part.specs.Ranked.{IsRising}
+use Rattle.wot_component.specs.Certificate.{Signature, Component, Certificate, sig_cmp}
+use Rattle.wot_component.specs.Ranked.{IsRising}
 use Rattle.wot_edge.specs.declared.edge.EdgeFacts.{EdgeFacts}
 use Rattle.wot_edge.specs.declared.path.Step.{Step}
 use Rattle.wot_edge.specs.Path.{step_of}
 use Rattle.wot_edge.specs.Record.{Has, Record}
-use Rattle.wot_held.specs.Keyring.{Certificates, Keyring, certificates_in, is_fpr}
+use Rattle.wot_keyring_spec.specs.Keyring.{Certificates, Keyring, certificates_in, is_fpr}
 use Rattle.wot_live.specs.Edge.{edge_of, signature_place}
 use Rattle.wot_network.specs.Told.{is_usable_by, record_of}
 use Rattle.wot_network.specs.Told as network

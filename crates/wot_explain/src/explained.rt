@@ -1,5 +1,5 @@
 //! What `explain` returns: a word for the target, and a word for each certification. The words are numbers here;
-//! wot_lines spells them, so a new reason needs a word there.
+//! wot_reply_lines spells them, so a new reason needs a word there.
 ghost use Rattle.std.specs.Prelude.{◌≡◌};
 
 use std::alloc::Global;

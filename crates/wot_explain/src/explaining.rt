@@ -4,10 +4,10 @@
 ghost use Rattle.std.specs.Prelude.{◌≡◌, slice_get, IfOk};
 ghost use Rattle.std.specs.Option.{option_copied};
 ghost use Rattle.wot_explain.specs.Explaining.{Explains, explained_in, explanation};
-ghost use Rattle.wot_part.specs.Certificate.{sig_cmp};
-ghost use Rattle.wot_part.specs.Ranked.{IsRising};
+ghost use Rattle.wot_component.specs.Certificate.{sig_cmp};
+ghost use Rattle.wot_component.specs.Ranked.{IsRising};
 ghost use Rattle.wot_explain.specs.Usable.{AreRoadsOf, TellsEdges};
-ghost use Rattle.wot_held.specs.Keyring.{certificates_in};
+ghost use Rattle.wot_keyring_spec.specs.Keyring.{certificates_in};
 ghost use Rattle.wot_live.specs.Found.{HasFew};
 
 use crate::reasons::reasons;

@@ -2,12 +2,12 @@
 //! a usable edge. Each issuer's newest certification is found once for all of them.
 ghost use Rattle.std.specs.Prelude.{◌≡◌, ℕ, List, IfOk};
 ghost use Rattle.std.specs.Option.{option_map};
-ghost use Rattle.wot_part.specs.Certificate.{Signature};
+ghost use Rattle.wot_component.specs.Certificate.{Signature};
 ghost use Rattle.wot_edge.specs.Path.{step_of as step_of_spec};
 ghost use Rattle.wot_live.specs.Edge.{edge_by, edge_facts};
 ghost use Rattle.wot_explain.specs.Explaining.{reasons_on};
 ghost use Rattle.wot_explain.specs.Reasons.{reason_with, step_by, told_reason};
-ghost use Rattle.wot_held.specs.Keyring.{certificates_in};
+ghost use Rattle.wot_keyring_spec.specs.Keyring.{certificates_in};
 ghost use Rattle.wot_live.specs.Found.{HasFew};
 ghost use Rattle.wot_standing.specs.Certifiers.{KeepsNewest, place_for};
 

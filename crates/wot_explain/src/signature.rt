@@ -1,7 +1,7 @@
 //! Two tests of a single signature: whether it is valid, and whether it names another issuer. `words` uses them.
 ghost use Rattle.std.specs.Prelude.{◌≡◌, not};
 ghost use Rattle.wot_cert.specs.Issuer.{allows};
-ghost use Rattle.wot_part.specs.Judged.{is_sound as is_sound_spec};
+ghost use Rattle.wot_component.specs.Judged.{is_sound as is_sound_spec};
 ghost use Rattle.wot_explain.specs.Reasons.{names_other as names_other_spec};
 
 use std::cmp::Ordering;

@@ -1,5 +1,5 @@
 //! Why a certificate isn't in order for a user ID: the first of six reasons, in the order of specs/Target.antt.
-//! wot_lines has the words for the numbers.
+//! wot_reply_lines has the words for the numbers.
 ghost use Rattle.std.specs.Prelude.{◌≡◌};
 ghost use Rattle.wot_explain.specs.Target.{target_word as target_word_spec};
 

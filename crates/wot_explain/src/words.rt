@@ -1,12 +1,12 @@
 //! Why a certification isn't a usable edge: the first of fifteen reasons, in the order of specs/Reasons.antt. A new
-//! reason is a row there, a test here, and a word in wot_lines.
+//! reason is a row there, a test here, and a word in wot_reply_lines.
 ghost use Rattle.std.specs.Prelude.{◌≡◌, not};
 ghost use Rattle.std.specs.Ordering.{is_eq};
-ghost use Rattle.wot_part.specs.Certificate.{sig_cmp};
+ghost use Rattle.wot_component.specs.Certificate.{sig_cmp};
 ghost use Rattle.wot_explain.specs.Reasons.{counted_words, good_words, issuer_words, standing_by as standing_by_spec};
 ghost use Rattle.wot_explain.specs.Reasons.{word_of};
 ghost use Rattle.wot_explain.specs.Words.{first_word, is_so};
-ghost use Rattle.wot_held.specs.Keyring.{certificates_in};
+ghost use Rattle.wot_keyring_spec.specs.Keyring.{certificates_in};
 ghost use Rattle.wot_standing.specs.Certifiers.{KeepsNewest, kept_for, place_for};
 ghost use Rattle.wot_standing.specs.Standing.{standing_of};
 

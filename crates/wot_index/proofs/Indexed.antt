@@ -7,13 +7,13 @@ use Rattle.wot_types.specs.declared.fpr.Fpr.{Fpr}
 use Rattle.wot_types.specs.declared.number.SigNumber.{SigNumber}
 use Rattle.wot_key.specs.Key.{fpr_of}
 use Rattle.wot_verdict.specs.Verdicts.{ByNumber, is_number}
-use Rattle.wot_part.specs.Certificate.{Signature, Component, Certificate}
-use Rattle.wot_part.specs.Counts.{sigs_on}
+use Rattle.wot_component.specs.Certificate.{Signature, Component, Certificate}
+use Rattle.wot_component.specs.Counts.{sigs_on}
 use Rattle.wot_index.specs.declared.index.Index.{Index}
-use Rattle.wot_held.specs.Keyring.{is_fpr}
+use Rattle.wot_keyring_spec.specs.Keyring.{is_fpr}
 use Rattle.wot_index.specs.Index.{holder_of, is_holder, is_noted, unless, is_logged, holder_without, Notes}
 use Rattle.wot_index.specs.Index.{Forgets, NotesOn, StillLogged}
-use Rattle.wot_held.specs.Verdict.{is_among, has_number}
+use Rattle.wot_keyring_spec.specs.Verdict.{is_among, has_number}
 use Rattle.wot_slots.proofs.Numbers.{same_number, turned}
 use Rattle.wot_index.proofs.Choices.{or_false, or_itself, or_more, and_each}
 

@@ -16,15 +16,15 @@ use Rattle.wot_types.specs.SigNumber.{number_cmp}
 use Rattle.wot_verdict.specs.Verdicts as verdicts
 use Rattle.wot_verdict.specs.Verdicts.{verdict_at, is_number}
 use Rattle.wot_verdict.specs.declared.verdict.Verdict.{Verdict}
-use Rattle.wot_part.specs.Certificate.{Signature, Component, Certificate}
-use Rattle.wot_part.specs.Counts.{all_sigs, parts_in, sigs_on}
-use Rattle.wot_held.specs.declared.kept.Kept.{Kept}
-use Rattle.wot_held.specs.Keyring.{Entries, Keyring, kept_at, stamp_at, is_fpr}
-use Rattle.wot_held.specs.Kept.{IsKeyring}
-use Rattle.wot_held.specs.Later.{SaysSame, IsUnaltered, IsLaterAt, IsLater}
-use Rattle.wot_held.specs.Removal.{without_cert}
-use Rattle.wot_held.specs.Verdict.{has_number, is_among, is_on, restamped, counted_at, with_verdict_on}
-use Rattle.wot_held.specs.Verdict.{without_verdict_on}
+use Rattle.wot_component.specs.Certificate.{Signature, Component, Certificate}
+use Rattle.wot_component.specs.Counts.{all_sigs, parts_in, sigs_on}
+use Rattle.wot_keyring_spec.specs.declared.kept.Kept.{Kept}
+use Rattle.wot_keyring_spec.specs.Keyring.{Entries, Keyring, kept_at, stamp_at, is_fpr}
+use Rattle.wot_keyring_spec.specs.Kept.{IsKeyring}
+use Rattle.wot_keyring_spec.specs.Later.{SaysSame, IsUnaltered, IsLaterAt, IsLater}
+use Rattle.wot_keyring_spec.specs.Removal.{without_cert}
+use Rattle.wot_keyring_spec.specs.Verdict.{has_number, is_among, is_on, restamped, counted_at, with_verdict_on}
+use Rattle.wot_keyring_spec.specs.Verdict.{without_verdict_on}
 use Rattle.wot_index.proofs.Choices.{or_more}
 use Rattle.wot_slots.proofs.Numbers.{exact, turned, same_number}
 use Rattle.wot_index.proofs.Noted.{found_without}

@@ -11,16 +11,16 @@ use Rattle.wot_types.specs.declared.fpr.Fpr.{Fpr}
 use Rattle.wot_types.specs.declared.number.SigNumber.{SigNumber}
 use Rattle.wot_types.specs.FprLaws.{same_fpr-true, same_fpr-refl}
 use Rattle.wot_key.specs.Key.{fpr_of}
-use Rattle.wot_part.specs.Certificate.{Certificate}
-use Rattle.wot_held.specs.declared.kept.Kept.{Kept}
+use Rattle.wot_component.specs.Certificate.{Certificate}
+use Rattle.wot_keyring_spec.specs.declared.kept.Kept.{Kept}
 use Rattle.wot_index.specs.declared.log.Log.{Log}
 use Rattle.wot_index.specs.Index.{stands_at}
-use Rattle.wot_held.specs.Keyring.{Entries, is_fpr}
-use Rattle.wot_held.specs.Kept.{AreSortedByFpr, AreStamped}
+use Rattle.wot_keyring_spec.specs.Keyring.{Entries, is_fpr}
+use Rattle.wot_keyring_spec.specs.Kept.{AreSortedByFpr, AreStamped}
 use Rattle.wot_index.specs.Log.{Logged, AreRising, IsLogOf, LogsAt, RestampsThese, is_logged_at, is_named_in}
-use Rattle.wot_held.specs.Verdict.{has_number, restamped, restamped_all}
+use Rattle.wot_keyring_spec.specs.Verdict.{has_number, restamped, restamped_all}
 use Rattle.wot_index.proofs.Noted.{found_without}
-use Rattle.wot_held.proofs.Stamps.{stamp_found}
+use Rattle.wot_keyring_spec.proofs.Stamps.{stamp_found}
 
 same_number : (n : ℕ) → nat_eq n n ≡ true
 same_number n = grind (arith, nat_tests)

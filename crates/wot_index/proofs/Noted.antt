@@ -16,12 +16,12 @@ use Rattle.wot_types.specs.Fpr.{fpr_cmp}
 use Rattle.wot_types.specs.FprLaws.{fpr_total, same_fpr-true, same_fpr-refl}
 use Rattle.wot_verdict.specs.Verdicts.{Holders, holder_at}
 use Rattle.wot_index.specs.declared.index.Index.{Index}
-use Rattle.wot_held.specs.declared.kept.Kept.{Kept}
+use Rattle.wot_keyring_spec.specs.declared.kept.Kept.{Kept}
 use Rattle.wot_index.specs.Index.{holder_of, is_holder, stands_at, unless, IsIndexOf}
-use Rattle.wot_held.specs.Keyring.{Entries, is_fpr}
-use Rattle.wot_held.specs.Kept.{AreSortedByFpr}
-use Rattle.wot_held.specs.Verdict.{has_number, restamped, restamped_all}
-use Rattle.wot_held.proofs.Inserts.{found_each}
+use Rattle.wot_keyring_spec.specs.Keyring.{Entries, is_fpr}
+use Rattle.wot_keyring_spec.specs.Kept.{AreSortedByFpr}
+use Rattle.wot_keyring_spec.specs.Verdict.{has_number, restamped, restamped_all}
+use Rattle.wot_keyring_spec.proofs.Inserts.{found_each}
 
 -- whether the certificate that was found has a signature of this number
 abbrev on_found : SigNumber → Option Kept → Bool

@@ -5,9 +5,9 @@ use Rattle.std.specs.List.{AllByRecursion, slice_index_or}
 use Rattle.std.specs.List.Sorted.{IsPartitionedBy}
 use Rattle.std.proofs.lemmas.Bool.Decides.{nat_tests}
 use Rattle.wot_types.specs.declared.fpr.Fpr.{Fpr}
-use Rattle.wot_held.specs.declared.kept.Kept.{Kept}
+use Rattle.wot_keyring_spec.specs.declared.kept.Kept.{Kept}
 use Rattle.wot_index.specs.declared.log.Log.{Log}
-use Rattle.wot_held.specs.Keyring.{Keyring, is_fpr, kept_at}
+use Rattle.wot_keyring_spec.specs.Keyring.{Keyring, is_fpr, kept_at}
 use Rattle.wot_index.specs.Log.{Logged, AreRising, IsLogOf, HasChangedSince, is_listed, is_logged_at}
 use Rattle.wot_index.proofs.Later.{stamp_by}
 

@@ -5,10 +5,10 @@ use Rattle.std.specs.List.{AllByRecursion, list_any}
 use Rattle.std.specs.Map.{lookup}
 use Rattle.wot_types.specs.declared.fpr.Fpr.{Fpr}
 use Rattle.wot_key.specs.Key.{fpr_of}
-use Rattle.wot_part.specs.Certificate.{Certificate}
-use Rattle.wot_held.specs.declared.kept.Kept.{Kept}
+use Rattle.wot_component.specs.Certificate.{Certificate}
+use Rattle.wot_keyring_spec.specs.declared.kept.Kept.{Kept}
 use Rattle.wot_index.specs.declared.log.Log.{Log}
-use Rattle.wot_held.specs.Keyring.{Entries, Keyring, is_fpr, stamp_at}
+use Rattle.wot_keyring_spec.specs.Keyring.{Entries, Keyring, is_fpr, stamp_at}
 
 abbrev pub Logged : Type 0
 Logged = List (ℕ × Fpr)

@@ -2,7 +2,7 @@
 //! wot_verdict, and visits the places that `noting` visits: change both together. The verdicts stay. Nothing here
 //! allocates.
 ghost use Rattle.wot_index.specs.Index.{Forgets, SaysSame};
-ghost use Rattle.wot_held.specs.Verdict.{is_among, is_on, has_number};
+ghost use Rattle.wot_keyring_spec.specs.Verdict.{is_among, is_on, has_number};
 ghost use Rattle.wot_verdict.specs.Verdicts.{is_number};
 
 use wot_cert::{Cert, Part, Sig};

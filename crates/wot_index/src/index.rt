@@ -6,7 +6,7 @@ ghost use Rattle.std.specs.Prelude.{None};
 ghost use Rattle.wot_types.specs.declared.fpr.Fpr.{Fpr as TheFpr};
 ghost use Rattle.wot_types.specs.declared.number.SigNumber.{SigNumber as TheNumber};
 ghost use Rattle.wot_verdict.specs.Verdicts.{is_number};
-ghost use Rattle.wot_held.specs.Keyring.{is_fpr};
+ghost use Rattle.wot_keyring_spec.specs.Keyring.{is_fpr};
 ghost use Rattle.wot_index.specs.Index.{holder_of, is_logged, Forgets, Notes, SaysSame, StillLogged};
 
 use crate::forgetting::forget;

@@ -4,7 +4,7 @@
 ghost use Rattle.std.specs.Prelude.{◌≡◌, ◌≤◌, ◌<◌, [], true, nat_lt, MatchBool, ℕ};
 ghost use Rattle.std.specs.Prelude.{vec_len, vec_capacity, ◌++◌, ◌∷◌};
 ghost use Rattle.wot_types.specs.declared.fpr.Fpr.{Fpr as TheFpr};
-ghost use Rattle.wot_held.specs.Keyring.{is_fpr};
+ghost use Rattle.wot_keyring_spec.specs.Keyring.{is_fpr};
 ghost use Rattle.wot_index.specs.Log.{is_listed, is_logged_at, is_named_in, AreRising, LogsAt};
 
 use std::alloc::Global;

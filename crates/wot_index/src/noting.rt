@@ -4,8 +4,8 @@ ghost use Rattle.std.specs.Prelude.{◌&&◌, OnOk, OnErr};
 ghost use Rattle.wot_types.specs.declared.fpr.Fpr.{Fpr as TheFpr};
 ghost use Rattle.wot_types.specs.declared.number.SigNumber.{SigNumber as TheNumber};
 ghost use Rattle.wot_index.specs.Index.{stands_among, stands_on, Notes, NotesNothing, SaysSame, StillLogged};
-ghost use Rattle.wot_held.specs.Keyring.{is_fpr};
-ghost use Rattle.wot_held.specs.Verdict.{is_among, is_on};
+ghost use Rattle.wot_keyring_spec.specs.Keyring.{is_fpr};
+ghost use Rattle.wot_keyring_spec.specs.Verdict.{is_among, is_on};
 
 use crate::index::{Index, forget_logged, note};
 use std::alloc::Global;

@@ -3,9 +3,9 @@
 //! it.
 ghost use Rattle.std.specs.Prelude.{◌≡◌, ◌≤◌};
 ghost use Rattle.wot_index.specs.Index.{IsIndexOf, RestampsAt, stands_at};
-ghost use Rattle.wot_held.specs.Kept.{AreSortedByFpr};
+ghost use Rattle.wot_keyring_spec.specs.Kept.{AreSortedByFpr};
 ghost use Rattle.wot_index.specs.Log.{LogsAt};
-ghost use Rattle.wot_held.specs.Verdict.{is_among, is_on, has_number, restamped, restamped_all};
+ghost use Rattle.wot_keyring_spec.specs.Verdict.{is_among, is_on, has_number, restamped, restamped_all};
 
 use crate::index::Index;
 use crate::log::{Log, begin_anew, log_at};
@@ -13,7 +13,7 @@ use std::alloc::Global;
 use std::cmp::Ordering;
 use std::collections::BTreeMap;
 use wot_cert::{Cert, Part, Sig};
-use wot_held::Kept;
+use wot_keyring_spec::Kept;
 use wot_types::{Fpr, SigNumber, compare_numbers};
 
 fn has_sig(sigs: &[Sig], number: &SigNumber) -> bool

@@ -3,16 +3,16 @@ use Rattle.std.proofs.Common.{◌≡◌, ◌≤◌, ◌+◌, inl, ℕ, false, if
 use Rattle.std.proofs.Common.{ap, ◌∙◌, subst}
 use Rattle.std.specs.List.{AllByRecursion}
 use Rattle.wot_policy.specs.declared.rows.PolicyRows.{PolicyRows}
-use Rattle.wot_part.specs.Certificate.{Certificate, unite}
-use Rattle.wot_part.specs.Counts.{items_of}
-use Rattle.wot_part.specs.Judged.{judged, sound_of}
-use Rattle.wot_part.specs.Whole.{IsCertificate}
+use Rattle.wot_component.specs.Certificate.{Certificate, unite}
+use Rattle.wot_component.specs.Counts.{items_of}
+use Rattle.wot_component.specs.Judged.{judged, sound_of}
+use Rattle.wot_component.specs.Whole.{IsCertificate}
 use Rattle.wot_merge.specs.declared.tally.Weight.{Weight}
-use Rattle.wot_held.specs.Import.{with_certs, holding, IsNext, IsOneChange}
-use Rattle.wot_held.specs.Importing.{MayUnite, asked_for}
-use Rattle.wot_held.specs.Later.{IsLater}
-use Rattle.wot_held.specs.Keyring.{Entries, Keyring, certificates_in}
-use Rattle.wot_held.specs.Kept.{AreSortedByFpr, IsKeyring, AreTotals}
+use Rattle.wot_keyring_spec.specs.Import.{with_certs, holding, IsNext, IsOneChange}
+use Rattle.wot_keyring_spec.specs.Importing.{MayUnite, asked_for}
+use Rattle.wot_keyring_spec.specs.Later.{IsLater}
+use Rattle.wot_keyring_spec.specs.Keyring.{Entries, Keyring, certificates_in}
+use Rattle.wot_keyring_spec.specs.Kept.{AreSortedByFpr, IsKeyring, AreTotals}
 use Rattle.wot_merge.specs.Staging.{kept_all, clash_in, weigh_kept, IsTally}
 use Rattle.wot_keyring.specs.Merging.{counted_as, AnswersCounting}
 use Rattle.wot_keyring.proofs.ImportEffects.{answered, held, changed_once, keyring_after, totals_after, asked_all}

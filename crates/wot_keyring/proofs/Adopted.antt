@@ -8,10 +8,10 @@ use Rattle.wot_types.specs.declared.fpr.Fpr.{Fpr}
 use Rattle.wot_types.specs.FprLaws.{same_fpr-refl}
 use Rattle.wot_key.specs.Key.{fpr_of}
 use Rattle.wot_policy.specs.declared.rows.PolicyRows.{PolicyRows}
-use Rattle.wot_part.specs.Certificate.{Certificate}
-use Rattle.wot_part.specs.Judged.{judged}
-use Rattle.wot_held.specs.declared.kept.Kept.{Kept}
-use Rattle.wot_held.specs.Keyring.{Entries, is_fpr}
+use Rattle.wot_component.specs.Certificate.{Certificate}
+use Rattle.wot_component.specs.Judged.{judged}
+use Rattle.wot_keyring_spec.specs.declared.kept.Kept.{Kept}
+use Rattle.wot_keyring_spec.specs.Keyring.{Entries, is_fpr}
 use Rattle.wot_index.specs.declared.index.Index.{Index}
 use Rattle.wot_index.specs.declared.log.Log.{Log}
 use Rattle.wot_index.specs.Index.{is_noted, stands_among, Notes}
@@ -19,7 +19,7 @@ use Rattle.wot_index.specs.Log.{is_named_in, LogsAt}
 use Rattle.wot_merge.specs.Staging.{found_for, kept_as, kept_with, clash_at, clash_in}
 use Rattle.wot_keyring.specs.declared.uniting.Merged.TheVariants.{New}
 use Rattle.wot_keyring.specs.Uniting.{certs_in, found_alone, NamesSame}
-use Rattle.wot_held.proofs.Inserts.{lookup_insert}
+use Rattle.wot_keyring_spec.proofs.Inserts.{lookup_insert}
 use Rattle.wot_index.proofs.Choices.{or_false}
 use Rattle.wot_keyring.proofs.Numbers.{judged_numbers}
 

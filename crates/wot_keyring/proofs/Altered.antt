@@ -18,14 +18,14 @@ use Rattle.wot_types.specs.declared.number.SigNumber.{SigNumber}
 use Rattle.wot_types.specs.SigNumber.{number_cmp}
 use Rattle.wot_verdict.specs.Verdicts as verdicts
 use Rattle.wot_verdict.specs.declared.verdict.Verdict.{Verdict}
-use Rattle.wot_part.specs.Certificate.{Certificate}
-use Rattle.wot_held.specs.declared.kept.Kept.{Kept}
-use Rattle.wot_held.specs.Held.{Held}
-use Rattle.wot_held.specs.Import.{IsAltered, IsOneChange, KeepsAll}
-use Rattle.wot_held.specs.Keyring.{Entries, Keyring, is_fpr, kept_at, verdict_on}
-use Rattle.wot_held.specs.Kept.{IsKeyring}
-use Rattle.wot_held.specs.Removal.{without_cert}
-use Rattle.wot_held.specs.Verdict.{counted_at, restamped, with_verdict_on, without_verdict_on}
+use Rattle.wot_component.specs.Certificate.{Certificate}
+use Rattle.wot_keyring_spec.specs.declared.kept.Kept.{Kept}
+use Rattle.wot_keyring_spec.specs.Held.{Held}
+use Rattle.wot_keyring_spec.specs.Import.{IsAltered, IsOneChange, KeepsAll}
+use Rattle.wot_keyring_spec.specs.Keyring.{Entries, Keyring, is_fpr, kept_at, verdict_on}
+use Rattle.wot_keyring_spec.specs.Kept.{IsKeyring}
+use Rattle.wot_keyring_spec.specs.Removal.{without_cert}
+use Rattle.wot_keyring_spec.specs.Verdict.{counted_at, restamped, with_verdict_on, without_verdict_on}
 use Rattle.wot_index.proofs.Later.{cleared_later, removed_later, set_later}
 
 -- ---- entries

@@ -3,18 +3,18 @@ use Rattle.std.proofs.Common.{◌≡◌, ℕ, ◌+◌, ◌*◌, ◌≤◌, List,
 use Rattle.std.proofs.lemmas.List.{length-map}
 use Rattle.wot_types.specs.declared.fpr.Fpr.{Fpr}
 use Rattle.wot_types.specs.declared.number.SigNumber.{SigNumber}
-use Rattle.wot_words.specs.StateLine.{most_octets, spelling}
-use Rattle.wot_words.specs.declared.state_line.StateLine.{StateLine}
+use Rattle.wot_fields.specs.StateLine.{most_octets, spelling}
+use Rattle.wot_fields.specs.declared.state_line.StateLine.{StateLine}
 use Rattle.wot_verdict.specs.declared.verdict.Verdict.{Verdict}
 use Rattle.wot_verdict.specs.declared.verdict.Verdict.TheVariants.{Good, Bad}
-use Rattle.wot_part.specs.Certificate.{Certificate}
-use Rattle.wot_part.specs.Counts.{sum_of}
-use Rattle.wot_part.specs.Text.{size_of}
-use Rattle.wot_held.specs.declared.kept.Kept.{Kept}
-use Rattle.wot_held.specs.Keyring.{Certificates, Keyring, certificates_in}
-use Rattle.wot_held.specs.Held.{held_of}
-use Rattle.wot_held.specs.Import.{weigh}
-use Rattle.wot_held.specs.Kept.{IsKeyring}
+use Rattle.wot_component.specs.Certificate.{Certificate}
+use Rattle.wot_component.specs.Counts.{sum_of}
+use Rattle.wot_component.specs.Text.{size_of}
+use Rattle.wot_keyring_spec.specs.declared.kept.Kept.{Kept}
+use Rattle.wot_keyring_spec.specs.Keyring.{Certificates, Keyring, certificates_in}
+use Rattle.wot_keyring_spec.specs.Held.{held_of}
+use Rattle.wot_keyring_spec.specs.Import.{weigh}
+use Rattle.wot_keyring_spec.specs.Kept.{IsKeyring}
 use Rattle.wot_keyring.specs.Dump.{AreLines, command_line_of, commands_of, import_of, lines_of, most_dumped, setting}
 use Rattle.wot_keyring.specs.Dump.{setting_of}
 

@@ -11,12 +11,12 @@ use Rattle.wot_verdict.specs.Verdicts as verdicts
 use Rattle.wot_verdict.specs.Verdicts.{verdict_at, with_verdict, without_verdict}
 use Rattle.wot_verdict.specs.declared.verdict.Verdict.{Verdict}
 use Rattle.wot_verdict.specs.declared.verdict.Verdict.TheVariants.{Good, Bad}
-use Rattle.wot_part.specs.Certificate.{Certificate}
-use Rattle.wot_held.specs.Keyring.{Entries, Keyring, Certificates, is_fpr, certificates_in, stripped, verdict_on}
-use Rattle.wot_held.specs.Held.{Held, held_of, is_said, is_verdict, verdict_set, removing, verdict_cleared}
-use Rattle.wot_held.specs.Import.{imported, importing, spelled_in, stamped, with_united}
-use Rattle.wot_held.specs.Removal.{without_cert}
-use Rattle.wot_held.specs.Verdict.{counted_at, with_verdict_on, without_verdict_on}
+use Rattle.wot_component.specs.Certificate.{Certificate}
+use Rattle.wot_keyring_spec.specs.Keyring.{Entries, Keyring, Certificates, is_fpr, certificates_in, stripped, verdict_on}
+use Rattle.wot_keyring_spec.specs.Held.{Held, held_of, is_said, is_verdict, verdict_set, removing, verdict_cleared}
+use Rattle.wot_keyring_spec.specs.Import.{imported, importing, spelled_in, stamped, with_united}
+use Rattle.wot_keyring_spec.specs.Removal.{without_cert}
+use Rattle.wot_keyring_spec.specs.Verdict.{counted_at, with_verdict_on, without_verdict_on}
 use Rattle.wot_keyring.proofs.InvariantKept.{restamped_same}
 
 -- ---- certificates

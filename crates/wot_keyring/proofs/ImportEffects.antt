@@ -8,28 +8,28 @@ use Rattle.std.proofs.lemmas.Bool.Decides.{nat_tests}
 use Rattle.wot_key.specs.Key.{fpr_of}
 use Rattle.wot_policy.specs.declared.rows.PolicyRows.{PolicyRows}
 use Rattle.wot_types.specs.declared.limits.Limit.{Limit}
-use Rattle.wot_part.specs.Certificate.{Certificate, unite}
-use Rattle.wot_part.specs.Counts.{items_of, signatures_of}
-use Rattle.wot_part.specs.Judged.{judged, sound_of}
-use Rattle.wot_part.specs.Text.{size_of}
-use Rattle.wot_part.specs.Whole.{IsCertificate}
-use Rattle.wot_held.specs.declared.imported.Imported.{Imported}
-use Rattle.wot_held.specs.declared.kept.Kept.{Kept}
-use Rattle.wot_held.specs.declared.refusal.Refusal.TheVariants.{Clash, Full}
+use Rattle.wot_component.specs.Certificate.{Certificate, unite}
+use Rattle.wot_component.specs.Counts.{items_of, signatures_of}
+use Rattle.wot_component.specs.Judged.{judged, sound_of}
+use Rattle.wot_component.specs.Text.{size_of}
+use Rattle.wot_component.specs.Whole.{IsCertificate}
+use Rattle.wot_keyring_spec.specs.declared.imported.Imported.{Imported}
+use Rattle.wot_keyring_spec.specs.declared.kept.Kept.{Kept}
+use Rattle.wot_keyring_spec.specs.declared.refusal.Refusal.TheVariants.{Clash, Full}
 use Rattle.wot_merge.specs.declared.tally.Weight.{Weight}
-use Rattle.wot_held.specs.Import.{weigh, with_certs, fresh_in, holding, answer_united, first_full, IsOneChange}
-use Rattle.wot_held.specs.Import.{KeepsAll, ◌>>◌, refuse_if}
-use Rattle.wot_held.specs.Held.{Held, held_of}
-use Rattle.wot_held.specs.Importing.{MayUnite}
-use Rattle.wot_held.specs.Keyring.{Entries, Keyring, certificates_in, is_fpr, stripped}
-use Rattle.wot_held.specs.Later.{IsLater}
-use Rattle.wot_held.specs.Kept.{AreNamed, AreWhole, AreSortedByFpr, AreSized, AreStamped, IsKeyring, AreTotals}
+use Rattle.wot_keyring_spec.specs.Import.{weigh, with_certs, fresh_in, holding, answer_united, first_full, IsOneChange}
+use Rattle.wot_keyring_spec.specs.Import.{KeepsAll, ◌>>◌, refuse_if}
+use Rattle.wot_keyring_spec.specs.Held.{Held, held_of}
+use Rattle.wot_keyring_spec.specs.Importing.{MayUnite}
+use Rattle.wot_keyring_spec.specs.Keyring.{Entries, Keyring, certificates_in, is_fpr, stripped}
+use Rattle.wot_keyring_spec.specs.Later.{IsLater}
+use Rattle.wot_keyring_spec.specs.Kept.{AreNamed, AreWhole, AreSortedByFpr, AreSized, AreStamped, IsKeyring, AreTotals}
 use Rattle.wot_merge.specs.Staging.{found_for, kept_as, kept_with, kept_all, clash_at, clash_in, weigh_kept, long_of}
 use Rattle.wot_merge.specs.Staging.{IsTally}
 use Rattle.wot_merge.proofs.Clashes.{keys_same}
-use Rattle.wot_held.proofs.Inserts.{put_at, found_at}
+use Rattle.wot_keyring_spec.proofs.Inserts.{put_at, found_at}
 use Rattle.wot_keyring.proofs.Marks.{kept_present, stamped_all, stamped_after}
-use Rattle.wot_held.proofs.Stamps.{still_stamped}
+use Rattle.wot_keyring_spec.proofs.Stamps.{still_stamped}
 use Rattle.wot_merge.proofs.Transport.{certs_all, seen_weighs, seen_length}
 use Rattle.wot_merge.proofs.Unchanged.{all_same}
 use Rattle.wot_merge.proofs.Within.{full_is, Fits, fits_of, all_sized}

@@ -10,18 +10,18 @@ use Rattle.wot_types.specs.declared.fpr.Fpr.{Fpr}
 use Rattle.wot_types.specs.FprLaws.{same_fpr-true, same_fpr-sym}
 use Rattle.wot_key.specs.Key.{fpr_of}
 use Rattle.wot_policy.specs.declared.rows.PolicyRows.{PolicyRows}
-use Rattle.wot_part.specs.Certificate.{Certificate, unite}
-use Rattle.wot_part.specs.Counts.{items_of, all_sigs}
+use Rattle.wot_component.specs.Certificate.{Certificate, unite}
+use Rattle.wot_component.specs.Counts.{items_of, all_sigs}
 use Rattle.wot_verdict.specs.Verdicts as verdicts
-use Rattle.wot_part.specs.Judged.{judged}
-use Rattle.wot_held.specs.declared.kept.Kept.{Kept}
-use Rattle.wot_held.specs.Keyring.{Entries, Keyring, is_fpr, kept_at}
-use Rattle.wot_held.specs.Kept.{IsKeyring}
-use Rattle.wot_held.specs.Later.{SaysSame, IsLaterAt, IsLater}
+use Rattle.wot_component.specs.Judged.{judged}
+use Rattle.wot_keyring_spec.specs.declared.kept.Kept.{Kept}
+use Rattle.wot_keyring_spec.specs.Keyring.{Entries, Keyring, is_fpr, kept_at}
+use Rattle.wot_keyring_spec.specs.Kept.{IsKeyring}
+use Rattle.wot_keyring_spec.specs.Later.{SaysSame, IsLaterAt, IsLater}
 use Rattle.wot_index.specs.declared.log.Log.{Log}
 use Rattle.wot_index.specs.Log.{is_named_in, IsLogOf, LogsAt, RestampsThese}
 use Rattle.wot_merge.specs.Staging.{found_for, kept_as, kept_with, kept_all, weigh_kept}
-use Rattle.wot_held.proofs.Inserts.{lookup_insert}
+use Rattle.wot_keyring_spec.proofs.Inserts.{lookup_insert}
 use Rattle.wot_index.proofs.Later.{above, stamp_by, says_same}
 use Rattle.wot_index.proofs.Logged.{one_on, logged_on, logged_again}
 use Rattle.wot_merge.proofs.Unchanged.{kept_same, all_same}

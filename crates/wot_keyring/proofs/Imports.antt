@@ -4,13 +4,13 @@ use Rattle.std.specs.Fn.{Shared}
 use Rattle.wot_policy.specs.declared.policy.Policy.{Policy}
 use Rattle.wot_policy.specs.declared.rows.Ask.{Ask}
 use Rattle.wot_policy.specs.Kept.{IsFaithful, asked_more, rows_of}
-use Rattle.wot_held.specs.declared.refusal.Refusal.{Refusal}
-use Rattle.wot_held.specs.declared.refusal.Refusal.TheVariants.{Packet, Cert, Clash, Full, Misfiled, Memory}
-use Rattle.wot_held.specs.Import.{Asked, IsAskedAbout, IsNext}
-use Rattle.wot_held.specs.Judging.{IsJudging, StaysJudging}
-use Rattle.wot_held.specs.Keyring.{Keyring}
-use Rattle.wot_held.specs.Kept.{IsJudgedBy}
-use Rattle.wot_part.proofs.PolicyAsked.{not_asked}
+use Rattle.wot_keyring_spec.specs.declared.refusal.Refusal.{Refusal}
+use Rattle.wot_keyring_spec.specs.declared.refusal.Refusal.TheVariants.{Packet, Cert, Clash, Full, Misfiled, Memory}
+use Rattle.wot_keyring_spec.specs.Import.{Asked, IsAskedAbout, IsNext}
+use Rattle.wot_keyring_spec.specs.Judging.{IsJudging, StaysJudging}
+use Rattle.wot_keyring_spec.specs.Keyring.{Keyring}
+use Rattle.wot_keyring_spec.specs.Kept.{IsJudgedBy}
+use Rattle.wot_component.proofs.PolicyAsked.{not_asked}
 use Rattle.wot_index.proofs.Later.{later_itself}
 
 -- nothing was read

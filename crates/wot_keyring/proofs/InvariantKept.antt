@@ -17,17 +17,17 @@ use Rattle.wot_types.specs.SigNumber.{number_cmp}
 use Rattle.wot_key.specs.Key.{fpr_of}
 use Rattle.wot_verdict.specs.Verdicts as verdicts
 use Rattle.wot_verdict.specs.declared.verdict.Verdict as verdict
-use Rattle.wot_part.specs.Certificate.{Certificate}
-use Rattle.wot_part.specs.Counts.{signatures_of}
-use Rattle.wot_part.specs.Text.{size_of}
-use Rattle.wot_part.specs.Whole.{IsCertificate}
-use Rattle.wot_held.specs.declared.kept.Kept.{Kept}
-use Rattle.wot_held.specs.Import.{weigh}
-use Rattle.wot_held.specs.Keyring.{Entries, Keyring, Certificates, is_fpr, stripped}
-use Rattle.wot_held.specs.Kept.{AreSortedByFpr, IsKeyring, AreTotals}
-use Rattle.wot_held.specs.Removal.{without_cert}
-use Rattle.wot_held.specs.Verdict.{restamped, restamped_all, counted_at, is_over}
-use Rattle.wot_held.proofs.Stamps.{removed_stamped, restamped_stamped}
+use Rattle.wot_component.specs.Certificate.{Certificate}
+use Rattle.wot_component.specs.Counts.{signatures_of}
+use Rattle.wot_component.specs.Text.{size_of}
+use Rattle.wot_component.specs.Whole.{IsCertificate}
+use Rattle.wot_keyring_spec.specs.declared.kept.Kept.{Kept}
+use Rattle.wot_keyring_spec.specs.Import.{weigh}
+use Rattle.wot_keyring_spec.specs.Keyring.{Entries, Keyring, Certificates, is_fpr, stripped}
+use Rattle.wot_keyring_spec.specs.Kept.{AreSortedByFpr, IsKeyring, AreTotals}
+use Rattle.wot_keyring_spec.specs.Removal.{without_cert}
+use Rattle.wot_keyring_spec.specs.Verdict.{restamped, restamped_all, counted_at, is_over}
+use Rattle.wot_keyring_spec.proofs.Stamps.{removed_stamped, restamped_stamped}
 use Rattle.wot_merge.proofs.TotalWeight.{removed_fewer, insert_weighs, found_weight, ones}
 
 -- ---- a certificate removed

@@ -4,9 +4,9 @@ use Rattle.std.specs.Map.{remove_entry}
 use Rattle.wot_types.specs.declared.fpr.Fpr.{Fpr}
 use Rattle.wot_types.specs.declared.number.SigNumber.{SigNumber}
 use Rattle.wot_policy.specs.declared.rows.PolicyRows.{PolicyRows}
-use Rattle.wot_held.specs.Keyring.{Entries}
-use Rattle.wot_held.specs.Kept.{AreJudged}
-use Rattle.wot_held.specs.Verdict.{restamped_all}
+use Rattle.wot_keyring_spec.specs.Keyring.{Entries}
+use Rattle.wot_keyring_spec.specs.Kept.{AreJudged}
+use Rattle.wot_keyring_spec.specs.Verdict.{restamped_all}
 
 pub removed_judged : (rows : PolicyRows) (test : Fpr → Bool) (es : Entries) → AreJudged rows es →
     AreJudged rows (remove_entry test es)

@@ -3,16 +3,16 @@ use Rattle.std.proofs.Common.{◌≡◌, ℕ, ◌≤◌, List, [], ◌∷◌, �
 use Rattle.std.specs.List.{AllByRecursion}
 use Rattle.std.proofs.lemmas.Grind.{flat_map-append}
 use Rattle.std.proofs.lemmas.List.{append-nil}
-use Rattle.wot_words.specs.StateLine.{IsPrinted, most_octets}
-use Rattle.wot_words.specs.declared.state_line.StateLine.{StateLine}
+use Rattle.wot_fields.specs.StateLine.{IsPrinted, most_octets}
+use Rattle.wot_fields.specs.declared.state_line.StateLine.{StateLine}
 use Rattle.wot_types.specs.declared.fpr.Fpr.{Fpr}
 use Rattle.wot_verdict.specs.Verdicts as verdicts
-use Rattle.wot_part.specs.Certificate.{Certificate}
-use Rattle.wot_part.specs.Text.{size_of}
-use Rattle.wot_held.specs.declared.kept.Kept.{Kept}
-use Rattle.wot_held.specs.Keyring.{Entries, Keyring, stripped}
-use Rattle.wot_held.specs.Held.{held_of}
-use Rattle.wot_held.specs.Kept.{AreSized}
+use Rattle.wot_component.specs.Certificate.{Certificate}
+use Rattle.wot_component.specs.Text.{size_of}
+use Rattle.wot_keyring_spec.specs.declared.kept.Kept.{Kept}
+use Rattle.wot_keyring_spec.specs.Keyring.{Entries, Keyring, stripped}
+use Rattle.wot_keyring_spec.specs.Held.{held_of}
+use Rattle.wot_keyring_spec.specs.Kept.{AreSized}
 use Rattle.wot_keyring.specs.Dump.{AreLines, IsLine, commands_of, import_of, command_line_of, lines_of, setting_of}
 use Rattle.wot_keyring.specs.Dump.{text_import}
 

@@ -8,15 +8,15 @@ use Rattle.wot_types.specs.declared.fpr.Fpr.{Fpr}
 use Rattle.wot_types.specs.PlainLaws.{all_then}
 use Rattle.wot_key.specs.Key.{fpr_of}
 use Rattle.wot_policy.specs.declared.rows.PolicyRows.{PolicyRows}
-use Rattle.wot_part.specs.Certificate.{Certificate, unite}
-use Rattle.wot_part.specs.Counts.{items_of}
-use Rattle.wot_part.specs.Judged.{judged}
-use Rattle.wot_held.specs.declared.kept.Kept.{Kept}
-use Rattle.wot_held.specs.Import.{stamp_for, stamped, with_certs}
-use Rattle.wot_held.specs.Keyring.{Entries, Keyring, is_fpr, kept_at, certificates_in, stripped}
-use Rattle.wot_held.specs.Kept.{AreSortedByFpr, AreStamped}
+use Rattle.wot_component.specs.Certificate.{Certificate, unite}
+use Rattle.wot_component.specs.Counts.{items_of}
+use Rattle.wot_component.specs.Judged.{judged}
+use Rattle.wot_keyring_spec.specs.declared.kept.Kept.{Kept}
+use Rattle.wot_keyring_spec.specs.Import.{stamp_for, stamped, with_certs}
+use Rattle.wot_keyring_spec.specs.Keyring.{Entries, Keyring, is_fpr, kept_at, certificates_in, stripped}
+use Rattle.wot_keyring_spec.specs.Kept.{AreSortedByFpr, AreStamped}
 use Rattle.wot_merge.specs.Staging.{found_for, found_by, kept_as, kept_with, kept_all}
-use Rattle.wot_held.proofs.Inserts.{put_at, found_at, found_each, still_present}
+use Rattle.wot_keyring_spec.proofs.Inserts.{put_at, found_at, found_each, still_present}
 use Rattle.wot_merge.proofs.Transport.{certs_all}
 use Rattle.wot_merge.proofs.Unchanged.{not_below}
 

@@ -9,13 +9,13 @@ use Rattle.wot_types.specs.declared.number.SigNumber.{SigNumber}
 use Rattle.wot_verdict.specs.Number.{number_of}
 use Rattle.wot_verdict.specs.Verdicts.{is_number}
 use Rattle.wot_policy.specs.declared.rows.PolicyRows.{PolicyRows}
-use Rattle.wot_part.specs.Ranked.{placed, put, united}
-use Rattle.wot_part.specs.Certificate.{Signature, Component, Certificate, sig_cmp, part_cmp, kept, unite, unite_sigs}
-use Rattle.wot_part.specs.Certificate.{unite_part, unite_parts, part_with}
-use Rattle.wot_part.specs.Counts.{sigs_on}
-use Rattle.wot_part.specs.Judged.{judged, judged_sig}
-use Rattle.wot_part.specs.Whole.{IsCertificate, IsSigAt, IsPartOf}
-use Rattle.wot_held.specs.Verdict.{is_among, has_number}
+use Rattle.wot_component.specs.Ranked.{placed, put, united}
+use Rattle.wot_component.specs.Certificate.{Signature, Component, Certificate, sig_cmp, part_cmp, kept, unite, unite_sigs}
+use Rattle.wot_component.specs.Certificate.{unite_part, unite_parts, part_with}
+use Rattle.wot_component.specs.Counts.{sigs_on}
+use Rattle.wot_component.specs.Judged.{judged, judged_sig}
+use Rattle.wot_component.specs.Whole.{IsCertificate, IsSigAt, IsPartOf}
+use Rattle.wot_keyring_spec.specs.Verdict.{is_among, has_number}
 use Rattle.wot_index.proofs.Choices.{or_false, or_itself, or_more, or_passed, or_crossed}
 
 -- ---- sets in the order of a rank

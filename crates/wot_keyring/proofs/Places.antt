@@ -4,9 +4,9 @@ use Rattle.std.specs.Map.{lookup}
 use Rattle.wot_types.specs.declared.fpr.Fpr.{Fpr}
 use Rattle.wot_types.specs.FprLaws.{same_fpr-true}
 use Rattle.wot_key.specs.Key.{fpr_of}
-use Rattle.wot_held.specs.declared.kept.Kept.{Kept}
-use Rattle.wot_held.specs.Keyring.{Entries, is_fpr}
-use Rattle.wot_held.specs.Kept.{AreNamed}
+use Rattle.wot_keyring_spec.specs.declared.kept.Kept.{Kept}
+use Rattle.wot_keyring_spec.specs.Keyring.{Entries, is_fpr}
+use Rattle.wot_keyring_spec.specs.Kept.{AreNamed}
 
 -- what is found is under the fingerprint of its key
 pub found_named : (fpr : Fpr) (es : Entries) (kept : Kept) → AreNamed es → lookup (is_fpr fpr) es ≡ Some kept →

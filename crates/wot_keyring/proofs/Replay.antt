@@ -26,31 +26,31 @@ use Rattle.wot_packet.specs.Spelling.{Spelled}
 use Rattle.wot_packet.specs.Reading.{packets_of}
 use Rattle.wot_packet.specs.declared.packet.PacketFault.{PacketFault}
 use Rattle.wot_policy.specs.declared.rows.PolicyRows.{PolicyRows}
-use Rattle.wot_words.specs.declared.state_line.StateLine.{StateLine}
-use Rattle.wot_words.specs.declared.state_line.StateLine.TheVariants as lines
+use Rattle.wot_fields.specs.declared.state_line.StateLine.{StateLine}
+use Rattle.wot_fields.specs.declared.state_line.StateLine.TheVariants as lines
 use Rattle.wot_verdict.specs.declared.verdict.Verdict.{Verdict}
 use Rattle.wot_verdict.specs.declared.verdict.Verdict.TheVariants.{Good, Bad}
 use Rattle.wot_verdict.specs.Verdicts as verdicts
 use Rattle.wot_verdict.specs.Verdicts.{AreSortedByNumber, with_verdict}
 use Rattle.wot_cert.specs.Assembly.{certificates_of, skipped_in}
-use Rattle.wot_part.specs.Certificate.{Certificate, unmarked}
-use Rattle.wot_part.specs.Counts.{signatures_of}
+use Rattle.wot_component.specs.Certificate.{Certificate, unmarked}
+use Rattle.wot_component.specs.Counts.{signatures_of}
 use Rattle.wot_cert.specs.declared.fault.CertFault.{CertFault}
 use Rattle.wot_cert.specs.Fault.{first_fault}
-use Rattle.wot_part.specs.Judged.{judged}
+use Rattle.wot_component.specs.Judged.{judged}
 use Rattle.wot_cert.specs.ReadBack.{ReadBack}
-use Rattle.wot_part.specs.Text.{size_of, text_of}
-use Rattle.wot_part.specs.Whole.{IsCertificate}
-use Rattle.wot_held.specs.declared.imported.Imported.{Imported}
-use Rattle.wot_held.specs.declared.kept.Kept.{Kept}
-use Rattle.wot_held.specs.declared.refusal.Refusal.TheVariants.{Clash, Cert, Full}
-use Rattle.wot_held.specs.Keyring.{Keyring, Entries, Certificates, is_fpr, stripped}
-use Rattle.wot_held.specs.Import.{answer_to, answer_united, any_clash, clash, first_full, fresh_in, has_greater}
-use Rattle.wot_held.specs.Import.{of_packets, merged_into, united_in, weigh, with_cert, with_certs, ◌>>=◌, ◌>>◌}
-use Rattle.wot_held.specs.Import.{refuse_if, packets_or_refusal}
-use Rattle.wot_held.specs.Verdict.{is_over}
-use Rattle.wot_held.specs.Kept.{AreSortedByFpr, AreNamed, IsNamed, AreSized, AreWhole, IsKeyring}
-use Rattle.wot_held.specs.Held.{Held, nothing, is_verdict, verdict_set}
+use Rattle.wot_component.specs.Text.{size_of, text_of}
+use Rattle.wot_component.specs.Whole.{IsCertificate}
+use Rattle.wot_keyring_spec.specs.declared.imported.Imported.{Imported}
+use Rattle.wot_keyring_spec.specs.declared.kept.Kept.{Kept}
+use Rattle.wot_keyring_spec.specs.declared.refusal.Refusal.TheVariants.{Clash, Cert, Full}
+use Rattle.wot_keyring_spec.specs.Keyring.{Keyring, Entries, Certificates, is_fpr, stripped}
+use Rattle.wot_keyring_spec.specs.Import.{answer_to, answer_united, any_clash, clash, first_full, fresh_in, has_greater}
+use Rattle.wot_keyring_spec.specs.Import.{of_packets, merged_into, united_in, weigh, with_cert, with_certs, ◌>>=◌, ◌>>◌}
+use Rattle.wot_keyring_spec.specs.Import.{refuse_if, packets_or_refusal}
+use Rattle.wot_keyring_spec.specs.Verdict.{is_over}
+use Rattle.wot_keyring_spec.specs.Kept.{AreSortedByFpr, AreNamed, IsNamed, AreSized, AreWhole, IsKeyring}
+use Rattle.wot_keyring_spec.specs.Held.{Held, nothing, is_verdict, verdict_set}
 use Rattle.wot_keyring.specs.Dump.{after, after_all, import_of, judged_anew, setting, setting_of, text_import}
 use Rattle.wot_keyring.specs.Dump.{unless_over, unless_refused, IsRestored}
 use Rattle.wot_keyring.specs.Behind.{AreBelow, all_at, below_next, none_before, put_behind}

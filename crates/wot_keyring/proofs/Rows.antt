@@ -3,10 +3,10 @@ use Rattle.std.proofs.Common.{◌≡◌, ◌∷◌, [], refl, List, ℕ, Err}
 use Rattle.wot_packet.specs.declared.packet.Why.TheVariants.{NotAPacket, CutLength, CutBody, Partial, Indeterminate}
 use Rattle.wot_policy.specs.declared.rows.PolicyRows.{PolicyRows}
 use Rattle.wot_cert.specs.declared.fault.CertFault.TheVariants.{Compressed, Secret, Kind, Order, Empty}
-use Rattle.wot_held.specs.declared.refusal.Refusal.TheVariants.{Packet, Cert}
+use Rattle.wot_keyring_spec.specs.declared.refusal.Refusal.TheVariants.{Packet, Cert}
 use Rattle.wot_types.specs.declared.limits.Limits.{Limits}
-use Rattle.wot_held.specs.Keyring.{Certificates}
-use Rattle.wot_held.specs.Import.{answer_to}
+use Rattle.wot_keyring_spec.specs.Keyring.{Certificates}
+use Rattle.wot_keyring_spec.specs.Import.{answer_to}
 
 module _ (rows : PolicyRows) (limits : Limits) (certs : Certificates) where
   cut_body : answer_to rows limits certs (198 ∷ 7 ∷ 4 ∷ 0 ∷ 0 ∷ 3 ∷ 232 ∷ 27 ∷ []) ≡ Err

@@ -7,20 +7,20 @@ use Rattle.std.proofs.lemmas.Map.Made.{lookup-map_values}
 use Rattle.wot_key.specs.Key.{fpr_of}
 use Rattle.wot_policy.specs.declared.rows.PolicyRows.{PolicyRows}
 use Rattle.wot_types.specs.declared.limits.Limit.{Limit}
-use Rattle.wot_part.specs.Certificate.{Certificate}
-use Rattle.wot_held.specs.declared.imported.Imported.{Imported}
-use Rattle.wot_held.specs.declared.kept.Kept.{Kept}
-use Rattle.wot_held.specs.declared.refusal.Refusal.{Refusal}
-use Rattle.wot_held.specs.declared.refusal.Refusal.TheVariants.{Packet, Cert, Clash, Full, Misfiled, Memory}
+use Rattle.wot_component.specs.Certificate.{Certificate}
+use Rattle.wot_keyring_spec.specs.declared.imported.Imported.{Imported}
+use Rattle.wot_keyring_spec.specs.declared.kept.Kept.{Kept}
+use Rattle.wot_keyring_spec.specs.declared.refusal.Refusal.{Refusal}
+use Rattle.wot_keyring_spec.specs.declared.refusal.Refusal.TheVariants.{Packet, Cert, Clash, Full, Misfiled, Memory}
 use Rattle.wot_merge.specs.declared.staging.Fault.{Fault}
 use Rattle.wot_merge.specs.declared.staging.Fault.TheVariants as faults
 use Rattle.wot_merge.specs.Gather.{clashes_with, taken_all, AreAllWhole, DoTheSame, ComeToNothing, IsNothingTold}
-use Rattle.wot_part.specs.Judged.{sound_of}
-use Rattle.wot_held.specs.Import.{any_clash, weigh, with_cert, with_certs, first_full, fresh_in, holding, answer_united}
-use Rattle.wot_held.specs.Import.{◌>>◌, refuse_if}
-use Rattle.wot_held.specs.Importing.{alone, TellsUnion, AnswersUnited, asked_for}
-use Rattle.wot_held.specs.Keyring.{Entries, Certificates, Keyring, is_fpr, stripped, certificates_in}
-use Rattle.wot_held.specs.Kept.{AreWhole, IsKeyring}
+use Rattle.wot_component.specs.Judged.{sound_of}
+use Rattle.wot_keyring_spec.specs.Import.{any_clash, weigh, with_cert, with_certs, first_full, fresh_in, holding, answer_united}
+use Rattle.wot_keyring_spec.specs.Import.{◌>>◌, refuse_if}
+use Rattle.wot_keyring_spec.specs.Importing.{alone, TellsUnion, AnswersUnited, asked_for}
+use Rattle.wot_keyring_spec.specs.Keyring.{Entries, Certificates, Keyring, is_fpr, stripped, certificates_in}
+use Rattle.wot_keyring_spec.specs.Kept.{AreWhole, IsKeyring}
 use Rattle.wot_merge.specs.Staging.{found_for, kept_with, clash_at, clash_in}
 use Rattle.wot_keyring.specs.Merging.{counted_as, refused, AnswersCounting}
 use Rattle.wot_merge.proofs.Clashes.{clashes_told}

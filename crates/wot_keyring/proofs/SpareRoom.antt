@@ -8,16 +8,16 @@ use Rattle.wot_types.specs.declared.limits.Limits.{Limits}
 use Rattle.wot_types.specs.declared.limits.Limit.TheVariants as limits
 use Rattle.wot_key.specs.Key.{fpr_of}
 use Rattle.wot_policy.specs.declared.rows.PolicyRows.{PolicyRows}
-use Rattle.wot_part.specs.Certificate.{Certificate, unite}
-use Rattle.wot_part.specs.Counts.{signatures_of}
-use Rattle.wot_part.specs.Judged.{judged}
-use Rattle.wot_part.specs.Text.{size_of, text_of}
-use Rattle.wot_held.specs.declared.kept.Kept.{Kept}
+use Rattle.wot_component.specs.Certificate.{Certificate, unite}
+use Rattle.wot_component.specs.Counts.{signatures_of}
+use Rattle.wot_component.specs.Judged.{judged}
+use Rattle.wot_component.specs.Text.{size_of, text_of}
+use Rattle.wot_keyring_spec.specs.declared.kept.Kept.{Kept}
 use Rattle.wot_merge.specs.declared.tally.Weight.{Weight}
-use Rattle.wot_held.specs.Import.{any_clash, clash, first_full, weigh, with_certs}
-use Rattle.wot_held.specs.Importing.{alone, MayUnite}
-use Rattle.wot_held.specs.Kept.{AreNamed, AreSortedByFpr, IsKeyring}
-use Rattle.wot_held.specs.Keyring.{Certificates, Entries, Keyring, certificates_in, stripped}
+use Rattle.wot_keyring_spec.specs.Import.{any_clash, clash, first_full, weigh, with_certs}
+use Rattle.wot_keyring_spec.specs.Importing.{alone, MayUnite}
+use Rattle.wot_keyring_spec.specs.Kept.{AreNamed, AreSortedByFpr, IsKeyring}
+use Rattle.wot_keyring_spec.specs.Keyring.{Certificates, Entries, Keyring, certificates_in, stripped}
 use Rattle.wot_merge.specs.Room.{FitsBeside, HasRoom}
 use Rattle.wot_merge.specs.Staging.{clash_at, found_by, found_for, full_by, joined, kept_as, long_of, weigh_kept}
 use Rattle.wot_merge.specs.Staging.{IsTally}

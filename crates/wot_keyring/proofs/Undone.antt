@@ -10,8 +10,8 @@ use Rattle.wot_index.specs.declared.log.Log.{Log}
 use Rattle.wot_index.specs.Index.{is_holder, stands_at, NotesNothing}
 use Rattle.wot_index.specs.Log.{IsLogOf}
 use Rattle.wot_index.proofs.Logged.{logged_again}
-use Rattle.wot_held.specs.Keyring.{Entries, Keyring, of_parts}
-use Rattle.wot_held.specs.Kept.{IsKeyring, AreTotals}
+use Rattle.wot_keyring_spec.specs.Keyring.{Entries, Keyring, of_parts}
+use Rattle.wot_keyring_spec.specs.Kept.{IsKeyring, AreTotals}
 use Rattle.wot_keyring.specs.Parts.{HoldTogether}
 
 module _ (limits : Limits) (es : Entries) (said : verdicts.Entries) (changes : ℕ) where

@@ -10,20 +10,20 @@ use Rattle.wot_types.specs.declared.number.SigNumber.{SigNumber}
 use Rattle.wot_types.specs.FprLaws.{same_fpr-true, same_fpr-sym}
 use Rattle.wot_key.specs.Key.{fpr_of}
 use Rattle.wot_policy.specs.declared.rows.PolicyRows.{PolicyRows}
-use Rattle.wot_part.specs.Certificate.{Certificate, unite}
-use Rattle.wot_part.specs.Judged.{judged}
-use Rattle.wot_part.specs.Whole.{IsCertificate}
+use Rattle.wot_component.specs.Certificate.{Certificate, unite}
+use Rattle.wot_component.specs.Judged.{judged}
+use Rattle.wot_component.specs.Whole.{IsCertificate}
 use Rattle.wot_index.specs.declared.index.Index.{Index}
-use Rattle.wot_held.specs.declared.kept.Kept.{Kept}
+use Rattle.wot_keyring_spec.specs.declared.kept.Kept.{Kept}
 use Rattle.wot_index.specs.Index.{stands_at, stands_among, IsIndexOf, Notes}
-use Rattle.wot_held.specs.Keyring.{Entries, is_fpr}
-use Rattle.wot_held.specs.Kept.{AreWhole}
+use Rattle.wot_keyring_spec.specs.Keyring.{Entries, is_fpr}
+use Rattle.wot_keyring_spec.specs.Kept.{AreWhole}
 use Rattle.wot_merge.specs.Staging.{found_for, kept_as, kept_with, kept_all, clash_at, clash_in}
-use Rattle.wot_held.specs.Verdict.{has_number}
+use Rattle.wot_keyring_spec.specs.Verdict.{has_number}
 use Rattle.wot_keyring.proofs.ImportEffects.{whole_all}
 use Rattle.wot_index.proofs.Choices.{or_false, or_more, and_true, and_false}
 use Rattle.wot_merge.proofs.Clashes.{keys_same}
-use Rattle.wot_held.proofs.Inserts.{found_at, lookup_insert}
+use Rattle.wot_keyring_spec.proofs.Inserts.{found_at, lookup_insert}
 use Rattle.wot_keyring.proofs.Numbers.{united_numbers, judged_numbers}
 
 -- whether the certificate that was found has a signature of this number

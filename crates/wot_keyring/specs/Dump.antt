@@ -6,20 +6,20 @@ use Rattle.wot_types.specs.declared.fpr.Fpr.{Fpr}
 use Rattle.wot_types.specs.declared.limits.Limits.{Limits}
 use Rattle.wot_types.specs.declared.number.SigNumber.{SigNumber}
 use Rattle.wot_policy.specs.declared.rows.PolicyRows.{PolicyRows}
-use Rattle.wot_words.specs.StateLine.{IsHeard, most_octets, spelling, state_line_of}
-use Rattle.wot_words.specs.declared.state_line.StateLine.{StateLine}
-use Rattle.wot_words.specs.declared.state_line.StateLine.TheVariants as lines
+use Rattle.wot_fields.specs.StateLine.{IsHeard, most_octets, spelling, state_line_of}
+use Rattle.wot_fields.specs.declared.state_line.StateLine.{StateLine}
+use Rattle.wot_fields.specs.declared.state_line.StateLine.TheVariants as lines
 use Rattle.wot_verdict.specs.declared.verdict.Verdict.{Verdict}
 use Rattle.wot_verdict.specs.declared.verdict.Verdict.TheVariants.{Good, Bad}
-use Rattle.wot_part.specs.Certificate.{Certificate}
-use Rattle.wot_part.specs.Judged.{judged}
-use Rattle.wot_part.specs.Text.{text_of}
-use Rattle.wot_held.specs.declared.imported.Imported.{Imported}
-use Rattle.wot_held.specs.declared.refusal.Refusal.{Refusal}
-use Rattle.wot_held.specs.Keyring.{Keyring}
-use Rattle.wot_held.specs.Held.{Held, nothing, held_of, verdict_set}
-use Rattle.wot_held.specs.Import.{answer_to, importing}
-use Rattle.wot_held.specs.Verdict.{is_over}
+use Rattle.wot_component.specs.Certificate.{Certificate}
+use Rattle.wot_component.specs.Judged.{judged}
+use Rattle.wot_component.specs.Text.{text_of}
+use Rattle.wot_keyring_spec.specs.declared.imported.Imported.{Imported}
+use Rattle.wot_keyring_spec.specs.declared.refusal.Refusal.{Refusal}
+use Rattle.wot_keyring_spec.specs.Keyring.{Keyring}
+use Rattle.wot_keyring_spec.specs.Held.{Held, nothing, held_of, verdict_set}
+use Rattle.wot_keyring_spec.specs.Import.{answer_to, importing}
+use Rattle.wot_keyring_spec.specs.Verdict.{is_over}
 
 -- the import of a certificate's text
 abbrev pub text_import : Certificate → StateLine

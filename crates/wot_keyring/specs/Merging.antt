@@ -1,12 +1,12 @@
 -- What a merge of certificates that were read returns.
 use Rattle.std.specs.Prelude.{◌≡◌, ◌⊎◌, ℕ, List, Result, Ok, Err}
 use Rattle.wot_policy.specs.declared.rows.PolicyRows.{PolicyRows}
-use Rattle.wot_part.specs.Certificate.{Certificate}
-use Rattle.wot_held.specs.declared.imported.Imported.{Imported}
-use Rattle.wot_held.specs.declared.refusal.Refusal.{Refusal}
-use Rattle.wot_held.specs.declared.refusal.Refusal.TheVariants as refusals
-use Rattle.wot_held.specs.Import.{answer_united}
-use Rattle.wot_held.specs.Keyring.{Keyring, certificates_in}
+use Rattle.wot_component.specs.Certificate.{Certificate}
+use Rattle.wot_keyring_spec.specs.declared.imported.Imported.{Imported}
+use Rattle.wot_keyring_spec.specs.declared.refusal.Refusal.{Refusal}
+use Rattle.wot_keyring_spec.specs.declared.refusal.Refusal.TheVariants as refusals
+use Rattle.wot_keyring_spec.specs.Import.{answer_united}
+use Rattle.wot_keyring_spec.specs.Keyring.{Keyring, certificates_in}
 use Rattle.wot_merge.specs.declared.staging.Fault.{Fault}
 use Rattle.wot_merge.specs.declared.staging.Fault.TheVariants.{Clash, Memory}
 

@@ -3,8 +3,8 @@ use Rattle.std.specs.Prelude.{ℕ}
 use Rattle.wot_index.specs.declared.index.Index.{Index}
 use Rattle.wot_index.specs.declared.log.Log.{Log}
 use Rattle.wot_index.specs.Index.{IsIndexOf}
-use Rattle.wot_held.specs.Keyring.{Keyring}
-use Rattle.wot_held.specs.Kept.{AreTotals, IsKeyring}
+use Rattle.wot_keyring_spec.specs.Keyring.{Keyring}
+use Rattle.wot_keyring_spec.specs.Kept.{AreTotals, IsKeyring}
 use Rattle.wot_index.specs.Log.{IsLogOf}
 
 -- The totals, the index and the log are those of what is held.

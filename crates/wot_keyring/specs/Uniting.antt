@@ -3,9 +3,9 @@ use Rattle.std.specs.Prelude.{◌≡◌, ℕ, List, [], ◌∷◌, Option, Some,
 use Rattle.std.specs.Map.{lookup}
 use Rattle.wot_types.specs.declared.fpr.Fpr.{Fpr}
 use Rattle.wot_types.specs.declared.number.SigNumber.{SigNumber}
-use Rattle.wot_part.specs.Certificate.{Certificate}
-use Rattle.wot_held.specs.declared.kept.Kept.{Kept}
-use Rattle.wot_held.specs.Keyring.{Entries, is_fpr}
+use Rattle.wot_component.specs.Certificate.{Certificate}
+use Rattle.wot_keyring_spec.specs.declared.kept.Kept.{Kept}
+use Rattle.wot_keyring_spec.specs.Keyring.{Entries, is_fpr}
 use Rattle.wot_index.specs.declared.index.Index.{Index}
 use Rattle.wot_index.specs.declared.log.Log.{Log}
 use Rattle.wot_index.specs.Index.{stands_among, Notes, NotesNothing, SaysSame}

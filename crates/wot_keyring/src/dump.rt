@@ -1,26 +1,26 @@
-//! The dump: the lines that rebuild a keyring, an import for each certificate and a line for each verdict. wot_words
+//! The dump: the lines that rebuild a keyring, an import for each certificate and a line for each verdict. wot_fields
 //! spells them, and reads each back. `replayed` is the law that these lines restore the keyring; wot_cache adds the
 //! lines of the views. A change of what is held has to be added here.
 ghost use Rattle.std.specs.Prelude.{◌≡◌, ◌≤◌, ◌++◌, map, OnOk, OnErr};
 ghost use Rattle.std.specs.List.{AllByRecursion};
 ghost use Rattle.wot_types.specs.Limits.{standard_limits};
 ghost use Rattle.wot_policy.specs.declared.rows.PolicyRows.{PolicyRows as Rows};
-ghost use Rattle.wot_words.specs.StateLine.{most_octets};
+ghost use Rattle.wot_fields.specs.StateLine.{most_octets};
 ghost use Rattle.wot_verdict.specs.Verdicts.{AreSortedByNumber};
-ghost use Rattle.wot_part.specs.Certificate.{Certificate};
-ghost use Rattle.wot_part.specs.Text.{size_of};
+ghost use Rattle.wot_component.specs.Certificate.{Certificate};
+ghost use Rattle.wot_component.specs.Text.{size_of};
 ghost use Rattle.wot_keyring.specs.Dump.{AreLines, IsLine, IsRestored, command_line_of, lines_of, setting, setting_of};
 ghost use Rattle.wot_keyring.specs.Dump.{text_import};
-ghost use Rattle.wot_held.specs.Keyring.{Keyring as Seen};
-ghost use Rattle.wot_held.specs.Kept.{IsKeyring};
+ghost use Rattle.wot_keyring_spec.specs.Keyring.{Keyring as Seen};
+ghost use Rattle.wot_keyring_spec.specs.Kept.{IsKeyring};
 
 use std::alloc::Global;
 use wot_cert::Cert;
 use wot_cert::laws::{judging, marks_weigh_nothing, read_back};
-use wot_held::CertsIter;
+use wot_fields::{Octets, StateLine, print_state_line};
+use wot_keyring_spec::CertsIter;
 use wot_types::{Memory, SigNumber};
 use wot_verdict::{Verdict, Verdicts};
-use wot_words::{Octets, StateLine, print_state_line};
 
 /// A law: the lines of a dump restore what was dumped when a fresh keyring runs them.
 pub fn replayed()

@@ -1,16 +1,16 @@
 //! The two ways in: `import` takes the octets of any certificates, `load` those of one directory entry. Both read with
-//! wot_held, and merge all or nothing through `Keyring::take`. What an import accepts, replies and asks of the
+//! wot_keyring_spec, and merge all or nothing through `Keyring::take`. What an import accepts, replies and asks of the
 //! policy is on their contracts, so a change here reaches wot_cache and wot_machine.
 ghost use Rattle.std.specs.Prelude.{◌≡◌, ◌<◌, ◌^◌, ◌-◌, length, OnOk, OnErr};
 ghost use Rattle.wot_policy.specs.Kept.{rows_of};
-ghost use Rattle.wot_held.specs.Held.{held_of};
-ghost use Rattle.wot_held.specs.Import.{ImportAsks, ImportReturns, IsNext, ReturnsUnder};
-ghost use Rattle.wot_held.specs.Import.{imported, importing, is_entry};
-ghost use Rattle.wot_held.specs.Judging.{IsJudging, StaysJudging};
+ghost use Rattle.wot_keyring_spec.specs.Held.{held_of};
+ghost use Rattle.wot_keyring_spec.specs.Import.{ImportAsks, ImportReturns, IsNext, ReturnsUnder};
+ghost use Rattle.wot_keyring_spec.specs.Import.{imported, importing, is_entry};
+ghost use Rattle.wot_keyring_spec.specs.Judging.{IsJudging, StaysJudging};
 
 use crate::Keyring;
 use std::alloc::Global;
-use wot_held::{Imported, Refusal, is_entry, read_certs};
+use wot_keyring_spec::{Imported, Refusal, is_entry, read_certs};
 use wot_policy::{Ask, Policy};
 use wot_types::Name;
 

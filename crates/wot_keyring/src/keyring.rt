@@ -8,20 +8,21 @@ ghost use Rattle.std.specs.Option.{option_copied, IfSome, MatchOption};
 ghost use Rattle.wot_types.specs.declared.fpr.Fpr.{Fpr as TheFpr};
 ghost use Rattle.wot_key.specs.Key.{fpr_of};
 ghost use Rattle.wot_types.specs.Limits.{standard_limits};
-ghost use Rattle.wot_part.specs.Text.{size_of, text_of};
-ghost use Rattle.wot_held.specs.declared.kept.Kept.{Kept as TheKept};
-ghost use Rattle.wot_held.specs.From.{entries_from};
-ghost use Rattle.wot_held.specs.Keyring.{empty, cert_at, stamp_at, verdict_on, TellsAbsent};
-ghost use Rattle.wot_held.specs.Kept.{AreSortedByFpr, AreNamed, AreSized, AreSmall, AreStamped, IsKeyring, StaysJudged};
+ghost use Rattle.wot_component.specs.Text.{size_of, text_of};
+ghost use Rattle.wot_keyring_spec.specs.declared.kept.Kept.{Kept as TheKept};
+ghost use Rattle.wot_keyring_spec.specs.From.{entries_from};
+ghost use Rattle.wot_keyring_spec.specs.Keyring.{empty, cert_at, stamp_at, verdict_on, TellsAbsent};
+ghost use Rattle.wot_keyring_spec.specs.Kept.{AreSortedByFpr, AreNamed, AreSized, AreSmall, AreStamped, IsKeyring};
+ghost use Rattle.wot_keyring_spec.specs.Kept.{StaysJudged};
 ghost use Rattle.wot_policy.specs.declared.rows.PolicyRows.{PolicyRows as Rows};
 ghost use Rattle.wot_keyring.specs.Dump.{commands_of, lines_of, most_dumped, AreLines, IsRestored};
-ghost use Rattle.wot_held.specs.Import.{IsOneChange};
-ghost use Rattle.wot_held.specs.Held.{held_of, removing, verdict_set, verdict_cleared};
-ghost use Rattle.wot_held.specs.Later.{IsLater};
+ghost use Rattle.wot_keyring_spec.specs.Import.{IsOneChange};
+ghost use Rattle.wot_keyring_spec.specs.Held.{held_of, removing, verdict_set, verdict_cleared};
+ghost use Rattle.wot_keyring_spec.specs.Later.{IsLater};
 ghost use Rattle.wot_index.specs.Log.{HasChangedSince};
-ghost use Rattle.wot_held.specs.Pending.{pending_in};
-ghost use Rattle.wot_held.specs.Removal.{without_cert};
-ghost use Rattle.wot_held.specs.Verdict.{without_verdict_on, would_pass, counted_at, SetsVerdict, TellsFull};
+ghost use Rattle.wot_keyring_spec.specs.Pending.{pending_in};
+ghost use Rattle.wot_keyring_spec.specs.Removal.{without_cert};
+ghost use Rattle.wot_keyring_spec.specs.Verdict.{without_verdict_on, would_pass, counted_at, SetsVerdict, TellsFull};
 ghost use Rattle.wot_verdict.specs.Verdicts.{AreSortedByNumber};
 
 mod merge;
@@ -31,12 +32,12 @@ use std::alloc::Global;
 use std::collections::BTreeMap;
 use std::marker::Model;
 use wot_cert::Cert;
-use wot_held::{
+use wot_index::log::{self, Log};
+use wot_index::{Index, forget_cert, restamp_noted};
+use wot_keyring_spec::{
     Absent, CertsIter, ExportFault, Kept, Pending, Refusal, certs_of, find, listed_from, take_out,
     waiting,
 };
-use wot_index::log::{self, Log};
-use wot_index::{Index, forget_cert, restamp_noted};
 use wot_types::{Fpr, Limit, Limits, Memory, SigNumber};
 use wot_verdict::{Verdict, Verdicts};
 
@@ -58,7 +59,7 @@ pub struct Keyring {
 }
 
 impl Model for Keyring {
-    ghost use Rattle.wot_held.specs.Keyring.{Keyring, of_parts};
+    ghost use Rattle.wot_keyring_spec.specs.Keyring.{Keyring, of_parts};
     ghost use Rattle.wot_keyring.specs.Parts.{HoldTogether};
 
     ghost Value = { Keyring };

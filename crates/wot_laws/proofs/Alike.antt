@@ -9,32 +9,32 @@ use Rattle.wot_script.specs.declared.command.Command.{Command}
 use Rattle.wot_script.specs.declared.reply.Reply.{Reply}
 use Rattle.wot_script.specs.declared.reply.Reply.TheVariants as replies
 use Rattle.wot_script.specs.Grammar.{command_of}
-use Rattle.wot_part.specs.Certificate.{Certificate, unmarked}
-use Rattle.wot_part.specs.Judged.{judged}
-use Rattle.wot_held.specs.Keyring.{Certificates}
+use Rattle.wot_component.specs.Certificate.{Certificate, unmarked}
+use Rattle.wot_component.specs.Judged.{judged}
+use Rattle.wot_keyring_spec.specs.Keyring.{Certificates}
 use Rattle.wot_keyring.specs.Dump.{judged_anew, judged_by}
-use Rattle.wot_held.specs.Held.{Held}
+use Rattle.wot_keyring_spec.specs.Held.{Held}
 use Rattle.wot_cache.specs.declared.view.View.{View}
 use Rattle.wot_cache.specs.State.{State}
 use Rattle.wot_cache.specs.Views.{view_at}
-use Rattle.wot_step.specs.declared.class.Class.{Class}
-use Rattle.wot_step.specs.declared.class.Class.TheVariants.{State as OfState}
-use Rattle.wot_step.specs.declared.class.StateCommand.TheVariants as kinds
-use Rattle.wot_step.specs.declared.class.ViewQuestion.{ViewQuestion}
-use Rattle.wot_step.specs.declared.class.ViewQuestion.TheVariants as questions
-use Rattle.wot_step.specs.Classes.{AnswersQuestion, class_of}
-use Rattle.wot_step.specs.Absent.{Checks, Misses}
-use Rattle.wot_step.specs.Answer.{Asks}
+use Rattle.wot_plain.specs.declared.class.Class.{Class}
+use Rattle.wot_plain.specs.declared.class.Class.TheVariants.{State as OfState}
+use Rattle.wot_plain.specs.declared.class.StateCommand.TheVariants as kinds
+use Rattle.wot_plain.specs.declared.class.ViewQuestion.{ViewQuestion}
+use Rattle.wot_plain.specs.declared.class.ViewQuestion.TheVariants as questions
+use Rattle.wot_plain.specs.Classes.{AnswersQuestion, class_of}
+use Rattle.wot_plain.specs.Absent.{Checks, Misses}
+use Rattle.wot_plain.specs.Answer.{Asks}
 use Rattle.wot_laws.specs.Depends.{AsksFrom, bare, IsAsk}
 use Rattle.wot_laws.specs.OneLine.{OneOutcome}
-use Rattle.wot_step.specs.Lines.{is_silent, longest}
-use Rattle.wot_step.specs.Listing.{Lists, explained_from}
-use Rattle.wot_step.specs.LineStep.{LineStep, HasReply, ReadLineStep, StateStep, CommandStep, Stays}
-use Rattle.wot_step.specs.Pacing.{Paces}
-use Rattle.wot_step.specs.Watching.{Watching}
-use Rattle.wot_step.specs.Session.{IsTurnedBy, Session}
+use Rattle.wot_plain.specs.Lines.{is_silent, longest}
+use Rattle.wot_plain.specs.Listing.{Lists, explained_from}
+use Rattle.wot_plain.specs.LineStep.{LineStep, HasReply, ReadLineStep, StateStep, CommandStep, Stays}
+use Rattle.wot_plain.specs.Pacing.{Paces}
+use Rattle.wot_plain.specs.Watching.{Watching}
+use Rattle.wot_plain.specs.Session.{IsTurnedBy, Session}
 use Rattle.wot_laws.proofs.Named.{AreNamed}
-use Rattle.wot_step.specs.Served.{Served}
+use Rattle.wot_plain.specs.Served.{Served}
 
 -- ---- marks
 

@@ -10,15 +10,15 @@ use Rattle.wot_types.specs.ViewName.{view_name_cmp}
 use Rattle.wot_key.specs.Key.{fpr_of}
 use Rattle.wot_policy.specs.declared.rows.PolicyRows.{PolicyRows}
 use Rattle.wot_verdict.specs.Verdicts.{Entries}
-use Rattle.wot_part.specs.Certificate.{Certificate}
+use Rattle.wot_component.specs.Certificate.{Certificate}
 use Rattle.wot_edge.specs.Record.{IsRecord}
-use Rattle.wot_held.specs.Keyring.{Certificates}
+use Rattle.wot_keyring_spec.specs.Keyring.{Certificates}
 use Rattle.wot_network.specs.Told.{record_of}
 use Rattle.wot_script.specs.Grammar.{command_of}
 use Rattle.wot_script.specs.Spelling.{HasSpelling}
 use Rattle.wot_script.specs.declared.command.Command.{Command}
 use Rattle.wot_script.specs.declared.command.Command.TheVariants.{CursorNext, CursorOver}
-use Rattle.wot_lines.specs.declared.lines.BindLine.{BindLine}
+use Rattle.wot_reply_lines.specs.declared.lines.BindLine.{BindLine}
 use Rattle.wot_script.specs.declared.reply.Reply.{Reply}
 use Rattle.wot_script.specs.declared.reply.Reply.TheVariants as replies
 use Rattle.wot_cache.specs.declared.view.View.{View}
@@ -27,26 +27,26 @@ use Rattle.wot_cursor.specs.Cursors.{Cursors, begun, cursor_at, is_full, with_cu
 use Rattle.wot_explain.specs.declared.bind.Bind.{Bind}
 use Rattle.wot_explain.specs.Listing.{HasList, HasOneList, IsOfEachList, pairs_in}
 use Rattle.wot_explain.specs.Piece.{binds_after}
-use Rattle.wot_step.specs.Classes.{class_of}
-use Rattle.wot_step.specs.Entry.{use_of}
+use Rattle.wot_plain.specs.Classes.{class_of}
+use Rattle.wot_plain.specs.Entry.{use_of}
 use Rattle.wot_laws.specs.Joined.{AreOfList, IsNext, Since, pieces_in}
 use Rattle.wot_laws.specs.Exchanges.{Exchange}
-use Rattle.wot_step.specs.Lines.{heard}
-use Rattle.wot_step.specs.LineStep.{CommandStep}
-use Rattle.wot_step.specs.Listing.{Lists, bind_line}
-use Rattle.wot_step.specs.Pacing.{Begins, Leaves, stamps_in}
-use Rattle.wot_step.specs.Scene.{Scene, Step, opening, served_in}
-use Rattle.wot_step.specs.Served.{Served}
-use Rattle.wot_step.specs.Transcript.{Run}
-use Rattle.wot_step.specs.Session.{Session}
+use Rattle.wot_plain.specs.Lines.{heard}
+use Rattle.wot_plain.specs.LineStep.{CommandStep}
+use Rattle.wot_plain.specs.Listing.{Lists, bind_line}
+use Rattle.wot_plain.specs.Pacing.{Begins, Leaves, stamps_in}
+use Rattle.wot_plain.specs.Scene.{Scene, Step, opening, served_in}
+use Rattle.wot_plain.specs.Served.{Served}
+use Rattle.wot_plain.specs.Transcript.{Run}
+use Rattle.wot_plain.specs.Session.{Session}
 use Rattle.wot_laws.proofs.Reached.{reached_can_be}
-use Rattle.wot_step.proofs.Entries.{found_put}
+use Rattle.wot_plain.proofs.Entries.{found_put}
 use Rattle.wot_laws.proofs.LineByCommand.{Hears, heard_reads, hears, run_keeps}
 use Rattle.wot_laws.proofs.CursorSoFar.{Began, Stands, goes_own, later_itself, later_obeys, passes_on, stands_told}
 use Rattle.wot_laws.proofs.Behind.{at_first}
 use Rattle.wot_laws.proofs.SortedStates.{ordered_binds, reached_ordered}
-use Rattle.wot_step.proofs.Viewed.{AreSound, does_views, sound_by, turn_few}
-use Rattle.wot_step.specs.Session.{turning_of}
+use Rattle.wot_plain.proofs.Viewed.{AreSound, does_views, sound_by, turn_few}
+use Rattle.wot_plain.specs.Session.{turning_of}
 
 -- ---- reached states
 

@@ -11,14 +11,14 @@ use Rattle.std.proofs.lemmas.Grind.{flat_map-append}
 use Rattle.std.proofs.lemmas.List.{length-map, length-take, map-append}
 use Rattle.std.proofs.lemmas.List.Folds.{list_any-append}
 use Rattle.wot_types.specs.declared.place.Place.{Place}
-use Rattle.wot_part.specs.Ranked.{IsBelow, IsRising}
-use Rattle.wot_lines.specs.declared.lines.BindLine.{BindLine}
+use Rattle.wot_component.specs.Ranked.{IsBelow, IsRising}
+use Rattle.wot_reply_lines.specs.declared.lines.BindLine.{BindLine}
 use Rattle.wot_explain.specs.declared.bind.Bind.{Bind}
 use Rattle.wot_explain.specs.Piece.{binds_after, piece_of}
 use Rattle.wot_laws.specs.Joined.{Given, has_end, joined}
-use Rattle.wot_step.specs.Listing.{bind_line}
-use Rattle.wot_step.specs.Pacing.{last_place, bind_place}
-use Rattle.wot_step.proofs.Entries.{above_is}
+use Rattle.wot_plain.specs.Listing.{bind_line}
+use Rattle.wot_plain.specs.Pacing.{last_place, bind_place}
+use Rattle.wot_plain.proofs.Entries.{above_is}
 use Rattle.wot_laws.proofs.SortedStates.{bind_cmp, bind_total}
 
 -- ---- what follows a binding of the list

@@ -13,12 +13,12 @@ use Rattle.wot_check.specs.declared.checking.Checked.TheVariants as answers
 use Rattle.wot_check.specs.Absence.{Accepts, AreSpent, IsChecked, IsLeastTable}
 use Rattle.wot_check.specs.Claim.{Claim, claim_of}
 use Rattle.wot_check.specs.Table.{IsTable, Labels}
-use Rattle.wot_lines.specs.declared.claims.ClaimLine.{ClaimLine}
-use Rattle.wot_lines.specs.declared.claims.LabelLine.{LabelLine}
+use Rattle.wot_reply_lines.specs.declared.claims.ClaimLine.{ClaimLine}
+use Rattle.wot_reply_lines.specs.declared.claims.LabelLine.{LabelLine}
 use Rattle.wot_script.specs.declared.reply.Reply.{Reply}
 use Rattle.wot_script.specs.declared.reply.Reply.TheVariants as replies
-use Rattle.wot_step.specs.Absent.{TellsAbsence, claim_in, claim_line, claim_step, claimed_step, label_line, missed}
-use Rattle.wot_step.specs.Absent.{sum_in, table_in, verdict_on}
+use Rattle.wot_plain.specs.Absent.{TellsAbsence, claim_in, claim_line, claim_step, claimed_step, label_line, missed}
+use Rattle.wot_plain.specs.Absent.{sum_in, table_in, verdict_on}
 use Rattle.wot_check.specs.Claim as claims_are
 
 -- ---- lines are read back as what they were made from

@@ -15,7 +15,7 @@ use Rattle.std.proofs.lemmas.Option.{same_Some}
 use Rattle.wot_types.specs.ViewName.{view_name_cmp}
 use Rattle.wot_types.specs.declared.place.Place.{Place}
 use Rattle.wot_policy.specs.declared.rows.PolicyRows.{PolicyRows}
-use Rattle.wot_part.specs.Ranked.{IsRising}
+use Rattle.wot_component.specs.Ranked.{IsRising}
 use Rattle.wot_script.specs.declared.command.Command.{Command}
 use Rattle.wot_script.specs.declared.reply.Reply.{Reply}
 use Rattle.wot_script.specs.declared.reply.Reply.TheVariants as replies
@@ -30,33 +30,33 @@ use Rattle.wot_cursor.specs.declared.stamps.Age.{Age}
 use Rattle.wot_cursor.specs.declared.stamps.Age.TheVariants as ages
 use Rattle.wot_explain.specs.declared.bind.Bind.{Bind}
 use Rattle.wot_explain.specs.Piece.{binds_after, piece_of}
-use Rattle.wot_held.specs.Held.{Held}
+use Rattle.wot_keyring_spec.specs.Held.{Held}
 use Rattle.wot_network.specs.Told.{record_of}
 use Rattle.wot_watch.specs.Watches.{Watches}
 use Rattle.wot_explain.specs.Listing.{IsListed, pairs_in}
-use Rattle.wot_step.specs.declared.class.Class.{Class}
-use Rattle.wot_step.specs.declared.class.Class.TheVariants.{State as OfState, Cursor as OfCursor, Watch as OfWatch}
-use Rattle.wot_step.specs.declared.class.CursorCommand.TheVariants as paces
-use Rattle.wot_step.specs.Classes.{class_of}
+use Rattle.wot_plain.specs.declared.class.Class.{Class}
+use Rattle.wot_plain.specs.declared.class.Class.TheVariants.{State as OfState, Cursor as OfCursor, Watch as OfWatch}
+use Rattle.wot_plain.specs.declared.class.CursorCommand.TheVariants as paces
+use Rattle.wot_plain.specs.Classes.{class_of}
 use Rattle.wot_laws.specs.Exchanges.{Exchange, Passes}
 use Rattle.wot_laws.specs.Joined.{Given, IsNext, given_by, given_in, has_restart, is_done}
 use Rattle.wot_laws.specs.Joined.{given_to, is_restart, is_restart_by, pieces_in}
-use Rattle.wot_step.specs.Entry.{use_of}
-use Rattle.wot_step.specs.Lines.{heard}
-use Rattle.wot_step.specs.LineStep.{LineStep, CommandStep}
-use Rattle.wot_step.specs.Listing.{AreBindings, bind_line}
-use Rattle.wot_step.specs.Pacing.{Begins, Ends, GivesPiece, Goes, GoesBy, GoesFrom, Leaves, Paces, behind, is_pacing}
-use Rattle.wot_step.specs.Pacing.{last_place, piece, stamps_in}
-use Rattle.wot_step.specs.Scene.{Scene, served_in}
-use Rattle.wot_step.specs.Served.{Served}
-use Rattle.wot_step.specs.Watching.{ReportsWatches, told_all}
-use Rattle.wot_step.specs.Session.{IsCounted, Session, turning_of, watched}
-use Rattle.wot_step.proofs.Entries.{apart, found_set, other_put, other_set, other_without}
+use Rattle.wot_plain.specs.Entry.{use_of}
+use Rattle.wot_plain.specs.Lines.{heard}
+use Rattle.wot_plain.specs.LineStep.{LineStep, CommandStep}
+use Rattle.wot_plain.specs.Listing.{AreBindings, bind_line}
+use Rattle.wot_plain.specs.Pacing.{Begins, Ends, GivesPiece, Goes, GoesBy, GoesFrom, Leaves, Paces, behind, is_pacing}
+use Rattle.wot_plain.specs.Pacing.{last_place, piece, stamps_in}
+use Rattle.wot_plain.specs.Scene.{Scene, served_in}
+use Rattle.wot_plain.specs.Served.{Served}
+use Rattle.wot_plain.specs.Watching.{ReportsWatches, told_all}
+use Rattle.wot_plain.specs.Session.{IsCounted, Session, turning_of, watched}
+use Rattle.wot_plain.proofs.Entries.{apart, found_set, other_put, other_set, other_without}
 use Rattle.wot_laws.proofs.LineByCommand.{Hears, hears, step_keeps}
-use Rattle.wot_step.proofs.Paced.{paced_cases, plain_paces}
+use Rattle.wot_plain.proofs.Paced.{paced_cases, plain_paces}
 use Rattle.wot_laws.proofs.Behind.{HasCome, next_piece, place_behind}
 use Rattle.wot_laws.proofs.SortedStates.{bind_cmp}
-use Rattle.wot_step.proofs.Viewed.{AreViewsInOrder, IsShown, does_views, order_by, same_name, shown_by, turns_more}
+use Rattle.wot_plain.proofs.Viewed.{AreViewsInOrder, IsShown, does_views, order_by, same_name, shown_by, turns_more}
 use Rattle.wot_laws.proofs.StaleTold.{Aged, aged}
 
 -- ---- what a list depends on

@@ -3,8 +3,8 @@ use Rattle.std.proofs.Common.{ℕ, List, [], ◌∷◌, ◌++◌, refl, sym, ap,
 use Rattle.wot_policy.specs.declared.rows.PolicyRows.{PolicyRows}
 use Rattle.wot_script.specs.declared.reply.Reply.{Reply}
 use Rattle.wot_laws.specs.Exchanges.{AreOfRun, Exchange, Passes, RunsAreExchanges, lines_in, replies_in}
-use Rattle.wot_step.specs.Scene.{Scene}
-use Rattle.wot_step.specs.Transcript.{Run, listed}
+use Rattle.wot_plain.specs.Scene.{Scene}
+use Rattle.wot_plain.specs.Transcript.{Run, listed}
 
 module _ (rows : PolicyRows) where
   run_told : (lines : List (List ℕ)) (old : Scene) (told : List Reply) (new : Scene) → Run rows old lines told new

@@ -5,9 +5,9 @@ use Rattle.wot_types.specs.PlainLaws.{all_then}
 use Rattle.wot_policy.specs.declared.rows.PolicyRows.{PolicyRows}
 use Rattle.wot_script.specs.declared.command.Command.TheVariants.{Explain}
 use Rattle.wot_script.specs.declared.reply.Reply.{Reply}
-use Rattle.wot_part.specs.Certificate.{Certificate, unmarked}
-use Rattle.wot_part.specs.Counts.{all_sigs}
-use Rattle.wot_part.specs.Judged.{judged}
+use Rattle.wot_component.specs.Certificate.{Certificate, unmarked}
+use Rattle.wot_component.specs.Counts.{all_sigs}
+use Rattle.wot_component.specs.Judged.{judged}
 use Rattle.wot_keyring.specs.Dump.{judged_by}
 use Rattle.wot_network.specs.Local.{AgreeAt}
 use Rattle.wot_network.specs.Told.{AreOwn}
@@ -15,13 +15,13 @@ use Rattle.wot_explain.specs.Around.{AgreeAround, AgreeAtIssuer, AreExplainedAli
 use Rattle.wot_cache.specs.declared.view.View.{View}
 use Rattle.wot_cache.specs.State.{State}
 use Rattle.wot_cache.specs.Views.{view_at}
-use Rattle.wot_step.specs.Classes.{class_of}
+use Rattle.wot_plain.specs.Classes.{class_of}
 use Rattle.wot_laws.specs.OneLine.{OneOutcome}
-use Rattle.wot_step.specs.LineStep.{StateStep, LineStep}
-use Rattle.wot_step.specs.Listing.{explained, explained_from}
-use Rattle.wot_step.specs.Served.{Served}
+use Rattle.wot_plain.specs.LineStep.{StateStep, LineStep}
+use Rattle.wot_plain.specs.Listing.{explained, explained_from}
+use Rattle.wot_plain.specs.Served.{Served}
 use Rattle.wot_laws.specs.Slices.{AreAlikeAround, HoldAlike, HoldAlikeAtIssuer, IsExplaining}
-use Rattle.wot_step.specs.Session.{Session}
+use Rattle.wot_plain.specs.Session.{Session}
 use Rattle.wot_laws.proofs.Alike.{step_as}
 use Rattle.wot_laws.proofs.Slices.{same_at}
 

@@ -2,7 +2,7 @@
 use Rattle.wot_script.specs.declared.command.Command.{Command}
 use Rattle.wot_script.specs.declared.command.Command.TheVariants as commands
 use Rattle.wot_script.specs.Spelling.{HasSpelling}
-use Rattle.wot_step.specs.Classes.{IsFit, class_of}
+use Rattle.wot_plain.specs.Classes.{IsFit, class_of}
 
 pub fit_of : (command : Command) → HasSpelling command → IsFit (class_of command)
 fit_of (commands.Ask view target wanted uid) h = h

@@ -10,22 +10,22 @@ use Rattle.wot_script.specs.Grammar.{command_of}
 use Rattle.wot_certd.specs.World.{World}
 use Rattle.wot_keyring.specs.Dump.{judged_by}
 use Rattle.wot_cache.specs.State.{IsState, State}
-use Rattle.wot_step.specs.declared.class.Class.{Class}
-use Rattle.wot_step.specs.declared.class.Class.TheVariants.{State as OfState, Cursor as OfCursor, Watch as OfWatch}
-use Rattle.wot_step.specs.declared.class.StateCommand.{StateCommand}
-use Rattle.wot_step.specs.Classes.{class_of}
-use Rattle.wot_step.specs.Entry.{Use, entry_for, given_by, put_for, use_of, world_after}
-use Rattle.wot_step.specs.Fresh.{IsMadeAnew}
+use Rattle.wot_plain.specs.declared.class.Class.{Class}
+use Rattle.wot_plain.specs.declared.class.Class.TheVariants.{State as OfState, Cursor as OfCursor, Watch as OfWatch}
+use Rattle.wot_plain.specs.declared.class.StateCommand.{StateCommand}
+use Rattle.wot_plain.specs.Classes.{class_of}
+use Rattle.wot_plain.specs.Entry.{Use, entry_for, given_by, put_for, use_of, world_after}
+use Rattle.wot_plain.specs.Fresh.{IsMadeAnew}
 use Rattle.wot_laws.specs.GoesOn.{HaveSameReplies, is_of_state}
-use Rattle.wot_step.specs.Classes.{is_own}
+use Rattle.wot_plain.specs.Classes.{is_own}
 use Rattle.wot_laws.specs.Exchanges.{Exchange, Passes, lines_in}
 use Rattle.wot_laws.specs.OneLine.{LeadToStates}
-use Rattle.wot_step.specs.Lines.{heard, is_silent, longest}
-use Rattle.wot_step.specs.LineStep.{ReadLineStep, DoesTo, HasReply, LineStep, CommandStep, Stays}
-use Rattle.wot_step.specs.Scene.{Scene, Step, opening, served_in, world_behind}
-use Rattle.wot_step.specs.Served.{Served}
-use Rattle.wot_step.specs.Transcript.{Run}
-use Rattle.wot_step.specs.Session.{Session}
+use Rattle.wot_plain.specs.Lines.{heard, is_silent, longest}
+use Rattle.wot_plain.specs.LineStep.{ReadLineStep, DoesTo, HasReply, LineStep, CommandStep, Stays}
+use Rattle.wot_plain.specs.Scene.{Scene, Step, opening, served_in, world_behind}
+use Rattle.wot_plain.specs.Served.{Served}
+use Rattle.wot_plain.specs.Transcript.{Run}
+use Rattle.wot_plain.specs.Session.{Session}
 use Rattle.wot_laws.proofs.Reached.{reached_can_be}
 use Rattle.wot_laws.proofs.Outcomes.{IsOne}
 

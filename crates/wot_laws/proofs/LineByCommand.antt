@@ -7,16 +7,16 @@ use Rattle.wot_script.specs.declared.reply.Reply.{Reply}
 use Rattle.wot_script.specs.declared.reply.Reply.TheVariants as replies
 use Rattle.wot_script.specs.Grammar.{command_of}
 use Rattle.wot_watch.specs.Watches.{Watches}
-use Rattle.wot_step.specs.declared.class.Class.{Class}
-use Rattle.wot_step.specs.Classes.{class_of}
-use Rattle.wot_step.specs.Entry.{use_of}
-use Rattle.wot_step.specs.Lines.{heard, is_silent, longest}
-use Rattle.wot_step.specs.LineStep.{ReadLineStep, HasReply, LineStep, CommandStep, Stays}
-use Rattle.wot_step.specs.Scene.{Scene, served_in}
-use Rattle.wot_step.specs.Served.{Served}
-use Rattle.wot_step.specs.Transcript.{Run}
-use Rattle.wot_step.specs.Watching.{told_all}
-use Rattle.wot_step.specs.Session.{Session, watched}
+use Rattle.wot_plain.specs.declared.class.Class.{Class}
+use Rattle.wot_plain.specs.Classes.{class_of}
+use Rattle.wot_plain.specs.Entry.{use_of}
+use Rattle.wot_plain.specs.Lines.{heard, is_silent, longest}
+use Rattle.wot_plain.specs.LineStep.{ReadLineStep, HasReply, LineStep, CommandStep, Stays}
+use Rattle.wot_plain.specs.Scene.{Scene, served_in}
+use Rattle.wot_plain.specs.Served.{Served}
+use Rattle.wot_plain.specs.Transcript.{Run}
+use Rattle.wot_plain.specs.Watching.{told_all}
+use Rattle.wot_plain.specs.Session.{Session, watched}
 
 -- A line that isn't a command changes nothing. Any other line has a reply and does what its command does.
 abbrev pub Hears : PolicyRows → Session → Option Command → Served → Option Reply → Session → Type 0

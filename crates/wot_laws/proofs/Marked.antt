@@ -9,15 +9,15 @@ use Rattle.wot_types.specs.declared.fpr.Fpr.{Fpr}
 use Rattle.wot_types.specs.Fpr.{fpr_cmp}
 use Rattle.wot_key.specs.Key.{fpr_of}
 use Rattle.wot_policy.specs.declared.rows.PolicyRows.{PolicyRows}
-use Rattle.wot_part.specs.Certificate.{Certificate, unite, unmarked}
-use Rattle.wot_part.specs.Judged.{judged}
-use Rattle.wot_held.specs.Keyring.{Certificates, is_fpr}
+use Rattle.wot_component.specs.Certificate.{Certificate, unite, unmarked}
+use Rattle.wot_component.specs.Judged.{judged}
+use Rattle.wot_keyring_spec.specs.Keyring.{Certificates, is_fpr}
 use Rattle.wot_keyring.specs.Dump.{judged_anew, judged_by}
-use Rattle.wot_held.specs.Import.{spelled_in, merged_into, with_cert, with_certs}
+use Rattle.wot_keyring_spec.specs.Import.{spelled_in, merged_into, with_cert, with_certs}
 use Rattle.wot_script.specs.declared.reply.Reply.{Reply}
 use Rattle.wot_certd.specs.World.{World}
-use Rattle.wot_step.specs.Scene.{Scene, opening}
-use Rattle.wot_step.specs.Transcript.{Run}
+use Rattle.wot_plain.specs.Scene.{Scene, opening}
+use Rattle.wot_plain.specs.Transcript.{Run}
 use Rattle.wot_laws.proofs.Stays.{all_without, run_stays}
 
 -- judging it again changes nothing

@@ -7,7 +7,7 @@ use Rattle.wot_types.specs.declared.fpr.Fpr.{Fpr}
 use Rattle.wot_policy.specs.declared.rows.PolicyRows.{PolicyRows}
 use Rattle.wot_verdict.specs.Verdicts.{Entries}
 use Rattle.wot_key.specs.Key.{fpr_of}
-use Rattle.wot_part.specs.Certificate.{Certificate}
+use Rattle.wot_component.specs.Certificate.{Certificate}
 use Rattle.wot_edge.specs.declared.path.Path.{Path}
 use Rattle.wot_edge.specs.Path.{Question, Use}
 use Rattle.wot_edge.specs.Record.{IsRecord, Record}
@@ -16,11 +16,11 @@ use Rattle.wot_check.specs.declared.checking.Checked.{Checked}
 use Rattle.wot_check.specs.Absence.{IsChecked, IsLeastTable}
 use Rattle.wot_check.specs.Claim.{Claim}
 use Rattle.wot_check.specs.Table.{IsTable, Labels}
-use Rattle.wot_held.specs.Keyring.{Certificates}
+use Rattle.wot_keyring_spec.specs.Keyring.{Certificates}
 use Rattle.wot_script.specs.declared.command.Command.{Command}
-use Rattle.wot_lines.specs.Claims.{IsClaimSpelled}
-use Rattle.wot_lines.specs.declared.claims.ClaimLine.{ClaimLine}
-use Rattle.wot_lines.specs.declared.claims.LabelLine.{LabelLine}
+use Rattle.wot_reply_lines.specs.Claims.{IsClaimSpelled}
+use Rattle.wot_reply_lines.specs.declared.claims.ClaimLine.{ClaimLine}
+use Rattle.wot_reply_lines.specs.declared.claims.LabelLine.{LabelLine}
 use Rattle.wot_script.specs.declared.reply.Reply.{Reply}
 use Rattle.wot_script.specs.declared.reply.Reply.TheVariants as replies
 use Rattle.wot_script.specs.Grammar.{command_of}
@@ -32,29 +32,29 @@ use Rattle.wot_explain.specs.Listing.{IsListed, Pair, pairs_in}
 use Rattle.wot_cache.specs.Question.{question_in}
 use Rattle.wot_cache.specs.State.{State, IsState}
 use Rattle.wot_cache.specs.Views.{view_at}
-use Rattle.wot_step.specs.declared.class.Class.{Class}
-use Rattle.wot_step.specs.declared.class.Class.TheVariants.{State as OfState, Cursor as OfCursor, Watch as OfWatch}
-use Rattle.wot_step.specs.declared.class.StateCommand.{StateCommand}
-use Rattle.wot_step.specs.declared.class.StateCommand.TheVariants as kinds
-use Rattle.wot_step.specs.declared.class.ViewQuestion.{ViewQuestion}
-use Rattle.wot_step.specs.declared.class.ViewQuestion.TheVariants as questions
-use Rattle.wot_step.specs.Classes.{AnswersQuestion, IsFit, IsWanted, call_of, change_of, class_of, reading}
-use Rattle.wot_step.specs.Classes.{view_change_of}
+use Rattle.wot_plain.specs.declared.class.Class.{Class}
+use Rattle.wot_plain.specs.declared.class.Class.TheVariants.{State as OfState, Cursor as OfCursor, Watch as OfWatch}
+use Rattle.wot_plain.specs.declared.class.StateCommand.{StateCommand}
+use Rattle.wot_plain.specs.declared.class.StateCommand.TheVariants as kinds
+use Rattle.wot_plain.specs.declared.class.ViewQuestion.{ViewQuestion}
+use Rattle.wot_plain.specs.declared.class.ViewQuestion.TheVariants as questions
+use Rattle.wot_plain.specs.Classes.{AnswersQuestion, IsFit, IsWanted, call_of, change_of, class_of, reading}
+use Rattle.wot_plain.specs.Classes.{view_change_of}
 use Rattle.wot_laws.proofs.Fit.{fit_of}
-use Rattle.wot_step.specs.Lines.{is_silent, longest}
-use Rattle.wot_step.specs.Absent.{Checks, Misses, TellsAbsence, claim_in, table_in, verdict_on}
-use Rattle.wot_step.specs.Answer.{Asks, told}
-use Rattle.wot_step.specs.Listing.{Lists, bindings, explained_from}
-use Rattle.wot_step.specs.Outcome.{Outcome, only}
-use Rattle.wot_step.specs.LineStep.{LineStep, HasReply, ReadLineStep, DoesTo, ComesTo, CommandStep, Stays}
-use Rattle.wot_step.specs.Served.{Served}
-use Rattle.wot_step.proofs.Absences.{spelled_table, tells_one, tells_some}
-use Rattle.wot_step.specs.Session.{Session}
+use Rattle.wot_plain.specs.Lines.{is_silent, longest}
+use Rattle.wot_plain.specs.Absent.{Checks, Misses, TellsAbsence, claim_in, table_in, verdict_on}
+use Rattle.wot_plain.specs.Answer.{Asks, told}
+use Rattle.wot_plain.specs.Listing.{Lists, bindings, explained_from}
+use Rattle.wot_plain.specs.Outcome.{Outcome, only}
+use Rattle.wot_plain.specs.LineStep.{LineStep, HasReply, ReadLineStep, DoesTo, ComesTo, CommandStep, Stays}
+use Rattle.wot_plain.specs.Served.{Served}
+use Rattle.wot_plain.proofs.Absences.{spelled_table, tells_one, tells_some}
+use Rattle.wot_plain.specs.Session.{Session}
 use Rattle.wot_laws.proofs.Named.{AreNamed, named_all, named_without}
-use Rattle.wot_step.proofs.Paced.{paces_one, paces_some}
+use Rattle.wot_plain.proofs.Paced.{paces_one, paces_some}
 use Rattle.wot_laws.proofs.Stays.{step_stays}
-use Rattle.wot_step.proofs.Watched.{watching_one, watching_some}
-use Rattle.wot_step.proofs.Sessions.{counted_one, counted_some, turned_one, turned_some, whole_same}
+use Rattle.wot_plain.proofs.Watched.{watching_one, watching_some}
+use Rattle.wot_plain.proofs.Sessions.{counted_one, counted_some, turned_one, turned_some, whole_same}
 
 -- at most one reply and state
 abbrev pub IsOne : (R M : Type 0) → (R → M → Type 0) → Type 0

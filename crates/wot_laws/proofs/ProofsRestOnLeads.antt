@@ -9,15 +9,15 @@ use Rattle.wot_policy.specs.declared.rows.PolicyRows.{PolicyRows}
 use Rattle.wot_verdict.specs.Verdicts.{Entries}
 use Rattle.wot_script.specs.declared.command.Command.{Command}
 use Rattle.wot_script.specs.declared.command.Command.TheVariants.{Absence, Check}
-use Rattle.wot_lines.specs.declared.claims.ClaimLine.{ClaimLine}
-use Rattle.wot_lines.specs.declared.claims.ClaimStepLine.{ClaimStepLine}
-use Rattle.wot_lines.specs.declared.claims.LabelLine.{LabelLine}
+use Rattle.wot_reply_lines.specs.declared.claims.ClaimLine.{ClaimLine}
+use Rattle.wot_reply_lines.specs.declared.claims.ClaimStepLine.{ClaimStepLine}
+use Rattle.wot_reply_lines.specs.declared.claims.LabelLine.{LabelLine}
 use Rattle.wot_script.specs.declared.reply.Reply.{Reply}
-use Rattle.wot_lines.specs.Claims.{IsClaimSpelled}
+use Rattle.wot_reply_lines.specs.Claims.{IsClaimSpelled}
 use Rattle.wot_script.specs.Grammar.{command_of}
 use Rattle.wot_script.specs.Spelling.{HasSpelling}
-use Rattle.wot_part.specs.Certificate.{Certificate, unmarked}
-use Rattle.wot_part.specs.Judged.{judged}
+use Rattle.wot_component.specs.Certificate.{Certificate, unmarked}
+use Rattle.wot_component.specs.Judged.{judged}
 use Rattle.wot_edge.specs.declared.path.Path.{Path}
 use Rattle.wot_edge.specs.Agree.{Agree}
 use Rattle.wot_edge.specs.Answer.{amount_of}
@@ -29,7 +29,7 @@ use Rattle.wot_check.specs.Leading.{DoChecksAgree, DoPathsLead, DoTablesAgree, H
 use Rattle.wot_check.specs.Leading.{HasIntroducersOf, IsLeadingShared, ShareLeading}
 use Rattle.wot_check.specs.Table.{label_at}
 use Rattle.wot_keyring.specs.Dump.{judged_by}
-use Rattle.wot_held.specs.Keyring.{Certificates}
+use Rattle.wot_keyring_spec.specs.Keyring.{Certificates}
 use Rattle.wot_network.specs.Certified.{HasCertifiers, HasIntroducers, LeadsTo, RestsOnCertifications, RestsOnTrust}
 use Rattle.wot_network.specs.Local.{IsLocal}
 use Rattle.wot_network.specs.Told.{AreOwn, record_of}
@@ -38,16 +38,16 @@ use Rattle.wot_cache.specs.declared.view.View.{View}
 use Rattle.wot_cache.specs.Question.{question_in}
 use Rattle.wot_cache.specs.State.{State}
 use Rattle.wot_cache.specs.Views.{view_at}
-use Rattle.wot_step.specs.Classes.{class_of}
-use Rattle.wot_step.specs.Absent.{Checks, ChecksBy, Misses, MissesBy, TellsAbsence, claim_in, claimed_step, table_in}
+use Rattle.wot_plain.specs.Classes.{class_of}
+use Rattle.wot_plain.specs.Absent.{Checks, ChecksBy, Misses, MissesBy, TellsAbsence, claim_in, claimed_step, table_in}
 use Rattle.wot_laws.specs.Depends.{IsAsk}
 use Rattle.wot_laws.specs.OneLine.{OneOutcome}
 use Rattle.wot_laws.specs.Leading.{AreAlikeBefore, AreAlikeForClaim, Claimed, HasLookedAt, HoldAlikeOn}
 use Rattle.wot_laws.specs.Leading.{IsAbsenceLine, IsCheckLine}
-use Rattle.wot_step.specs.LineStep.{StateStep, LineStep}
-use Rattle.wot_step.specs.Served.{Served}
-use Rattle.wot_step.specs.Session.{Session}
-use Rattle.wot_step.proofs.Absences.{spelled_table}
+use Rattle.wot_plain.specs.LineStep.{StateStep, LineStep}
+use Rattle.wot_plain.specs.Served.{Served}
+use Rattle.wot_plain.specs.Session.{Session}
+use Rattle.wot_plain.proofs.Absences.{spelled_table}
 use Rattle.wot_laws.proofs.Alike.{step_as}
 use Rattle.wot_laws.proofs.Slices.{same_at}
 

@@ -17,18 +17,18 @@ use Rattle.wot_cache.specs.State.{IsState, State}
 use Rattle.wot_cache.specs.Views.{view_at}
 use Rattle.wot_table.specs.Table.{is_name}
 use Rattle.wot_watch.specs.Watches.{Watch, Watches, is_full, watch_at, with_watch, without_watch}
-use Rattle.wot_step.specs.declared.class.Class.{Class}
-use Rattle.wot_step.specs.Classes.{IsFit, class_of}
-use Rattle.wot_step.specs.Entry.{use_of}
-use Rattle.wot_step.specs.Lines.{heard, is_silent, longest}
-use Rattle.wot_step.specs.LineStep.{CommandStep, HasReply, LineStep, ReadLineStep, Stays}
-use Rattle.wot_step.specs.Scene.{served_in}
-use Rattle.wot_step.specs.Served.{Served}
-use Rattle.wot_step.specs.Session.{Session}
-use Rattle.wot_step.specs.Transcript.{listed}
-use Rattle.wot_step.specs.Watching.{AreLines, LeavesWatches, Opens, TakesOff, Watching, is_watching, opened}
-use Rattle.wot_step.proofs.Entries.{all_found, apart, found_put, gone_without, other_put, other_without}
-use Rattle.wot_step.proofs.Watched.{AnswerOne, Lawful, Tells-one, plain_watching, watched_cases}
+use Rattle.wot_plain.specs.declared.class.Class.{Class}
+use Rattle.wot_plain.specs.Classes.{IsFit, class_of}
+use Rattle.wot_plain.specs.Entry.{use_of}
+use Rattle.wot_plain.specs.Lines.{heard, is_silent, longest}
+use Rattle.wot_plain.specs.LineStep.{CommandStep, HasReply, LineStep, ReadLineStep, Stays}
+use Rattle.wot_plain.specs.Scene.{served_in}
+use Rattle.wot_plain.specs.Served.{Served}
+use Rattle.wot_plain.specs.Session.{Session}
+use Rattle.wot_plain.specs.Transcript.{listed}
+use Rattle.wot_plain.specs.Watching.{AreLines, LeavesWatches, Opens, TakesOff, Watching, is_watching, opened}
+use Rattle.wot_plain.proofs.Entries.{all_found, apart, found_put, gone_without, other_put, other_without}
+use Rattle.wot_plain.proofs.Watched.{AnswerOne, Lawful, Tells-one, plain_watching, watched_cases}
 use Rattle.wot_laws.specs.TrueWatches.{IsAmountOf, QuietLinesTellNothing}
 use Rattle.wot_laws.proofs.Fit.{fit_of}
 use Rattle.wot_laws.proofs.Reached.{reached_can_be}

@@ -9,11 +9,11 @@ use Rattle.wot_types.specs.Limits.{standard_limits}
 use Rattle.wot_policy.specs.declared.rows.PolicyRows.{PolicyRows}
 use Rattle.wot_verdict.specs.Verdicts.{verdict_at}
 use Rattle.wot_verdict.specs.declared.verdict.Verdict.{Verdict}
-use Rattle.wot_held.specs.declared.imported.Imported.{Imported}
-use Rattle.wot_held.specs.declared.refusal.Refusal.{Refusal}
-use Rattle.wot_held.specs.Held.{cert_in, verdict_set, removing, verdict_cleared}
-use Rattle.wot_held.specs.Import.{answer_to, answer_under, is_entry}
-use Rattle.wot_held.specs.Verdict.{is_over}
+use Rattle.wot_keyring_spec.specs.declared.imported.Imported.{Imported}
+use Rattle.wot_keyring_spec.specs.declared.refusal.Refusal.{Refusal}
+use Rattle.wot_keyring_spec.specs.Held.{cert_in, verdict_set, removing, verdict_cleared}
+use Rattle.wot_keyring_spec.specs.Import.{answer_to, answer_under, is_entry}
+use Rattle.wot_keyring_spec.specs.Verdict.{is_over}
 use Rattle.wot_script.specs.declared.command.Command.{Command}
 use Rattle.wot_script.specs.declared.reply.Reply.{Reply}
 use Rattle.wot_script.specs.declared.reply.Reply.TheVariants as replies
@@ -22,36 +22,36 @@ use Rattle.wot_certd.specs.World.{Answer}
 use Rattle.wot_cache.specs.declared.view.ViewFault.{ViewFault}
 use Rattle.wot_cache.specs.State.{State, with_held, rooting, timing, closing}
 use Rattle.wot_cache.specs.Views.{view_at, time_fault, root_fault}
-use Rattle.wot_step.specs.declared.class.Class.{Class}
-use Rattle.wot_step.specs.declared.class.Class.TheVariants.{State as OfState, Cursor as OfCursor, Watch as OfWatch}
-use Rattle.wot_step.specs.declared.class.StateCommand.TheVariants as kinds
-use Rattle.wot_step.specs.declared.class.Change.{Change}
-use Rattle.wot_step.specs.declared.class.Change.TheVariants as changes
-use Rattle.wot_step.specs.declared.class.ViewChange.{ViewChange}
-use Rattle.wot_step.specs.declared.class.ViewChange.TheVariants as turns
-use Rattle.wot_step.specs.declared.class.ShelfCall.{ShelfCall}
-use Rattle.wot_step.specs.declared.class.ShelfCall.TheVariants as calls
-use Rattle.wot_step.specs.Classes.{call_of, change_of, class_of, reading, view_change_of}
+use Rattle.wot_plain.specs.declared.class.Class.{Class}
+use Rattle.wot_plain.specs.declared.class.Class.TheVariants.{State as OfState, Cursor as OfCursor, Watch as OfWatch}
+use Rattle.wot_plain.specs.declared.class.StateCommand.TheVariants as kinds
+use Rattle.wot_plain.specs.declared.class.Change.{Change}
+use Rattle.wot_plain.specs.declared.class.Change.TheVariants as changes
+use Rattle.wot_plain.specs.declared.class.ViewChange.{ViewChange}
+use Rattle.wot_plain.specs.declared.class.ViewChange.TheVariants as turns
+use Rattle.wot_plain.specs.declared.class.ShelfCall.{ShelfCall}
+use Rattle.wot_plain.specs.declared.class.ShelfCall.TheVariants as calls
+use Rattle.wot_plain.specs.Classes.{call_of, change_of, class_of, reading, view_change_of}
 use Rattle.wot_laws.specs.OneLine.{is_refused}
-use Rattle.wot_step.specs.Lines.{is_silent, longest}
-use Rattle.wot_step.specs.Outcome.{Outcome, only, done, imports, load, set_verdict, unless}
-use Rattle.wot_step.specs.LineStep.{LineStep, ReadLineStep, StateStep, ComesTo, CommandStep, Stays}
+use Rattle.wot_plain.specs.Lines.{is_silent, longest}
+use Rattle.wot_plain.specs.Outcome.{Outcome, only, done, imports, load, set_verdict, unless}
+use Rattle.wot_plain.specs.LineStep.{LineStep, ReadLineStep, StateStep, ComesTo, CommandStep, Stays}
 use Rattle.wot_cache.specs.declared.view.View.{View}
 use Rattle.wot_cursor.specs.Age.{age_of}
 use Rattle.wot_cursor.specs.Cursors.{Cursor, Cursors, begun, cursor_at, is_full, with_cursor, without_cursor}
 use Rattle.wot_cursor.specs.declared.stamps.Age.{Age}
 use Rattle.wot_cursor.specs.declared.stamps.Age.TheVariants as ages
 use Rattle.wot_explain.specs.Piece.{piece_of}
-use Rattle.wot_step.specs.Pacing as pacing
-use Rattle.wot_step.specs.Pacing.{Begins, Ends, GivesPiece, Goes, GoesBy, GoesFrom, Paces, behind, is_pacing, piece}
-use Rattle.wot_step.specs.Pacing.{stamps_in}
-use Rattle.wot_step.specs.Session.{IsCounted, Session}
-use Rattle.wot_step.proofs.Paced.{paced_cases, plain_paces}
-use Rattle.wot_step.specs.Watching.{is_watching}
-use Rattle.wot_step.proofs.Watched.{plain_watching}
+use Rattle.wot_plain.specs.Pacing as pacing
+use Rattle.wot_plain.specs.Pacing.{Begins, Ends, GivesPiece, Goes, GoesBy, GoesFrom, Paces, behind, is_pacing, piece}
+use Rattle.wot_plain.specs.Pacing.{stamps_in}
+use Rattle.wot_plain.specs.Session.{IsCounted, Session}
+use Rattle.wot_plain.proofs.Paced.{paced_cases, plain_paces}
+use Rattle.wot_plain.specs.Watching.{is_watching}
+use Rattle.wot_plain.proofs.Watched.{plain_watching}
 use Rattle.wot_laws.proofs.RefusedWatches.{watching_left}
-use Rattle.wot_step.proofs.Sessions.{turned_still, whole_same}
-use Rattle.wot_step.specs.Served.{Served}
+use Rattle.wot_plain.proofs.Sessions.{turned_still, whole_same}
+use Rattle.wot_plain.specs.Served.{Served}
 
 -- an outcome that leaves this state if it is a refusal
 abbrev Leaves : State → Outcome → Type 0

@@ -8,12 +8,12 @@ use Rattle.wot_script.specs.declared.reply.Reply.TheVariants as replies
 use Rattle.wot_cache.specs.declared.view.View.{View}
 use Rattle.wot_cache.specs.Views.{view_at}
 use Rattle.wot_watch.specs.Watches.{Watches, is_full, watch_at, with_watch, without_watch}
-use Rattle.wot_step.specs.declared.class.Class.{Class}
+use Rattle.wot_plain.specs.declared.class.Class.{Class}
 use Rattle.wot_laws.specs.OneLine.{is_refused}
-use Rattle.wot_step.specs.Watching.{LeavesWatches}
-use Rattle.wot_step.specs.Watching.{Opens, TakesOff, Watching, is_watching, opened}
-use Rattle.wot_step.specs.Session.{Session}
-use Rattle.wot_step.proofs.Watched.{watched_cases}
+use Rattle.wot_plain.specs.Watching.{LeavesWatches}
+use Rattle.wot_plain.specs.Watching.{Opens, TakesOff, Watching, is_watching, opened}
+use Rattle.wot_plain.specs.Session.{Session}
+use Rattle.wot_plain.proofs.Watched.{watched_cases}
 
 refused_not : (told reply : Reply) (P : Type 0) → reply ≡ told → is_refused told ≡ false → is_refused reply ≡ true → P
 refused_not told reply P e not is = let never : false ≡ true = sym not ∙ sym (ap is_refused e) ∙ is in absurd cc

@@ -4,14 +4,14 @@ use Rattle.wot_policy.specs.declared.rows.PolicyRows.{PolicyRows}
 use Rattle.wot_script.specs.declared.reply.Reply.{Reply}
 use Rattle.wot_certd.specs.World.{World}
 use Rattle.wot_cache.specs.State.{IsState}
-use Rattle.wot_step.specs.Entry.{use_of}
+use Rattle.wot_plain.specs.Entry.{use_of}
 use Rattle.wot_laws.specs.OneLine.{OneOutcome}
-use Rattle.wot_step.specs.Lines.{heard}
-use Rattle.wot_step.specs.Scene.{Scene, Step, opening, served_in, world_behind}
-use Rattle.wot_step.specs.Served.{Served}
-use Rattle.wot_step.specs.Transcript.{Run, RepliesTo, listed}
-use Rattle.wot_step.specs.Watching.{ReportsWatches}
-use Rattle.wot_step.specs.Session.{Session}
+use Rattle.wot_plain.specs.Lines.{heard}
+use Rattle.wot_plain.specs.Scene.{Scene, Step, opening, served_in, world_behind}
+use Rattle.wot_plain.specs.Served.{Served}
+use Rattle.wot_plain.specs.Transcript.{Run, RepliesTo, listed}
+use Rattle.wot_plain.specs.Watching.{ReportsWatches}
+use Rattle.wot_plain.specs.Session.{Session}
 
 module _ (rows : PolicyRows) (law : OneOutcome rows) where
   -- watch lines don't change the state

@@ -18,9 +18,9 @@ use Rattle.wot_check.specs.declared.checking.Checked.{Checked}
 use Rattle.wot_check.specs.Absence.{AreOne}
 use Rattle.wot_check.specs.Claim.{Claim}
 use Rattle.wot_check.specs.Table.{AreLabels, IsTable, Labels}
-use Rattle.wot_lines.specs.declared.claims.ClaimLine.{ClaimLine}
-use Rattle.wot_lines.specs.declared.claims.LabelLine.{LabelLine}
-use Rattle.wot_lines.specs.Claims.{IsClaimSpelled, IsLabelSpelled, IsPathSpelled, is_rising}
+use Rattle.wot_reply_lines.specs.declared.claims.ClaimLine.{ClaimLine}
+use Rattle.wot_reply_lines.specs.declared.claims.LabelLine.{LabelLine}
+use Rattle.wot_reply_lines.specs.Claims.{IsClaimSpelled, IsLabelSpelled, IsPathSpelled, is_rising}
 use Rattle.wot_script.specs.declared.command.Command.{Command}
 use Rattle.wot_script.specs.declared.command.Command.TheVariants.{Absence, Check}
 use Rattle.wot_script.specs.declared.reply.Reply.{Reply}
@@ -31,14 +31,14 @@ use Rattle.wot_cache.specs.Question.{question_in}
 use Rattle.wot_cache.specs.State.{State, IsState}
 use Rattle.wot_cache.specs.Views.{view_at}
 use Rattle.wot_cache.specs.declared.view.View.{View}
-use Rattle.wot_step.specs.Absent.{AreClaimsAccepted, Checks, Misses, TellsAbsence, claim_in, claim_line, claim_step}
-use Rattle.wot_step.specs.Absent.{label_line, table_in, verdict_on}
-use Rattle.wot_step.specs.Classes.{class_of}
-use Rattle.wot_step.specs.Lines.{heard}
-use Rattle.wot_step.specs.LineStep.{CommandStep, HasReply}
-use Rattle.wot_step.specs.Served.{Served}
-use Rattle.wot_step.specs.Session.{Session}
-use Rattle.wot_step.proofs.StepsByKind.{heard_read}
+use Rattle.wot_plain.specs.Absent.{AreClaimsAccepted, Checks, Misses, TellsAbsence, claim_in, claim_line, claim_step}
+use Rattle.wot_plain.specs.Absent.{label_line, table_in, verdict_on}
+use Rattle.wot_plain.specs.Classes.{class_of}
+use Rattle.wot_plain.specs.Lines.{heard}
+use Rattle.wot_plain.specs.LineStep.{CommandStep, HasReply}
+use Rattle.wot_plain.specs.Served.{Served}
+use Rattle.wot_plain.specs.Session.{Session}
+use Rattle.wot_plain.proofs.StepsByKind.{heard_read}
 use Rattle.wot_laws.specs.SentBack.{ComesBack, IsAcceptedAgain}
 use Rattle.wot_laws.proofs.ClaimsAccepted.{missed_sum}
 use Rattle.wot_laws.proofs.LineByCommand.{Hears, hears}

@@ -8,20 +8,20 @@ use Rattle.wot_types.specs.declared.fpr.Fpr.{Fpr}
 use Rattle.wot_policy.specs.declared.rows.PolicyRows.{PolicyRows}
 use Rattle.wot_verdict.specs.Verdicts.{Entries}
 use Rattle.wot_script.specs.declared.command.Command.TheVariants.{Ask}
-use Rattle.wot_lines.specs.declared.lines.AnswerLine.{AnswerLine}
-use Rattle.wot_lines.specs.declared.lines.AnswerLine.TheVariants as lines
+use Rattle.wot_reply_lines.specs.declared.lines.AnswerLine.{AnswerLine}
+use Rattle.wot_reply_lines.specs.declared.lines.AnswerLine.TheVariants as lines
 use Rattle.wot_script.specs.declared.reply.Reply.{Reply}
 use Rattle.wot_script.specs.declared.reply.Reply.TheVariants as replies
-use Rattle.wot_part.specs.Certificate.{Certificate, unmarked}
-use Rattle.wot_part.specs.Judged.{judged}
+use Rattle.wot_component.specs.Certificate.{Certificate, unmarked}
+use Rattle.wot_component.specs.Judged.{judged}
 use Rattle.wot_edge.specs.declared.path.Path.{Path}
 use Rattle.wot_edge.specs.declared.path.Step.{Step}
 use Rattle.wot_edge.specs.Answer.{EachNext, IsAnswer, amount_of}
 use Rattle.wot_edge.specs.Path.{Chain, Question, Stands, start}
 use Rattle.wot_edge.specs.Record.{Has, IsRecord}
 use Rattle.wot_keyring.specs.Dump.{judged_by}
-use Rattle.wot_held.specs.Held.{Held, cert_in}
-use Rattle.wot_held.specs.Keyring.{Certificates, is_fpr}
+use Rattle.wot_keyring_spec.specs.Held.{Held, cert_in}
+use Rattle.wot_keyring_spec.specs.Keyring.{Certificates, is_fpr}
 use Rattle.wot_network.specs.Certified.{IsSlice, RestsOnTrust}
 use Rattle.wot_network.specs.Local.{IsLocal}
 use Rattle.wot_network.specs.Told.{AreOwn, record_of}
@@ -30,13 +30,13 @@ use Rattle.wot_cache.specs.declared.view.View.{View}
 use Rattle.wot_cache.specs.Question.{question_in}
 use Rattle.wot_cache.specs.State.{State}
 use Rattle.wot_cache.specs.Views.{view_at}
-use Rattle.wot_step.specs.Classes.{class_of}
-use Rattle.wot_step.specs.Answer.{Asks, path_lines, step_line, told, uid_at, uid_in}
+use Rattle.wot_plain.specs.Classes.{class_of}
+use Rattle.wot_plain.specs.Answer.{Asks, path_lines, step_line, told, uid_at, uid_in}
 use Rattle.wot_laws.specs.OneLine.{OneOutcome}
-use Rattle.wot_step.specs.LineStep.{StateStep, LineStep}
-use Rattle.wot_step.specs.Served.{Served}
+use Rattle.wot_plain.specs.LineStep.{StateStep, LineStep}
+use Rattle.wot_plain.specs.Served.{Served}
 use Rattle.wot_laws.specs.Slices.{AreAlikeFor, HoldAlike, IsQuestion, SharesSlice}
-use Rattle.wot_step.specs.Session.{Session}
+use Rattle.wot_plain.specs.Session.{Session}
 use Rattle.wot_laws.proofs.Alike.{step_as}
 
 -- ---- marks

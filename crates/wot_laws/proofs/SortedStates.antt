@@ -22,20 +22,20 @@ use Rattle.wot_policy.specs.declared.rows.PolicyRows.{PolicyRows}
 use Rattle.wot_edge.specs.Record.{Record}
 use Rattle.wot_cert.specs.Assembly.{Section, certificate_of, cut_at, part_of, parts_of}
 use Rattle.wot_cert.specs.Packets.{begins_component}
-use Rattle.wot_part.specs.Certificate.{Certificate, Component, Signature, on_user_id, part_cmp, part_with, unite}
-use Rattle.wot_part.specs.Certificate.{unite_part}
-use Rattle.wot_part.specs.Judged.{judged, judged_sig}
-use Rattle.wot_part.specs.Ranked.{IsBelow, IsRising, placed, put, united}
-use Rattle.wot_held.specs.Keyring.{Certificates, is_fpr}
-use Rattle.wot_held.specs.Import.{of_packets, spelled_in, merged_into, with_cert, with_certs}
+use Rattle.wot_component.specs.Certificate.{Certificate, Component, Signature, on_user_id, part_cmp, part_with, unite}
+use Rattle.wot_component.specs.Certificate.{unite_part}
+use Rattle.wot_component.specs.Judged.{judged, judged_sig}
+use Rattle.wot_component.specs.Ranked.{IsBelow, IsRising, placed, put, united}
+use Rattle.wot_keyring_spec.specs.Keyring.{Certificates, is_fpr}
+use Rattle.wot_keyring_spec.specs.Import.{of_packets, spelled_in, merged_into, with_cert, with_certs}
 use Rattle.wot_script.specs.declared.reply.Reply.{Reply}
 use Rattle.wot_certd.specs.World.{World}
 use Rattle.wot_explain.specs.declared.bind.Bind.{Bind}
 use Rattle.wot_explain.specs.Listing.{IsListed, Pair, pair_of, pairs_in, is_authenticated_to, pair_in}
-use Rattle.wot_step.specs.Scene.{Scene, opening}
-use Rattle.wot_step.specs.Transcript.{Run}
-use Rattle.wot_step.proofs.Entries.{AreInOrder, all_put, all_without, below_all, below_append, rising_append}
-use Rattle.wot_step.proofs.Entries.{rising_put, rising_without, turn_round}
+use Rattle.wot_plain.specs.Scene.{Scene, opening}
+use Rattle.wot_plain.specs.Transcript.{Run}
+use Rattle.wot_plain.proofs.Entries.{AreInOrder, all_put, all_without, below_all, below_append, rising_append}
+use Rattle.wot_plain.proofs.Entries.{rising_put, rising_without, turn_round}
 use Rattle.wot_laws.proofs.Stays.{run_stays}
 
 -- ---- merging

@@ -16,20 +16,20 @@ use Rattle.wot_cursor.specs.Cursors.{Cursor, Cursors, begun, cursor_at, is_full,
 use Rattle.wot_cursor.specs.declared.stamps.Age.{Age}
 use Rattle.wot_cursor.specs.declared.stamps.Age.TheVariants as ages
 use Rattle.wot_explain.specs.Piece.{piece_of}
-use Rattle.wot_step.specs.declared.class.Class.{Class}
-use Rattle.wot_step.specs.declared.class.Class.TheVariants.{State as OfState, Cursor as OfCursor, Watch as OfWatch}
+use Rattle.wot_plain.specs.declared.class.Class.{Class}
+use Rattle.wot_plain.specs.declared.class.Class.TheVariants.{State as OfState, Cursor as OfCursor, Watch as OfWatch}
 use Rattle.wot_laws.specs.Numbers.{DoNumbersDiffer}
-use Rattle.wot_step.specs.LineStep.{LineStep, CommandStep}
-use Rattle.wot_step.specs.Pacing.{Begins, Ends, GivesPiece, Goes, GoesBy, GoesFrom, Leaves, Paces, behind, is_pacing}
-use Rattle.wot_step.specs.Pacing.{piece, stamps_in}
-use Rattle.wot_step.specs.Served.{Served}
-use Rattle.wot_step.specs.Watching.{LeavesWatches, Opens, TakesOff, Watching, is_watching, opened}
-use Rattle.wot_step.specs.Session.{Session}
+use Rattle.wot_plain.specs.LineStep.{LineStep, CommandStep}
+use Rattle.wot_plain.specs.Pacing.{Begins, Ends, GivesPiece, Goes, GoesBy, GoesFrom, Leaves, Paces, behind, is_pacing}
+use Rattle.wot_plain.specs.Pacing.{piece, stamps_in}
+use Rattle.wot_plain.specs.Served.{Served}
+use Rattle.wot_plain.specs.Watching.{LeavesWatches, Opens, TakesOff, Watching, is_watching, opened}
+use Rattle.wot_plain.specs.Session.{Session}
 use Rattle.wot_laws.specs.Numbers.{amount_in}
 use Rattle.wot_laws.proofs.LineByCommand.{told_by}
-use Rattle.wot_step.proofs.Paced.{paced_cases}
-use Rattle.wot_step.proofs.StateReplies.{IsStateReply, state_replies}
-use Rattle.wot_step.proofs.Watched.{watched_cases}
+use Rattle.wot_plain.proofs.Paced.{paced_cases}
+use Rattle.wot_plain.proofs.StateReplies.{IsStateReply, state_replies}
+use Rattle.wot_plain.proofs.Watched.{watched_cases}
 use Rattle.std.proofs.Common.{◌≢◌}
 use Rattle.std.specs.Prelude.{if◌then◌else◌}
 use Rattle.std.proofs.lemmas.Bool.{eqb-false, eqb-true}

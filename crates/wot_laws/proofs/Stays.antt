@@ -12,13 +12,13 @@ use Rattle.wot_types.specs.Limits.{standard_limits}
 use Rattle.wot_policy.specs.declared.rows.PolicyRows.{PolicyRows}
 use Rattle.wot_verdict.specs.Verdicts.{verdict_at, with_verdict}
 use Rattle.wot_verdict.specs.declared.verdict.Verdict.{Verdict}
-use Rattle.wot_part.specs.Certificate.{Certificate}
-use Rattle.wot_held.specs.declared.imported.Imported.{Imported}
-use Rattle.wot_held.specs.declared.refusal.Refusal.{Refusal}
-use Rattle.wot_held.specs.Keyring.{Certificates, is_fpr}
-use Rattle.wot_held.specs.Held.{cert_in, is_said, verdict_set, removing, verdict_cleared}
-use Rattle.wot_held.specs.Import.{answer_to, answer_under, is_entry, spelled_in, with_certs}
-use Rattle.wot_held.specs.Verdict.{is_over}
+use Rattle.wot_component.specs.Certificate.{Certificate}
+use Rattle.wot_keyring_spec.specs.declared.imported.Imported.{Imported}
+use Rattle.wot_keyring_spec.specs.declared.refusal.Refusal.{Refusal}
+use Rattle.wot_keyring_spec.specs.Keyring.{Certificates, is_fpr}
+use Rattle.wot_keyring_spec.specs.Held.{cert_in, is_said, verdict_set, removing, verdict_cleared}
+use Rattle.wot_keyring_spec.specs.Import.{answer_to, answer_under, is_entry, spelled_in, with_certs}
+use Rattle.wot_keyring_spec.specs.Verdict.{is_over}
 use Rattle.wot_script.specs.declared.command.Command.{Command}
 use Rattle.wot_script.specs.declared.reply.Reply.{Reply}
 use Rattle.wot_script.specs.declared.reply.Reply.TheVariants as replies
@@ -27,24 +27,24 @@ use Rattle.wot_cache.specs.declared.view.ViewFault.{ViewFault}
 use Rattle.wot_certd.specs.World.{Answer}
 use Rattle.wot_cache.specs.State.{State, with_held, rooting, timing, closing}
 use Rattle.wot_cache.specs.Views.{view_at, time_fault, root_fault}
-use Rattle.wot_step.specs.declared.class.Class.{Class}
-use Rattle.wot_step.specs.declared.class.Class.TheVariants.{State as OfState, Cursor as OfCursor, Watch as OfWatch}
-use Rattle.wot_step.specs.declared.class.StateCommand.TheVariants as kinds
-use Rattle.wot_step.specs.declared.class.Change.{Change}
-use Rattle.wot_step.specs.declared.class.Change.TheVariants as changes
-use Rattle.wot_step.specs.declared.class.ViewChange.{ViewChange}
-use Rattle.wot_step.specs.declared.class.ViewChange.TheVariants as turns
-use Rattle.wot_step.specs.declared.class.ShelfCall.{ShelfCall}
-use Rattle.wot_step.specs.declared.class.ShelfCall.TheVariants as calls
-use Rattle.wot_step.specs.Classes.{call_of, change_of, class_of, reading, view_change_of}
-use Rattle.wot_step.specs.Lines.{heard, is_silent, longest}
-use Rattle.wot_step.specs.Outcome.{Outcome, only, done, imports, load, unless}
-use Rattle.wot_step.specs.Entry.{use_of}
-use Rattle.wot_step.specs.LineStep.{LineStep, HasReply, ReadLineStep, StateStep, ComesTo, Stays}
-use Rattle.wot_step.specs.Scene.{Scene, served_in}
-use Rattle.wot_step.specs.Served.{Served}
-use Rattle.wot_step.specs.Session.{Session}
-use Rattle.wot_step.specs.Transcript.{Run}
+use Rattle.wot_plain.specs.declared.class.Class.{Class}
+use Rattle.wot_plain.specs.declared.class.Class.TheVariants.{State as OfState, Cursor as OfCursor, Watch as OfWatch}
+use Rattle.wot_plain.specs.declared.class.StateCommand.TheVariants as kinds
+use Rattle.wot_plain.specs.declared.class.Change.{Change}
+use Rattle.wot_plain.specs.declared.class.Change.TheVariants as changes
+use Rattle.wot_plain.specs.declared.class.ViewChange.{ViewChange}
+use Rattle.wot_plain.specs.declared.class.ViewChange.TheVariants as turns
+use Rattle.wot_plain.specs.declared.class.ShelfCall.{ShelfCall}
+use Rattle.wot_plain.specs.declared.class.ShelfCall.TheVariants as calls
+use Rattle.wot_plain.specs.Classes.{call_of, change_of, class_of, reading, view_change_of}
+use Rattle.wot_plain.specs.Lines.{heard, is_silent, longest}
+use Rattle.wot_plain.specs.Outcome.{Outcome, only, done, imports, load, unless}
+use Rattle.wot_plain.specs.Entry.{use_of}
+use Rattle.wot_plain.specs.LineStep.{LineStep, HasReply, ReadLineStep, StateStep, ComesTo, Stays}
+use Rattle.wot_plain.specs.Scene.{Scene, served_in}
+use Rattle.wot_plain.specs.Served.{Served}
+use Rattle.wot_plain.specs.Session.{Session}
+use Rattle.wot_plain.specs.Transcript.{Run}
 
 -- what holds of all entries holds of those that are left
 pub all_without : (Q : Fpr × Certificate → Type 0) (test : Fpr → Bool) (certs : Certificates) → AllByRecursion Q certs →

@@ -14,7 +14,7 @@ use Rattle.wot_types.specs.ViewName.{view_name_cmp}
 use Rattle.wot_policy.specs.declared.rows.PolicyRows.{PolicyRows}
 use Rattle.wot_edge.specs.declared.path.Path.{Path}
 use Rattle.wot_edge.specs.Answer.{IsAnswer, amount_of}
-use Rattle.wot_part.specs.Ranked.{IsRising}
+use Rattle.wot_component.specs.Ranked.{IsRising}
 use Rattle.wot_script.specs.Grammar.{command_of}
 use Rattle.wot_script.specs.Spelling.{HasSpelling}
 use Rattle.wot_script.specs.declared.command.Command.{Command}
@@ -27,31 +27,31 @@ use Rattle.wot_cache.specs.State.{State}
 use Rattle.wot_cache.specs.Views.{view_at}
 use Rattle.wot_table.specs.Table.{is_name}
 use Rattle.wot_watch.specs.Watches.{Watch, Watches, is_full, watch_at, with_watch, without_watch}
-use Rattle.wot_step.specs.declared.class.Class.{Class}
-use Rattle.wot_step.specs.Classes.{IsFit, class_of}
+use Rattle.wot_plain.specs.declared.class.Class.{Class}
+use Rattle.wot_plain.specs.Classes.{IsFit, class_of}
 use Rattle.wot_laws.proofs.Fit.{fit_of}
-use Rattle.wot_step.specs.Entry.{use_of}
-use Rattle.wot_step.specs.Lines.{heard, is_silent, longest}
-use Rattle.wot_step.specs.LineStep.{ReadLineStep, HasReply, LineStep, CommandStep, Stays}
-use Rattle.wot_step.specs.Scene.{Scene, Step, opening, served_in}
-use Rattle.wot_step.specs.Served.{Served}
-use Rattle.wot_step.specs.Transcript.{Run, listed}
-use Rattle.wot_step.specs.Watching.{AreLines, HasAmount, IsWatchLine, LeavesWatches, Opens, TakesOff, ReportsWatches}
-use Rattle.wot_step.specs.Watching.{Watching}
-use Rattle.wot_step.specs.Watching.{is_watching, line_by, opened, with_line}
-use Rattle.wot_step.specs.Session.{Session}
+use Rattle.wot_plain.specs.Entry.{use_of}
+use Rattle.wot_plain.specs.Lines.{heard, is_silent, longest}
+use Rattle.wot_plain.specs.LineStep.{ReadLineStep, HasReply, LineStep, CommandStep, Stays}
+use Rattle.wot_plain.specs.Scene.{Scene, Step, opening, served_in}
+use Rattle.wot_plain.specs.Served.{Served}
+use Rattle.wot_plain.specs.Transcript.{Run, listed}
+use Rattle.wot_plain.specs.Watching.{AreLines, HasAmount, IsWatchLine, LeavesWatches, Opens, TakesOff, ReportsWatches}
+use Rattle.wot_plain.specs.Watching.{Watching}
+use Rattle.wot_plain.specs.Watching.{is_watching, line_by, opened, with_line}
+use Rattle.wot_plain.specs.Session.{Session}
 use Rattle.wot_laws.specs.TrueWatches.{IsAmountOf, IsLast, IsNews}
 use Rattle.wot_laws.specs.TrueWatches.{WatchLinesAreNews, WatchesAreTrue}
 use Rattle.wot_laws.specs.Numbers.{amount_in}
 use Rattle.wot_laws.specs.TrueWatches.{amounts_in, line_cmp, name_in}
-use Rattle.wot_step.proofs.Entries.{AllValues, all_found, all_put, all_without, apart, found_put, gone_without}
-use Rattle.wot_step.proofs.Entries.{other_put, other_without, rising_put, rising_without}
+use Rattle.wot_plain.proofs.Entries.{AllValues, all_found, all_put, all_without, apart, found_put, gone_without}
+use Rattle.wot_plain.proofs.Entries.{other_put, other_without, rising_put, rising_without}
 use Rattle.wot_laws.proofs.StaleTold.{untold}
 use Rattle.wot_laws.proofs.WatchLines.{AreByName, all_keep, all_order, behind, is_itself, last_behind, none_of}
 use Rattle.wot_laws.proofs.WatchLines.{other_way}
 use Rattle.wot_laws.proofs.WatchLines.{same_name, was_there}
-use Rattle.wot_step.proofs.Watched.{amount_has, lines_are_watch, plain_watching}
-use Rattle.wot_step.proofs.Watched.{watched_cases}
+use Rattle.wot_plain.proofs.Watched.{amount_has, lines_are_watch, plain_watching}
+use Rattle.wot_plain.proofs.Watched.{watched_cases}
 
 -- ---- what was reported so far
 

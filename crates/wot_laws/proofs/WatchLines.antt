@@ -18,14 +18,14 @@ use Rattle.wot_cache.specs.State.{State}
 use Rattle.wot_cache.specs.Views.{view_at}
 use Rattle.wot_table.specs.Table.{is_name}
 use Rattle.wot_watch.specs.Watches.{Watch, Watches, watch_at, with_told, without_watch}
-use Rattle.wot_step.specs.Watching.{HasAmount, AreLines, IsLine, IsWatchLine, line_by, told_all, told_by, with_line}
+use Rattle.wot_plain.specs.Watching.{HasAmount, AreLines, IsLine, IsWatchLine, line_by, told_all, told_by, with_line}
 use Rattle.wot_script.specs.declared.reply.Reply.{Reply}
 use Rattle.wot_script.specs.declared.reply.Reply.TheVariants as replies
 use Rattle.wot_laws.specs.TrueWatches.{IsLast, amounts_in}
 use Rattle.wot_laws.specs.Numbers.{amount_in}
-use Rattle.wot_part.specs.Ranked.{IsBelow}
-use Rattle.wot_step.proofs.Entries.{AllValues, AreInOrder, all_found, all_set, all_without, apart, by_key, found_set}
-use Rattle.wot_step.proofs.Entries.{gone_without, other_set, other_without, rising_set, rising_without}
+use Rattle.wot_component.specs.Ranked.{IsBelow}
+use Rattle.wot_plain.proofs.Entries.{AllValues, AreInOrder, all_found, all_set, all_without, apart, by_key, found_set}
+use Rattle.wot_plain.proofs.Entries.{gone_without, other_set, other_without, rising_set, rising_without}
 
 -- ---- names
 

@@ -3,22 +3,22 @@ use Rattle.std.specs.Prelude.{◌≡◌, ℕ, List, map, Option, Some}
 use Rattle.wot_types.specs.declared.fpr.Fpr.{Fpr}
 use Rattle.wot_policy.specs.declared.rows.PolicyRows.{PolicyRows}
 use Rattle.wot_script.specs.declared.command.Command.{Command}
-use Rattle.wot_step.specs.declared.class.Class.{Class}
-use Rattle.wot_step.specs.declared.class.Class.TheVariants.{State as OfState}
-use Rattle.wot_step.specs.declared.class.StateCommand.TheVariants as kinds
-use Rattle.wot_step.specs.Classes.{class_of}
+use Rattle.wot_plain.specs.declared.class.Class.{Class}
+use Rattle.wot_plain.specs.declared.class.Class.TheVariants.{State as OfState}
+use Rattle.wot_plain.specs.declared.class.StateCommand.TheVariants as kinds
+use Rattle.wot_plain.specs.Classes.{class_of}
 use Rattle.wot_script.specs.declared.reply.Reply.{Reply}
 use Rattle.wot_script.specs.Grammar.{command_of}
-use Rattle.wot_part.specs.Certificate.{Certificate, unmarked}
+use Rattle.wot_component.specs.Certificate.{Certificate, unmarked}
 use Rattle.wot_certd.specs.World.{World}
-use Rattle.wot_held.specs.Keyring.{Certificates}
+use Rattle.wot_keyring_spec.specs.Keyring.{Certificates}
 use Rattle.wot_cache.specs.State.{State}
 use Rattle.wot_cache.specs.Views.{view_at}
-use Rattle.wot_step.specs.LineStep.{LineStep}
-use Rattle.wot_step.specs.Scene.{opening}
-use Rattle.wot_step.specs.Served.{Served}
-use Rattle.wot_step.specs.Transcript.{Run}
-use Rattle.wot_step.specs.Session.{Session}
+use Rattle.wot_plain.specs.LineStep.{LineStep}
+use Rattle.wot_plain.specs.Scene.{opening}
+use Rattle.wot_plain.specs.Served.{Served}
+use Rattle.wot_plain.specs.Transcript.{Run}
+use Rattle.wot_plain.specs.Session.{Session}
 
 -- Some history leads to the state: lines from an empty machine, with a certificate directory in some world.
 pub record IsReached (rows : PolicyRows) (s : Session) : Type 0 where

@@ -3,8 +3,8 @@ use Rattle.std.specs.Prelude.{◌≡◌, ℕ, Option}
 use Rattle.std.specs.Prelude.{List, [], ◌∷◌, ◌++◌, map, flat_map}
 use Rattle.wot_policy.specs.declared.rows.PolicyRows.{PolicyRows}
 use Rattle.wot_script.specs.declared.reply.Reply.{Reply}
-use Rattle.wot_step.specs.Scene.{Scene, Step}
-use Rattle.wot_step.specs.Transcript.{Run, listed}
+use Rattle.wot_plain.specs.Scene.{Scene, Step}
+use Rattle.wot_plain.specs.Transcript.{Run, listed}
 
 -- a line, its reply if it has one, and the watch lines after it
 pub record Exchange : Type 0 where

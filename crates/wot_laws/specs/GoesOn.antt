@@ -4,12 +4,12 @@ use Rattle.wot_policy.specs.declared.rows.PolicyRows.{PolicyRows}
 use Rattle.wot_script.specs.declared.command.Command.{Command}
 use Rattle.wot_script.specs.declared.reply.Reply.{Reply}
 use Rattle.wot_certd.specs.World.{World}
-use Rattle.wot_step.specs.Fresh.{IsMadeAnew}
+use Rattle.wot_plain.specs.Fresh.{IsMadeAnew}
 use Rattle.wot_laws.specs.Exchanges.{Exchange, Passes, lines_in}
-use Rattle.wot_step.specs.Classes.{class_of, is_own}
-use Rattle.wot_step.specs.Lines.{heard}
-use Rattle.wot_step.specs.Scene.{Scene, opening}
-use Rattle.wot_step.specs.Transcript.{Run}
+use Rattle.wot_plain.specs.Classes.{class_of, is_own}
+use Rattle.wot_plain.specs.Lines.{heard}
+use Rattle.wot_plain.specs.Scene.{Scene, opening}
+use Rattle.wot_plain.specs.Transcript.{Run}
 
 -- whether it is no command, or none of a cursor or of a watch
 abbrev pub is_of_state : Option Command → Bool

@@ -5,25 +5,25 @@ use Rattle.std.specs.List.{list_any}
 use Rattle.wot_policy.specs.declared.rows.PolicyRows.{PolicyRows}
 use Rattle.wot_script.specs.declared.command.Command.{Command}
 use Rattle.wot_script.specs.declared.command.Command.TheVariants.{CursorOver, CursorNext}
-use Rattle.wot_lines.specs.declared.lines.BindLine.{BindLine}
+use Rattle.wot_reply_lines.specs.declared.lines.BindLine.{BindLine}
 use Rattle.wot_script.specs.declared.reply.Reply.{Reply}
 use Rattle.wot_script.specs.declared.reply.Reply.TheVariants as replies
 use Rattle.wot_certd.specs.World.{World}
 use Rattle.wot_cache.specs.State.{State}
 use Rattle.wot_cache.specs.Views.{view_at}
 use Rattle.wot_table.specs.Table.{is_name}
-use Rattle.wot_step.specs.declared.class.Class.{Class}
-use Rattle.wot_step.specs.declared.class.Class.TheVariants.{Cursor as OfCursor}
-use Rattle.wot_step.specs.declared.class.CursorCommand.TheVariants as paces
-use Rattle.wot_step.specs.Classes.{class_of}
-use Rattle.wot_step.specs.Lines.{heard}
-use Rattle.wot_step.specs.LineStep.{LineStep}
-use Rattle.wot_step.specs.Listing.{Lists}
-use Rattle.wot_step.specs.Pacing.{stamps_in}
-use Rattle.wot_step.specs.Scene.{Scene, Step, opening}
-use Rattle.wot_step.specs.Served.{Served}
-use Rattle.wot_step.specs.Transcript.{Run}
-use Rattle.wot_step.specs.Session.{Session}
+use Rattle.wot_plain.specs.declared.class.Class.{Class}
+use Rattle.wot_plain.specs.declared.class.Class.TheVariants.{Cursor as OfCursor}
+use Rattle.wot_plain.specs.declared.class.CursorCommand.TheVariants as paces
+use Rattle.wot_plain.specs.Classes.{class_of}
+use Rattle.wot_plain.specs.Lines.{heard}
+use Rattle.wot_plain.specs.LineStep.{LineStep}
+use Rattle.wot_plain.specs.Listing.{Lists}
+use Rattle.wot_plain.specs.Pacing.{stamps_in}
+use Rattle.wot_plain.specs.Scene.{Scene, Step, opening}
+use Rattle.wot_plain.specs.Served.{Served}
+use Rattle.wot_plain.specs.Transcript.{Run}
+use Rattle.wot_plain.specs.Session.{Session}
 use Rattle.wot_laws.specs.Exchanges.{Exchange, Passes}
 use Rattle.wot_laws.specs.Numbers.{DoNumbersDiffer}
 

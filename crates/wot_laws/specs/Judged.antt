@@ -4,8 +4,8 @@ use Rattle.wot_policy.specs.declared.rows.PolicyRows.{PolicyRows}
 use Rattle.wot_keyring.specs.Dump.{judged_by}
 use Rattle.wot_script.specs.declared.reply.Reply.{Reply}
 use Rattle.wot_certd.specs.World.{World}
-use Rattle.wot_step.specs.Scene.{Scene, opening}
-use Rattle.wot_step.specs.Transcript.{Run}
+use Rattle.wot_plain.specs.Scene.{Scene, opening}
+use Rattle.wot_plain.specs.Transcript.{Run}
 
 -- In each state to which lines lead from a fresh machine, judging the signatures again by the rows changes nothing.
 abbrev pub StayJudged : PolicyRows → Type 0

@@ -5,18 +5,18 @@ use Rattle.std.specs.Prelude.{◌≡◌, ℕ, List, ◌∷◌, Some}
 use Rattle.wot_types.specs.declared.fpr.Fpr.{Fpr}
 use Rattle.wot_policy.specs.declared.rows.PolicyRows.{PolicyRows}
 use Rattle.wot_script.specs.declared.command.Command.TheVariants.{Absence, Check}
-use Rattle.wot_lines.specs.declared.claims.ClaimLine.{ClaimLine}
-use Rattle.wot_lines.specs.declared.claims.ClaimStepLine.{ClaimStepLine}
-use Rattle.wot_lines.specs.declared.claims.LabelLine.{LabelLine}
+use Rattle.wot_reply_lines.specs.declared.claims.ClaimLine.{ClaimLine}
+use Rattle.wot_reply_lines.specs.declared.claims.ClaimStepLine.{ClaimStepLine}
+use Rattle.wot_reply_lines.specs.declared.claims.LabelLine.{LabelLine}
 use Rattle.wot_script.specs.Grammar.{command_of}
 use Rattle.wot_edge.specs.Record.{Has}
-use Rattle.wot_held.specs.Held.{Held}
+use Rattle.wot_keyring_spec.specs.Held.{Held}
 use Rattle.wot_network.specs.Certified.{HasCertifiers, HasIntroducers, LeadsTo}
 use Rattle.wot_cache.specs.State.{State}
 use Rattle.wot_cache.specs.Views.{view_at}
 use Rattle.wot_laws.specs.Depends.{AreRepliesAlike, IsReached}
 use Rattle.wot_laws.specs.Slices.{HoldAlike}
-use Rattle.wot_step.specs.Session.{Session}
+use Rattle.wot_plain.specs.Session.{Session}
 
 -- Both hold the same at the target and at each member of the set.
 abbrev pub HoldAlikeOn : Fpr → List Fpr → Held → Held → Type 0

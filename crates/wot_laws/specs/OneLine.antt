@@ -5,10 +5,10 @@ use Rattle.wot_script.specs.declared.reply.Reply.{Reply}
 use Rattle.wot_script.specs.declared.reply.Reply.TheVariants.{Shelf}
 use Rattle.wot_script.specs.Replies.{is_refusal}
 use Rattle.wot_cache.specs.State.{IsState}
-use Rattle.wot_step.specs.LineStep.{LineStep}
-use Rattle.wot_step.specs.Served.{Served}
-use Rattle.wot_step.specs.Watching.{ReportsWatches}
-use Rattle.wot_step.specs.Session.{Session}
+use Rattle.wot_plain.specs.LineStep.{LineStep}
+use Rattle.wot_plain.specs.Served.{Served}
+use Rattle.wot_plain.specs.Watching.{ReportsWatches}
+use Rattle.wot_plain.specs.Session.{Session}
 
 -- whatever the certificate directory returns, each line has an outcome: a reply or none, and a new state
 abbrev pub HaveOutcomes : PolicyRows → Type 0

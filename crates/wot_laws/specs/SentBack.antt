@@ -4,8 +4,8 @@ use Rattle.wot_types.specs.declared.fpr.Fpr.{Fpr}
 use Rattle.wot_policy.specs.declared.rows.PolicyRows.{PolicyRows}
 use Rattle.wot_script.specs.declared.command.Command.{Command}
 use Rattle.wot_script.specs.declared.command.Command.TheVariants.{Absence, Check}
-use Rattle.wot_lines.specs.declared.claims.ClaimLine.{ClaimLine}
-use Rattle.wot_lines.specs.declared.claims.LabelLine.{LabelLine}
+use Rattle.wot_reply_lines.specs.declared.claims.ClaimLine.{ClaimLine}
+use Rattle.wot_reply_lines.specs.declared.claims.LabelLine.{LabelLine}
 use Rattle.wot_script.specs.declared.reply.Reply.{Reply}
 use Rattle.wot_script.specs.declared.reply.Reply.TheVariants.{Missed, CheckedYes}
 use Rattle.wot_script.specs.Laws.{check_with, claimed, missed_with}
@@ -13,11 +13,11 @@ use Rattle.wot_script.specs.Replies.{reply_text}
 use Rattle.wot_script.specs.Spelling.{HasSpelling}
 use Rattle.wot_cache.specs.State.{State, IsState}
 use Rattle.wot_cache.specs.declared.view.View.{View}
-use Rattle.wot_step.specs.Absent.{Misses}
-use Rattle.wot_step.specs.Lines.{heard, longest}
-use Rattle.wot_step.specs.LineStep.{LineStep}
-use Rattle.wot_step.specs.Served.{Served}
-use Rattle.wot_step.specs.Session.{Session}
+use Rattle.wot_plain.specs.Absent.{Misses}
+use Rattle.wot_plain.specs.Lines.{heard, longest}
+use Rattle.wot_plain.specs.LineStep.{LineStep}
+use Rattle.wot_plain.specs.Served.{Served}
+use Rattle.wot_plain.specs.Session.{Session}
 
 -- The claim of a reply `absence missed` can be printed in a line `check`.
 abbrev pub AreClaimsSpelled : Type 0

@@ -9,21 +9,21 @@ use Rattle.wot_policy.specs.declared.rows.PolicyRows.{PolicyRows}
 use Rattle.wot_script.specs.declared.command.Command.TheVariants.{Ask, Explain}
 use Rattle.wot_script.specs.Grammar.{command_of}
 use Rattle.wot_verdict.specs.Verdicts.{verdict_at}
-use Rattle.wot_part.specs.Certificate.{Certificate, Signature, unmarked}
-use Rattle.wot_part.specs.Counts.{all_sigs}
+use Rattle.wot_component.specs.Certificate.{Certificate, Signature, unmarked}
+use Rattle.wot_component.specs.Counts.{all_sigs}
 use Rattle.wot_cert.specs.Issuer.{good_by}
 use Rattle.wot_edge.specs.declared.path.Path.{Path}
 use Rattle.wot_edge.specs.Answer.{IsAnswer}
 use Rattle.wot_edge.specs.Record.{Has}
-use Rattle.wot_held.specs.Held.{Held, cert_in}
-use Rattle.wot_held.specs.Later.{SaysSame}
+use Rattle.wot_keyring_spec.specs.Held.{Held, cert_in}
+use Rattle.wot_keyring_spec.specs.Later.{SaysSame}
 use Rattle.wot_network.specs.Certified.{IsSlice}
 use Rattle.wot_cache.specs.declared.view.View.{View}
 use Rattle.wot_cache.specs.Question.{question_in}
 use Rattle.wot_cache.specs.State.{State}
 use Rattle.wot_cache.specs.Views.{view_at}
 use Rattle.wot_laws.specs.Depends.{AreRepliesAlike, IsReached}
-use Rattle.wot_step.specs.Session.{Session}
+use Rattle.wot_plain.specs.Session.{Session}
 
 -- Both hold the same certificate under a fingerprint apart from policy marks, or none, and have the same verdicts on
 -- its signatures.

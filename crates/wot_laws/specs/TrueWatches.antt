@@ -6,7 +6,7 @@ use Rattle.wot_types.specs.ViewName.{view_name_cmp}
 use Rattle.wot_policy.specs.declared.rows.PolicyRows.{PolicyRows}
 use Rattle.wot_edge.specs.declared.path.Path.{Path}
 use Rattle.wot_edge.specs.Answer.{IsAnswer, amount_of}
-use Rattle.wot_part.specs.Ranked.{IsRising}
+use Rattle.wot_component.specs.Ranked.{IsRising}
 use Rattle.wot_script.specs.declared.reply.Reply.{Reply}
 use Rattle.wot_script.specs.declared.reply.Reply.TheVariants as replies
 use Rattle.wot_certd.specs.World.{World}
@@ -15,8 +15,8 @@ use Rattle.wot_cache.specs.Question.{question_in}
 use Rattle.wot_cache.specs.State.{State}
 use Rattle.wot_cache.specs.Views.{view_at}
 use Rattle.wot_watch.specs.Watches.{Watch, watch_at}
-use Rattle.wot_step.specs.Scene.{Scene, Step, opening}
-use Rattle.wot_step.specs.Transcript.{Run, listed}
+use Rattle.wot_plain.specs.Scene.{Scene, Step, opening}
+use Rattle.wot_plain.specs.Transcript.{Run, listed}
 use Rattle.wot_laws.specs.Numbers.{amount_in}
 
 -- ---- reported amounts

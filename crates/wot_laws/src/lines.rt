@@ -10,7 +10,7 @@ ghost use Rattle.wot_script.specs.declared.reply.Reply.{Reply};
 ghost use Rattle.wot_certd.specs.World.{World};
 ghost use Rattle.wot_laws.specs.OneLine.{HaveOneOutcome, HaveOnlyWatchLines, HaveOutcomes, HaveWatchLines};
 ghost use Rattle.wot_laws.specs.OneLine.{LeadToStates, RefusalsLeaveAll};
-ghost use Rattle.wot_step.specs.Transcript.{HasOneTranscript, Transcript};
+ghost use Rattle.wot_plain.specs.Transcript.{HasOneTranscript, Transcript};
 ghost use Rattle.wot_laws.specs.Judged.{StayJudged};
 
 use wot_cert::laws::judging;

@@ -2,11 +2,11 @@
 //! absence is worth. Each function does nothing: its contract is the law. docs/PROOF.md explains each.
 //!
 //! Their definitions are in `specs/Depends.antt`, `specs/Slices.antt` and `specs/Leading.antt`, and for claims of
-//! absence in wot_step. Their lemmas are in `proofs/Alike.antt`, `proofs/Slices.antt`, `proofs/Explained.antt`,
+//! absence in wot_plain. Their lemmas are in `proofs/Alike.antt`, `proofs/Slices.antt`, `proofs/Explained.antt`,
 //! `proofs/ProofsRestOnLeads.antt`, `proofs/ClaimsAccepted.antt` and `proofs/SentBack.antt`.
 ghost use Rattle.wot_policy.specs.declared.rows.PolicyRows.{PolicyRows};
 ghost use Rattle.wot_script.specs.Spelling.{HasSpelling};
-ghost use Rattle.wot_step.specs.Absent.{AreClaimsAccepted, DoClaimsLeaveNothing};
+ghost use Rattle.wot_plain.specs.Absent.{AreClaimsAccepted, DoClaimsLeaveNothing};
 ghost use Rattle.wot_laws.specs.Depends.{DependsOnWhatIsPresent};
 ghost use Rattle.wot_laws.specs.Leading.{DoAbsencesRestOnLeading, DoChecksRestOnLookedAt};
 ghost use Rattle.wot_laws.specs.SentBack.{AreClaimsSpelled, ComesBack};

@@ -15,8 +15,8 @@ use Rattle.wot_types.specs.declared.fpr.Fpr.{Fpr}
 use Rattle.wot_types.specs.Fpr.{fpr_cmp, same_fpr}
 use Rattle.wot_types.specs.FprLaws.{fpr_total, same_fpr-sym, same_fpr-true}
 use Rattle.wot_verdict.specs.Verdicts.{Entries}
-use Rattle.wot_part.specs.Certificate.{Component, Certificate}
-use Rattle.wot_part.specs.Counts.{sigs_on}
+use Rattle.wot_component.specs.Certificate.{Component, Certificate}
+use Rattle.wot_component.specs.Counts.{sigs_on}
 use Rattle.wot_cert.specs.Issuer.{counts_by, issuer_of}
 use Rattle.wot_edge.specs.declared.edge.EdgeFacts.{EdgeFacts}
 use Rattle.wot_edge.specs.Order.{edge_cmp}

@@ -3,9 +3,9 @@ use Rattle.std.proofs.Common.{◌≡◌, ℕ, ◌+◌, ◌≤◌, ◌<◌, ◌^�
 use Rattle.std.proofs.Common.{arith, length-append}
 use Rattle.std.specs.List.{AllByRecursion}
 use Rattle.wot_packet.specs.Writing.{written}
-use Rattle.wot_part.specs.Certificate.{Signature, Component, Certificate}
-use Rattle.wot_part.specs.Counts.{sum_of, part_weight}
-use Rattle.wot_part.specs.Text.{sigs_text, part_text, parts_text, size_of}
+use Rattle.wot_component.specs.Certificate.{Signature, Component, Certificate}
+use Rattle.wot_component.specs.Counts.{sum_of, part_weight}
+use Rattle.wot_component.specs.Text.{sigs_text, part_text, parts_text, size_of}
 use Rattle.wot_live.specs.Found.{HasFew}
 
 -- ---- signatures

@@ -13,8 +13,8 @@ use Rattle.wot_types.specs.declared.fpr.Fpr.{Fpr}
 use Rattle.wot_types.specs.Fpr.{fpr_cmp, same_fpr}
 use Rattle.wot_types.specs.FprLaws.{fpr_exact, fpr_total}
 use Rattle.wot_verdict.specs.Verdicts.{Entries}
-use Rattle.wot_part.specs.Certificate.{Signature, Component}
-use Rattle.wot_part.specs.Counts.{sigs_on}
+use Rattle.wot_component.specs.Certificate.{Signature, Component}
+use Rattle.wot_component.specs.Counts.{sigs_on}
 use Rattle.wot_cert.specs.Issuer.{counts_by, issuer_of}
 use Rattle.wot_live.specs.Rows.{fprs_in_order}
 use Rattle.wot_live.proofs.OneList.{Sorted, none_sorted, sorted_more}

@@ -8,10 +8,10 @@ use Rattle.std.specs.Ordering.{is_eq, ordering_reverse}
 use Rattle.std.proofs.lemmas.Cmp.{nat_list_cmp_total, on_total, tied_itself}
 use Rattle.wot_types.specs.declared.fpr.Fpr.{Fpr}
 use Rattle.wot_signature.specs.declared.facts.SigFacts.{SigFacts}
-use Rattle.wot_sig.specs.SingleFacts.{terms_in}
-use Rattle.wot_sig.specs.declared.said.Terms.{Terms}
-use Rattle.wot_part.specs.Certificate.{Signature, Component, said_by, sig_cmp}
-use Rattle.wot_part.specs.Ranked.{IsRising, IsBelow}
+use Rattle.wot_kept_signature.specs.SingleFacts.{terms_in}
+use Rattle.wot_kept_signature.specs.declared.said.Terms.{Terms}
+use Rattle.wot_component.specs.Certificate.{Signature, Component, said_by, sig_cmp}
+use Rattle.wot_component.specs.Ranked.{IsRising, IsBelow}
 use Rattle.wot_edge.specs.declared.edge.EdgeFacts.{EdgeFacts}
 use Rattle.wot_live.specs.Edge.{signature_place, edge_facts, edge_by}
 use Rattle.wot_live.specs.Found.{edge_at_place, edge_with}

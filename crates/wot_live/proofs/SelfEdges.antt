@@ -16,10 +16,10 @@ use Rattle.wot_types.specs.Fpr.{fpr_cmp, same_fpr}
 use Rattle.wot_types.specs.FprLaws.{same_fpr-refl, same_fpr-true}
 use Rattle.wot_signature.specs.declared.facts.SigFacts.{SigFacts}
 use Rattle.wot_verdict.specs.Verdicts.{Entries}
-use Rattle.wot_part.specs.Certificate.{Signature, Component, Certificate, on_user_id, said_by, sig_cmp}
-use Rattle.wot_part.specs.Counts.{sigs_on}
-use Rattle.wot_part.specs.Ranked.{IsRising, greatest, higher, higher_of}
-use Rattle.wot_part.specs.Whole.{ArePartsOf, IsPartOf}
+use Rattle.wot_component.specs.Certificate.{Signature, Component, Certificate, on_user_id, said_by, sig_cmp}
+use Rattle.wot_component.specs.Counts.{sigs_on}
+use Rattle.wot_component.specs.Ranked.{IsRising, greatest, higher, higher_of}
+use Rattle.wot_component.specs.Whole.{ArePartsOf, IsPartOf}
 use Rattle.wot_cert.specs.Issuer.{counts_by, issuer_of}
 use Rattle.wot_cert.specs.Revoked.{is_unrevoked}
 use Rattle.wot_cert.specs.Time.{is_live, newness}

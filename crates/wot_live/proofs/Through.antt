@@ -4,7 +4,7 @@ use Rattle.std.specs.List.{AllByRecursion, filter_map, flat_map, slice_get}
 use Rattle.std.specs.Option.{option_and_then}
 use Rattle.wot_types.specs.declared.fpr.Fpr.{Fpr}
 use Rattle.wot_verdict.specs.Verdicts.{Entries}
-use Rattle.wot_part.specs.Certificate.{Component, Certificate}
+use Rattle.wot_component.specs.Certificate.{Component, Certificate}
 use Rattle.wot_standing.specs.Own.{is_own_revoked}
 use Rattle.wot_standing.specs.Standing.{own}
 use Rattle.wot_standing.specs.Steady.{SameBy}

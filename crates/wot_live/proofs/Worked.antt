@@ -10,7 +10,7 @@ use Rattle.wot_subpacket.specs.Area.{subpackets_of}
 use Rattle.wot_signature.specs.Signature.{facts_of, read_body_of}
 use Rattle.wot_verdict.specs.declared.verdict.Verdict.TheVariants.{Good}
 use Rattle.wot_verdict.specs.Verdicts.{Entries}
-use Rattle.wot_part.specs.Certificate.{Signature, Certificate}
+use Rattle.wot_component.specs.Certificate.{Signature, Certificate}
 use Rattle.wot_cert.specs.Span.{span_of}
 use Rattle.wot_edge.specs.declared.edge.EdgeFacts.{EdgeFacts}
 use Rattle.wot_standing.specs.Standing.{own}

@@ -7,7 +7,7 @@ use Rattle.wot_types.specs.declared.fpr.Fpr.{Fpr}
 use Rattle.wot_types.specs.Fpr.{same_fpr}
 use Rattle.wot_signature.specs.declared.facts.SigFacts.{SigFacts}
 use Rattle.wot_verdict.specs.Verdicts.{Entries}
-use Rattle.wot_part.specs.Certificate.{Signature, Component, Certificate, said_by, sig_cmp}
+use Rattle.wot_component.specs.Certificate.{Signature, Component, Certificate, said_by, sig_cmp}
 use Rattle.wot_edge.specs.declared.edge.EdgeFacts.{EdgeFacts}
 use Rattle.wot_standing.specs.Standing.{own, newest_certification}
 

@@ -8,8 +8,8 @@ use Rattle.std.specs.Option.{option_and_then}
 use Rattle.wot_types.specs.declared.fpr.Fpr.{Fpr}
 use Rattle.wot_types.specs.Fpr.{same_fpr}
 use Rattle.wot_verdict.specs.Verdicts.{Entries}
-use Rattle.wot_sig.specs.declared.said.Terms.{Terms}
-use Rattle.wot_part.specs.Certificate.{Component, Certificate}
+use Rattle.wot_kept_signature.specs.declared.said.Terms.{Terms}
+use Rattle.wot_component.specs.Certificate.{Component, Certificate}
 use Rattle.wot_edge.specs.declared.edge.EdgeFacts.{EdgeFacts}
 use Rattle.wot_standing.specs.declared.places.Certified.{Certified}
 use Rattle.wot_standing.specs.Certifiers.{certified_cmp, place_for, KeepsNewest}

@@ -4,8 +4,8 @@ use Rattle.std.specs.List.{filter_map, slice_get}
 use Rattle.std.specs.Option.{option_and_then}
 use Rattle.wot_types.specs.Fpr.{same_fpr}
 use Rattle.wot_verdict.specs.Verdicts.{Entries}
-use Rattle.wot_part.specs.Certificate.{Signature, Certificate}
-use Rattle.wot_part.specs.Ranked.{greatest}
+use Rattle.wot_component.specs.Certificate.{Signature, Certificate}
+use Rattle.wot_component.specs.Ranked.{greatest}
 use Rattle.wot_edge.specs.declared.edge.EdgeFacts.{EdgeFacts}
 use Rattle.wot_standing.specs.Standing.{own, primacy, primary_among}
 use Rattle.wot_live.specs.Rows.{edges_of}

@@ -3,7 +3,7 @@
 //! edge, and by the law `found_are_edges` these are `edges_of`.
 ghost use Rattle.std.specs.Prelude.{◌≡◌, ◌<◌, ◌≤◌, ◌^◌, length, IfOk};
 ghost use Rattle.std.specs.List.{AllByRecursion};
-ghost use Rattle.wot_part.specs.Counts.{signatures_of};
+ghost use Rattle.wot_component.specs.Counts.{signatures_of};
 ghost use Rattle.wot_standing.specs.Standing.{own};
 ghost use Rattle.wot_live.specs.Found.{AreFound, HasFew};
 ghost use Rattle.wot_live.specs.Found.{edge_at_place as edge_at_place_spec, found_edge as found_edge_spec};

@@ -2,7 +2,7 @@
 //! certificate's edges are sorted and complete.
 ghost use Rattle.std.specs.Prelude.{ℕ};
 ghost use Rattle.wot_verdict.specs.Verdicts.{Entries};
-ghost use Rattle.wot_part.specs.Certificate.{Certificate};
+ghost use Rattle.wot_component.specs.Certificate.{Certificate};
 ghost use Rattle.wot_standing.specs.Standing.{own};
 ghost use Rattle.wot_live.specs.Found.{FoundAreAll};
 ghost use Rattle.wot_live.specs.Rows.{AreInto, AreRows, edges_of};

@@ -4,9 +4,9 @@
 ghost use Rattle.std.specs.Prelude.{◌≡◌, ◌<◌, ◌≤◌, ◌+◌, ◌^◌, ◌++◌, [], min, length, OnOk, IfOk};
 ghost use Rattle.std.specs.List.{cons_option};
 ghost use Rattle.std.specs.List.Sorted.{IsStrictlySortedBy};
-ghost use Rattle.wot_part.specs.Counts.{signatures_of};
+ghost use Rattle.wot_component.specs.Counts.{signatures_of};
 ghost use Rattle.wot_cert.specs.Span.{span_of};
-ghost use Rattle.wot_part.specs.Text.{size_of};
+ghost use Rattle.wot_component.specs.Text.{size_of};
 ghost use Rattle.wot_edge.specs.Order.{edge_cmp};
 ghost use Rattle.wot_standing.specs.Standing.{own};
 ghost use Rattle.wot_standing.specs.Throughout.{IsThroughout};

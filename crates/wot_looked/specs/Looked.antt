@@ -3,7 +3,7 @@ use Rattle.std.specs.Prelude.{◌≡◌, ℕ, List}
 use Rattle.std.specs.List.{AllByRecursion}
 use Rattle.wot_types.specs.declared.fpr.Fpr.{Fpr}
 use Rattle.wot_edge.specs.Roots.{root_amount}
-use Rattle.wot_held.specs.Keyring.{Keyring, stamp_at}
+use Rattle.wot_keyring_spec.specs.Keyring.{Keyring, stamp_at}
 use Rattle.wot_looked.specs.declared.looked.Looked.{Looked}
 
 -- roots with their amounts

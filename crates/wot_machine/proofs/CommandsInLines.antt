@@ -12,31 +12,31 @@ use Rattle.wot_script.specs.declared.reply.Reply.TheVariants as replies
 use Rattle.wot_script.specs.Replies.{reply_text}
 use Rattle.wot_certd.specs.declared.shelf.Given.TheVariants.{Long}
 use Rattle.wot_cache.specs.State.{Engine, State, StaysButMarks, state_of}
-use Rattle.wot_held.specs.Keyring.{Keyring}
-use Rattle.wot_step.specs.declared.class.Class.{Class}
-use Rattle.wot_step.specs.declared.class.Class.TheVariants.{State as OfState}
-use Rattle.wot_step.specs.declared.class.StateCommand.{StateCommand}
-use Rattle.wot_step.specs.declared.draft.CursorMove.{CursorMove}
-use Rattle.wot_step.specs.declared.draft.DraftReply.{DraftReply}
+use Rattle.wot_keyring_spec.specs.Keyring.{Keyring}
+use Rattle.wot_plain.specs.declared.class.Class.{Class}
+use Rattle.wot_plain.specs.declared.class.Class.TheVariants.{State as OfState}
+use Rattle.wot_plain.specs.declared.class.StateCommand.{StateCommand}
+use Rattle.wot_plain.specs.declared.draft.CursorMove.{CursorMove}
+use Rattle.wot_plain.specs.declared.draft.DraftReply.{DraftReply}
 use Rattle.wot_cursor.specs.Cursors.{Cursors}
 use Rattle.wot_watch.specs.Watches.{Watches}
-use Rattle.wot_held.specs.Import.{IsOneChange}
-use Rattle.wot_step.specs.Watching.{AreLines, ReportsWatches, Watching, is_watching, told_all}
-use Rattle.wot_step.specs.Session.{IsTurnedBy, Session, watched, session_of}
-use Rattle.wot_step.specs.Entry.{IsServed, Use, has_failed, put_for, unused, use_by, use_of}
-use Rattle.wot_step.specs.Lines.{heard, is_silent, longest}
-use Rattle.wot_step.specs.LineStep.{ReadLineStep, StateStep, LineStep, CommandStep}
+use Rattle.wot_keyring_spec.specs.Import.{IsOneChange}
+use Rattle.wot_plain.specs.Watching.{AreLines, ReportsWatches, Watching, is_watching, told_all}
+use Rattle.wot_plain.specs.Session.{IsTurnedBy, Session, watched, session_of}
+use Rattle.wot_plain.specs.Entry.{IsServed, Use, has_failed, put_for, unused, use_by, use_of}
+use Rattle.wot_plain.specs.Lines.{heard, is_silent, longest}
+use Rattle.wot_plain.specs.LineStep.{ReadLineStep, StateStep, LineStep, CommandStep}
 use Rattle.wot_command.specs.CommandRun.{StateRun, CommandRun, ClassRun, Seen}
-use Rattle.wot_step.specs.Served.{Served, unserved}
+use Rattle.wot_plain.specs.Served.{Served, unserved}
 use Rattle.wot_machine.specs.Stepped.{Replied, Stepped, TellsBehind}
-use Rattle.wot_step.specs.Pacing.{Paces, is_pacing, settled}
-use Rattle.wot_step.specs.Transcript.{octets_of}
-use Rattle.wot_step.proofs.EdgesMadeByLine.{same_state}
-use Rattle.wot_step.proofs.Paced.{paces_plain, paces_watched, state_paced, turns_paced, uncalled_paced}
-use Rattle.wot_step.proofs.Watched.{paced_unwatched, state_watched, turns_watched, uncalled_watched, watched_unpaced}
-use Rattle.wot_step.proofs.Watched.{watching_plain}
-use Rattle.wot_step.proofs.StepsByKind.{heard_long, heard_silent, one_reply, passed_over, too_long}
-use Rattle.wot_step.proofs.Sessions.{counted_by, same_few, turned_few, turned_still}
+use Rattle.wot_plain.specs.Pacing.{Paces, is_pacing, settled}
+use Rattle.wot_plain.specs.Transcript.{octets_of}
+use Rattle.wot_plain.proofs.EdgesMadeByLine.{same_state}
+use Rattle.wot_plain.proofs.Paced.{paces_plain, paces_watched, state_paced, turns_paced, uncalled_paced}
+use Rattle.wot_plain.proofs.Watched.{paced_unwatched, state_watched, turns_watched, uncalled_watched, watched_unpaced}
+use Rattle.wot_plain.proofs.Watched.{watching_plain}
+use Rattle.wot_plain.proofs.StepsByKind.{heard_long, heard_silent, one_reply, passed_over, too_long}
+use Rattle.wot_plain.proofs.Sessions.{counted_by, same_few, turned_few, turned_still}
 use Rattle.wot_command.proofs.Calling.{idle, idle_by, never_failed}
 
 -- ---- commands that don't use the certificate directory

@@ -3,19 +3,19 @@ use Rattle.std.proofs.Common.{◌≡◌, ℕ, true, Option, None, Some, [], Resu
 use Rattle.std.specs.Prelude.{IfOk, is_ok, is_some}
 use Rattle.std.proofs.lemmas.Bool.{true≢false}
 use Rattle.wot_script.specs.declared.reply.Reply.{Reply}
-use Rattle.wot_held.specs.Keyring.{Keyring}
+use Rattle.wot_keyring_spec.specs.Keyring.{Keyring}
 use Rattle.wot_cache.specs.State.{Engine, State, StaysButMarks, state_of}
 use Rattle.wot_cache.specs.Turns.{Turns}
 use Rattle.wot_cursor.specs.Cursors.{Cursors}
 use Rattle.wot_watch.specs.Watches.{Watches}
-use Rattle.wot_step.specs.declared.class.Class.{Class}
-use Rattle.wot_step.specs.declared.draft.CursorMove.{CursorMove}
-use Rattle.wot_step.specs.declared.draft.DraftReply.{DraftReply}
-use Rattle.wot_step.specs.Pacing.{Paces, is_pacing, settled}
-use Rattle.wot_step.specs.Session.{session_of}
-use Rattle.wot_step.proofs.EdgesMadeByLine.{same_state}
+use Rattle.wot_plain.specs.declared.class.Class.{Class}
+use Rattle.wot_plain.specs.declared.draft.CursorMove.{CursorMove}
+use Rattle.wot_plain.specs.declared.draft.DraftReply.{DraftReply}
+use Rattle.wot_plain.specs.Pacing.{Paces, is_pacing, settled}
+use Rattle.wot_plain.specs.Session.{session_of}
+use Rattle.wot_plain.proofs.EdgesMadeByLine.{same_state}
 use Rattle.wot_machine.specs.Machine.{Machine, IsDue}
-use Rattle.wot_step.proofs.Paced.{paces_watched}
+use Rattle.wot_plain.proofs.Paced.{paces_watched}
 
 -- a reply by itself moves nothing
 pub due_alone : {E : Type 0} (r : Result Reply E) (t : Result DraftReply E) (m : Machine)

@@ -5,9 +5,9 @@ use Rattle.std.proofs.lemmas.Option.{same_Some}
 use Rattle.wot_script.specs.declared.command.Command.{Command}
 use Rattle.wot_script.specs.declared.command.Command.TheVariants.{Dump}
 use Rattle.wot_script.specs.Grammar.{command_of, single_of, other_of}
-use Rattle.wot_step.specs.Classes.{class_of}
-use Rattle.wot_step.specs.Fresh.{IsDump, OnDump}
-use Rattle.wot_words.specs.StateLine.{state_line_of}
+use Rattle.wot_plain.specs.Classes.{class_of}
+use Rattle.wot_plain.specs.Fresh.{IsDump, OnDump}
+use Rattle.wot_fields.specs.StateLine.{state_line_of}
 
 dump_read : command_of (codes "dump") ≡ Some Dump
 unfolding command_of other_of single_of state_line_of

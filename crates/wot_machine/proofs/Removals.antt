@@ -1,10 +1,10 @@
 -- Which commands of cursors and of watches only remove something.
 use Rattle.std.proofs.Common.{◌≡◌, ℕ, true, List, refl}
-use Rattle.wot_step.specs.declared.class.Class.TheVariants.{Cursor as OfCursor, Watch as OfWatch}
-use Rattle.wot_step.specs.declared.class.CursorCommand.{CursorCommand}
-use Rattle.wot_step.specs.declared.class.CursorCommand.TheVariants as paces
-use Rattle.wot_step.specs.declared.class.WatchCommand.{WatchCommand}
-use Rattle.wot_step.specs.declared.class.WatchCommand.TheVariants as commands
+use Rattle.wot_plain.specs.declared.class.Class.TheVariants.{Cursor as OfCursor, Watch as OfWatch}
+use Rattle.wot_plain.specs.declared.class.CursorCommand.{CursorCommand}
+use Rattle.wot_plain.specs.declared.class.CursorCommand.TheVariants as paces
+use Rattle.wot_plain.specs.declared.class.WatchCommand.{WatchCommand}
+use Rattle.wot_plain.specs.declared.class.WatchCommand.TheVariants as commands
 use Rattle.wot_machine.specs.Machine.{is_removal}
 
 pub close_only : (name : List ℕ) (command : CursorCommand) → is_removal (OfCursor name command) ≡ true

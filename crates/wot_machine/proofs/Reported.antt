@@ -5,10 +5,10 @@ use Rattle.std.proofs.lemmas.List.{append-nil}
 use Rattle.wot_cache.specs.State.{Engine}
 use Rattle.wot_machine.specs.Machine.{Machine}
 use Rattle.wot_machine.specs.Stepped.{TellsBehind}
-use Rattle.wot_step.specs.Made.{TellingMakes, WatchesMake}
-use Rattle.wot_step.specs.Session.{Session}
-use Rattle.wot_step.specs.Watching.{AreLines}
-use Rattle.wot_watching.proofs.WatchEdges.{watches_as}
+use Rattle.wot_plain.specs.Made.{TellingMakes, WatchesMake}
+use Rattle.wot_plain.specs.Session.{Session}
+use Rattle.wot_plain.specs.Watching.{AreLines}
+use Rattle.wot_watch_commands.proofs.WatchEdges.{watches_as}
 
 -- if no watch has a line, nothing is reported
 pub tells_nothing : (whole : Session) (had : List ℕ) → AreLines whole.state whole.watches [] →

@@ -1,11 +1,11 @@
 -- What leaves the state unchanged leaves the whole engine unchanged except for marks.
 use Rattle.std.proofs.Common.{◌≡◌, inl, inr, ap, ◌∙◌}
-use Rattle.wot_held.specs.Import.{IsOneChange}
-use Rattle.wot_held.specs.Keyring.{Keyring}
+use Rattle.wot_keyring_spec.specs.Import.{IsOneChange}
+use Rattle.wot_keyring_spec.specs.Keyring.{Keyring}
 use Rattle.wot_cache.specs.State.{Engine, State, StaysButMarks, state_of}
 use Rattle.wot_command.specs.Lasting.{CanRun}
 use Rattle.wot_machine.specs.Machine.{RunsOnce}
-use Rattle.wot_step.proofs.Sessions.{same_few}
+use Rattle.wot_plain.proofs.Sessions.{same_few}
 
 pub unchanged : (old new : Engine) → IsOneChange old.keyring new.keyring →
     (state_of new ≡ state_of old → new.turns ≡ old.turns) → state_of new ≡ state_of old → StaysButMarks old new

@@ -3,14 +3,14 @@ use Rattle.std.proofs.Common.{refl}
 use Rattle.wot_policy.specs.declared.rows.PolicyRows.{PolicyRows}
 use Rattle.wot_script.specs.declared.reply.Reply.{Reply}
 use Rattle.wot_script.specs.Replies.{HasWords}
-use Rattle.wot_step.specs.declared.class.Class.{Class}
-use Rattle.wot_step.specs.declared.class.Class.TheVariants.{State as OfState, Cursor as OfCursor, Watch as OfWatch}
-use Rattle.wot_step.specs.Session.{Session}
-use Rattle.wot_step.specs.LineStep.{CommandStep}
-use Rattle.wot_step.specs.Served.{Served}
-use Rattle.wot_step.proofs.Paced.{paces_worded}
-use Rattle.wot_step.proofs.StateReplies.{state_replies, state_words}
-use Rattle.wot_step.proofs.Watched.{watching_worded}
+use Rattle.wot_plain.specs.declared.class.Class.{Class}
+use Rattle.wot_plain.specs.declared.class.Class.TheVariants.{State as OfState, Cursor as OfCursor, Watch as OfWatch}
+use Rattle.wot_plain.specs.Session.{Session}
+use Rattle.wot_plain.specs.LineStep.{CommandStep}
+use Rattle.wot_plain.specs.Served.{Served}
+use Rattle.wot_plain.proofs.Paced.{paces_worded}
+use Rattle.wot_plain.proofs.StateReplies.{state_replies, state_words}
+use Rattle.wot_plain.proofs.Watched.{watching_worded}
 
 pub obeys_worded : (rows : PolicyRows) (old : Session) (class : Class) (answer : Served) (reply : Reply)
     (new : Session) → CommandStep rows old class answer reply new → HasWords reply

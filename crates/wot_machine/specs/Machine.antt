@@ -1,20 +1,20 @@
 -- What contracts see of a machine.
 use Rattle.std.specs.Prelude.{◌≡◌, ◌≤◌, ◌+◌, ℕ, Bool, true, false, Option, None, Some}
 use Rattle.wot_types.specs.Limits.{standard_limits}
-use Rattle.wot_held.specs.Import.{IsOneChange}
+use Rattle.wot_keyring_spec.specs.Import.{IsOneChange}
 use Rattle.wot_cache.specs.State.{Engine, StaysButMarks, state_of}
 use Rattle.wot_cursor.specs.Cursors.{Cursors}
 use Rattle.wot_watch.specs.Watches.{Watches}
 use Rattle.wot_command.specs.Lasting.{removes}
 use Rattle.wot_machine.specs.declared.dispatch.Parts.{Parts}
 use Rattle.wot_script.specs.declared.reply.Reply.{Reply}
-use Rattle.wot_step.specs.declared.class.Class.{Class}
-use Rattle.wot_step.specs.declared.class.Class.TheVariants.{State as OfState, Cursor as OfCursor, Watch as OfWatch}
-use Rattle.wot_step.specs.declared.class.CursorCommand.TheVariants as paces
-use Rattle.wot_step.specs.declared.class.WatchCommand.TheVariants as commands
-use Rattle.wot_step.specs.declared.draft.CursorMove.{CursorMove}
-use Rattle.wot_step.specs.Pacing.{Paces, settled}
-use Rattle.wot_step.specs.Session.{Session, watched, session_of}
+use Rattle.wot_plain.specs.declared.class.Class.{Class}
+use Rattle.wot_plain.specs.declared.class.Class.TheVariants.{State as OfState, Cursor as OfCursor, Watch as OfWatch}
+use Rattle.wot_plain.specs.declared.class.CursorCommand.TheVariants as paces
+use Rattle.wot_plain.specs.declared.class.WatchCommand.TheVariants as commands
+use Rattle.wot_plain.specs.declared.draft.CursorMove.{CursorMove}
+use Rattle.wot_plain.specs.Pacing.{Paces, settled}
+use Rattle.wot_plain.specs.Session.{Session, watched, session_of}
 
 -- its engine, cursors and watches, and the number of edges made for all its questions
 pub record Machine : Type 0 where

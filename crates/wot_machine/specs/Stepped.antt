@@ -4,20 +4,20 @@ use Rattle.wot_io.specs.Counts.{Rose}
 use Rattle.wot_policy.specs.declared.rows.PolicyRows.{PolicyRows}
 use Rattle.wot_script.specs.declared.command.Command.{Command}
 use Rattle.wot_script.specs.declared.reply.Reply.{Reply}
-use Rattle.wot_step.specs.declared.class.Class.{Class}
-use Rattle.wot_step.specs.declared.draft.DraftReply.{DraftReply}
-use Rattle.wot_step.specs.Both.{Ends}
-use Rattle.wot_step.specs.Entry.{IsServed, has_failed, put_for, use_of}
-use Rattle.wot_step.specs.Lines.{heard}
-use Rattle.wot_step.specs.LineStep.{LineStep}
-use Rattle.wot_step.specs.Made.{LineMakes}
+use Rattle.wot_plain.specs.declared.class.Class.{Class}
+use Rattle.wot_plain.specs.declared.draft.DraftReply.{DraftReply}
+use Rattle.wot_plain.specs.Both.{Ends}
+use Rattle.wot_plain.specs.Entry.{IsServed, has_failed, put_for, use_of}
+use Rattle.wot_plain.specs.Lines.{heard}
+use Rattle.wot_plain.specs.LineStep.{LineStep}
+use Rattle.wot_plain.specs.Made.{LineMakes}
 use Rattle.wot_machine.specs.Machine.{Machine, kept}
-use Rattle.wot_step.specs.Pacing.{left_by, reply_in, settled}
-use Rattle.wot_step.specs.Session.{Session, watched, session_of}
+use Rattle.wot_plain.specs.Pacing.{left_by, reply_in, settled}
+use Rattle.wot_plain.specs.Session.{Session, watched, session_of}
 use Rattle.wot_command.specs.CommandRun.{CommandRun, ClassRun, Seen}
-use Rattle.wot_step.specs.Served.{Served}
-use Rattle.wot_step.specs.Transcript.{listed, octets_of}
-use Rattle.wot_step.specs.Watching.{ReportsWatches}
+use Rattle.wot_plain.specs.Served.{Served}
+use Rattle.wot_plain.specs.Transcript.{listed, octets_of}
+use Rattle.wot_plain.specs.Watching.{ReportsWatches}
 
 -- The line had this reply or none, by what the certificate directory returned. A call failed only if the count of
 -- faults rose.

@@ -2,7 +2,7 @@
 //! the reply. A command whose success closes a view, removes a certificate or begins a watch needs a case of `goes_on`.
 ghost use Rattle.std.specs.Prelude.{◌≡◌, ◌≤◌, length, Some, true, IfSome};
 ghost use Rattle.wot_script.specs.declared.reply.Reply.TheVariants as replies;
-ghost use Rattle.wot_watching.specs.Settled.{CountsDiffer, IsNoAmount};
+ghost use Rattle.wot_watch_commands.specs.Settled.{CountsDiffer, IsNoAmount};
 
 use wot_cache::{Basis, Engine};
 use wot_script::Reply;

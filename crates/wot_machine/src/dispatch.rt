@@ -1,5 +1,6 @@
-//! Reads a line as a command, and runs it by its class, in wot_command, wot_pacing or wot_watching. A further class
-//! needs an arm of `act`. Both functions work on the parts of a machine, whose invariant need not hold meanwhile.
+//! Reads a line as a command, and runs it by its class, in wot_command, wot_cursor_commands or wot_watch_commands. A
+//! further class needs an arm of `act`. Both functions work on the parts of a machine, whose invariant need not hold
+//! meanwhile.
 ghost use Rattle.std.specs.Prelude.{◌≡◌, ◌≤◌, length, false, true, IfOk, OnOk, OnErr, is_ok};
 ghost use Rattle.wot_policy.specs.declared.rows.PolicyRows.{PolicyRows};
 ghost use Rattle.wot_policy.specs.Kept.{rows_of};
@@ -7,29 +8,29 @@ ghost use Rattle.wot_script.specs.Grammar.{command_of};
 ghost use Rattle.wot_script.specs.Replies.{HasWords, is_short};
 ghost use Rattle.wot_cache.specs.State.{state_of};
 ghost use Rattle.wot_command.specs.Asked.{AsksBy, LineAsks};
-ghost use Rattle.wot_step.specs.Classes.{IsFit, IsSmall};
+ghost use Rattle.wot_plain.specs.Classes.{IsFit, IsSmall};
 ghost use Rattle.wot_command.specs.EdgeLines.{CommandMarks, LineMarks};
 ghost use Rattle.wot_command.specs.Lasting.{CanRun, IsJudging, StaysJudging, Touches};
-ghost use Rattle.wot_step.specs.Entry.{use_by, use_of};
+ghost use Rattle.wot_plain.specs.Entry.{use_by, use_of};
 ghost use Rattle.wot_command.specs.CommandRun.{over};
 ghost use Rattle.wot_machine.specs.Stepped.{ClassRunsIn, PartsMake, RunsIn};
 ghost use Rattle.wot_machine.specs.Machine.{IsDue, is_removal, machine_of, RunsOnce, StaysKept};
-ghost use Rattle.wot_step.specs.Fresh.{IsDump, OnDump, IsMadeAnew};
-ghost use Rattle.wot_step.specs.Both.{ends};
-ghost use Rattle.wot_step.specs.Made.{Makes};
+ghost use Rattle.wot_plain.specs.Fresh.{IsDump, OnDump, IsMadeAnew};
+ghost use Rattle.wot_plain.specs.Both.{ends};
+ghost use Rattle.wot_plain.specs.Made.{Makes};
 
 use std::alloc::Global;
 use wot_cache::Engine;
 use wot_certd::Shelf;
 use wot_command::obey;
 use wot_cursor::Cursors;
-use wot_pacing::pace;
+use wot_cursor_commands::pace;
+use wot_plain::{Class, DraftReply, alone, plain, sort};
 use wot_policy::{Ask, Policy};
 use wot_script::{LineFault, Reply, read_line};
-use wot_step::{Class, DraftReply, alone, plain, sort};
 use wot_types::{Memory, Steps};
 use wot_watch::Watches;
-use wot_watching::watch;
+use wot_watch_commands::watch;
 
 /// What a line works on: everything that a machine keeps, except what its watches depend on.
 #[derive(Drop)]

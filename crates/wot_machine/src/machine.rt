@@ -1,8 +1,9 @@
 //! The machine between two lines. `line` does one: it is read as a command, the command is run on the engine and the
 //! certificate directory, and its reply is printed. `tell` then prints the watch lines.
-//! `specs/Outcome.antt` and `specs/LineStep.antt` of wot_step define the outcome of each command. A further command of
-//! a class gets its arm where the class is run, in wot_command, wot_pacing or wot_watching. A further class needs an
-//! arm of `act` in `dispatch`, and `goes_on` in `counts` says whether watches are still up to date after it.
+//! `specs/Outcome.antt` and `specs/LineStep.antt` of wot_plain define the outcome of each command. A further command of
+//! a class gets its arm where the class is run, in wot_command, wot_cursor_commands or wot_watch_commands. A further
+//! class needs an arm of `act` in `dispatch`, and `goes_on` in `counts` says whether watches are still up to date after
+//! it.
 ghost use Rattle.std.specs.Prelude.{◌≡◌, ◌≤◌, ◌+◌, [], ◌++◌};
 ghost use Rattle.std.specs.Prelude.{vec_items, vec_len, vec_capacity};
 ghost use Rattle.std.specs.Prelude.{Some, None, false, true, IfOk, IfSome, IsOk, OnOk, OnErr};
@@ -10,23 +11,23 @@ ghost use Rattle.std.specs.List.{AllByRecursion};
 ghost use Rattle.wot_types.specs.Limits.{standard_limits};
 ghost use Rattle.wot_policy.specs.declared.rows.PolicyRows.{PolicyRows};
 ghost use Rattle.wot_policy.specs.Kept.{rows_of};
-ghost use Rattle.wot_held.specs.Import.{IsOneChange};
+ghost use Rattle.wot_keyring_spec.specs.Import.{IsOneChange};
 ghost use Rattle.wot_script.specs.Replies.{HasWords, is_short, reply_text};
 ghost use Rattle.wot_cache.specs.State.{empty, state_of, StaysButMarks};
 ghost use Rattle.wot_command.specs.Asked.{LineAsks};
 ghost use Rattle.wot_command.specs.EdgeLines.{LineMarks};
 ghost use Rattle.wot_command.specs.Lasting.{CanCount, IsJudging, StaysJudging, Touches};
-ghost use Rattle.wot_step.specs.Lines.{heard, is_silent};
-ghost use Rattle.wot_step.specs.Entry.{use_of};
-ghost use Rattle.wot_step.specs.Both.{ends, itself};
+ghost use Rattle.wot_plain.specs.Lines.{heard, is_silent};
+ghost use Rattle.wot_plain.specs.Entry.{use_of};
+ghost use Rattle.wot_plain.specs.Both.{ends, itself};
 ghost use Rattle.wot_command.specs.CommandRun.{over};
 ghost use Rattle.wot_machine.specs.Stepped.{LineRun, PartsMake, Replies, TellsBehind};
-ghost use Rattle.wot_step.specs.Transcript.{octets_of};
+ghost use Rattle.wot_plain.specs.Transcript.{octets_of};
 ghost use Rattle.wot_machine.specs.Machine.{IsDue, kept, StaysKept};
-ghost use Rattle.wot_step.specs.Pacing.{settled};
-ghost use Rattle.wot_step.specs.Fresh.{IsDump, IsMadeAnew};
-ghost use Rattle.wot_step.specs.Made.{LineMakes, TellingMakes, WatchesMake};
-ghost use Rattle.wot_step.specs.Watching.{AreLines, IsWatchLine, told_all};
+ghost use Rattle.wot_plain.specs.Pacing.{settled};
+ghost use Rattle.wot_plain.specs.Fresh.{IsDump, IsMadeAnew};
+ghost use Rattle.wot_plain.specs.Made.{LineMakes, TellingMakes, WatchesMake};
+ghost use Rattle.wot_plain.specs.Watching.{AreLines, IsWatchLine, told_all};
 
 use crate::counts::{Counts, kept_on};
 use crate::dispatch::Parts;
@@ -36,12 +37,12 @@ use wot_cache::laws::{change_goes_on, rests_on, views_go_on};
 use wot_cache::{Basis, Engine};
 use wot_certd::Shelf;
 use wot_cursor::Cursors;
+use wot_plain::{CursorMove, DraftReply, alone, settle};
 use wot_policy::{Ask, Policy};
 use wot_script::{Reply, print_reply};
-use wot_step::{CursorMove, DraftReply, alone, settle};
 use wot_types::{Limits, Memory, Steps};
 use wot_watch::Watches;
-use wot_watching::{are_settled, tell_all, watch_lines};
+use wot_watch_commands::{are_settled, tell_all, watch_lines};
 
 /// The most octets in a line, without its line feed.
 const LONGEST: usize = 16_777_216;
@@ -62,7 +63,7 @@ impl Model for Machine {
     ghost use Rattle.std.specs.Prelude.{◌≡◌};
     ghost use Rattle.wot_types.specs.Limits.{standard_limits};
     ghost use Rattle.wot_machine.specs.Machine.{Machine as TheMachine, machine_of};
-    ghost use Rattle.wot_watching.specs.Settled.{AreSettled};
+    ghost use Rattle.wot_watch_commands.specs.Settled.{AreSettled};
 
     ghost Value = { TheMachine };
 

@@ -14,13 +14,13 @@ use Rattle.wot_types.specs.Fpr.{fpr_cmp}
 use Rattle.wot_types.specs.FprLaws.{fpr_total, same_fpr-true}
 use Rattle.wot_key.specs.Key.{fpr_of}
 use Rattle.wot_policy.specs.declared.rows.PolicyRows.{PolicyRows}
-use Rattle.wot_part.specs.Certificate.{Certificate}
-use Rattle.wot_held.specs.declared.kept.Kept.{Kept}
-use Rattle.wot_held.specs.Import.{clash, any_clash}
-use Rattle.wot_held.specs.Keyring.{Entries, is_fpr, stripped}
-use Rattle.wot_held.specs.Kept.{AreNamed, AreSortedByFpr}
+use Rattle.wot_component.specs.Certificate.{Certificate}
+use Rattle.wot_keyring_spec.specs.declared.kept.Kept.{Kept}
+use Rattle.wot_keyring_spec.specs.Import.{clash, any_clash}
+use Rattle.wot_keyring_spec.specs.Keyring.{Entries, is_fpr, stripped}
+use Rattle.wot_keyring_spec.specs.Kept.{AreNamed, AreSortedByFpr}
 use Rattle.wot_merge.specs.Staging.{found_for, kept_as, kept_with, clash_at, clash_in}
-use Rattle.wot_held.proofs.Inserts.{lookup_insert}
+use Rattle.wot_keyring_spec.proofs.Inserts.{lookup_insert}
 
 -- the kept certificates
 abbrev pub bodies_of : Entries → List Certificate

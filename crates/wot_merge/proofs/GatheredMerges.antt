@@ -12,15 +12,15 @@ use Rattle.wot_types.specs.Fpr.{fpr_cmp}
 use Rattle.wot_types.specs.FprLaws.{same_fpr-true, same_fpr-sym}
 use Rattle.wot_key.specs.Key.{fpr_of}
 use Rattle.wot_policy.specs.declared.rows.PolicyRows.{PolicyRows}
-use Rattle.wot_part.specs.Certificate.{Certificate, unite, unmarked}
-use Rattle.wot_part.specs.Judged.{judged}
-use Rattle.wot_part.specs.Whole.{IsCertificate}
+use Rattle.wot_component.specs.Certificate.{Certificate, unite, unmarked}
+use Rattle.wot_component.specs.Judged.{judged}
+use Rattle.wot_component.specs.Whole.{IsCertificate}
 use Rattle.wot_merge.specs.declared.staging.Fault.{Fault}
 use Rattle.wot_merge.specs.declared.staging.Fault.TheVariants.{Clash, Memory}
 use Rattle.wot_merge.specs.Gather.{taken_one, taken_all, IsWholeState, DoTheSame, ComeToNothing, IsNothingTold, IsOwn}
 use Rattle.wot_merge.specs.Gather.{AreOwn, IsGathered}
-use Rattle.wot_held.specs.Keyring.{Certificates, is_fpr}
-use Rattle.wot_held.proofs.Inserts.{put_at, found_at}
+use Rattle.wot_keyring_spec.specs.Keyring.{Certificates, is_fpr}
+use Rattle.wot_keyring_spec.proofs.Inserts.{put_at, found_at}
 use Rattle.wot_merge.proofs.MergedInTurn.{none_stays, all_of_both, swapped, come_to_nothing, whole_with_all, united_first}
 
 -- ---- names

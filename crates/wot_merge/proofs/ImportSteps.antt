@@ -14,18 +14,18 @@ use Rattle.wot_key.specs.Key.{fpr_of}
 use Rattle.wot_policy.specs.declared.policy.Policy.{Policy}
 use Rattle.wot_policy.specs.declared.rows.PolicyRows.{PolicyRows}
 use Rattle.wot_policy.specs.Kept.{asked_more}
-use Rattle.wot_part.specs.Certificate.{Certificate, unite}
-use Rattle.wot_part.specs.Counts.{items_of}
-use Rattle.wot_part.specs.Judged.{judged, sound_of}
-use Rattle.wot_held.specs.declared.kept.Kept.{Kept}
+use Rattle.wot_component.specs.Certificate.{Certificate, unite}
+use Rattle.wot_component.specs.Counts.{items_of}
+use Rattle.wot_component.specs.Judged.{judged, sound_of}
+use Rattle.wot_keyring_spec.specs.declared.kept.Kept.{Kept}
 use Rattle.wot_merge.specs.declared.undo.Was.{Was as TheWas}
 use Rattle.wot_merge.specs.declared.staging.Fault.{Fault}
 use Rattle.wot_merge.specs.declared.staging.Fault.TheVariants.{Clash, Memory}
 use Rattle.wot_merge.specs.declared.staging.Step.{Step}
 use Rattle.wot_merge.specs.declared.staging.Terms.{Terms}
 use Rattle.wot_merge.specs.declared.tally.Tally.{Tally}
-use Rattle.wot_held.specs.Keyring.{Entries}
-use Rattle.wot_held.specs.Kept.{AreSortedByFpr, AreJudged}
+use Rattle.wot_keyring_spec.specs.Keyring.{Entries}
+use Rattle.wot_keyring_spec.specs.Kept.{AreSortedByFpr, AreJudged}
 use Rattle.wot_merge.specs.Staging.{found_for, found_by, joined, kept_as, kept_with, kept_all, clash_at, clash_in}
 use Rattle.wot_merge.specs.Staging.{weigh_kept, staged_as, IsTally, StillLeadsBack, IsClashTold}
 use Rattle.wot_merge.specs.Staging.{CanMove, IsMergedOn, Moves}

@@ -12,16 +12,16 @@ use Rattle.wot_types.specs.declared.fpr.Fpr.{Fpr}
 use Rattle.wot_types.specs.Fpr.{fpr_cmp}
 use Rattle.wot_types.specs.FprLaws.{fpr_total}
 use Rattle.wot_cert.specs.declared.growth.Growth.{Growth}
-use Rattle.wot_part.specs.Certificate.{Certificate}
+use Rattle.wot_component.specs.Certificate.{Certificate}
 use Rattle.wot_cert.specs.Growing.{LeadsBack as CertLeadsBack}
-use Rattle.wot_held.specs.declared.kept.Kept.{Kept}
+use Rattle.wot_keyring_spec.specs.declared.kept.Kept.{Kept}
 use Rattle.wot_merge.specs.declared.undo.Before.TheVariants.{Smaller}
 use Rattle.wot_merge.specs.declared.undo.Was.{Was as TheWas}
-use Rattle.wot_held.specs.Keyring.{Entries, is_fpr}
-use Rattle.wot_held.specs.Kept.{AreSortedByFpr}
+use Rattle.wot_keyring_spec.specs.Keyring.{Entries, is_fpr}
+use Rattle.wot_keyring_spec.specs.Kept.{AreSortedByFpr}
 use Rattle.wot_key.specs.Key.{fpr_of}
 use Rattle.wot_policy.specs.declared.rows.PolicyRows.{PolicyRows}
-use Rattle.wot_part.specs.Judged.{sound_of}
+use Rattle.wot_component.specs.Judged.{sound_of}
 use Rattle.wot_merge.specs.declared.staging.Step.{Step}
 use Rattle.wot_merge.specs.Staging.{LeadsBack, IsLog, IsMergedAt, IsStaged, MayShrink, StillLeadsBack, found_by}
 use Rattle.wot_merge.specs.Staging.{found_for, joined, kept_as, kept_with, shrunk_found, smaller, sound_in, staged_as}

@@ -12,11 +12,11 @@ use Rattle.std.proofs.lemmas.Cmp.{tied_itself}
 use Rattle.wot_types.specs.declared.fpr.Fpr.{Fpr}
 use Rattle.wot_types.specs.Fpr.{fpr_cmp}
 use Rattle.wot_types.specs.FprLaws.{fpr_total}
-use Rattle.wot_held.specs.declared.kept.Kept.{Kept}
+use Rattle.wot_keyring_spec.specs.declared.kept.Kept.{Kept}
 use Rattle.wot_merge.specs.declared.undo.Before.TheVariants.{Was}
 use Rattle.wot_merge.specs.declared.undo.Was.{Was as TheWas}
-use Rattle.wot_held.specs.Keyring.{Entries, is_fpr}
-use Rattle.wot_held.specs.Kept.{AreSortedByFpr}
+use Rattle.wot_keyring_spec.specs.Keyring.{Entries, is_fpr}
+use Rattle.wot_keyring_spec.specs.Kept.{AreSortedByFpr}
 use Rattle.wot_merge.specs.Staging.{back, LeadsBack, IsLog, StillLeadsBack}
 
 -- the last step of a log

@@ -11,14 +11,14 @@ use Rattle.wot_types.specs.Fpr.{fpr_cmp}
 use Rattle.wot_types.specs.FprLaws.{same_fpr-refl, same_fpr-sym}
 use Rattle.wot_key.specs.Key.{fpr_of}
 use Rattle.wot_policy.specs.declared.rows.PolicyRows.{PolicyRows}
-use Rattle.wot_part.specs.Certificate.{Certificate, unite, unmarked}
-use Rattle.wot_part.specs.Judged.{judged}
-use Rattle.wot_part.specs.Whole.{IsCertificate}
+use Rattle.wot_component.specs.Certificate.{Certificate, unite, unmarked}
+use Rattle.wot_component.specs.Judged.{judged}
+use Rattle.wot_component.specs.Whole.{IsCertificate}
 use Rattle.wot_merge.specs.Gather.{clashes_with, taken_one, taken_all, IsWholeState}
-use Rattle.wot_held.specs.Import.{merged_into, with_cert}
-use Rattle.wot_held.specs.Keyring.{Certificates, is_fpr}
+use Rattle.wot_keyring_spec.specs.Import.{merged_into, with_cert}
+use Rattle.wot_keyring_spec.specs.Keyring.{Certificates, is_fpr}
 use Rattle.wot_merge.proofs.Clashes.{keys_same}
-use Rattle.wot_held.proofs.Inserts.{put_at, found_at, lookup_insert}
+use Rattle.wot_keyring_spec.proofs.Inserts.{put_at, found_at, lookup_insert}
 use Rattle.wot_merge.proofs.Puts.{either_order, put_twice}
 
 -- ---- lists

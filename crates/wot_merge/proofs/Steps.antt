@@ -11,15 +11,15 @@ use Rattle.wot_types.specs.Fpr.{fpr_cmp}
 use Rattle.wot_types.specs.FprLaws.{fpr_total}
 use Rattle.wot_key.specs.Key.{fpr_of}
 use Rattle.wot_policy.specs.declared.rows.PolicyRows.{PolicyRows}
-use Rattle.wot_part.specs.Certificate.{Certificate}
-use Rattle.wot_part.specs.Counts.{items_of, signatures_of}
-use Rattle.wot_part.specs.Judged.{IsJudged, sound_of}
-use Rattle.wot_part.specs.Text.{size_of}
-use Rattle.wot_held.specs.declared.kept.Kept.{Kept}
+use Rattle.wot_component.specs.Certificate.{Certificate}
+use Rattle.wot_component.specs.Counts.{items_of, signatures_of}
+use Rattle.wot_component.specs.Judged.{IsJudged, sound_of}
+use Rattle.wot_component.specs.Text.{size_of}
+use Rattle.wot_keyring_spec.specs.declared.kept.Kept.{Kept}
 use Rattle.wot_merge.specs.declared.staging.Staged.{Staged}
 use Rattle.wot_merge.specs.declared.tally.Weight.{Weight}
-use Rattle.wot_held.specs.Keyring.{Entries, is_fpr}
-use Rattle.wot_held.specs.Kept.{AreSortedByFpr, AreJudged}
+use Rattle.wot_keyring_spec.specs.Keyring.{Entries, is_fpr}
+use Rattle.wot_keyring_spec.specs.Kept.{AreSortedByFpr, AreJudged}
 use Rattle.wot_merge.specs.Staging.{found_for, found_by, kept_as, kept_with, long_of, WeighsFound, weigh_kept, IsTally}
 use Rattle.wot_merge.specs.Staging.{CanMove, Moves, IsFoundJudged, IsStaged, joined}
 use Rattle.wot_merge.proofs.TotalWeight.{found_weight, insert_weighs}

@@ -11,7 +11,7 @@ use Rattle.std.specs.Map.{lookup, remove_entry, keys_of}
 use Rattle.std.proofs.lemmas.Map.{lookup-none}
 use Rattle.std.proofs.lemmas.Map.Entries.{none_below_head}
 use Rattle.std.proofs.lemmas.Map.Keys.{sorted_tail}
-use Rattle.wot_part.specs.Counts.{sum_of}
+use Rattle.wot_component.specs.Counts.{sum_of}
 
 -- what is found weighs
 abbrev pub found_weight : {X : Type 0} → (X → ℕ) → Option X → ℕ

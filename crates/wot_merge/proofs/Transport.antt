@@ -7,13 +7,13 @@ use Rattle.wot_types.specs.declared.fpr.Fpr.{Fpr}
 use Rattle.wot_types.specs.Fpr.{fpr_cmp}
 use Rattle.wot_key.specs.Key.{fpr_of}
 use Rattle.wot_policy.specs.declared.rows.PolicyRows.{PolicyRows}
-use Rattle.wot_part.specs.Certificate.{Certificate, unite, unmarked}
-use Rattle.wot_part.specs.Judged.{judged}
-use Rattle.wot_held.specs.declared.kept.Kept.{Kept}
-use Rattle.wot_held.specs.Keyring.{Entries, Certificates, is_fpr, stripped}
-use Rattle.wot_held.specs.Import.{merged_into, with_cert, with_certs, weigh}
+use Rattle.wot_component.specs.Certificate.{Certificate, unite, unmarked}
+use Rattle.wot_component.specs.Judged.{judged}
+use Rattle.wot_keyring_spec.specs.declared.kept.Kept.{Kept}
+use Rattle.wot_keyring_spec.specs.Keyring.{Entries, Certificates, is_fpr, stripped}
+use Rattle.wot_keyring_spec.specs.Import.{merged_into, with_cert, with_certs, weigh}
 use Rattle.wot_merge.specs.Staging.{found_for, joined, kept_as, kept_with, kept_all, weigh_kept}
-use Rattle.wot_held.proofs.Inserts.{map_insert}
+use Rattle.wot_keyring_spec.proofs.Inserts.{map_insert}
 
 -- the certificates of entries, mapped
 abbrev pub seen_by : (Certificate → Certificate) → Entries → Certificates

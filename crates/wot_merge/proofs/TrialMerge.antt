@@ -2,13 +2,13 @@
 use Rattle.std.proofs.Common.{◌≡◌, ℕ, nat_lt, if◌then◌else◌, List, length, sym, ap, ◌∙◌, refl}
 use Rattle.wot_types.specs.declared.limits.Limits.{Limits}
 use Rattle.wot_policy.specs.declared.rows.PolicyRows.{PolicyRows}
-use Rattle.wot_part.specs.Certificate.{Certificate, unite, unmarked}
-use Rattle.wot_part.specs.Counts.{signatures_of}
-use Rattle.wot_part.specs.Judged.{judged}
-use Rattle.wot_part.specs.Text.{size_of, text_of}
+use Rattle.wot_component.specs.Certificate.{Certificate, unite, unmarked}
+use Rattle.wot_component.specs.Counts.{signatures_of}
+use Rattle.wot_component.specs.Judged.{judged}
+use Rattle.wot_component.specs.Text.{size_of, text_of}
 use Rattle.wot_merge.specs.declared.tally.Weight.{Weight}
-use Rattle.wot_held.specs.Import.{weigh, with_certs, first_full}
-use Rattle.wot_held.specs.Keyring.{Entries, stripped}
+use Rattle.wot_keyring_spec.specs.Import.{weigh, with_certs, first_full}
+use Rattle.wot_keyring_spec.specs.Keyring.{Entries, stripped}
 use Rattle.wot_merge.specs.Staging.{kept_all, long_of, weigh_kept, IsTally, full_by}
 use Rattle.wot_merge.proofs.Transport.{seen_by, judged_all, certs_all, seen_weighs, seen_length}
 use Rattle.wot_merge.proofs.Within.{full_is}

@@ -5,15 +5,15 @@ use Rattle.std.specs.Option.{option_map}
 use Rattle.std.proofs.lemmas.Bool.Decides.{nat_tests}
 use Rattle.wot_policy.specs.declared.rows.PolicyRows.{PolicyRows}
 use Rattle.wot_cert.specs.Assembly.{bare}
-use Rattle.wot_part.specs.Certificate.{Certificate, unite}
-use Rattle.wot_part.specs.Counts.{items_of, weight_of}
-use Rattle.wot_part.specs.Judged.{IsJudged, judged}
-use Rattle.wot_part.specs.Text.{size_of, text_of}
-use Rattle.wot_part.specs.Whole.{IsCertificate}
-use Rattle.wot_part.proofs.TextSize.{items_least}
-use Rattle.wot_held.specs.declared.kept.Kept.{Kept}
+use Rattle.wot_component.specs.Certificate.{Certificate, unite}
+use Rattle.wot_component.specs.Counts.{items_of, weight_of}
+use Rattle.wot_component.specs.Judged.{IsJudged, judged}
+use Rattle.wot_component.specs.Text.{size_of, text_of}
+use Rattle.wot_component.specs.Whole.{IsCertificate}
+use Rattle.wot_component.proofs.TextSize.{items_least}
+use Rattle.wot_keyring_spec.specs.declared.kept.Kept.{Kept}
 use Rattle.wot_merge.specs.declared.tally.Weight.{Weight}
-use Rattle.wot_held.specs.Import.{stamp_for}
+use Rattle.wot_keyring_spec.specs.Import.{stamp_for}
 use Rattle.wot_merge.specs.Staging.{begun, stamp_over, Weighs, IsStaged}
 
 below : (n a b j m : ℕ) → n ≡ m → m ≤ a + j → j ≡ b → a + b < 2 ^ 63 → n < 2 ^ 63

@@ -5,12 +5,12 @@ use Rattle.std.proofs.lemmas.Bool.Decides.{nat_tests}
 use Rattle.wot_types.specs.declared.limits.Limits.{Limits}
 use Rattle.wot_types.specs.declared.limits.Limit.{Limit}
 use Rattle.wot_types.specs.declared.limits.Limit.TheVariants as limits
-use Rattle.wot_part.specs.Counts.{signatures_of}
-use Rattle.wot_part.specs.Text.{size_of}
+use Rattle.wot_component.specs.Counts.{signatures_of}
+use Rattle.wot_component.specs.Text.{size_of}
 use Rattle.wot_merge.specs.declared.tally.Weight.{Weight}
-use Rattle.wot_held.specs.Import.{weigh, has_greater, first_full}
-use Rattle.wot_held.specs.Keyring.{Entries, Certificates}
-use Rattle.wot_held.specs.Kept.{AreSized}
+use Rattle.wot_keyring_spec.specs.Import.{weigh, has_greater, first_full}
+use Rattle.wot_keyring_spec.specs.Keyring.{Entries, Certificates}
+use Rattle.wot_keyring_spec.specs.Kept.{AreSized}
 use Rattle.wot_merge.specs.Staging.{long_of, weigh_kept, full_by}
 
 above_zero : (n : ℕ) → nat_lt 0 (1 + n) ≡ true

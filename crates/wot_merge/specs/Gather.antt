@@ -7,12 +7,12 @@ use Rattle.std.specs.Map.{lookup, values_of}
 use Rattle.wot_types.specs.declared.fpr.Fpr.{Fpr}
 use Rattle.wot_key.specs.Key.{fpr_of}
 use Rattle.wot_policy.specs.declared.rows.PolicyRows.{PolicyRows}
-use Rattle.wot_part.specs.Certificate.{Certificate}
-use Rattle.wot_part.specs.Whole.{IsCertificate}
+use Rattle.wot_component.specs.Certificate.{Certificate}
+use Rattle.wot_component.specs.Whole.{IsCertificate}
 use Rattle.wot_merge.specs.declared.staging.Fault.{Fault}
 use Rattle.wot_merge.specs.declared.staging.Fault.TheVariants.{Clash, Memory}
-use Rattle.wot_held.specs.Keyring.{Certificates, is_fpr}
-use Rattle.wot_held.specs.Import.{with_cert}
+use Rattle.wot_keyring_spec.specs.Keyring.{Certificates, is_fpr}
+use Rattle.wot_keyring_spec.specs.Import.{with_cert}
 
 -- ---- merging certificates
 

@@ -1,12 +1,12 @@
 -- Room for one certificate, even if all of it is new.
 use Rattle.std.specs.Prelude.{◌≡◌, ◌≤◌, ◌<◌, ◌+◌, ℕ, length, Option, Some, None}
 use Rattle.wot_types.specs.declared.limits.Limits.{Limits}
-use Rattle.wot_part.specs.Certificate.{Certificate}
-use Rattle.wot_part.specs.Counts.{signatures_of}
-use Rattle.wot_part.specs.Text.{size_of}
-use Rattle.wot_held.specs.declared.kept.Kept.{Kept}
+use Rattle.wot_component.specs.Certificate.{Certificate}
+use Rattle.wot_component.specs.Counts.{signatures_of}
+use Rattle.wot_component.specs.Text.{size_of}
+use Rattle.wot_keyring_spec.specs.declared.kept.Kept.{Kept}
 use Rattle.wot_merge.specs.declared.tally.Weight.{Weight}
-use Rattle.wot_held.specs.Keyring.{Entries}
+use Rattle.wot_keyring_spec.specs.Keyring.{Entries}
 use Rattle.wot_merge.specs.Staging.{found_for}
 
 -- What is kept under a certificate's fingerprint has its key, and both together stay within the limit on size.

@@ -15,14 +15,14 @@ use Rattle.wot_policy.specs.declared.policy.Policy.{Policy}
 use Rattle.wot_policy.specs.declared.rows.PolicyRows.{PolicyRows}
 use Rattle.wot_policy.specs.Kept.{rows_of}
 use Rattle.wot_cert.specs.Assembly.{bare}
-use Rattle.wot_part.specs.Certificate.{Certificate}
-use Rattle.wot_part.specs.Asking.{AsksUpTo}
+use Rattle.wot_component.specs.Certificate.{Certificate}
+use Rattle.wot_component.specs.Asking.{AsksUpTo}
 use Rattle.wot_cert.specs.declared.growth.Growth.{Growth}
 use Rattle.wot_cert.specs.Growing.{shrunk, LeadsBack as CertLeadsBack}
-use Rattle.wot_part.specs.Counts.{sum_of, items_of, signatures_of}
-use Rattle.wot_part.specs.Judged.{IsJudged, judged, sound_of}
-use Rattle.wot_part.specs.Text.{size_of}
-use Rattle.wot_held.specs.declared.kept.Kept.{Kept}
+use Rattle.wot_component.specs.Counts.{sum_of, items_of, signatures_of}
+use Rattle.wot_component.specs.Judged.{IsJudged, judged, sound_of}
+use Rattle.wot_component.specs.Text.{size_of}
+use Rattle.wot_keyring_spec.specs.declared.kept.Kept.{Kept}
 use Rattle.wot_merge.specs.declared.in_place.Leap.{Leap}
 use Rattle.wot_merge.specs.declared.undo.Before.{Before}
 use Rattle.wot_merge.specs.declared.undo.Before.TheVariants.{Was, Smaller}
@@ -34,8 +34,8 @@ use Rattle.wot_merge.specs.declared.staging.Step.{Step}
 use Rattle.wot_merge.specs.declared.staging.Terms.{Terms}
 use Rattle.wot_merge.specs.declared.tally.Tally.{Tally}
 use Rattle.wot_merge.specs.declared.tally.Weight.{Weight}
-use Rattle.wot_held.specs.Keyring.{Entries, is_fpr}
-use Rattle.wot_held.specs.Import.{merged_into, stamp_for}
+use Rattle.wot_keyring_spec.specs.Keyring.{Entries, is_fpr}
+use Rattle.wot_keyring_spec.specs.Import.{merged_into, stamp_for}
 
 -- ---- one certificate
 

@@ -3,9 +3,9 @@
 //! one. wot_keyring calls it.
 ghost use Rattle.std.specs.Prelude.{◌≡◌, ◌∷◌, [], None, IfOk, OnOk};
 ghost use Rattle.wot_policy.specs.Kept.{IsFaithful, rows_of};
-ghost use Rattle.wot_part.specs.Asking.{AsksOnOk};
-ghost use Rattle.wot_part.specs.Judged.{sound_of};
-ghost use Rattle.wot_held.specs.Kept.{AreSortedByFpr, AreJudged};
+ghost use Rattle.wot_component.specs.Asking.{AsksOnOk};
+ghost use Rattle.wot_component.specs.Judged.{sound_of};
+ghost use Rattle.wot_keyring_spec.specs.Kept.{AreSortedByFpr, AreJudged};
 ghost use Rattle.wot_merge.specs.Staging.{AsksForNew, AsksToJoin, Counts, IsMergedOn, IsStaged, IsTally};
 ghost use Rattle.wot_merge.specs.Staging.{StillLeadsBack, TellsClash, clash_at, found_for, kept_with};
 
@@ -16,7 +16,7 @@ use std::alloc::Global;
 use std::collections::BTreeMap;
 use wot_cert::Cert;
 use wot_cert::laws::{judging, marks_weigh_nothing, united_grows};
-use wot_held::Kept;
+use wot_keyring_spec::Kept;
 use wot_policy::{Ask, Policy};
 use wot_types::{Fpr, Memory};
 

@@ -8,9 +8,9 @@ ghost use Rattle.std.specs.List.{AllByRecursion};
 ghost use Rattle.std.specs.Map.{lookup, remove_entry, values_of};
 ghost use Rattle.wot_types.specs.Fpr.{fpr_cmp};
 ghost use Rattle.wot_key.specs.Key.{fpr_of};
-ghost use Rattle.wot_part.specs.Whole.{IsCertificate};
+ghost use Rattle.wot_component.specs.Whole.{IsCertificate};
 ghost use Rattle.wot_merge.specs.Gather.{AreOwn, DoTheSame, IsGathered, TellsClashWith, TellsNothing};
-ghost use Rattle.wot_held.specs.Keyring.{is_fpr};
+ghost use Rattle.wot_keyring_spec.specs.Keyring.{is_fpr};
 
 use crate::room::only;
 use crate::staging::Fault;

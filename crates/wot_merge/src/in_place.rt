@@ -3,7 +3,7 @@
 //! contracts are those of the merge by a copy, so callers see no difference.
 ghost use Rattle.std.specs.Prelude.{◌≡◌, ◌<◌, vec_len, vec_capacity, is_some, true, IfOk, OnErr, Some};
 ghost use Rattle.wot_policy.specs.Kept.{IsFaithful, rows_of};
-ghost use Rattle.wot_held.specs.Kept.{AreSortedByFpr};
+ghost use Rattle.wot_keyring_spec.specs.Kept.{AreSortedByFpr};
 ghost use Rattle.wot_merge.specs.Staging.{clash_at, found_for, AsksToJoin, GrowsTo, IsMergedOn, StillLeadsBack};
 ghost use Rattle.wot_merge.specs.Staging.{TellsClash};
 
@@ -14,7 +14,7 @@ use std::alloc::Global;
 use std::collections::BTreeMap;
 use wot_cert::laws::{marks_weigh_nothing, united_grows};
 use wot_cert::{Cert, Growth, MergeFault};
-use wot_held::{Kept, find};
+use wot_keyring_spec::{Kept, find};
 use wot_policy::{Ask, Policy};
 use wot_types::Fpr;
 

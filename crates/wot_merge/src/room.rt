@@ -2,14 +2,14 @@
 //! merge. The answer may be "no" when there is room, and then `trial` tries.
 ghost use Rattle.std.specs.Prelude.{◌≡◌, ◌≤◌, ◌+◌, [], ◌∷◌, true};
 ghost use Rattle.std.specs.Option.{option_copied, IfSome};
-ghost use Rattle.wot_part.specs.Text.{size_of};
+ghost use Rattle.wot_component.specs.Text.{size_of};
 ghost use Rattle.wot_merge.specs.Room.{BringsFew, FitsBeside, HasRoom};
 
 use crate::tally::{Weight, are_held, is_held};
 use std::alloc::Global;
 use std::collections::BTreeMap;
 use wot_cert::Cert;
-use wot_held::{Kept, find};
+use wot_keyring_spec::{Kept, find};
 use wot_types::{Fpr, Limits};
 
 /// The only certificate of a list, if there is exactly one.

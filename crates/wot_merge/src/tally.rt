@@ -1,7 +1,7 @@
 //! The totals that limits are compared with: sizes, signatures and certificates that are too long, and how much of an
 //! import was new. `staging` updates them at each step, so that no limit needs a walk over the keyring.
 ghost use Rattle.std.specs.Prelude.{◌≡◌, ◌+◌, ◌≤◌, ◌<◌, ◌^◌, IfOk, OnOk, true};
-ghost use Rattle.wot_part.specs.Text.{size_of};
+ghost use Rattle.wot_component.specs.Text.{size_of};
 ghost use Rattle.wot_merge.specs.Staging.{CanMove, Moves, Weighs};
 
 use crate::staging::Step;

@@ -2,10 +2,10 @@
 //! doesn't depend on the policy, so the trial asks no other. `Keyring::take` calls it before it merges, and so decides
 //! the order of refusals.
 ghost use Rattle.std.specs.Prelude.{◌≡◌, IfOk};
-ghost use Rattle.wot_held.specs.Import.{any_clash};
-ghost use Rattle.wot_held.specs.Importing.{alone, IsFirstFull};
-ghost use Rattle.wot_held.specs.Kept.{AreNamed, AreSortedByFpr};
-ghost use Rattle.wot_held.specs.Keyring.{stripped};
+ghost use Rattle.wot_keyring_spec.specs.Import.{any_clash};
+ghost use Rattle.wot_keyring_spec.specs.Importing.{alone, IsFirstFull};
+ghost use Rattle.wot_keyring_spec.specs.Kept.{AreNamed, AreSortedByFpr};
+ghost use Rattle.wot_keyring_spec.specs.Keyring.{stripped};
 ghost use Rattle.wot_merge.specs.Staging.{full_by, IsTally, TellsClash};
 
 use crate::staging::{Fault, Progress, Terms, put_all};
@@ -15,7 +15,7 @@ use std::alloc::Global;
 use std::collections::BTreeMap;
 use wot_cert::Cert;
 use wot_cert::laws::{judging, marks_weigh_nothing};
-use wot_held::Kept;
+use wot_keyring_spec::Kept;
 use wot_policy::{Policy, admits, standard_rows};
 use wot_types::{Fpr, Limit, Limits};
 

@@ -5,15 +5,15 @@ ghost use Rattle.std.specs.Prelude.{◌≡◌, ◌<◌, ◌+◌, ◌++◌, ◌�
 ghost use Rattle.std.specs.BTreeMap.{insert_entry};
 ghost use Rattle.std.specs.Map.{lookup};
 ghost use Rattle.wot_types.specs.Fpr.{fpr_cmp};
-ghost use Rattle.wot_held.specs.Kept.{AreSortedByFpr};
-ghost use Rattle.wot_held.specs.Keyring.{Entries, is_fpr};
+ghost use Rattle.wot_keyring_spec.specs.Kept.{AreSortedByFpr};
+ghost use Rattle.wot_keyring_spec.specs.Keyring.{Entries, is_fpr};
 ghost use Rattle.wot_merge.specs.Staging.{IsThere, IsLog, LeadsBack};
 ghost use Rattle.wot_merge.specs.Staging.{StillLeadsBack, MayShrink, shrunk_at};
 
 use std::alloc::Global;
 use std::collections::BTreeMap;
 use wot_cert::Growth;
-use wot_held::{Kept, take_out};
+use wot_keyring_spec::{Kept, take_out};
 use wot_types::{Fpr, Memory};
 
 /// What was kept under a fingerprint before a step.

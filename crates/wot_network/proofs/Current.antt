@@ -10,12 +10,12 @@ use Rattle.std.proofs.lemmas.Map.Keys.{sorted_head, sorted_tail}
 use Rattle.std.proofs.lemmas.Map.Made.{lookup-map_values}
 use Rattle.wot_types.specs.declared.fpr.Fpr.{Fpr}
 use Rattle.wot_types.specs.Fpr.{fpr_cmp}
-use Rattle.wot_part.specs.Certificate.{Certificate}
+use Rattle.wot_component.specs.Certificate.{Certificate}
 use Rattle.wot_cert.specs.Span.{InSpan}
-use Rattle.wot_held.specs.declared.kept.Kept.{Kept}
-use Rattle.wot_held.specs.Import.{weigh}
-use Rattle.wot_held.specs.Keyring.{Entries, is_fpr, stripped}
-use Rattle.wot_held.specs.Kept.{AreSortedByFpr}
+use Rattle.wot_keyring_spec.specs.declared.kept.Kept.{Kept}
+use Rattle.wot_keyring_spec.specs.Import.{weigh}
+use Rattle.wot_keyring_spec.specs.Keyring.{Entries, is_fpr, stripped}
+use Rattle.wot_keyring_spec.specs.Kept.{AreSortedByFpr}
 use Rattle.wot_network.specs.Net.{Line, Lines, Mark, Marks, line_at, mark_of, marks_of, is_current, has_current}
 use Rattle.wot_network.specs.Net.{stale_weight, weigh_stale}
 use Rattle.wot_network.proofs.Fprs.{same_fpr, apart}

@@ -12,14 +12,14 @@ use Rattle.wot_types.specs.Fpr.{same_fpr}
 use Rattle.wot_types.specs.FprLaws.{same_fpr-true}
 use Rattle.wot_signature.specs.declared.facts.SigFacts.{SigFacts}
 use Rattle.wot_verdict.specs.Verdicts.{Entries, verdict_at}
-use Rattle.wot_part.specs.Certificate.{Certificate, Component, Signature, said_by}
+use Rattle.wot_component.specs.Certificate.{Certificate, Component, Signature, said_by}
 use Rattle.wot_cert.specs.Issuer.{allows, counts_by, good_by, issuer_of, issuer_with}
-use Rattle.wot_part.specs.Ranked.{greatest, higher, higher_of}
+use Rattle.wot_component.specs.Ranked.{greatest, higher, higher_of}
 use Rattle.wot_cert.specs.Revoked.{is_unrevoked}
 use Rattle.wot_cert.specs.Time.{is_live, newness}
 use Rattle.wot_edge.specs.declared.edge.EdgeFacts.{EdgeFacts}
 use Rattle.wot_edge.specs.Record.{Has, Row, Entry, rows_into}
-use Rattle.wot_held.specs.Keyring.{Certificates, is_fpr}
+use Rattle.wot_keyring_spec.specs.Keyring.{Certificates, is_fpr}
 use Rattle.wot_live.specs.Edge.{edge_by, edge_facts, edge_on, signature_place, edge_of}
 use Rattle.wot_live.specs.Rows.{edges_of, edges_by, issuers_of, user_id_places}
 use Rattle.wot_standing.specs.Kinds.{is_certification}

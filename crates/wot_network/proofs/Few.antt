@@ -1,8 +1,8 @@
 -- A certificate has fewer user IDs than its text has octets.
 use Rattle.std.proofs.Common.{◌≡◌, ℕ, ◌+◌, ◌<◌, ◌≤◌, ◌^◌, List, [], ◌∷◌, ◌++◌, length, arith, length-append}
 use Rattle.wot_packet.specs.Writing.{written}
-use Rattle.wot_part.specs.Certificate.{Component, Certificate}
-use Rattle.wot_part.specs.Text.{sigs_text, part_text, parts_text, size_of}
+use Rattle.wot_component.specs.Certificate.{Component, Certificate}
+use Rattle.wot_component.specs.Text.{sigs_text, part_text, parts_text, size_of}
 
 long : (kind : ℕ) (p : Component) → 1 ≤ length (part_text kind p)
 long kind p = omega arith

@@ -17,10 +17,10 @@ use Rattle.wot_types.specs.declared.fpr.Fpr.{Fpr}
 use Rattle.wot_types.specs.Fpr.{fpr_cmp}
 use Rattle.wot_types.specs.FprLaws.{fpr_total, fpr_exact}
 use Rattle.wot_key.specs.Key.{fpr_of}
-use Rattle.wot_part.specs.Certificate.{Certificate}
-use Rattle.wot_held.specs.declared.kept.Kept.{Kept}
-use Rattle.wot_held.specs.Keyring.{Entries, is_fpr, stripped}
-use Rattle.wot_held.specs.Kept.{AreNamed, AreSortedByFpr}
+use Rattle.wot_component.specs.Certificate.{Certificate}
+use Rattle.wot_keyring_spec.specs.declared.kept.Kept.{Kept}
+use Rattle.wot_keyring_spec.specs.Keyring.{Entries, is_fpr, stripped}
+use Rattle.wot_keyring_spec.specs.Kept.{AreNamed, AreSortedByFpr}
 use Rattle.wot_index.specs.Log.{is_named_in}
 
 pub fprs_total : IsTotalOrder fpr_cmp

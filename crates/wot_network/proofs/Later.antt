@@ -4,11 +4,11 @@ use Rattle.std.specs.List.{AllByRecursion}
 use Rattle.std.specs.Option.{option_map_or}
 use Rattle.wot_types.specs.declared.fpr.Fpr.{Fpr}
 use Rattle.wot_verdict.specs.Verdicts.{Entries}
-use Rattle.wot_part.specs.Certificate.{Certificate}
-use Rattle.wot_part.specs.Counts.{all_sigs}
-use Rattle.wot_held.specs.declared.kept.Kept.{Kept}
-use Rattle.wot_held.specs.Keyring.{Keyring, kept_at}
-use Rattle.wot_held.specs.Later.{SaysSame, IsUnaltered, IsLaterAt, IsLater}
+use Rattle.wot_component.specs.Certificate.{Certificate}
+use Rattle.wot_component.specs.Counts.{all_sigs}
+use Rattle.wot_keyring_spec.specs.declared.kept.Kept.{Kept}
+use Rattle.wot_keyring_spec.specs.Keyring.{Keyring, kept_at}
+use Rattle.wot_keyring_spec.specs.Later.{SaysSame, IsUnaltered, IsLaterAt, IsLater}
 use Rattle.wot_network.specs.Net.{Line, Net, Fits, LineFits, DescribesAt}
 use Rattle.wot_network.proofs.Verdicts.{edges_same, standing_same, revoked_same}
 

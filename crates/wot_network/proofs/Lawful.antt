@@ -4,9 +4,9 @@ use Rattle.std.specs.List.{AllByRecursion}
 use Rattle.wot_types.specs.declared.fpr.Fpr.{Fpr}
 use Rattle.wot_key.specs.Key.{fpr_of}
 use Rattle.wot_verdict.specs.Verdicts.{Entries}
-use Rattle.wot_part.specs.Certificate.{Certificate}
+use Rattle.wot_component.specs.Certificate.{Certificate}
 use Rattle.wot_edge.specs.Lawful.{AreEntries, AreRows}
-use Rattle.wot_held.specs.Keyring.{Certificates}
+use Rattle.wot_keyring_spec.specs.Keyring.{Certificates}
 use Rattle.wot_live.specs.Rows.{edges_of, AreInto}
 use Rattle.wot_live.specs.Rows as live
 use Rattle.wot_standing.specs.Standing.{own}

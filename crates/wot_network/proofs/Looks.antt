@@ -5,12 +5,12 @@ use Rattle.std.specs.Option.{MatchOption}
 use Rattle.wot_types.specs.declared.fpr.Fpr.{Fpr}
 use Rattle.wot_key.specs.Key.{fpr_of}
 use Rattle.wot_verdict.specs.Verdicts.{Entries}
-use Rattle.wot_part.specs.Certificate.{Certificate}
-use Rattle.wot_part.specs.Counts.{signatures_of}
+use Rattle.wot_component.specs.Certificate.{Certificate}
+use Rattle.wot_component.specs.Counts.{signatures_of}
 use Rattle.wot_cert.specs.declared.moments.Span.{Span}
-use Rattle.wot_held.specs.declared.kept.Kept.{Kept}
-use Rattle.wot_held.specs.Keyring.{Keyring, cert_at, stamp_at, is_fpr}
-use Rattle.wot_held.specs.Kept.{AreSortedByFpr}
+use Rattle.wot_keyring_spec.specs.declared.kept.Kept.{Kept}
+use Rattle.wot_keyring_spec.specs.Keyring.{Keyring, cert_at, stamp_at, is_fpr}
+use Rattle.wot_keyring_spec.specs.Kept.{AreSortedByFpr}
 use Rattle.wot_live.specs.Rows.{edges_of}
 use Rattle.wot_network.specs.Net.{Line, Lines, line_at, marks_of, has_current}
 use Rattle.wot_network.specs.Refreshing.{Advances, AreKept, IsDone, IsInside, IsMade, IsProgress}

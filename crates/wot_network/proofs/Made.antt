@@ -2,7 +2,7 @@
 use Rattle.std.proofs.Common.{◌≡◌, ◌≤◌, ◌<◌, ◌-◌, ◌^◌, max, min, ℕ, Bool, true, false, cond, nat_le, nat_lt, List, []}
 use Rattle.std.proofs.Common.{◌∷◌, filter, refl, arith}
 use Rattle.std.proofs.lemmas.Bool.Decides.{nat_tests}
-use Rattle.wot_part.specs.Certificate.{Certificate}
+use Rattle.wot_component.specs.Certificate.{Certificate}
 use Rattle.wot_cert.specs.Span.{InSpan, span_of, moments_of, most, least}
 
 le_of : (a b : ℕ) → nat_le a b ≡ true → a ≤ b

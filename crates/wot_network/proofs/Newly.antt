@@ -1,6 +1,6 @@
 -- A network of which nothing was made.
 use Rattle.std.proofs.Common.{◌≡◌, ◌≤◌, ◌<◌, ℕ, [], Option, Some, None, sym, ap, arith}
-use Rattle.wot_held.specs.Keyring.{Keyring}
+use Rattle.wot_keyring_spec.specs.Keyring.{Keyring}
 use Rattle.wot_network.specs.Net.{Line, Lines, Fits, line_at}
 
 not_both : (n : ℕ) → 0 < n → n ≤ 0 → ⊥

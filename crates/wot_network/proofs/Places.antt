@@ -3,7 +3,7 @@ use Rattle.std.proofs.Common.{◌≡◌, ◌<◌, ◌+◌, ℕ, Bool, true, fals
 use Rattle.std.proofs.Common.{refl, sym, ap, ◌∙◌, arith}
 use Rattle.std.specs.List.{list_any}
 use Rattle.std.proofs.lemmas.Bool.Decides.{nat_tests}
-use Rattle.wot_part.specs.Certificate.{Component}
+use Rattle.wot_component.specs.Certificate.{Component}
 use Rattle.wot_live.specs.Rows.{places_where}
 use Rattle.wot_network.specs.Places.{is_first, behind_first, is_unrevoked}
 use Rattle.wot_network.specs.Told.{is_user_id}

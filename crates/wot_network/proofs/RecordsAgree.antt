@@ -5,14 +5,14 @@ use Rattle.std.specs.Map.{lookup}
 use Rattle.std.specs.Option.{option_map_or}
 use Rattle.wot_types.specs.declared.fpr.Fpr.{Fpr}
 use Rattle.wot_verdict.specs.Verdicts.{Entries}
-use Rattle.wot_part.specs.Certificate.{Component, Certificate}
-use Rattle.wot_part.specs.Counts.{all_sigs}
+use Rattle.wot_component.specs.Certificate.{Component, Certificate}
+use Rattle.wot_component.specs.Counts.{all_sigs}
 use Rattle.wot_edge.specs.declared.edge.EdgeFacts.{EdgeFacts}
 use Rattle.wot_edge.specs.Agree.{Agree, scoped_edge}
 use Rattle.wot_edge.specs.Path.{asks}
 use Rattle.wot_edge.specs.Record.{Has, Row, Entry, blank, entry_at, rows_into}
-use Rattle.wot_held.specs.Keyring.{Certificates, is_fpr}
-use Rattle.wot_held.specs.Later.{SaysSame}
+use Rattle.wot_keyring_spec.specs.Keyring.{Certificates, is_fpr}
+use Rattle.wot_keyring_spec.specs.Later.{SaysSame}
 use Rattle.wot_live.specs.Rows.{edges_of}
 use Rattle.wot_standing.specs.Standing.{standing_of}
 use Rattle.wot_standing.specs.Usable.{is_usable}

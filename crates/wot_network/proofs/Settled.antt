@@ -13,12 +13,12 @@ use Rattle.std.proofs.lemmas.Map.Entries.{lookup-filter-keys}
 use Rattle.std.proofs.lemmas.Map.Keys.{sorted_head, sorted_tail}
 use Rattle.wot_types.specs.declared.fpr.Fpr.{Fpr}
 use Rattle.wot_types.specs.Fpr.{fpr_cmp}
-use Rattle.wot_part.specs.Certificate.{Certificate}
+use Rattle.wot_component.specs.Certificate.{Certificate}
 use Rattle.wot_cert.specs.Span.{InSpan}
 use Rattle.wot_cert.specs.declared.moments.Span.{Span}
-use Rattle.wot_held.specs.declared.kept.Kept.{Kept}
-use Rattle.wot_held.specs.Keyring.{Entries, Keyring, kept_at, stamp_at, is_fpr}
-use Rattle.wot_held.specs.Kept.{AreSortedByFpr, AreStamped}
+use Rattle.wot_keyring_spec.specs.declared.kept.Kept.{Kept}
+use Rattle.wot_keyring_spec.specs.Keyring.{Entries, Keyring, kept_at, stamp_at, is_fpr}
+use Rattle.wot_keyring_spec.specs.Kept.{AreSortedByFpr, AreStamped}
 use Rattle.wot_index.specs.Log.{Logged, HasChangedSince, is_listed}
 use Rattle.wot_live.specs.Rows.{edges_of}
 use Rattle.wot_network.specs.Net.{Line, Lines, Net, Fits, AreFit, AreKnown, AreMarksOf, HasStamp, IsRight, IsLineNow}

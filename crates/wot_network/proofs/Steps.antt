@@ -7,13 +7,13 @@ use Rattle.std.proofs.lemmas.Map.{none_passes_from_lookup}
 use Rattle.wot_types.specs.declared.fpr.Fpr.{Fpr}
 use Rattle.wot_key.specs.Key.{fpr_of}
 use Rattle.wot_verdict.specs.Verdicts as verdicts
-use Rattle.wot_part.specs.Certificate.{Certificate}
-use Rattle.wot_part.specs.Counts.{signatures_of}
+use Rattle.wot_component.specs.Certificate.{Certificate}
+use Rattle.wot_component.specs.Counts.{signatures_of}
 use Rattle.wot_cert.specs.declared.moments.Span.{Span}
 use Rattle.wot_edge.specs.Lawful.{AreRows}
-use Rattle.wot_held.specs.declared.kept.Kept.{Kept}
-use Rattle.wot_held.specs.Keyring.{Keyring, kept_at, cert_at, stamp_at, is_fpr}
-use Rattle.wot_held.specs.Kept.{AreSortedByFpr}
+use Rattle.wot_keyring_spec.specs.declared.kept.Kept.{Kept}
+use Rattle.wot_keyring_spec.specs.Keyring.{Keyring, kept_at, cert_at, stamp_at, is_fpr}
+use Rattle.wot_keyring_spec.specs.Kept.{AreSortedByFpr}
 use Rattle.wot_index.specs.Log.{Logged, is_listed, is_named_in}
 use Rattle.wot_live.specs.Rows.{edges_of}
 use Rattle.wot_network.specs.Net.{Line, Lines, line_at, marks_of, has_current, HasStamp, LineFits, StayCurrent}

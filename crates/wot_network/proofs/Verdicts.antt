@@ -10,10 +10,10 @@ use Rattle.wot_types.specs.Fpr.{same_fpr}
 use Rattle.wot_types.specs.PlainLaws.{all_prefix, all_back, all_each}
 use Rattle.wot_verdict.specs.Verdicts.{Entries}
 use Rattle.wot_verdict.specs.declared.verdict.Verdict.{Verdict}
-use Rattle.wot_part.specs.Certificate.{Signature, Component, Certificate, said_by}
-use Rattle.wot_part.specs.Counts.{all_sigs, parts_in, sigs_on}
+use Rattle.wot_component.specs.Certificate.{Signature, Component, Certificate, said_by}
+use Rattle.wot_component.specs.Counts.{all_sigs, parts_in, sigs_on}
 use Rattle.wot_cert.specs.Issuer.{good_by, issuer_with, issuer_of, counts_by}
-use Rattle.wot_part.specs.Ranked.{greatest}
+use Rattle.wot_component.specs.Ranked.{greatest}
 use Rattle.wot_cert.specs.Revoked.{has_kind, revokes_by, is_unrevoked, is_revocable}
 use Rattle.wot_cert.specs.Span.{created_of}
 use Rattle.wot_cert.specs.Time.{is_live, made_of, newness}
@@ -26,7 +26,7 @@ use Rattle.wot_standing.specs.Standing.{standing_of}
 use Rattle.wot_standing.specs.Usable.{is_key_in_order, is_in_order}
 use Rattle.wot_live.specs.Edge.{edge_by, edge_on, edge_of}
 use Rattle.wot_live.specs.Rows.{edges_of, places_where, revoked_of, edges_by, fprs_in_order, issuers_of, user_id_places}
-use Rattle.wot_held.specs.Later.{SaysSame}
+use Rattle.wot_keyring_spec.specs.Later.{SaysSame}
 use Rattle.wot_network.specs.Standings.{GiveSame}
 
 -- ---- lists

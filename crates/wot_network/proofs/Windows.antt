@@ -4,7 +4,7 @@ use Rattle.std.specs.List.{AllByRecursion}
 use Rattle.std.specs.Map.{lookup}
 use Rattle.wot_types.specs.declared.fpr.Fpr.{Fpr}
 use Rattle.wot_cert.specs.declared.moments.Span.{Span}
-use Rattle.wot_held.specs.Keyring.{is_fpr}
+use Rattle.wot_keyring_spec.specs.Keyring.{is_fpr}
 use Rattle.wot_network.specs.Net.{Line, Lines}
 use Rattle.wot_network.specs.Refreshing.{AreOpen, IsInside}
 

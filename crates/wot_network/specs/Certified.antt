@@ -4,11 +4,11 @@ use Rattle.std.specs.Map.{lookup}
 use Rattle.wot_types.specs.declared.fpr.Fpr.{Fpr}
 use Rattle.wot_signature.specs.declared.facts.SigFacts.{SigFacts}
 use Rattle.wot_verdict.specs.Verdicts.{Entries, verdict_at}
-use Rattle.wot_part.specs.Certificate.{Certificate, Component, Signature, said_by}
+use Rattle.wot_component.specs.Certificate.{Certificate, Component, Signature, said_by}
 use Rattle.wot_cert.specs.Issuer.{good_by}
 use Rattle.wot_edge.specs.Record.{Has, Row, rows_into}
 use Rattle.wot_edge.specs.Roots.{root_amount}
-use Rattle.wot_held.specs.Keyring.{Certificates, is_fpr}
+use Rattle.wot_keyring_spec.specs.Keyring.{Certificates, is_fpr}
 use Rattle.wot_standing.specs.Kinds.{is_certification}
 use Rattle.wot_network.specs.Told.{record_of}
 

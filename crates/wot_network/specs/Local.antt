@@ -4,14 +4,14 @@ use Rattle.std.specs.List.{AllByRecursion}
 use Rattle.std.specs.Map.{lookup}
 use Rattle.wot_types.specs.declared.fpr.Fpr.{Fpr}
 use Rattle.wot_verdict.specs.Verdicts.{Entries}
-use Rattle.wot_part.specs.Certificate.{Certificate}
-use Rattle.wot_part.specs.Counts.{all_sigs}
+use Rattle.wot_component.specs.Certificate.{Certificate}
+use Rattle.wot_component.specs.Counts.{all_sigs}
 use Rattle.wot_edge.specs.Agree.{Agree}
 use Rattle.wot_edge.specs.Path.{asks}
 use Rattle.wot_edge.specs.Record.{Has, Record}
 use Rattle.wot_edge.specs.Roots.{root_amount}
-use Rattle.wot_held.specs.Keyring.{Certificates, is_fpr}
-use Rattle.wot_held.specs.Later.{SaysSame}
+use Rattle.wot_keyring_spec.specs.Keyring.{Certificates, is_fpr}
+use Rattle.wot_keyring_spec.specs.Later.{SaysSame}
 use Rattle.wot_network.specs.Told.{record_of}
 
 -- Both hold the same certificate under a fingerprint, with the same marks, or none; and the verdicts on the numbers of

@@ -5,17 +5,17 @@ use Rattle.std.specs.Option.{option_map_or, MatchOption}
 use Rattle.std.specs.Map.{lookup}
 use Rattle.wot_types.specs.declared.fpr.Fpr.{Fpr}
 use Rattle.wot_verdict.specs.Verdicts.{Entries}
-use Rattle.wot_part.specs.Certificate.{Certificate}
-use Rattle.wot_part.specs.Counts.{sum_of, signatures_of}
+use Rattle.wot_component.specs.Certificate.{Certificate}
+use Rattle.wot_component.specs.Counts.{sum_of, signatures_of}
 use Rattle.wot_cert.specs.Span.{InSpan}
 use Rattle.wot_cert.specs.declared.moments.Span.{Span}
 use Rattle.wot_edge.specs.declared.edge.EdgeFacts.{EdgeFacts}
 use Rattle.wot_edge.specs.Lawful.{AreRows}
 use Rattle.wot_edge.specs.Record.{Record}
-use Rattle.wot_held.specs.declared.kept.Kept.{Kept}
-use Rattle.wot_held.specs.Keyring.{Keyring, certificates_in, kept_at, is_fpr}
-use Rattle.wot_held.specs.Keyring as keyrings
-use Rattle.wot_held.specs.Import.{weigh}
+use Rattle.wot_keyring_spec.specs.declared.kept.Kept.{Kept}
+use Rattle.wot_keyring_spec.specs.Keyring.{Keyring, certificates_in, kept_at, is_fpr}
+use Rattle.wot_keyring_spec.specs.Keyring as keyrings
+use Rattle.wot_keyring_spec.specs.Import.{weigh}
 use Rattle.wot_standing.specs.Standing.{standing_of}
 use Rattle.wot_standing.specs.declared.status.Standing.{Standing}
 use Rattle.wot_live.specs.Rows.{edges_of, revoked_of}

@@ -3,12 +3,12 @@ use Rattle.std.specs.Prelude.{◌≡◌, ◌≤◌, ◌+◌, ◌-◌, ◌^◌, �
 use Rattle.std.specs.Prelude.{Some, None}
 use Rattle.wot_types.specs.declared.fpr.Fpr.{Fpr}
 use Rattle.wot_verdict.specs.Verdicts.{Entries}
-use Rattle.wot_part.specs.Certificate.{Certificate}
+use Rattle.wot_component.specs.Certificate.{Certificate}
 use Rattle.wot_cert.specs.Span.{InSpan}
 use Rattle.wot_cert.specs.declared.moments.Span.{Span}
 use Rattle.wot_edge.specs.Lawful.{AreRows}
-use Rattle.wot_held.specs.declared.kept.Kept.{Kept}
-use Rattle.wot_held.specs.Keyring.{Keyring, kept_at}
+use Rattle.wot_keyring_spec.specs.declared.kept.Kept.{Kept}
+use Rattle.wot_keyring_spec.specs.Keyring.{Keyring, kept_at}
 use Rattle.wot_standing.specs.Standing.{own}
 use Rattle.wot_network.specs.Net.{Line, Lines, line_at, AreFit, AreLawful, HasStamp, StayCurrent, DescribesThroughout}
 use Rattle.wot_network.specs.Net.{has_current, marks_of, stale_edges, stale_signatures}

@@ -3,12 +3,12 @@ use Rattle.std.specs.Prelude.{◌≡◌, ℕ}
 use Rattle.std.specs.List.{AllByRecursion}
 use Rattle.wot_types.specs.declared.fpr.Fpr.{Fpr}
 use Rattle.wot_verdict.specs.Verdicts.{Entries}
-use Rattle.wot_part.specs.Certificate.{Certificate, Component, Signature}
-use Rattle.wot_part.specs.Counts.{all_sigs}
+use Rattle.wot_component.specs.Certificate.{Certificate, Component, Signature}
+use Rattle.wot_component.specs.Counts.{all_sigs}
 use Rattle.wot_cert.specs.Revoked.{is_unrevoked}
 use Rattle.wot_standing.specs.Own.{is_own_revoked}
 use Rattle.wot_standing.specs.Standing.{newest_certification, standing_of}
-use Rattle.wot_held.specs.Later.{SaysSame}
+use Rattle.wot_keyring_spec.specs.Later.{SaysSame}
 
 -- By both, of an issuer's certifications on the user ID the same is the newest, the same signatures are unrevoked, and
 -- the user ID is revoked or isn't.

@@ -10,11 +10,11 @@ use Rattle.wot_types.specs.declared.fpr.Fpr.{Fpr}
 use Rattle.wot_key.specs.Key.{fpr_of}
 use Rattle.wot_verdict.specs.Verdicts.{Entries}
 use Rattle.wot_signature.specs.Signature.{scopes_of}
-use Rattle.wot_part.specs.Certificate.{Signature, Component, Certificate}
+use Rattle.wot_component.specs.Certificate.{Signature, Component, Certificate}
 use Rattle.wot_edge.specs.declared.edge.EdgeFacts.{EdgeFacts}
 use Rattle.wot_edge.specs.Lawful.{AreEntries}
 use Rattle.wot_edge.specs.Record.{Row, Entry, Record}
-use Rattle.wot_held.specs.Keyring.{Certificates, is_fpr}
+use Rattle.wot_keyring_spec.specs.Keyring.{Certificates, is_fpr}
 use Rattle.wot_scope.specs.Deciding.{scope_holds}
 use Rattle.wot_scope.specs.Scope.{ScopeHolds}
 use Rattle.wot_standing.specs.Standing.{standing_of}

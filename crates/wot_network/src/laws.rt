@@ -1,13 +1,13 @@
 //! Laws of the definitions. Each function does nothing: its contract is the law. They carry the facts about a whole
-//! record (sorted, local, resting on trust signatures) from the definitions to the crates that use them: wot_kept,
+//! record (sorted, local, resting on trust signatures) from the definitions to the crates that use them: wot_answers,
 //! wot_cache and wot_laws.
 ghost use Rattle.std.specs.Prelude.{◌≤◌, ◌↔◌, ℕ, List, IsTrue};
 ghost use Rattle.wot_verdict.specs.Verdicts.{Entries};
-ghost use Rattle.wot_part.specs.Certificate.{Component};
+ghost use Rattle.wot_component.specs.Certificate.{Component};
 ghost use Rattle.wot_edge.specs.declared.edge.EdgeFacts.{EdgeFacts as TheEdge};
 ghost use Rattle.wot_edge.specs.Record.{IsRecord};
-ghost use Rattle.wot_held.specs.Keyring.{Certificates, Keyring};
-ghost use Rattle.wot_held.specs.Later.{IsLater};
+ghost use Rattle.wot_keyring_spec.specs.Keyring.{Certificates, Keyring};
+ghost use Rattle.wot_keyring_spec.specs.Later.{IsLater};
 ghost use Rattle.wot_network.specs.Certified.{RestsOnCertifications, RestsOnTrust};
 ghost use Rattle.wot_network.specs.Local.{IsLocal};
 ghost use Rattle.wot_network.specs.Net.{Marks, Net, Fits, signatures_in, stale_signatures};

@@ -1,8 +1,8 @@
 //! Makes the line of one certificate from wot_live's edges and the standing that they give. `refreshing` calls it for
 //! each stale certificate, and it is the only place where edges of the network are made.
 ghost use Rattle.std.specs.Prelude.{◌<◌, ◌≤◌, ◌+◌, ◌^◌, min, length, IfOk, OnOk};
-ghost use Rattle.wot_part.specs.Counts.{signatures_of};
-ghost use Rattle.wot_part.specs.Text.{size_of};
+ghost use Rattle.wot_component.specs.Counts.{signatures_of};
+ghost use Rattle.wot_component.specs.Text.{size_of};
 ghost use Rattle.wot_live.specs.Rows.{edges_of};
 ghost use Rattle.wot_network.specs.Refreshing.{IsMade};
 

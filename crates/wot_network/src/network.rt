@@ -2,7 +2,7 @@
 //! keyring at `t` and that only stale certificates cost anything. wot_cache stands on these two facts.
 ghost use Rattle.std.specs.Prelude.{◌≡◌, ◌≤◌, ◌+◌, ℕ, List, min, [], OnOk, OnErr};
 ghost use Rattle.std.specs.Option.{option_copied};
-ghost use Rattle.wot_held.specs.Keyring.{Keyring as KeyringOf, certificates_in};
+ghost use Rattle.wot_keyring_spec.specs.Keyring.{Keyring as KeyringOf, certificates_in};
 ghost use Rattle.wot_network.specs.Local.{IsLocal};
 ghost use Rattle.wot_edge.specs.Lawful.{AreEntries};
 ghost use Rattle.wot_edge.specs.Record.{IsRecord};

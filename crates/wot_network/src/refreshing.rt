@@ -4,7 +4,7 @@
 ghost use Rattle.std.specs.Prelude.{◌<◌, OnOk, IfSome};
 ghost use Rattle.wot_types.specs.declared.fpr.Fpr.{Fpr as TheFpr};
 ghost use Rattle.wot_cert.specs.Span.{InSpan};
-ghost use Rattle.wot_held.specs.Kept.{AreNamed, AreSortedByFpr, AreStamped};
+ghost use Rattle.wot_keyring_spec.specs.Kept.{AreNamed, AreSortedByFpr, AreStamped};
 ghost use Rattle.wot_index.specs.Log.{HasChangedSince, is_listed};
 ghost use Rattle.wot_network.specs.Net.{AreKnown};
 ghost use Rattle.wot_network.specs.Refreshing.{Advances, AreDone, AreDoneBut, AreKept, IsDone, IsProgress};

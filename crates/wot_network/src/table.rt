@@ -6,7 +6,7 @@ ghost use Rattle.std.specs.List.Sorted.{IsStrictlySortedBy};
 ghost use Rattle.std.specs.Map.{keys_of, remove_entry};
 ghost use Rattle.std.specs.Option.{option_copied};
 ghost use Rattle.wot_types.specs.Fpr.{fpr_cmp};
-ghost use Rattle.wot_held.specs.Keyring.{is_fpr};
+ghost use Rattle.wot_keyring_spec.specs.Keyring.{is_fpr};
 ghost use Rattle.wot_network.specs.Net.{has_current, line_at, marks_of};
 ghost use Rattle.wot_network.specs.Refreshing.{AreOpen, IsInside, KeepsPresent};
 

@@ -9,10 +9,10 @@ use crate::bodies::signature_body;
 use crate::identity::Identity;
 use crate::words::Words;
 use std::alloc::Global;
+use wot_fields::Octets;
 use wot_packet::write_packet;
 use wot_types::{Fpr, Memory, SigNumber};
 use wot_verdict::number_of;
-use wot_words::Octets;
 
 /// A certification of a user ID.
 #[derive(Drop)]

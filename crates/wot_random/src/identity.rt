@@ -1,8 +1,8 @@
 //! One key with what certifications and commands need of it: its fingerprint, its user ID and its packets.
 ghost use Rattle.std.specs.Prelude.{◌<◌, ◌^◌, length};
 
+use wot_fields::Octets;
 use wot_types::{Fpr, SigNumber, UserId};
-use wot_words::Octets;
 
 /// A key with its one user ID and its direct key signature.
 #[derive(Drop)]

@@ -9,11 +9,11 @@ use crate::bodies::{key_body, signature_body, user_id};
 use crate::identity::Identity;
 use crate::words::Words;
 use std::alloc::Global;
+use wot_fields::Octets;
 use wot_key::fingerprint;
 use wot_packet::write_packet;
 use wot_types::{Fpr, Memory};
 use wot_verdict::number_of;
-use wot_words::Octets;
 
 /// The packets of a key, of a signature on it and of a user ID.
 fn packets(alloc: Global, body: &[u8], direct: &[u8], uid: &[u8]) -> Result<Octets, Memory>

@@ -1,20 +1,20 @@
--- The lines of commands have no line feed, and aren't too long. wot_words has those that set a part of the state.
+-- The lines of commands have no line feed, and aren't too long. wot_fields has those that set a part of the state.
 use Rattle.std.proofs.Common.{◌≡◌, ℕ, ◌+◌, ◌*◌, ◌≤◌, true, List, [], ◌∷◌, length, refl, arith}
 use Rattle.std.specs.Prelude.{codes}
 use Rattle.wot_types.specs.declared.fpr.Fpr.{Fpr}
 use Rattle.wot_types.specs.declared.name.Name.{Name}
-use Rattle.wot_words.specs.Texts.{joined}
-use Rattle.wot_words.specs.Uid.{escaped}
-use Rattle.wot_lines.specs.Claims.{most_paths}
-use Rattle.wot_lines.specs.declared.claims.ClaimLine.{ClaimLine}
-use Rattle.wot_lines.specs.declared.claims.LabelLine.{LabelLine}
+use Rattle.wot_fields.specs.Texts.{joined}
+use Rattle.wot_fields.specs.Uid.{escaped}
+use Rattle.wot_reply_lines.specs.Claims.{most_paths}
+use Rattle.wot_reply_lines.specs.declared.claims.ClaimLine.{ClaimLine}
+use Rattle.wot_reply_lines.specs.declared.claims.LabelLine.{LabelLine}
 use Rattle.wot_script.specs.Spelling.{IsLineFor, most_octets}
 use Rattle.wot_script.specs.declared.command.Command.{Command}
 use Rattle.wot_script.specs.declared.command.Command.TheVariants.{Load, Store, Remove, Ask, Explain, Export, Absence}
 use Rattle.wot_script.specs.declared.command.Command.TheVariants.{Check, CursorOver, CursorNext, CursorClose, WatchOn}
 use Rattle.wot_script.specs.declared.command.Command.TheVariants.{WatchOff}
-use Rattle.wot_words.proofs.LineParts.{AreDigits, IsName, IsNumeral, feedless_escaped, length-escaped, one_line, word}
-use Rattle.wot_words.proofs.Spaceless.{Lacks, lacks_test}
+use Rattle.wot_fields.proofs.LineParts.{AreDigits, IsName, IsNumeral, feedless_escaped, length-escaped, one_line, word}
+use Rattle.wot_fields.proofs.Spaceless.{Lacks, lacks_test}
 
 pub load_line : (name : Name) (text : List ℕ) → Lacks 10 text → length text ≤ 64
     → IsLineFor (Load name) (joined (codes "load " ∷ text ∷ []))

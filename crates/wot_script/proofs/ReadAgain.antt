@@ -5,14 +5,14 @@ use Rattle.std.specs.Fmt.{decimal}
 use Rattle.std.proofs.lemmas.List.{append-nil}
 use Rattle.wot_types.specs.declared.fpr.Fpr.TheVariants.{V4}
 use Rattle.wot_types.specs.Fpr.{digits_of}
-use Rattle.wot_lines.specs.Claims.{claim_text, field_text, label_text}
+use Rattle.wot_reply_lines.specs.Claims.{claim_text, field_text, label_text}
 use Rattle.wot_script.specs.Grammar.{command_of}
 use Rattle.wot_script.specs.Laws.{IsOldLine, PrintsClaim}
 use Rattle.wot_script.specs.Replies.{reply_text}
 use Rattle.wot_script.specs.Spelling.{spelling}
-use Rattle.wot_words.specs.StateLine.{spelling as line_text}
-use Rattle.wot_words.specs.Texts.{joined_line}
-use Rattle.wot_words.specs.Uid.{escaped}
+use Rattle.wot_fields.specs.StateLine.{spelling as line_text}
+use Rattle.wot_fields.specs.Texts.{joined_line}
+use Rattle.wot_fields.specs.Uid.{escaped}
 use Rattle.wot_script.specs.declared.command.Command.{Command}
 use Rattle.wot_script.specs.declared.command.Command.TheVariants.{Import, Good, Bad, Time, Root, Check}
 

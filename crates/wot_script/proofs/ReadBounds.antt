@@ -7,26 +7,26 @@ use Rattle.std.specs.Str.{bytes_eq}
 use Rattle.std.proofs.lemmas.Bool.{and_parts}
 use Rattle.wot_types.specs.Fpr.{fpr_of_digits}
 use Rattle.wot_types.specs.ViewName.{view_name_of}
-use Rattle.wot_lines.specs.Claims.{claim_of, claims_of, IsPathSpelled, labels_of}
-use Rattle.wot_words.specs.Decimal.{positive_up_to}
-use Rattle.wot_words.specs.Fields.{◌>>=◌, behind, cut, read_behind}
-use Rattle.wot_words.specs.StateLine.{IsWithin, state_line_of}
-use Rattle.wot_words.specs.declared.state_line.StateLine.{StateLine}
-use Rattle.wot_words.specs.declared.state_line.StateLine.TheVariants as lines
-use Rattle.wot_words.proofs.FirstSeparator.{cut_short}
-use Rattle.wot_words.proofs.ImportFits.{behind_short, so}
-use Rattle.wot_lines.specs.Entry.{entry_of}
-use Rattle.wot_lines.specs.Question.{question_of}
-use Rattle.wot_lines.specs.declared.question.Question.{Question}
-use Rattle.wot_lines.proofs.ClaimBounds.{claim_spelled, field_keeps, labels_rise, positive_wanted}
-use Rattle.wot_lines.proofs.Questions.{question_wants}
+use Rattle.wot_reply_lines.specs.Claims.{claim_of, claims_of, IsPathSpelled, labels_of}
+use Rattle.wot_fields.specs.Decimal.{positive_up_to}
+use Rattle.wot_fields.specs.Fields.{◌>>=◌, behind, cut, read_behind}
+use Rattle.wot_fields.specs.StateLine.{IsWithin, state_line_of}
+use Rattle.wot_fields.specs.declared.state_line.StateLine.{StateLine}
+use Rattle.wot_fields.specs.declared.state_line.StateLine.TheVariants as lines
+use Rattle.wot_fields.proofs.FirstSeparator.{cut_short}
+use Rattle.wot_fields.proofs.ImportFits.{behind_short, so}
+use Rattle.wot_reply_lines.specs.Entry.{entry_of}
+use Rattle.wot_reply_lines.specs.Question.{question_of}
+use Rattle.wot_reply_lines.specs.declared.question.Question.{Question}
+use Rattle.wot_reply_lines.proofs.ClaimBounds.{claim_spelled, field_keeps, labels_rise, positive_wanted}
+use Rattle.wot_reply_lines.proofs.Questions.{question_wants}
 use Rattle.wot_script.proofs.WordLines.{When, when}
 use Rattle.wot_script.specs.Grammar.{about_of, asked_of, checked_of, command_for, command_of, drop_of}
 use Rattle.wot_script.specs.Grammar.{explained_of, export_of, listed_of, load_of, missed_of, other_of, over_of}
 use Rattle.wot_script.specs.Grammar.{paced_of, set_or, single_of, store_of, view_of, watch_of, watched_of}
 use Rattle.wot_script.specs.OneWord.{has_word, named_among, one_words, word_of}
 use Rattle.wot_script.specs.Spelling.{HasSpelling, FitsLine}
-use Rattle.wot_words.specs.Uid.{unescaped}
+use Rattle.wot_fields.specs.Uid.{unescaped}
 use Rattle.wot_script.specs.declared.command.Command.{Command}
 use Rattle.wot_script.specs.declared.read.About.{About}
 use Rattle.wot_script.specs.declared.read.About.TheVariants.{Asked, Listed, Explained, Missed, Checked, Paced}

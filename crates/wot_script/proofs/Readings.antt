@@ -6,19 +6,19 @@ use Rattle.wot_types.specs.Fpr.{fpr_of_digits}
 use Rattle.wot_types.specs.ViewName.{is_view_name, view_name_of}
 use Rattle.wot_types.specs.declared.fpr.Fpr.{Fpr}
 use Rattle.wot_types.specs.declared.name.Name.{Name}
-use Rattle.wot_lines.specs.Claims.{claims_of, labels_of}
-use Rattle.wot_lines.specs.declared.claims.ClaimLine.{ClaimLine}
-use Rattle.wot_lines.specs.declared.claims.LabelLine.{LabelLine}
-use Rattle.wot_words.specs.Decimal.{positive_up_to}
-use Rattle.wot_words.specs.Fields.{◌>>=◌, cut}
-use Rattle.wot_lines.specs.Entry.{entry_of}
-use Rattle.wot_lines.specs.Question.{question_of}
-use Rattle.wot_lines.specs.declared.question.Question.{Question}
+use Rattle.wot_reply_lines.specs.Claims.{claims_of, labels_of}
+use Rattle.wot_reply_lines.specs.declared.claims.ClaimLine.{ClaimLine}
+use Rattle.wot_reply_lines.specs.declared.claims.LabelLine.{LabelLine}
+use Rattle.wot_fields.specs.Decimal.{positive_up_to}
+use Rattle.wot_fields.specs.Fields.{◌>>=◌, cut}
+use Rattle.wot_reply_lines.specs.Entry.{entry_of}
+use Rattle.wot_reply_lines.specs.Question.{question_of}
+use Rattle.wot_reply_lines.specs.declared.question.Question.{Question}
 use Rattle.wot_script.specs.Grammar.{about_of, checked_of, command_for, command_of, drop_of, explained_of}
 use Rattle.wot_script.specs.Grammar.{export_of, listed_of, load_of, other_of, store_of, view_of, over_of}
 use Rattle.wot_script.specs.Grammar.{paced_of, watch_of, watched_of}
-use Rattle.wot_words.specs.Texts.{joined}
-use Rattle.wot_words.specs.Uid.{unescaped}
+use Rattle.wot_fields.specs.Texts.{joined}
+use Rattle.wot_fields.specs.Uid.{unescaped}
 use Rattle.wot_script.specs.declared.command.Command.{Command}
 use Rattle.wot_script.specs.declared.command.Command.TheVariants.{Load, Store, Remove, Ask, Explain, Export}
 use Rattle.wot_script.specs.declared.command.Command.TheVariants.{Absence, Check, CursorOver, CursorNext}
@@ -26,10 +26,10 @@ use Rattle.wot_script.specs.declared.command.Command.TheVariants.{CursorClose, W
 use Rattle.wot_script.specs.declared.read.About.{About}
 use Rattle.wot_script.specs.declared.read.About.TheVariants.{Asked, Listed, Explained, Missed, Checked, Paced}
 use Rattle.wot_script.specs.declared.read.About.TheVariants.{Watched}
-use Rattle.wot_words.specs.StateLine.{state_line_of, spelling as line_text}
-use Rattle.wot_words.specs.declared.state_line.StateLine.{StateLine}
-use Rattle.wot_words.proofs.Spaceless.{Spaceless, cut_spaceless, spaceless_view_name}
-use Rattle.wot_words.proofs.StateLines.{bound, name_reads}
+use Rattle.wot_fields.specs.StateLine.{state_line_of, spelling as line_text}
+use Rattle.wot_fields.specs.declared.state_line.StateLine.{StateLine}
+use Rattle.wot_fields.proofs.Spaceless.{Spaceless, cut_spaceless, spaceless_view_name}
+use Rattle.wot_fields.proofs.StateLines.{bound, name_reads}
 
 -- a line that sets a part of the state is the command of what it sets
 pub set_reads : (line : StateLine) → state_line_of (line_text line) ≡ Some line

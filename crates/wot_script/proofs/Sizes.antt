@@ -4,7 +4,7 @@ use Rattle.std.specs.Prelude.{codes, nat_le}
 use Rattle.std.specs.Fmt.{decimal}
 use Rattle.std.proofs.lemmas.Bool.{leb-true}
 use Rattle.wot_script.specs.Replies.{number_line, number_of, reply_text, words_before}
-use Rattle.wot_words.specs.Texts.{joined_line}
+use Rattle.wot_fields.specs.Texts.{joined_line}
 use Rattle.wot_script.specs.declared.reply.Reply.{Reply}
 use Rattle.wot_script.specs.declared.reply.Reply.TheVariants.{Long}
 

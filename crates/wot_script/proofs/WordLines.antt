@@ -3,13 +3,13 @@ use Rattle.std.proofs.Common.{◌≡◌, ℕ, ◌&&◌, Bool, true, false, List,
 use Rattle.std.proofs.Common.{◌∙◌}
 use Rattle.std.specs.Prelude.{if◌then◌else◌, nat_le}
 use Rattle.std.proofs.lemmas.Bool.{and_parts, leb-true}
-use Rattle.wot_words.specs.StateLine.{state_line_of}
+use Rattle.wot_fields.specs.StateLine.{state_line_of}
 use Rattle.wot_script.specs.Grammar.{command_of, other_of, single_of}
 use Rattle.wot_script.specs.OneWord.{has_word, word_of}
 use Rattle.wot_script.specs.Spelling.{IsLineFor, most_octets, spelling}
 use Rattle.wot_script.specs.declared.command.Command.{Command}
 use Rattle.wot_script.specs.declared.command.Command.TheVariants.{Import}
-use Rattle.wot_words.proofs.Spaceless.{lacks_from_test, lacks_test}
+use Rattle.wot_fields.proofs.Spaceless.{lacks_from_test, lacks_test}
 
 -- this holds, if the test does
 abbrev pub When : Bool → Type 0 → Type 0

@@ -4,16 +4,16 @@ use Rattle.std.specs.Str.{bytes_eq}
 use Rattle.std.specs.Option.{option_map}
 use Rattle.wot_types.specs.Fpr.{fpr_of_digits}
 use Rattle.wot_types.specs.ViewName.{view_name_of}
-use Rattle.wot_lines.specs.Claims.{claims_of, labels_of}
-use Rattle.wot_lines.specs.Entry.{entry_of}
-use Rattle.wot_lines.specs.Question.{question_of}
-use Rattle.wot_words.specs.Decimal.{positive_up_to}
-use Rattle.wot_words.specs.Fields.{◌>>=◌, behind, cut, read_behind}
-use Rattle.wot_words.specs.StateLine.{state_line_of}
+use Rattle.wot_reply_lines.specs.Claims.{claims_of, labels_of}
+use Rattle.wot_reply_lines.specs.Entry.{entry_of}
+use Rattle.wot_reply_lines.specs.Question.{question_of}
+use Rattle.wot_fields.specs.Decimal.{positive_up_to}
+use Rattle.wot_fields.specs.Fields.{◌>>=◌, behind, cut, read_behind}
+use Rattle.wot_fields.specs.StateLine.{state_line_of}
 use Rattle.wot_script.specs.OneWord.{named_among, one_words}
-use Rattle.wot_words.specs.Uid.{unescaped}
-use Rattle.wot_words.specs.declared.state_line.StateLine.{StateLine}
-use Rattle.wot_words.specs.declared.state_line.StateLine.TheVariants as lines
+use Rattle.wot_fields.specs.Uid.{unescaped}
+use Rattle.wot_fields.specs.declared.state_line.StateLine.{StateLine}
+use Rattle.wot_fields.specs.declared.state_line.StateLine.TheVariants as lines
 use Rattle.wot_script.specs.declared.command.Command.{Command}
 use Rattle.wot_script.specs.declared.read.About.{About}
 use Rattle.wot_script.specs.declared.read.About.TheVariants.{Asked, Listed, Explained, Missed, Checked}

@@ -6,15 +6,15 @@ use Rattle.wot_types.specs.declared.fpr.Fpr.{Fpr}
 use Rattle.wot_types.specs.declared.fpr.Fpr.TheVariants.{V4}
 use Rattle.wot_types.specs.Fpr.{digits_of}
 use Rattle.wot_types.specs.SigNumber.{number_digits}
-use Rattle.wot_lines.specs.Claims.{claim_text, field_text, label_text}
+use Rattle.wot_reply_lines.specs.Claims.{claim_text, field_text, label_text}
 use Rattle.wot_script.specs.Grammar.{command_of}
 use Rattle.wot_script.specs.Replies.{reply_text}
-use Rattle.wot_words.specs.Texts.{joined, joined_line}
-use Rattle.wot_words.specs.Uid.{escaped}
+use Rattle.wot_fields.specs.Texts.{joined, joined_line}
+use Rattle.wot_fields.specs.Uid.{escaped}
 use Rattle.wot_script.specs.declared.command.Command.{Command}
 use Rattle.wot_script.specs.declared.command.Command.TheVariants.{Import, Good, Bad, Time, Root, Check}
-use Rattle.wot_lines.specs.declared.claims.ClaimLine.{ClaimLine}
-use Rattle.wot_lines.specs.declared.claims.LabelLine.{LabelLine}
+use Rattle.wot_reply_lines.specs.declared.claims.ClaimLine.{ClaimLine}
+use Rattle.wot_reply_lines.specs.declared.claims.LabelLine.{LabelLine}
 use Rattle.wot_script.specs.declared.reply.Reply.TheVariants.{Missed}
 
 -- ---- claims

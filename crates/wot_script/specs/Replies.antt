@@ -4,11 +4,11 @@ use Rattle.std.specs.Fmt.{decimal}
 use Rattle.std.specs.List.{AllByRecursion, flat_map}
 use Rattle.hex.specs.Hex.{encode_lower}
 use Rattle.wot_types.specs.Limits.{limit_word}
-use Rattle.wot_words.specs.Texts.{joined_line}
-use Rattle.wot_lines.specs.Claims.{claim_text, field_text, label_text}
-use Rattle.wot_lines.specs.Lines.{HasReason, answer_line, bind_line, key_line, pending_line, reason_line, refused}
-use Rattle.wot_lines.specs.Lines.{stale}
-use Rattle.wot_lines.specs.Words.{IsWordOf, target_words, word_at}
+use Rattle.wot_fields.specs.Texts.{joined_line}
+use Rattle.wot_reply_lines.specs.Claims.{claim_text, field_text, label_text}
+use Rattle.wot_reply_lines.specs.Lines.{HasReason, answer_line, bind_line, key_line, pending_line, reason_line, refused}
+use Rattle.wot_reply_lines.specs.Lines.{stale}
+use Rattle.wot_reply_lines.specs.Words.{IsWordOf, target_words, word_at}
 use Rattle.wot_script.specs.declared.reply.Reply.{Reply}
 use Rattle.wot_script.specs.declared.reply.Reply.TheVariants.{Taken, Stored, Done, Amount, Explained, Pending}
 use Rattle.wot_script.specs.declared.reply.Reply.TheVariants.{Keys, Export, Dump, Long, Line, View, Shelf}

@@ -2,14 +2,14 @@
 use Rattle.std.specs.Prelude.{ℕ, ◌<◌, ◌≤◌, ◌+◌, ◌*◌, List, [], ◌∷◌, length, codes}
 use Rattle.std.specs.Fmt.{decimal}
 use Rattle.wot_types.specs.Fpr.{digits_of}
-use Rattle.wot_lines.specs.Claims.{IsClaimSpelled, claim_text, field_text, label_text, most_paths}
-use Rattle.wot_lines.specs.Entry.{entry_text}
-use Rattle.wot_lines.specs.Question.{asking, question_parts}
+use Rattle.wot_reply_lines.specs.Claims.{IsClaimSpelled, claim_text, field_text, label_text, most_paths}
+use Rattle.wot_reply_lines.specs.Entry.{entry_text}
+use Rattle.wot_reply_lines.specs.Question.{asking, question_parts}
 use Rattle.wot_script.specs.OneWord.{word_of}
-use Rattle.wot_words.specs.StateLine.{IsOneLine, spelling as line_text, most_octets as most_of_line}
-use Rattle.wot_words.specs.Texts.{joined}
-use Rattle.wot_words.specs.Uid.{escaped}
-use Rattle.wot_words.specs.declared.state_line.StateLine.TheVariants as lines
+use Rattle.wot_fields.specs.StateLine.{IsOneLine, spelling as line_text, most_octets as most_of_line}
+use Rattle.wot_fields.specs.Texts.{joined}
+use Rattle.wot_fields.specs.Uid.{escaped}
+use Rattle.wot_fields.specs.declared.state_line.StateLine.TheVariants as lines
 use Rattle.wot_script.specs.declared.command.Command.{Command}
 use Rattle.wot_script.specs.declared.command.Command.TheVariants.{Import, Load, Store, Remove, Good, Bad, Unjudge, Time}
 use Rattle.wot_script.specs.declared.command.Command.TheVariants.{Root, Close, Ask, Explain}

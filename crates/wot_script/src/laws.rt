@@ -8,7 +8,7 @@ ghost use Rattle.wot_script.specs.Spelling.{HasSpelling};
 
 use crate::Command;
 use crate::spelled::spelling_is_read;
-use wot_words::laws::state_lines_fit;
+use wot_fields::laws::state_lines_fit;
 
 /// Every command that a line spells can be printed: a question wants at least 1.
 pub fn lines_spell_commands()

@@ -1,23 +1,23 @@
 //! `read_line`: a line to its command.
 //!
-//! It stands on `wot_words`, which reads the lines that set a part of the state, on `wot_lines`, which reads questions
-//! and claims, on `one_word`, and on `specs/Grammar.antt`, which it follows function by function. A new command with
-//! fields is a function here and a clause there.
+//! It stands on `wot_fields`, which reads the lines that set a part of the state, on `wot_reply_lines`, which reads
+//! questions and claims, on `one_word`, and on `specs/Grammar.antt`, which it follows function by function. A new
+//! command with fields is a function here and a clause there.
 ghost use Rattle.std.specs.Prelude.{◌≡◌, length, Some, None, IfOk, IsErrOf};
 ghost use Rattle.std.specs.Option.{option_map};
 ghost use Rattle.wot_script.specs.Grammar.{about_of, asked_of, checked_of, command_for, command_of, drop_of, view_of};
 ghost use Rattle.wot_script.specs.Grammar.{explained_of, export_of, listed_of, load_of, missed_of, other_of, over_of};
 ghost use Rattle.wot_script.specs.Grammar.{paced_of, store_of, watch_of, watched_of};
 ghost use Rattle.wot_script.specs.Spelling.{HasSpelling, FitsLine};
-ghost use Rattle.wot_words.specs.Decimal.{positive_up_to};
+ghost use Rattle.wot_fields.specs.Decimal.{positive_up_to};
 
 use crate::Command;
 use crate::one_word::read_single;
 use std::alloc::Global;
-use wot_lines::{Question, read_claims, read_entry, read_labels, read_question};
+use wot_fields::laws::state_lines_fit;
+use wot_fields::{StateLine, after_prefix, cut_field, read_positive, read_state_line, read_uid};
+use wot_reply_lines::{Question, read_claims, read_entry, read_labels, read_question};
 use wot_types::{Fpr, Memory, ViewName};
-use wot_words::laws::state_lines_fit;
-use wot_words::{StateLine, after_prefix, cut_field, read_positive, read_state_line, read_uid};
 
 /// Why a line is no command.
 #[derive(Clone, Copy)]

@@ -1,4 +1,4 @@
-//! The replies. `wot_lines` has the types of the lines in them.
+//! The replies. `wot_reply_lines` has the types of the lines in them.
 //!
 //! `specs/Replies.antt` defines how each is printed. `wot_machine` makes them, and its definitions speak of replies as
 //! these values; clients parse what `print_reply` makes of them.

@@ -5,7 +5,7 @@ ghost use Rattle.wot_script.specs.Replies.{is_short, reply_text};
 
 use crate::Reply;
 use crate::numbered::reply_number;
-use wot_lines::laws::{decimals_fit, names_fit, words_fit};
+use wot_reply_lines::laws::{decimals_fit, names_fit, words_fit};
 
 /// A law: a reply of one line, other than that of `export`, has at most 128 octets.
 #[tactic(auto, unfolding(crate::specs::Replies::reply_text))]

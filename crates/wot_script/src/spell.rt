@@ -1,9 +1,9 @@
 //! `print_command`: a command to its line.
 //!
-//! It stands on `wot_words`, `wot_lines` and `one_word`, and on `specs/Spelling.antt`. Generated scripts are printed
-//! through it, and its contract says that `read_line` reads each line back.
+//! It stands on `wot_fields`, `wot_reply_lines` and `one_word`, and on `specs/Spelling.antt`. Generated scripts are
+//! printed through it, and its contract says that `read_line` reads each line back.
 ghost use Rattle.std.specs.Prelude.{◌≡◌, ◌++◌, true, OnOk, OnErr};
-ghost use Rattle.wot_words.specs.Appends.{Appends};
+ghost use Rattle.wot_fields.specs.Appends.{Appends};
 ghost use Rattle.wot_script.specs.Grammar.{command_of};
 ghost use Rattle.wot_script.specs.OneWord.{has_word};
 ghost use Rattle.wot_script.specs.Spelling.{HasSpelling, IsLineFor, spelling};
@@ -11,12 +11,12 @@ ghost use Rattle.wot_script.specs.Spelling.{HasSpelling, IsLineFor, spelling};
 use crate::one_word::command_word;
 use crate::spelled::spelling_is_read;
 use crate::{ClaimLines, Command, LabelLines};
-use wot_lines::{entry_piece, put_claimed, put_numbered, put_question};
-use wot_types::{Fpr, Memory, UserId, ViewName};
-use wot_words::Piece::{Decimal, Key, Text, Uid};
-use wot_words::{
+use wot_fields::Piece::{Decimal, Key, Text, Uid};
+use wot_fields::{
     put_bad, put_close, put_good, put_import, put_pieces, put_root, put_text, put_time, put_unjudge,
 };
+use wot_reply_lines::{entry_piece, put_claimed, put_numbered, put_question};
+use wot_types::{Fpr, Memory, UserId, ViewName};
 
 #[tactic(auto, unfolding(crate::specs::Spelling::spelling))]
 fn put_explain<'a>(

@@ -1,16 +1,18 @@
 //! Laws: the line of a command is read back as that command. `spell` uses the last one. They stand on the laws of
-//! fields in `wot_words` and `wot_lines`, on `specs/Spelling.antt` and on `specs/Grammar.antt`, and a change of either
-//! shows here first.
+//! fields in `wot_fields` and `wot_reply_lines`, on `specs/Spelling.antt` and on `specs/Grammar.antt`, and a change of
+//! either shows here first.
 ghost use Rattle.std.specs.Prelude.{◌≡◌, true};
 ghost use Rattle.wot_script.specs.Grammar.{command_of};
 ghost use Rattle.wot_script.specs.OneWord.{has_word};
 ghost use Rattle.wot_script.specs.Spelling.{HasSpelling, IsLineFor, spelling};
 
 use crate::Command;
-use wot_lines::laws::{
+use wot_fields::laws::{
+    decimal_is_read, hex_is_read, name_is_valid, positive_is_read, uid_is_read,
+};
+use wot_reply_lines::laws::{
     claims_are_read, entry_is_read, labels_are_read, question_is_read, wanted_is_read,
 };
-use wot_words::laws::{decimal_is_read, hex_is_read, name_is_valid, positive_is_read, uid_is_read};
 
 /// A law: the word of a command of one word is read back as that command, and is one line.
 fn word_is_read(command: &Command)

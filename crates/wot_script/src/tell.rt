@@ -1,21 +1,21 @@
 //! `print_reply`: a reply to its octets.
 //!
-//! It stands on `wot_words`, `numbered` and `wot_lines`, which prints refusals and the lines after a first one, and on
-//! `specs/Replies.antt`. Whatever a client reads is printed here; `docs/PROTOCOL.md` specifies it.
+//! It stands on `wot_fields`, `numbered` and `wot_reply_lines`, which prints refusals and the lines after a first one,
+//! and on `specs/Replies.antt`. Whatever a client reads is printed here; `docs/PROTOCOL.md` specifies it.
 ghost use Rattle.std.specs.Prelude.{◌≡◌, ◌<◌, ◌≤◌, ◌+◌, ◌++◌, length, vec_len, vec_capacity, true};
 ghost use Rattle.std.specs.Prelude.{OnOk, OnErr, IsOk};
-ghost use Rattle.wot_words.specs.Appends.{Appends};
+ghost use Rattle.wot_fields.specs.Appends.{Appends};
 ghost use Rattle.wot_script.specs.Replies.{HasWords, is_refusal, is_short, reply_text};
 
 use crate::numbered::{reply_number, reply_words};
 use crate::short::short_replies_fit;
 use crate::{AnswerLines, ClaimLines, LabelLines, ReasonLines, Reply};
-use wot_lines::{
+use wot_fields::{Piece, put_pieces, put_text};
+use wot_reply_lines::{
     put_claimed, put_counted, put_headed, put_number, put_refused, put_refused_at, put_stale,
     target_word,
 };
 use wot_types::{Memory, ViewName};
-use wot_words::{Piece, put_pieces, put_text};
 
 #[tactic(auto, unfolding(crate::specs::Replies::reply_text))]
 fn put_amount(sum: u32, paths: u64, lines: &AnswerLines, out: &mut Vec<u8>) -> Result<(), Memory>

@@ -9,9 +9,9 @@ use Rattle.wot_edge.specs.Record.{entry_at}
 use Rattle.wot_search.specs.declared.below.Next.{Next}
 use Rattle.wot_search.specs.Below.{IsNextAmount, IsNextBelow, next_of}
 use Rattle.wot_search.specs.Offers.{AreNextFor, first_path}
-use Rattle.wot_layer.specs.declared.node.Goal.TheVariants.{Widest}
-use Rattle.wot_layer.specs.Rooted.{IsFirst, IsGood}
-use Rattle.wot_layer.proofs.Rooted.{widest_quest, first_open, valid_rooted}
+use Rattle.wot_first_path.specs.declared.node.Goal.TheVariants.{Widest}
+use Rattle.wot_first_path.specs.Rooted.{IsFirst, IsGood}
+use Rattle.wot_first_path.proofs.Rooted.{widest_quest, first_open, valid_rooted}
 use Rattle.wot_reach.proofs.Within.{Holds}
 
 module _ (reach : Fpr → ℕ) (q : Question) (used : Use) (holds : Holds reach q used)

@@ -12,13 +12,13 @@ use Rattle.wot_edge.specs.Answer.{IsNextOrSpent}
 use Rattle.wot_edge.specs.Record.{Has, entry_at}
 use Rattle.wot_edge.specs.Roots.{root_amount, AreAmounts}
 use Rattle.wot_edge.specs.Path.{Question, Use, path_amount}
-use Rattle.wot_layer.specs.Looked.{IsLooked}
-use Rattle.wot_layer.specs.Growth.{IsResult}
-use Rattle.wot_layer.specs.Rooted.{Rooted, IsFirst}
-use Rattle.wot_layer.proofs.FirstPathFound.{looked_fewer}
-use Rattle.wot_layer.proofs.Local.{next_path_there, spent_there, disordered_there}
-use Rattle.wot_layer.proofs.Rooted.{widest_quest, least_quest, rooted_wide, first_next, first_le, none_spent}
-use Rattle.wot_layer.proofs.Rooted.{disordered_spent}
+use Rattle.wot_first_path.specs.Looked.{IsLooked}
+use Rattle.wot_first_path.specs.Growth.{IsResult}
+use Rattle.wot_first_path.specs.Rooted.{Rooted, IsFirst}
+use Rattle.wot_first_path.proofs.FirstPathFound.{looked_fewer}
+use Rattle.wot_first_path.proofs.Local.{next_path_there, spent_there, disordered_there}
+use Rattle.wot_first_path.proofs.Rooted.{widest_quest, least_quest, rooted_wide, first_next, first_le, none_spent}
+use Rattle.wot_first_path.proofs.Rooted.{disordered_spent}
 use Rattle.wot_reach.proofs.Within.{Holds}
 
 pub amounts_small : (roots : List (Fpr × ℕ)) → AreAmounts roots → (fpr : Fpr) → root_amount roots fpr ≤ 255

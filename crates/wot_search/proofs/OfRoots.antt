@@ -20,21 +20,21 @@ use Rattle.wot_edge.specs.Order.{steps_cmp}
 use Rattle.wot_edge.specs.Record.{Has, IsRecord, entry_at}
 use Rattle.wot_edge.specs.Roots.{root_amount}
 use Rattle.wot_edge.specs.Path.{Question, Use, start, root_left, path_amount, IsOpen}
-use Rattle.wot_layer.specs.declared.node.Node.{Node}
-use Rattle.wot_layer.specs.Growth.{IsResult}
-use Rattle.wot_layer.specs.Layer.{AtMost, IsComplete, IsEntry}
-use Rattle.wot_layer.specs.Looked.{IsLooked}
+use Rattle.wot_first_path.specs.declared.node.Node.{Node}
+use Rattle.wot_first_path.specs.Growth.{IsResult}
+use Rattle.wot_first_path.specs.Layer.{AtMost, IsComplete, IsEntry}
+use Rattle.wot_first_path.specs.Looked.{IsLooked}
 use Rattle.wot_search.specs.Offers.{AddsOffer, AreFoundOffers, AreNext, AreOfferedBy, IsOfferIf, IsOfferOf, with_offer}
-use Rattle.wot_layer.specs.Quest.{Quest}
-use Rattle.wot_layer.specs.Reached.{look}
-use Rattle.wot_layer.specs.Rooted.{Rooted}
-use Rattle.wot_layer.specs.Suffix.{Found, Kept, node_of}
-use Rattle.wot_layer.proofs.SuffixOrder.{AtMost-le}
-use Rattle.wot_layer.proofs.OneSuffixMore.{entry_is}
-use Rattle.wot_layer.proofs.Suffixes.{kept_suffix}
+use Rattle.wot_first_path.specs.Quest.{Quest}
+use Rattle.wot_first_path.specs.Reached.{look}
+use Rattle.wot_first_path.specs.Rooted.{Rooted}
+use Rattle.wot_first_path.specs.Suffix.{Found, Kept, node_of}
+use Rattle.wot_first_path.proofs.SuffixOrder.{AtMost-le}
+use Rattle.wot_first_path.proofs.OneSuffixMore.{entry_is}
+use Rattle.wot_first_path.proofs.Suffixes.{kept_suffix}
 use Rattle.wot_reach.proofs.Within.{Holds}
-use Rattle.wot_layer.proofs.Rooted.{widest_quest, least_quest, rooted_wide, rooted_fewer, rooted_amount, valid_rooted}
-use Rattle.wot_layer.proofs.Rooted.{first_le, IsShortest, shortest_distinct, suffix_chain}
+use Rattle.wot_first_path.proofs.Rooted.{widest_quest, least_quest, rooted_wide, rooted_fewer, rooted_amount, valid_rooted}
+use Rattle.wot_first_path.proofs.Rooted.{first_le, IsShortest, shortest_distinct, suffix_chain}
 use Rattle.wot_search.proofs.PathsAreOffers.{IsOne, Ascend, AreFirst, first_offers, first_there, roots_there}
 
 -- ---- lists

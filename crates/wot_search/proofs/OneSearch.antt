@@ -12,18 +12,18 @@ use Rattle.wot_edge.specs.declared.path.Path.{Path}
 use Rattle.wot_edge.specs.declared.path.Step.{Step}
 use Rattle.wot_edge.specs.Path.{Question, Use, start, root_left, path_amount}
 use Rattle.wot_edge.specs.Roots.{NoneOver}
-use Rattle.wot_layer.specs.declared.node.Node.{Node}
-use Rattle.wot_layer.specs.declared.node.Goal.TheVariants.{Least}
-use Rattle.wot_layer.specs.declared.reached.Reached.{Reached}
-use Rattle.wot_layer.specs.Growth.{IsAfter, IsResult}
-use Rattle.wot_layer.specs.Layer.{Covered, IsComplete, IsEntry, IsLayer}
-use Rattle.wot_layer.specs.Looked.{IsLooked}
-use Rattle.wot_layer.specs.Quest.{Quest}
-use Rattle.wot_layer.specs.Reached.{look}
-use Rattle.wot_layer.specs.Rooted.{Rooted, IsFirst, IsGood}
-use Rattle.wot_layer.specs.Suffix.{Found, Kept, Suffix, node_of}
+use Rattle.wot_first_path.specs.declared.node.Node.{Node}
+use Rattle.wot_first_path.specs.declared.node.Goal.TheVariants.{Least}
+use Rattle.wot_first_path.specs.declared.reached.Reached.{Reached}
+use Rattle.wot_first_path.specs.Growth.{IsAfter, IsResult}
+use Rattle.wot_first_path.specs.Layer.{Covered, IsComplete, IsEntry, IsLayer}
+use Rattle.wot_first_path.specs.Looked.{IsLooked}
+use Rattle.wot_first_path.specs.Quest.{Quest}
+use Rattle.wot_first_path.specs.Reached.{look}
+use Rattle.wot_first_path.specs.Rooted.{Rooted, IsFirst, IsGood}
+use Rattle.wot_first_path.specs.Suffix.{Found, Kept, Suffix, node_of}
 use Rattle.wot_search.proofs.PathsAreOffers.{least_most}
-use Rattle.wot_layer.proofs.Rooted.{widest_quest, least_quest, rooted_amount}
+use Rattle.wot_first_path.proofs.Rooted.{widest_quest, least_quest, rooted_amount}
 
 -- ---- roots
 

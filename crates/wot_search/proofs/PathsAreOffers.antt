@@ -16,12 +16,12 @@ use Rattle.wot_edge.specs.Record.{Has}
 use Rattle.wot_edge.specs.Roots.{root_amount}
 use Rattle.wot_edge.specs.Path.{Question, Use, start, least_left, step_left, root_left, path_amount, IsOpen, IsNextPath}
 use Rattle.wot_edge.specs.Path.{Precedes}
-use Rattle.wot_layer.specs.Looked.{IsLooked}
+use Rattle.wot_first_path.specs.Looked.{IsLooked}
 use Rattle.wot_search.specs.Offers.{IsLater, left_at, is_left, AreOffers, AreNext}
-use Rattle.wot_layer.proofs.Rooted.{widest_quest, valid_suffix}
+use Rattle.wot_first_path.proofs.Rooted.{widest_quest, valid_suffix}
 use Rattle.wot_reach.proofs.Within.{open_within}
-use Rattle.wot_layer.proofs.Local.{root_same, open_there, open_here, open_amount, start_there}
-use Rattle.wot_layer.proofs.PickedRoot.{then_Greater}
+use Rattle.wot_first_path.proofs.Local.{root_same, open_there, open_here, open_amount, start_there}
+use Rattle.wot_first_path.proofs.PickedRoot.{then_Greater}
 
 -- ---- later uses
 

@@ -4,8 +4,8 @@ use Rattle.wot_types.specs.declared.fpr.Fpr.{Fpr}
 use Rattle.wot_edge.specs.declared.path.Path.{Path}
 use Rattle.wot_edge.specs.Record.{Record, Has, entry_at}
 use Rattle.wot_edge.specs.Sums.{Sums, use_in}
-use Rattle.wot_layer.specs.Growth.{IsResult, IsLookedBy}
-use Rattle.wot_layer.proofs.Layers.{looked_grows}
+use Rattle.wot_first_path.specs.Growth.{IsResult, IsLookedBy}
+use Rattle.wot_first_path.proofs.Layers.{looked_grows}
 use Rattle.wot_reach.specs.Reach.{number_at}
 use Rattle.wot_reach.proofs.Within.{Holds}
 use Rattle.wot_search.specs.declared.asked.Asked.{Asked}

@@ -6,7 +6,7 @@ use Rattle.wot_edge.specs.Agree.{Agree}
 use Rattle.wot_edge.specs.Answer.{IsNextOrSpent}
 use Rattle.wot_edge.specs.Path.{Question, Use}
 use Rattle.wot_edge.specs.Record.{Has}
-use Rattle.wot_layer.specs.Looked.{Widens}
+use Rattle.wot_first_path.specs.Looked.{Widens}
 
 -- the next path, or that there is none, for every question that agrees with this one on a set
 abbrev pub IsNextOfAgreeing : Question → Use → List Fpr → Option Path → Type 0

@@ -10,13 +10,13 @@ use Rattle.wot_edge.specs.Answer.{IsNextOrSpent}
 use Rattle.wot_edge.specs.Path.{Question, Use, IsNextPath, IsSpent, root_left, step_left}
 use Rattle.wot_edge.specs.Record.{Has}
 use Rattle.wot_edge.specs.Roots.{root_amount}
-use Rattle.wot_layer.specs.declared.node.Node.{Node}
-use Rattle.wot_layer.specs.Growth.{IsAfter, IsFoundFrom}
-use Rattle.wot_layer.specs.Looked.{Widens}
-use Rattle.wot_layer.specs.Quest.{Quest}
-use Rattle.wot_layer.specs.Reached.{look}
-use Rattle.wot_layer.specs.declared.reached.Reached.{Reached}
-use Rattle.wot_layer.specs.Suffix.{Found}
+use Rattle.wot_first_path.specs.declared.node.Node.{Node}
+use Rattle.wot_first_path.specs.Growth.{IsAfter, IsFoundFrom}
+use Rattle.wot_first_path.specs.Looked.{Widens}
+use Rattle.wot_first_path.specs.Quest.{Quest}
+use Rattle.wot_first_path.specs.Reached.{look}
+use Rattle.wot_first_path.specs.declared.reached.Reached.{Reached}
+use Rattle.wot_first_path.specs.Suffix.{Found}
 
 -- each pair and each root is used at least as much
 pub record IsLater (used later : Use) : Type 0 where

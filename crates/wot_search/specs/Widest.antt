@@ -6,10 +6,10 @@ use Rattle.wot_edge.specs.Agree.{Agree}
 use Rattle.wot_edge.specs.Path.{Question, IsSpent}
 use Rattle.wot_edge.specs.Record.{Record, Has, entry_at}
 use Rattle.wot_edge.specs.Sums.{Sums, use_in}
-use Rattle.wot_layer.specs.declared.node.Goal.TheVariants.{Widest}
-use Rattle.wot_layer.specs.Growth.{IsResult}
-use Rattle.wot_layer.specs.Looked.{IsLooked}
-use Rattle.wot_layer.specs.Quest.{Quest}
+use Rattle.wot_first_path.specs.declared.node.Goal.TheVariants.{Widest}
+use Rattle.wot_first_path.specs.Growth.{IsResult}
+use Rattle.wot_first_path.specs.Looked.{IsLooked}
+use Rattle.wot_first_path.specs.Quest.{Quest}
 use Rattle.wot_reach.specs.Reach.{number_at}
 use Rattle.wot_search.specs.declared.asked.Asked.{Asked}
 use Rattle.wot_search.specs.Asked.{question_of, HasAll, IsNextLocally}

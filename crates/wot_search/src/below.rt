@@ -13,7 +13,7 @@ use crate::offers::offers_after;
 use crate::widest::widest;
 use std::alloc::Global;
 use wot_edge::{Path, Roads, Used};
-use wot_layer::Unnoted;
+use wot_first_path::Unnoted;
 use wot_types::Memory;
 
 /// What comes next.

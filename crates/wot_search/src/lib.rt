@@ -1,6 +1,6 @@
 //! The search for the next path: one search for the greatest amount, one for the least list, and offers that save both.
 //!
-//! It stands on `wot_layer`, which does one search, and on `wot_edge`, whose definition of the next path it meets.
+//! It stands on `wot_first_path`, which does one search, and on `wot_edge`, whose definition of the next path it meets.
 //! `wot_auth` takes paths from it, and `wot_cache` keeps what was consulted. `docs/SEARCH.md` explains how it works.
 #![tactic(auto)]
 
@@ -16,5 +16,5 @@ pub use below::{Next, next_below};
 pub use next::{next_path, next_path_within};
 pub use offered::next_offered;
 pub use offers::next_paths_within;
-pub use wot_layer::{Consulted, ConsultedIter, LookFault, Metered, Notes, Unnoted};
+pub use wot_first_path::{Consulted, ConsultedIter, LookFault, Metered, Notes, Unnoted};
 pub use wot_reach::{Making, Reach, make_reach};

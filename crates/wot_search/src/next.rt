@@ -1,6 +1,6 @@
 //! `next_path`: the next path after what earlier paths use.
 //!
-//! It stands on `widest` and on the searches of `wot_layer`, and its contract is the definition in
+//! It stands on `widest` and on the searches of `wot_first_path`, and its contract is the definition in
 //! `wot_edge/specs/Path.antt`. `wot_auth` makes answers of it; a faster search has to keep these clauses.
 ghost use Rattle.std.specs.Prelude.{◌≤◌, IfOk};
 ghost use Rattle.wot_types.specs.declared.fpr.Fpr.{Fpr as Print};
@@ -10,7 +10,7 @@ ghost use Rattle.wot_edge.specs.Path.{asks};
 ghost use Rattle.wot_edge.specs.Record.{IsRecord};
 ghost use Rattle.wot_edge.specs.Roots.{root_amount};
 ghost use Rattle.wot_edge.specs.Sums.{use_in};
-ghost use Rattle.wot_layer.specs.Looked.{Gains, Widens};
+ghost use Rattle.wot_first_path.specs.Looked.{Gains, Widens};
 ghost use Rattle.wot_search.specs.Asked.{IsNextLocally, HasItsReach, LeadsToAsked, question_of};
 ghost use Rattle.wot_search.specs.Nexting.{IsNextOfAgreeing};
 
@@ -18,7 +18,7 @@ use crate::asked::Asked;
 use crate::widest::widest;
 use std::alloc::Global;
 use wot_edge::{Path, Roads, Roots, Used};
-use wot_layer::{Consulted, Goal, Notes, Quest, first};
+use wot_first_path::{Consulted, Goal, Notes, Quest, first};
 use wot_reach::Reach;
 use wot_types::{Fpr, Memory};
 

@@ -1,7 +1,7 @@
 //! Offers: the next paths of several roots, found by one search.
 //!
-//! It stands on `widest`, on the searches of `wot_layer`, and on `specs/Offers.antt`. `offered` takes paths from them
-//! while their amounts last.
+//! It stands on `widest`, on the searches of `wot_first_path`, and on `specs/Offers.antt`. `offered` takes paths from
+//! them while their amounts last.
 ghost use Rattle.std.specs.Prelude.{◌≡◌, ℕ, List, nat_le, true, IfOk, IfSome, OnOk};
 ghost use Rattle.std.specs.List.{list_all};
 ghost use Rattle.std.specs.Map.{values_of};
@@ -10,12 +10,12 @@ ghost use Rattle.wot_edge.specs.Roots.{NoneOver};
 ghost use Rattle.wot_edge.specs.Sums.{use_in};
 ghost use Rattle.wot_search.specs.Asked.{AreNextIfSome, AreNextLocally, AreNextLocallyIfSome};
 ghost use Rattle.wot_search.specs.Asked.{HasItsReach, LeadsToAsked, question_of};
-ghost use Rattle.wot_layer.specs.Growth.{IsAfter};
-ghost use Rattle.wot_layer.specs.Looked.{Gains, Widens};
+ghost use Rattle.wot_first_path.specs.Growth.{IsAfter};
+ghost use Rattle.wot_first_path.specs.Looked.{Gains, Widens};
 ghost use Rattle.wot_search.specs.Offers.{AddsOffer, AreFoundOffers, AreNextFor, AreOfferedBy, AreWide, IsOfferIf};
 ghost use Rattle.wot_search.specs.Widest.{AreNextByWidest, IsWidest};
-ghost use Rattle.wot_layer.specs.Quest.{LeadsOn, WhateverTold, quest_of};
-ghost use Rattle.wot_layer.specs.Reached.{look};
+ghost use Rattle.wot_first_path.specs.Quest.{LeadsOn, WhateverTold, quest_of};
+ghost use Rattle.wot_first_path.specs.Reached.{look};
 
 use crate::asked::Asked;
 use crate::next::bound_amounts;
@@ -23,7 +23,7 @@ use crate::widest::widest;
 use std::alloc::Global;
 use std::collections::BTreeMap;
 use wot_edge::{Path, Roads, Roots, Used};
-use wot_layer::{
+use wot_first_path::{
     Choice, Goal, Node, Notes, Quest, Reached, Unnoted, advance, begin, first_from, left_of_root,
     node_at, path_from,
 };

@@ -1,9 +1,9 @@
 //! A path of the greatest amount. A search for next paths begins with it, unless one search finds both.
 //!
-//! It stands on the searches of `wot_layer` and on `specs/Widest.antt`. `next`, `offers` and `below` call it.
+//! It stands on the searches of `wot_first_path` and on `specs/Widest.antt`. `next`, `offers` and `below` call it.
 ghost use Rattle.std.specs.Prelude.{ℕ, List, IfOk};
 ghost use Rattle.wot_edge.specs.Record.{IsRecord};
-ghost use Rattle.wot_layer.specs.Looked.{Gains, Widens};
+ghost use Rattle.wot_first_path.specs.Looked.{Gains, Widens};
 ghost use Rattle.wot_search.specs.Asked.{HasItsReach, LeadsToAsked};
 ghost use Rattle.wot_search.specs.Widest.{IsWidestNoted, IsWidestOrSpent};
 
@@ -11,7 +11,7 @@ use crate::asked::Asked;
 use crate::next::bound_amounts;
 use std::alloc::Global;
 use wot_edge::{Path, Roads, Used};
-use wot_layer::{Goal, Notes, Quest, first};
+use wot_first_path::{Goal, Notes, Quest, first};
 use wot_types::Memory;
 
 /// Finds a path of the greatest amount, one with the fewest edges. `None` if no valid path of positive amount is left.

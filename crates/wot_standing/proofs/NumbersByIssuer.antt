@@ -7,9 +7,9 @@ use Rattle.wot_types.specs.declared.fpr.Fpr.{Fpr}
 use Rattle.wot_types.specs.Fpr.{same_fpr}
 use Rattle.wot_types.specs.FprLaws.{same_fpr-true, same_fpr-refl, same_fpr-sym}
 use Rattle.wot_verdict.specs.Verdicts.{Entries}
-use Rattle.wot_part.specs.Certificate.{Signature}
+use Rattle.wot_component.specs.Certificate.{Signature}
 use Rattle.wot_cert.specs.Issuer.{issuer_of}
-use Rattle.wot_part.specs.Ranked.{greatest, higher_of}
+use Rattle.wot_component.specs.Ranked.{greatest, higher_of}
 use Rattle.wot_cert.specs.Revoked.{revokes_by, has_kind}
 use Rattle.wot_cert.specs.Time.{made_of, is_live, newness}
 use Rattle.wot_standing.specs.declared.kinds.Binding.TheVariants.{Certification}

@@ -7,9 +7,9 @@ use Rattle.std.specs.Option.{option_map_or}
 use Rattle.std.proofs.lemmas.Bool.Decides.{nat_tests}
 use Rattle.wot_types.specs.declared.fpr.Fpr.{Fpr}
 use Rattle.wot_verdict.specs.Verdicts.{Entries}
-use Rattle.wot_part.specs.Certificate.{Signature}
+use Rattle.wot_component.specs.Certificate.{Signature}
 use Rattle.wot_cert.specs.Issuer.{counts_by}
-use Rattle.wot_part.specs.Ranked.{greatest}
+use Rattle.wot_component.specs.Ranked.{greatest}
 use Rattle.wot_cert.specs.Time.{made_of, is_live, newness}
 use Rattle.wot_cert.specs.Revoked.{revokes_by, is_unrevoked, is_revocable}
 use Rattle.wot_standing.specs.declared.kinds.Binding.{Binding}

@@ -6,10 +6,10 @@ use Rattle.std.specs.Option.{option_or}
 use Rattle.wot_types.specs.declared.fpr.Fpr.{Fpr}
 use Rattle.wot_types.specs.PlainLaws.{all_prefix, all_back, all_each, all_then, filter_same}
 use Rattle.wot_verdict.specs.Verdicts.{Entries}
-use Rattle.wot_part.specs.Certificate.{Signature, Component, Certificate}
-use Rattle.wot_part.specs.Counts.{parts_in, sigs_on}
+use Rattle.wot_component.specs.Certificate.{Signature, Component, Certificate}
+use Rattle.wot_component.specs.Counts.{parts_in, sigs_on}
 use Rattle.wot_cert.specs.Issuer.{counts_by}
-use Rattle.wot_part.specs.Ranked.{greatest}
+use Rattle.wot_component.specs.Ranked.{greatest}
 use Rattle.wot_cert.specs.Revoked.{has_kind, revokes_by, is_unrevoked, is_revocable}
 use Rattle.wot_cert.specs.Span.{AreLiveAlike, created_of}
 use Rattle.wot_cert.specs.Time.{is_live, made_of, newness}

@@ -6,8 +6,8 @@ use Rattle.std.specs.Option.{option_and_then, option_flatten}
 use Rattle.wot_types.specs.declared.fpr.Fpr.{Fpr}
 use Rattle.wot_types.specs.Fpr.{same_fpr}
 use Rattle.wot_verdict.specs.Verdicts.{Entries}
-use Rattle.wot_part.specs.Certificate.{Signature}
-use Rattle.wot_part.specs.Ranked.{higher_of}
+use Rattle.wot_component.specs.Certificate.{Signature}
+use Rattle.wot_component.specs.Ranked.{higher_of}
 use Rattle.wot_cert.specs.Time.{newness}
 use Rattle.wot_standing.specs.Latest.{revoked_at, stays}
 use Rattle.wot_standing.specs.Certifiers.{certifier_of, kept_for, newer_by, ByIssuer, KeepsNumber, TakesNewest}

@@ -9,9 +9,9 @@ use Rattle.std.specs.Ordering.{nat_cmp, on, then_cmp}
 use Rattle.wot_types.specs.declared.fpr.Fpr.{Fpr}
 use Rattle.wot_types.specs.Fpr.{fpr_cmp, same_fpr}
 use Rattle.wot_verdict.specs.Verdicts.{Entries}
-use Rattle.wot_part.specs.Certificate.{Signature, Component}
+use Rattle.wot_component.specs.Certificate.{Signature, Component}
 use Rattle.wot_cert.specs.Issuer.{issuer_of}
-use Rattle.wot_part.specs.Ranked.{higher_of}
+use Rattle.wot_component.specs.Ranked.{higher_of}
 use Rattle.wot_cert.specs.Revoked.{has_kind, revokes_by}
 use Rattle.wot_cert.specs.Time.{made_of, is_live, newness}
 use Rattle.wot_standing.specs.declared.certifiers.Validity.{Validity}

@@ -1,7 +1,7 @@
 -- Signature types (RFC 9580, section 5.2.1), and reasons for revocation (section 5.2.3.31).
 use Rattle.std.specs.Prelude.{ℕ, Bool, false, ◌&&◌, ◌||◌, ◌==◌, nat_le, Option, Some, None}
-use Rattle.wot_part.specs.Certificate.{Signature}
-use Rattle.wot_part.specs.Judged.{is_true_of}
+use Rattle.wot_component.specs.Certificate.{Signature}
+use Rattle.wot_component.specs.Judged.{is_true_of}
 use Rattle.wot_cert.specs.Revoked.{has_kind}
 use Rattle.wot_standing.specs.declared.kinds.Binding.{Binding}
 use Rattle.wot_standing.specs.declared.kinds.Binding.TheVariants.{DirectKey, Certification}

@@ -3,7 +3,7 @@ use Rattle.std.specs.Prelude.{ℕ, Bool, not, ◌&&◌, ◌||◌, max, List, [],
 use Rattle.std.specs.Option.{option_map_or}
 use Rattle.wot_types.specs.declared.fpr.Fpr.{Fpr}
 use Rattle.wot_verdict.specs.Verdicts.{Entries}
-use Rattle.wot_part.specs.Certificate.{Signature}
+use Rattle.wot_component.specs.Certificate.{Signature}
 use Rattle.wot_cert.specs.Issuer.{counts_by}
 use Rattle.wot_cert.specs.Revoked.{revokes_by, is_revocable}
 use Rattle.wot_cert.specs.Time.{made_of, is_live}

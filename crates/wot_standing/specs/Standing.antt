@@ -8,9 +8,9 @@ use Rattle.std.specs.Option.{option_map_or, option_or}
 use Rattle.wot_types.specs.declared.fpr.Fpr.{Fpr}
 use Rattle.wot_key.specs.Key.{fpr_of}
 use Rattle.wot_verdict.specs.Verdicts.{Entries}
-use Rattle.wot_part.specs.Certificate.{Signature, Component, Certificate, said_by}
+use Rattle.wot_component.specs.Certificate.{Signature, Component, Certificate, said_by}
 use Rattle.wot_cert.specs.Issuer.{counts_by}
-use Rattle.wot_part.specs.Ranked.{greatest}
+use Rattle.wot_component.specs.Ranked.{greatest}
 use Rattle.wot_cert.specs.Revoked.{has_kind}
 use Rattle.wot_cert.specs.Span.{created_of}
 use Rattle.wot_cert.specs.Time.{made_of, is_live, newness}

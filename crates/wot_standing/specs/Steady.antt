@@ -1,7 +1,7 @@
 -- What is live at one time if and only if it is at another.
 use Rattle.std.specs.Prelude.{◌≡◌, ℕ}
 use Rattle.std.specs.List.{AllByRecursion}
-use Rattle.wot_part.specs.Certificate.{Signature, Component, Certificate}
+use Rattle.wot_component.specs.Certificate.{Signature, Component, Certificate}
 use Rattle.wot_cert.specs.Time.{is_live}
 use Rattle.wot_types.specs.declared.fpr.Fpr.{Fpr}
 use Rattle.wot_verdict.specs.Verdicts.{Entries}

@@ -3,7 +3,7 @@ use Rattle.std.specs.Prelude.{ℕ, Bool, true, not, ◌&&◌, nat_le, nat_lt, Op
 use Rattle.std.specs.List.{list_any}
 use Rattle.std.specs.Option.{option_map_or}
 use Rattle.wot_verdict.specs.Verdicts.{Entries}
-use Rattle.wot_part.specs.Certificate.{Component, Certificate}
+use Rattle.wot_component.specs.Certificate.{Component, Certificate}
 use Rattle.wot_standing.specs.declared.status.Standing.{Standing}
 use Rattle.wot_standing.specs.Own.{is_own_revoked}
 use Rattle.wot_standing.specs.Standing.{own, standing_of}

@@ -2,9 +2,9 @@
 use Rattle.std.specs.Prelude.{ℕ, Bool, ◌&&◌, List, filter, Option}
 use Rattle.wot_types.specs.declared.fpr.Fpr.{Fpr}
 use Rattle.wot_verdict.specs.Verdicts.{Entries}
-use Rattle.wot_part.specs.Certificate.{Signature}
+use Rattle.wot_component.specs.Certificate.{Signature}
 use Rattle.wot_cert.specs.Issuer.{counts_by}
-use Rattle.wot_part.specs.Ranked.{greatest}
+use Rattle.wot_component.specs.Ranked.{greatest}
 use Rattle.wot_cert.specs.Revoked.{is_unrevoked}
 use Rattle.wot_cert.specs.Time.{is_live, newness}
 use Rattle.wot_standing.specs.declared.kinds.Binding.{Binding}

@@ -4,8 +4,8 @@
 ghost use Rattle.std.specs.Prelude.{◌≡◌, ◌==◌, ◌&&◌, false};
 ghost use Rattle.std.specs.Option.{option_map_or};
 ghost use Rattle.wot_signature.specs.declared.facts.SigFacts.{SigFacts};
-ghost use Rattle.wot_sig.specs.SingleFacts.{times_in};
-ghost use Rattle.wot_part.specs.Certificate.{said_by};
+ghost use Rattle.wot_kept_signature.specs.SingleFacts.{times_in};
+ghost use Rattle.wot_component.specs.Certificate.{said_by};
 ghost use Rattle.wot_cert.specs.Issuer.{allows, counts_by};
 ghost use Rattle.wot_cert.specs.Revoked.{has_kind as has_kind_spec, is_revocable as is_revocable_spec, revokes_by};
 ghost use Rattle.wot_cert.specs.Time.{made_of, facts_live, is_live as is_live_spec};

@@ -4,7 +4,7 @@
 //! decide by it.
 ghost use Rattle.std.specs.Prelude.{◌≡◌, ◌&&◌, filter, Some, if◌then◌else◌};
 ghost use Rattle.std.specs.Option.{option_copied};
-ghost use Rattle.wot_part.specs.Ranked.{greatest, higher as higher_spec, higher_of};
+ghost use Rattle.wot_component.specs.Ranked.{greatest, higher as higher_spec, higher_of};
 ghost use Rattle.wot_cert.specs.Time.{newness, is_live as is_live_spec};
 ghost use Rattle.wot_standing.specs.Kinds.{is_binding as is_binding_spec};
 ghost use Rattle.wot_standing.specs.Latest.{is_valid_after as is_valid_after_spec, stays as stays_spec};

@@ -7,17 +7,17 @@ use Rattle.std.proofs.lemmas.Slice.Eq.{bytes_eq-Decides}
 use Rattle.wot_types.specs.declared.limits.Limit.TheVariants as limits
 use Rattle.wot_types.specs.declared.name.Name.{Name}
 use Rattle.wot_types.specs.Limits.{standard_limits}
-use Rattle.wot_part.specs.Certificate.{Certificate, unite, unmarked}
-use Rattle.wot_part.specs.Text.{size_of, text_of}
-use Rattle.wot_held.specs.declared.refusal.Refusal.{Refusal}
-use Rattle.wot_held.specs.declared.refusal.Refusal.TheVariants as refusals
-use Rattle.wot_held.specs.Entry.{TellsEntry, entry_in}
+use Rattle.wot_component.specs.Certificate.{Certificate, unite, unmarked}
+use Rattle.wot_component.specs.Text.{size_of, text_of}
+use Rattle.wot_keyring_spec.specs.declared.refusal.Refusal.{Refusal}
+use Rattle.wot_keyring_spec.specs.declared.refusal.Refusal.TheVariants as refusals
+use Rattle.wot_keyring_spec.specs.Entry.{TellsEntry, entry_in}
 use Rattle.wot_script.specs.declared.reply.Reply.{Reply}
 use Rattle.wot_stored.specs.declared.text.Unwritten.{Unwritten}
 use Rattle.wot_stored.specs.declared.text.Unwritten.TheVariants.{Memory}
-use Rattle.wot_step.specs.Outcome.{refusal}
+use Rattle.wot_plain.specs.Outcome.{refusal}
 use Rattle.wot_stored.specs.Stored.{TellsCert, TellsUnwritten}
-use Rattle.wot_step.specs.Storing.{text_unless, united, merged_entry, unless_great}
+use Rattle.wot_plain.specs.Storing.{text_unless, united, merged_entry, unless_great}
 
 -- depending on whether it is too large
 abbrev unless_so : Bool → Certificate → Result Certificate Refusal

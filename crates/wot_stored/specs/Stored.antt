@@ -1,16 +1,16 @@
 -- What the steps towards the text that `store` writes return.
 use Rattle.std.specs.Prelude.{◌≡◌, ℕ, true, List, Result, Ok, Err}
-use Rattle.wot_part.specs.Certificate.{Certificate}
-use Rattle.wot_part.specs.Text.{text_of}
-use Rattle.wot_held.specs.declared.refusal.Refusal.{Refusal}
-use Rattle.wot_held.specs.declared.refusal.Refusal.TheVariants as refusals
+use Rattle.wot_component.specs.Certificate.{Certificate}
+use Rattle.wot_component.specs.Text.{text_of}
+use Rattle.wot_keyring_spec.specs.declared.refusal.Refusal.{Refusal}
+use Rattle.wot_keyring_spec.specs.declared.refusal.Refusal.TheVariants as refusals
 use Rattle.wot_script.specs.declared.reply.Reply.{Reply}
 use Rattle.wot_script.specs.Replies.{is_short}
 use Rattle.wot_certd.specs.declared.shelf.Given.{Given}
 use Rattle.wot_certd.specs.declared.shelf.Given.TheVariants.{Bytes, Absent, Long}
 use Rattle.wot_certd.specs.World.{Answer}
-use Rattle.wot_step.specs.Outcome.{refusal}
-use Rattle.wot_step.specs.Storing.{text_unless}
+use Rattle.wot_plain.specs.Outcome.{refusal}
+use Rattle.wot_plain.specs.Storing.{text_unless}
 use Rattle.wot_stored.specs.declared.text.Unwritten.{Unwritten}
 use Rattle.wot_stored.specs.declared.text.Unwritten.TheVariants.{Told, Memory}
 

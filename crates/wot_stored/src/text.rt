@@ -1,10 +1,10 @@
 //! The text that is written: the kept certificate alone if there is no entry, and else merged with the entry's.
 ghost use Rattle.std.specs.Prelude.{◌≡◌, ◌<◌, ◌^◌, Ok, length, IfErr, IfOk};
 ghost use Rattle.wot_types.specs.declared.name.Name.TheVariants.{Cert as CertName};
-ghost use Rattle.wot_part.specs.Text.{text_of};
-ghost use Rattle.wot_held.specs.Entry.{entry_in};
+ghost use Rattle.wot_component.specs.Text.{text_of};
+ghost use Rattle.wot_keyring_spec.specs.Entry.{entry_in};
 ghost use Rattle.wot_certd.specs.Shelf.{FitsEntry};
-ghost use Rattle.wot_step.specs.Storing.{text_unless, united as united_of, merged_entry, unless_great, writing};
+ghost use Rattle.wot_plain.specs.Storing.{text_unless, united as united_of, merged_entry, unless_great, writing};
 ghost use Rattle.wot_stored.specs.Stored.{IsShort, answer_of, TellsCert, TellsUnwritten};
 
 use std::alloc::Global;
@@ -12,8 +12,8 @@ use wot_cert::laws::marks_weigh_nothing;
 use wot_cert::{Cert, MergeFault};
 use wot_certd::Given;
 use wot_keyring::{Refusal, read_entry};
+use wot_plain::{Refused, reply_to};
 use wot_script::Reply;
-use wot_step::{Refused, reply_to};
 use wot_types::{Fpr, Limit, Limits, Memory, Name};
 
 /// Why nothing is written in place of an entry.

@@ -1,5 +1,5 @@
 //! Tests of wot_keyring: how often the policy is asked, and for how many certificates a change is logged.
-ghost use Rattle.wot_held.specs.Kept.{IsJudgedBy};
+ghost use Rattle.wot_keyring_spec.specs.Kept.{IsJudgedBy};
 ghost use Rattle.wot_policy.specs.Kept.{IsFaithful, rows_of};
 
 use crate::assertion::expect_that;

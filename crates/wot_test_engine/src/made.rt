@@ -1,7 +1,7 @@
 //! Tests of how many edges questions make: at least those in use, and at most the signatures of what was altered since
 //! the last question of the same view.
 ghost use Rattle.std.specs.Prelude.{◌≡◌};
-ghost use Rattle.wot_held.specs.Kept.{IsJudgedBy};
+ghost use Rattle.wot_keyring_spec.specs.Kept.{IsJudgedBy};
 ghost use Rattle.wot_policy.specs.Kept.{IsFaithful, rows_of};
 
 use crate::assertion::expect_that;

@@ -1,5 +1,6 @@
 //! Watches: questions whose amounts are reported again to a client when they change. This crate only remembers the
-//! questions and the amounts last reported. wot_watching asks the questions after each line and writes watch lines.
+//! questions and the amounts last reported. wot_watch_commands asks the questions after each line and writes watch
+//! lines.
 #![tactic(auto)]
 
 mod watch;

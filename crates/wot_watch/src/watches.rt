@@ -1,7 +1,7 @@
 //! All watches by name, at most 64, on the table of `wot_table`, which keeps cursors too.
 //!
-//! `wot_watching` starts and removes them by the `watch` commands, and after each line goes through them and records
-//! the amounts that it reports. `specs/Watches.antt` defines each change.
+//! `wot_watch_commands` starts and removes them by the `watch` commands, and after each line goes through them and
+//! records the amounts that it reports. `specs/Watches.antt` defines each change.
 ghost use Rattle.std.specs.Prelude.{◌≡◌, [], is_some, OnOk, OnErr};
 ghost use Rattle.std.specs.Option.{option_copied};
 ghost use Rattle.std.specs.Iterator.{YieldsFirstBy, item_count};

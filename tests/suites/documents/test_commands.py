@@ -144,7 +144,7 @@ class Protocol(unittest.TestCase):
 
     def test_the_tables_have_each_reason(self) -> None:
         """The words of the page are those that the engine's definitions have."""
-        text = (ROOT / "crates/wot_lines/specs/Words.antt").read_text(encoding="utf-8")
+        text = (ROOT / "crates/wot_reply_lines/specs/Words.antt").read_text(encoding="utf-8")
         spelled = re.findall(r'"([a-z-]+)"', text)
         profile = page("docs/PROFILE.md").lines
         begun = profile.index("## Reasons")

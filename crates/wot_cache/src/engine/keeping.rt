@@ -1,12 +1,12 @@
 //! What an engine keeps of its answers, and how much. Kept answers change no answer: these clauses, and `consulted` of
 //! `Engine::ask`, only bound them.
 ghost use Rattle.std.specs.Prelude.{◌≡◌, ◌≤◌, None, IfSome, length};
-ghost use Rattle.wot_kept.specs.Answers.{RestsOnLeads, looked_of};
+ghost use Rattle.wot_answers.specs.Answers.{RestsOnLeads, looked_of};
 ghost use Rattle.wot_cache.specs.Consulted.{IsKeptFor, AllRestOnLeads, kept_for};
 ghost use Rattle.wot_cache.specs.Views.{view_at};
 
 use crate::Engine;
-use wot_kept::{Asked, KeptAnswer};
+use wot_answers::{Asked, KeptAnswer};
 use wot_types::{Fpr, ViewName};
 
 impl Engine {

@@ -1,8 +1,8 @@
 //! Merges an entry of a certificate directory with what the engine's keyring holds.
 ghost use Rattle.std.specs.Prelude.{◌≡◌, ◌<◌, ◌-◌, ◌^◌, length, OnOk, OnErr};
 ghost use Rattle.wot_policy.specs.Kept.{rows_of};
-ghost use Rattle.wot_held.specs.Import.{ImportAsks, ReturnsUnder, is_entry};
-ghost use Rattle.wot_held.specs.Judging.{IsJudging, StaysJudging};
+ghost use Rattle.wot_keyring_spec.specs.Import.{ImportAsks, ReturnsUnder, is_entry};
+ghost use Rattle.wot_keyring_spec.specs.Judging.{IsJudging, StaysJudging};
 ghost use Rattle.wot_cache.specs.Changes.{ChangesKeyring, IsImported};
 
 use crate::Engine;

@@ -1,5 +1,5 @@
-//! Questions whose answers are watched: the sum of an answer, together with what it depends on. wot_watching calls
-//! it for each watch; `basis` then says how long the sum stays the same.
+//! Questions whose answers are watched: the sum of an answer, together with what it depends on. wot_watch_commands
+//! calls it for each watch; `basis` then says how long the sum stays the same.
 ghost use Rattle.std.specs.Prelude.{◌≡◌, ◌≤◌, ◌+◌, false, true, IfOk, IfSome, OnErr};
 ghost use Rattle.wot_edge.specs.Answer.{IsAnswer, amount_of};
 ghost use Rattle.wot_network.specs.Net.{signatures_in};
@@ -11,8 +11,8 @@ ghost use Rattle.wot_cache.specs.Views.{view_at, TellsOpen};
 use crate::basis::{Basis, kept_sum};
 use crate::engine::Engine;
 use crate::views;
+use wot_answers::{AskFault, Asked};
 use wot_auth::Answer;
-use wot_kept::{AskFault, Asked};
 use wot_types::{Steps, ViewName};
 
 impl Engine {

@@ -12,8 +12,8 @@ ghost use Rattle.wot_cache.specs.Views.{TellsFault};
 
 use crate::view::{NoView, View, ViewFault};
 use crate::{Engine, networks, views};
+use wot_answers::forget;
 use wot_edge::Roots;
-use wot_kept::forget;
 use wot_types::{Fpr, Limit, Memory, ViewName};
 
 impl Engine {

@@ -6,7 +6,7 @@ use Rattle.wot_edge.specs.Sums.{use_in}
 use Rattle.wot_edge.specs.Answer.{EachNext, amount_of, but_last}
 use Rattle.wot_edge.specs.Agree.{Agree}
 use Rattle.wot_edge.specs.Leads.{Leads}
-use Rattle.wot_layer.specs.Looked.{Gains, Widens}
+use Rattle.wot_first_path.specs.Looked.{Gains, Widens}
 use Rattle.wot_search.specs.Offers.{AreOffers}
 use Rattle.wot_reach.specs.Reach.{number_at}
 use Rattle.wot_auth.proofs.take.take.Given as goal

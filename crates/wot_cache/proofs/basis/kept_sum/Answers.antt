@@ -1,5 +1,5 @@
 use Rattle.std.proofs.Common.{sym}
-use Rattle.wot_kept.specs.RightLaws.{right_found}
+use Rattle.wot_answers.specs.RightLaws.{right_found}
 use Rattle.wot_cache.proofs.basis.kept_sum.Goals as goal
 
 pub sum_of-requires : goal.sum_of-requires

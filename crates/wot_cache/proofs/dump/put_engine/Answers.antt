@@ -1,7 +1,7 @@
 use Rattle.std.proofs.Common.{◌<◌, ◌^◌, length, subst, arith}
 use Rattle.std.specs.List.{flat_map}
 use Rattle.wot_types.specs.declared.limits.Limits.{Limits}
-use Rattle.wot_held.specs.Kept.{AreSmall}
+use Rattle.wot_keyring_spec.specs.Kept.{AreSmall}
 use Rattle.wot_cache.specs.Dump.{engine_of, view_commands}
 use Rattle.wot_cache.proofs.DumpSize.{dump_fits}
 use Rattle.wot_cache.proofs.Lines.{dumped, dumped_lines, few_lines}

@@ -1,6 +1,6 @@
-use Rattle.wot_part.specs.Certificate.{unite}
-use Rattle.wot_part.proofs.AddingParts.{brings_same, brings_same_parts}
-use Rattle.wot_part.proofs.Fits.{parts_fit}
+use Rattle.wot_component.specs.Certificate.{unite}
+use Rattle.wot_component.proofs.AddingParts.{brings_same, brings_same_parts}
+use Rattle.wot_component.proofs.Fits.{parts_fit}
 use Rattle.wot_cert.proofs.Totals.{Brought, rooms, named_few, others_few, all_few, all_items, all_signatures}
 use Rattle.wot_cert.proofs.Totals.{all_octets}
 use Rattle.wot_cert.proofs.adds.added.Goals as goal

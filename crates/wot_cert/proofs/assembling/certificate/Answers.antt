@@ -2,7 +2,7 @@ use Rattle.std.proofs.Common.{subst, sym, ap, ◌∙◌}
 use Rattle.std.specs.Prelude.{IfOk}
 use Rattle.wot_packet.specs.Spelling.{spelled_all}
 use Rattle.wot_cert.specs.Answers.{IsWhereReadable}
-use Rattle.wot_part.specs.Certificate.{Certificate}
+use Rattle.wot_component.specs.Certificate.{Certificate}
 use Rattle.wot_cert.specs.Drafting.{IsWholeSketch, Sketch, completed}
 use Rattle.wot_cert.proofs.CertificateWithKey.{sketched-whole, completed-is}
 use Rattle.wot_cert.proofs.assembling.certificate.Goals as goal

@@ -1,7 +1,7 @@
 use Rattle.std.proofs.Common.{◌≡◌, ◌≤◌, ◌++◌, ◌∷◌, List, take, drop, length, subst, sym, ap, ◌∙◌, arith, length-drop}
 use Rattle.wot_packet.specs.Spelling.{AreShort, Spelled, spelled_of, spelled_all}
 use Rattle.wot_cert.specs.Assembly.{certificates_of, skipped_in}
-use Rattle.wot_part.specs.Certificate.{Certificate}
+use Rattle.wot_component.specs.Certificate.{Certificate}
 use Rattle.wot_cert.specs.Drafting.{BeginsWithKey, skipped_by}
 use Rattle.wot_cert.proofs.Cuts.{KeyTaken, key-taken, key-there, none-before, take-spelled, drop-spelled, short-drop}
 use Rattle.wot_cert.proofs.Cuts.{certs-on, skipped-on, skipped-most}

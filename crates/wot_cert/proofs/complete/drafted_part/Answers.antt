@@ -1,6 +1,6 @@
 use Rattle.std.proofs.Common.{List, subst, sym}
-use Rattle.wot_part.specs.Certificate.{Signature, sig_cmp}
-use Rattle.wot_part.specs.Ranked.{IsRising}
+use Rattle.wot_component.specs.Certificate.{Signature, sig_cmp}
+use Rattle.wot_component.specs.Ranked.{IsRising}
 use Rattle.wot_cert.specs.Drafting.{bodies_in}
 use Rattle.wot_cert.proofs.CertificateWithKey.{sigs-rise}
 use Rattle.wot_cert.proofs.complete.drafted_part.Goals as goal

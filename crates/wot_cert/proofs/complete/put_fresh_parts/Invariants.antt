@@ -1,7 +1,7 @@
 use Rattle.std.proofs.Common.{◌≡◌, ◌++◌, map}
 use Rattle.std.specs.List.{AllByRecursion}
 use Rattle.wot_cert.specs.Drafting.{IsShortGroup, body_cmp, part_drafted, groups_in}
-use Rattle.wot_part.specs.Ranked.{IsRising}
+use Rattle.wot_component.specs.Ranked.{IsRising}
 use Rattle.wot_cert.proofs.complete.put_fresh_parts.Given as goal
 
 abbrev pub invariant-loop-body : goal.invariant-loop-body

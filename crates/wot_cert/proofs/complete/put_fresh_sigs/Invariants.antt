@@ -1,6 +1,6 @@
 use Rattle.std.proofs.Common.{◌≡◌, ◌++◌, map}
 use Rattle.std.specs.List.{AllByRecursion}
-use Rattle.wot_part.specs.Certificate.{fresh}
+use Rattle.wot_component.specs.Certificate.{fresh}
 use Rattle.wot_cert.specs.Drafting.{IsShort, bodies_in}
 use Rattle.wot_cert.proofs.complete.put_fresh_sigs.Given as goal
 

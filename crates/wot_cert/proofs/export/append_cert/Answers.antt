@@ -1,8 +1,8 @@
 use Rattle.std.proofs.Common.{◌++◌, refl}
 use Rattle.wot_packet.specs.Writing.{written}
-use Rattle.wot_part.specs.Text.{sigs_text, parts_text}
+use Rattle.wot_component.specs.Text.{sigs_text, parts_text}
 use Rattle.wot_cert.proofs.AppendedTexts.{all_of, appends_then, in_a_row, none_of, regrouped, some_after}
-use Rattle.wot_part.proofs.Fits.{sigs_fit}
+use Rattle.wot_component.proofs.Fits.{sigs_fit}
 use Rattle.wot_cert.proofs.export.append_cert.Goals as goal
 
 pub append_sigs-requires : goal.append_sigs-requires

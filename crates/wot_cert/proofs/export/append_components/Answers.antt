@@ -1,6 +1,6 @@
-use Rattle.wot_part.specs.Text.{parts_text}
+use Rattle.wot_component.specs.Text.{parts_text}
 use Rattle.wot_cert.proofs.AppendedTexts.{all_of, appends_then, another_name, in_a_row, some_of, some_after}
-use Rattle.wot_part.proofs.Fits.{parts_fit}
+use Rattle.wot_component.proofs.Fits.{parts_fit}
 use Rattle.wot_cert.proofs.export.append_components.Goals as goal
 
 pub append_parts-requires-clause-fit : goal.append_parts-requires-clause-fit

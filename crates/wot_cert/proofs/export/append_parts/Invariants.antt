@@ -1,7 +1,7 @@
 use Rattle.std.proofs.Common.{◌≡◌, ◌++◌, ℕ, List, length}
 use Rattle.std.specs.List.{AllByRecursion}
-use Rattle.wot_part.specs.Fitting.{PartFits}
-use Rattle.wot_part.specs.Text.{parts_text}
+use Rattle.wot_component.specs.Fitting.{PartFits}
+use Rattle.wot_component.specs.Text.{parts_text}
 use Rattle.wot_cert.proofs.export.append_parts.Given as goal
 
 abbrev pub invariant-rest : goal.invariant-rest

@@ -1,7 +1,7 @@
 use Rattle.std.proofs.Common.{◌≡◌, ◌++◌, ℕ, List, length}
 use Rattle.std.specs.List.{AllByRecursion}
-use Rattle.wot_part.specs.Fitting.{SigFits}
-use Rattle.wot_part.specs.Text.{sigs_text}
+use Rattle.wot_component.specs.Fitting.{SigFits}
+use Rattle.wot_component.specs.Text.{sigs_text}
 use Rattle.wot_cert.proofs.export.append_sigs.Given as goal
 
 abbrev pub invariant-rest : goal.invariant-rest

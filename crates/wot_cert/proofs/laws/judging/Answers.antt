@@ -1,5 +1,5 @@
 use Rattle.std.proofs.Common.{false, refl}
-use Rattle.wot_part.specs.Judged.{is_admitted_by}
+use Rattle.wot_component.specs.Judged.{is_admitted_by}
 use Rattle.wot_cert.proofs.MergedMarks.{sigs_judged, parts_judged}
 use Rattle.wot_cert.proofs.UnionLaws.{united-marked, marked-again, marked-commute}
 use Rattle.wot_cert.proofs.laws.judging.Goals as goal

@@ -1,5 +1,5 @@
 use Rattle.std.proofs.Common.{false}
-use Rattle.wot_part.specs.Judged.{is_admitted_by}
+use Rattle.wot_component.specs.Judged.{is_admitted_by}
 use Rattle.wot_cert.proofs.Unchanged.{items-marked, signatures-marked, sound-marked, text-marked}
 use Rattle.wot_cert.proofs.laws.marks_weigh_nothing.Goals as goal
 

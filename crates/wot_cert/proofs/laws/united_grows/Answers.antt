@@ -1,4 +1,4 @@
-use Rattle.wot_part.proofs.TextSize.{size_less}
+use Rattle.wot_component.proofs.TextSize.{size_less}
 use Rattle.wot_cert.proofs.Unchanged.{items-more, signatures-less, signatures-more, size-more, sound-more}
 use Rattle.wot_cert.proofs.laws.united_grows.Goals as goal
 

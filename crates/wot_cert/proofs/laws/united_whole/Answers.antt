@@ -1,6 +1,6 @@
 use Rattle.std.proofs.Common.{false}
-use Rattle.wot_part.specs.Judged.{is_admitted_by}
-use Rattle.wot_part.proofs.Wholes.{unite_whole, marked_whole}
+use Rattle.wot_component.specs.Judged.{is_admitted_by}
+use Rattle.wot_component.proofs.Wholes.{unite_whole, marked_whole}
 use Rattle.wot_cert.proofs.laws.united_whole.Goals as goal
 
 pub returns : goal.returns

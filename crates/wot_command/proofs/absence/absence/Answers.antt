@@ -4,8 +4,8 @@ use Rattle.wot_cache.specs.declared.view.View.{View}
 use Rattle.wot_cache.specs.Marks.{IsRefreshed}
 use Rattle.wot_cache.specs.State.{state_of}
 use Rattle.wot_cache.specs.Views.{view_at}
-use Rattle.wot_step.specs.Absent.{Misses}
-use Rattle.wot_step.proofs.Faults.{refreshed_refused, unopened}
+use Rattle.wot_plain.specs.Absent.{Misses}
+use Rattle.wot_plain.proofs.Faults.{refreshed_refused, unopened}
 use Rattle.wot_command.proofs.absence.absence.Goals as goal
 
 pub returns-in-Err-clause-misses : goal.returns-in-Err-clause-misses

@@ -3,7 +3,7 @@ use Rattle.wot_edge.specs.declared.path.Path.{Path}
 use Rattle.wot_edge.specs.Path.{asks}
 use Rattle.wot_network.specs.Net.{told_of}
 use Rattle.wot_network.specs.Roads.{present_of}
-use Rattle.wot_step.proofs.Absences.{told_misses}
+use Rattle.wot_plain.proofs.Absences.{told_misses}
 use Rattle.wot_command.proofs.ReachedOrMissed.{never_left, told_reached}
 use Rattle.wot_command.proofs.absence.absence_from.Goals as goal
 

@@ -1,5 +1,5 @@
 use Rattle.std.proofs.Common.{◌≡◌, ◌++◌, length, map}
-use Rattle.wot_step.specs.Absent.{claim_line}
+use Rattle.wot_plain.specs.Absent.{claim_line}
 use Rattle.wot_command.proofs.absence.claim_lines.Given as goal
 
 abbrev pub invariant-paths : goal.invariant-paths

@@ -1,5 +1,5 @@
 use Rattle.std.proofs.Common.{◌≡◌, ◌++◌, map}
-use Rattle.wot_step.specs.Absent.{label_line}
+use Rattle.wot_plain.specs.Absent.{label_line}
 use Rattle.wot_command.proofs.absence.label_lines.Given as goal
 
 abbrev pub invariant-rest : goal.invariant-rest

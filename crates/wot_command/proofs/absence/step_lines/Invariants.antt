@@ -1,5 +1,5 @@
 use Rattle.std.proofs.Common.{◌≡◌, ◌++◌, length, map}
-use Rattle.wot_step.specs.Absent.{claim_step}
+use Rattle.wot_plain.specs.Absent.{claim_step}
 use Rattle.wot_command.proofs.absence.step_lines.Given as goal
 
 abbrev pub invariant-steps : goal.invariant-steps

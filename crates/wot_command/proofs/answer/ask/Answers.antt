@@ -5,9 +5,9 @@ use Rattle.wot_cache.specs.Question.{question_in}
 use Rattle.wot_cache.specs.State.{state_of}
 use Rattle.wot_cache.specs.Views.{view_at}
 use Rattle.wot_script.specs.declared.reply.Reply.{Reply}
-use Rattle.wot_step.specs.Answer.{Asks}
-use Rattle.wot_step.proofs.Faults.{refreshed_refused, unopened}
-use Rattle.wot_step.proofs.EdgesMadeByLine.{refreshed_as, same_state}
+use Rattle.wot_plain.specs.Answer.{Asks}
+use Rattle.wot_plain.proofs.Faults.{refreshed_refused, unopened}
+use Rattle.wot_plain.proofs.EdgesMadeByLine.{refreshed_as, same_state}
 use Rattle.wot_command.proofs.Short.{answer_asks, answer_short}
 use Rattle.wot_command.proofs.answer.ask.Goals as goal
 

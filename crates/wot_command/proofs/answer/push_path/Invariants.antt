@@ -1,6 +1,6 @@
 use Rattle.std.proofs.Common.{◌≡◌, ◌++◌, length, map}
 use Rattle.wot_cache.specs.State.{state_of}
-use Rattle.wot_step.specs.Answer.{path_lines, step_line}
+use Rattle.wot_plain.specs.Answer.{path_lines, step_line}
 use Rattle.wot_command.proofs.answer.push_path.Given as goal
 
 abbrev pub invariant-steps : goal.invariant-steps

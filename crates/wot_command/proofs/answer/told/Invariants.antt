@@ -2,7 +2,7 @@ use Rattle.std.proofs.Common.{◌≡◌, ◌≤◌, ◌++◌, length}
 use Rattle.std.specs.List.{flat_map, AllByRecursion}
 use Rattle.wot_edge.specs.declared.path.Path.{Path}
 use Rattle.wot_cache.specs.State.{state_of}
-use Rattle.wot_step.specs.Answer.{path_lines}
+use Rattle.wot_plain.specs.Answer.{path_lines}
 use Rattle.wot_command.proofs.answer.told.Given as goal
 
 abbrev pub invariant-paths : goal.invariant-paths

@@ -3,18 +3,18 @@ use Rattle.std.specs.Prelude.{IfOk, IsSomeAnd}
 use Rattle.wot_types.specs.declared.fpr.Fpr.{Fpr}
 use Rattle.wot_types.specs.declared.memory.Memory.{Memory}
 use Rattle.wot_edge.specs.Record.{Record}
-use Rattle.wot_held.specs.Keyring.{Keyring}
+use Rattle.wot_keyring_spec.specs.Keyring.{Keyring}
 use Rattle.wot_network.specs.Net.{told_of}
 use Rattle.wot_network.specs.Roads.{present_of}
 use Rattle.wot_script.specs.declared.reply.Reply.{Reply}
-use Rattle.wot_kept.specs.declared.parts.Parts.{Parts}
+use Rattle.wot_answers.specs.declared.parts.Parts.{Parts}
 use Rattle.wot_cache.specs.declared.view.View.{View}
 use Rattle.wot_cache.specs.Marks.{IsRefreshed}
 use Rattle.wot_cache.specs.Parts.{ArePartsOf}
 use Rattle.wot_cache.specs.State.{Engine, state_of}
 use Rattle.wot_cache.specs.Views.{view_at}
-use Rattle.wot_step.specs.Listing.{Lists, ListsBy}
-use Rattle.wot_step.proofs.Faults.{refreshed_refused, unopened}
+use Rattle.wot_plain.specs.Listing.{Lists, ListsBy}
+use Rattle.wot_plain.proofs.Faults.{refreshed_refused, unopened}
 use Rattle.wot_command.proofs.bindings.list.Goals as goal
 
 -- a list over the parts of a view is the list from that view

@@ -3,10 +3,10 @@ use Rattle.wot_script.specs.declared.reply.Reply.{Reply}
 use Rattle.wot_cache.specs.declared.view.View.{View}
 use Rattle.wot_cache.specs.Marks.{IsRefreshed}
 use Rattle.wot_cache.specs.State.{state_of}
-use Rattle.wot_step.specs.Absent.{Checks}
-use Rattle.wot_step.proofs.Faults.{refreshed_refused, unopened}
+use Rattle.wot_plain.specs.Absent.{Checks}
+use Rattle.wot_plain.proofs.Faults.{refreshed_refused, unopened}
 use Rattle.wot_cache.specs.Views.{view_at}
-use Rattle.wot_step.proofs.Absences.{checks_shown}
+use Rattle.wot_plain.proofs.Absences.{checks_shown}
 use Rattle.wot_command.proofs.checking.check.Goals as goal
 
 pub returns-in-Ok-clause-checks : goal.returns-in-Ok-clause-checks

@@ -1,4 +1,4 @@
-use Rattle.wot_step.proofs.Absences.{spelled_table}
+use Rattle.wot_plain.proofs.Absences.{spelled_table}
 use Rattle.wot_command.proofs.checking.check_from.Goals as goal
 
 pub claimed_table-requires : goal.claimed_table-requires

@@ -1,5 +1,5 @@
 use Rattle.std.proofs.Common.{◌≡◌, ◌++◌, length, map}
-use Rattle.wot_step.specs.Absent.{claimed_step}
+use Rattle.wot_plain.specs.Absent.{claimed_step}
 use Rattle.wot_command.proofs.checking.claimed_path.Given as goal
 
 abbrev pub invariant-steps : goal.invariant-steps

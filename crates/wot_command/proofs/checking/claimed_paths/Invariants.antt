@@ -1,5 +1,5 @@
 use Rattle.std.proofs.Common.{◌≡◌, ◌++◌, length, map}
-use Rattle.wot_step.specs.Absent.{claim_in}
+use Rattle.wot_plain.specs.Absent.{claim_in}
 use Rattle.wot_command.proofs.checking.claimed_paths.Given as goal
 
 abbrev pub invariant-claims : goal.invariant-claims

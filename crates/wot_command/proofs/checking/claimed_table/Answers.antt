@@ -1,5 +1,5 @@
 use Rattle.std.proofs.Common.{rules}
-use Rattle.wot_step.proofs.Absences.{first_put, first_some}
+use Rattle.wot_plain.proofs.Absences.{first_put, first_some}
 use Rattle.wot_command.proofs.checking.claimed_table.Goals as goal
 
 pub set-requires : goal.set-requires

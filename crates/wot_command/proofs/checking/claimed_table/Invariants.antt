@@ -1,5 +1,5 @@
 use Rattle.std.proofs.Common.{◌≡◌, ◌++◌, length}
-use Rattle.wot_step.specs.Absent.{table_in}
+use Rattle.wot_plain.specs.Absent.{table_in}
 use Rattle.wot_command.proofs.checking.claimed_table.Given as goal
 
 abbrev pub invariant-labels : goal.invariant-labels

@@ -1,5 +1,5 @@
 use Rattle.std.proofs.Common.{◌≡◌, ◌≤◌, ◌+◌, ◌*◌, length}
-use Rattle.wot_step.specs.Absent.{sum_in}
+use Rattle.wot_plain.specs.Absent.{sum_in}
 use Rattle.wot_command.proofs.checking.sum.Given as goal
 
 abbrev pub invariant-claims : goal.invariant-claims

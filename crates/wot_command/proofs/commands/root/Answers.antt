@@ -2,7 +2,7 @@ use Rattle.std.proofs.Common.{ap}
 use Rattle.wot_types.specs.Limits.{standard_limits}
 use Rattle.wot_cache.specs.State.{state_of, rooting}
 use Rattle.wot_cache.specs.Views.{root_fault, view_at}
-use Rattle.wot_step.proofs.Results.{if_ok}
+use Rattle.wot_plain.proofs.Results.{if_ok}
 use Rattle.wot_command.proofs.RefusedReplies.{view_gives}
 use Rattle.wot_command.proofs.commands.root.Goals as goal
 

@@ -1,4 +1,4 @@
-use Rattle.wot_step.proofs.Results.{if_ok}
+use Rattle.wot_plain.proofs.Results.{if_ok}
 use Rattle.wot_command.proofs.Lasting.{changes_held}
 use Rattle.wot_command.proofs.RefusedReplies.{judge_gives}
 use Rattle.wot_command.proofs.commands.set_verdict.Goals as goal

@@ -2,7 +2,7 @@ use Rattle.std.proofs.Common.{ap}
 use Rattle.wot_types.specs.Limits.{standard_limits}
 use Rattle.wot_cache.specs.State.{state_of, timing}
 use Rattle.wot_cache.specs.Views.{time_fault}
-use Rattle.wot_step.proofs.Results.{if_ok}
+use Rattle.wot_plain.proofs.Results.{if_ok}
 use Rattle.wot_command.proofs.RefusedReplies.{view_gives}
 use Rattle.wot_command.proofs.commands.time.Goals as goal
 

@@ -1,9 +1,9 @@
 use Rattle.std.proofs.Common.{◌≡◌, ◌≤◌, ◌++◌, map}
 use Rattle.std.specs.List.{AllByRecursion}
 use Rattle.wot_types.specs.Limits.{standard_limits}
-use Rattle.wot_part.specs.Certificate.{Certificate}
-use Rattle.wot_part.specs.Text.{size_of}
-use Rattle.wot_step.specs.Outcome.{key_line_of}
+use Rattle.wot_component.specs.Certificate.{Certificate}
+use Rattle.wot_component.specs.Text.{size_of}
+use Rattle.wot_plain.specs.Outcome.{key_line_of}
 use Rattle.wot_command.proofs.listing.key_lines.Given as goal
 
 abbrev pub invariant-certs : goal.invariant-certs

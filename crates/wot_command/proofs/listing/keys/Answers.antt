@@ -1,9 +1,9 @@
 use Rattle.std.proofs.Common.{◌∙◌, ap, map}
 use Rattle.wot_types.specs.Limits.{standard_limits}
 use Rattle.wot_types.specs.declared.fpr.Fpr.{Fpr}
-use Rattle.wot_held.specs.declared.kept.Kept.{Kept}
-use Rattle.wot_held.specs.Keyring.{Keyring}
-use Rattle.wot_step.specs.Outcome.{key_line_of}
+use Rattle.wot_keyring_spec.specs.declared.kept.Kept.{Kept}
+use Rattle.wot_keyring_spec.specs.Keyring.{Keyring}
+use Rattle.wot_plain.specs.Outcome.{key_line_of}
 use Rattle.wot_command.proofs.CertificateLines.{sized, keys_told}
 use Rattle.wot_command.proofs.listing.keys.Goals as goal
 

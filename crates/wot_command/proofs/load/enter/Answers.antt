@@ -1,7 +1,7 @@
 use Rattle.wot_policy.specs.Kept.{rows_of}
 use Rattle.wot_command.proofs.Lasting.{changes_held}
 use Rattle.wot_command.proofs.PolicyAskedByLine.{asked_new, asked_refused}
-use Rattle.wot_step.proofs.Results.{if_ok}
+use Rattle.wot_plain.proofs.Results.{if_ok}
 use Rattle.wot_command.proofs.RefusedReplies.{load_gives, load_taken}
 use Rattle.wot_command.proofs.load.enter.Goals as goal
 

@@ -3,13 +3,13 @@ use Rattle.wot_certd.specs.World.{Answer}
 use Rattle.wot_policy.specs.Kept.{rows_of}
 use Rattle.wot_cache.specs.State.{state_of}
 use Rattle.wot_script.specs.declared.reply.Reply.TheVariants as replies
-use Rattle.wot_step.specs.Entry.{loads}
-use Rattle.wot_step.proofs.Faults.{failed}
+use Rattle.wot_plain.specs.Entry.{loads}
+use Rattle.wot_plain.proofs.Faults.{failed}
 use Rattle.wot_command.proofs.Lasting.{held_still, judging_still}
 use Rattle.wot_command.proofs.PolicyAskedByLine.{asked_still}
-use Rattle.wot_step.proofs.Results.{any_err}
+use Rattle.wot_plain.proofs.Results.{any_err}
 use Rattle.wot_command.proofs.DirectoryAfterFailure.{puts_none}
-use Rattle.wot_step.proofs.Results.{if_ok}
+use Rattle.wot_plain.proofs.Results.{if_ok}
 use Rattle.wot_command.proofs.Calling.{ran_load, told_so}
 use Rattle.wot_command.proofs.load.load.Goals as goal
 

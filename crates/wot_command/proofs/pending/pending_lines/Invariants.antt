@@ -1,5 +1,5 @@
 use Rattle.std.proofs.Common.{◌≡◌, ◌++◌, length, map}
-use Rattle.wot_step.specs.Listing.{pending_line}
+use Rattle.wot_plain.specs.Listing.{pending_line}
 use Rattle.wot_command.proofs.pending.pending_lines.Given as goal
 
 abbrev pub invariant-sigs : goal.invariant-sigs

@@ -6,8 +6,8 @@ use Rattle.wot_cache.specs.State.{state_of}
 use Rattle.wot_cache.specs.Views.{view_at}
 use Rattle.std.specs.Prelude.{IfSome}
 use Rattle.wot_command.specs.EdgeLines.{MarksEdges}
-use Rattle.wot_step.specs.Listing.{explained_from}
-use Rattle.wot_step.proofs.Faults.{on_unopened, refreshed_refused, unopened}
+use Rattle.wot_plain.specs.Listing.{explained_from}
+use Rattle.wot_plain.proofs.Faults.{on_unopened, refreshed_refused, unopened}
 use Rattle.wot_command.proofs.EdgeLines.{marks_seen, replies_seen}
 use Rattle.wot_command.proofs.reasons.explain.Goals as goal
 

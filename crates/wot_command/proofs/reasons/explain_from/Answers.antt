@@ -1,6 +1,6 @@
 use Rattle.std.proofs.Common.{ap, sym}
-use Rattle.wot_step.specs.Listing.{explained}
-use Rattle.wot_step.proofs.Faults.{on_any, unexplained}
+use Rattle.wot_plain.specs.Listing.{explained}
+use Rattle.wot_plain.proofs.Faults.{on_any, unexplained}
 use Rattle.wot_command.proofs.reasons.explain_from.Goals as goal
 
 pub returns-in_ok-lines-in-Ok-clause-edges : goal.returns-in_ok-lines-in-Ok-clause-edges

@@ -1,5 +1,5 @@
 use Rattle.std.proofs.Common.{◌≡◌, ◌++◌, length, map}
-use Rattle.wot_step.specs.Listing.{reason_line}
+use Rattle.wot_plain.specs.Listing.{reason_line}
 use Rattle.wot_command.proofs.reasons.reason_lines.Given as goal
 
 abbrev pub invariant-reasons : goal.invariant-reasons

@@ -1,5 +1,5 @@
 use Rattle.std.proofs.Common.{refl}
-use Rattle.wot_held.specs.Held.{cert_in}
+use Rattle.wot_keyring_spec.specs.Held.{cert_in}
 use Rattle.wot_policy.specs.Kept.{rows_of}
 use Rattle.wot_cache.specs.State.{state_of}
 use Rattle.wot_command.proofs.Lasting.{held_still, judging_still}

@@ -1,13 +1,13 @@
 use Rattle.std.proofs.Common.{refl}
 use Rattle.wot_policy.specs.Kept.{rows_of}
 use Rattle.wot_cache.specs.State.{state_of}
-use Rattle.wot_step.specs.declared.class.Class.TheVariants.{State as OfState}
-use Rattle.wot_step.specs.Entry.{use_by}
-use Rattle.wot_step.specs.declared.class.StateCommand.TheVariants as kinds
+use Rattle.wot_plain.specs.declared.class.Class.TheVariants.{State as OfState}
+use Rattle.wot_plain.specs.Entry.{use_by}
+use Rattle.wot_plain.specs.declared.class.StateCommand.TheVariants as kinds
 use Rattle.wot_command.proofs.PolicyAskedByLine.{always}
-use Rattle.wot_step.proofs.EdgesMadeByLine.{same_state}
+use Rattle.wot_plain.proofs.EdgesMadeByLine.{same_state}
 use Rattle.wot_command.proofs.Lasting.{can_change, changes_none, judging_still, touches_none}
-use Rattle.wot_step.proofs.Results.{if_ok}
+use Rattle.wot_plain.proofs.Results.{if_ok}
 use Rattle.wot_command.proofs.Calling.{uncalled}
 use Rattle.wot_command.proofs.state.obey.Goals as goal
 

@@ -1,5 +1,5 @@
 use Rattle.std.proofs.Common.{refl}
-use Rattle.wot_step.proofs.Faults.{failed, for_memory}
+use Rattle.wot_plain.proofs.Faults.{failed, for_memory}
 use Rattle.wot_command.proofs.FailedPut.{put_failed}
 use Rattle.wot_command.proofs.DirectoryAfterFailure.{replaced_may}
 use Rattle.wot_command.proofs.store.put.Goals as goal

@@ -1,7 +1,7 @@
 use Rattle.std.proofs.Common.{sym}
 use Rattle.wot_cache.specs.State.{state_of}
 use Rattle.wot_command.specs.CommandRun.{Seen}
-use Rattle.wot_step.proofs.Results.{if_ok}
+use Rattle.wot_plain.proofs.Results.{if_ok}
 use Rattle.wot_command.proofs.Calling.{ran_absent, ran_stored}
 use Rattle.wot_command.proofs.store.store.Goals as goal
 

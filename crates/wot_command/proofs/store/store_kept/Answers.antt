@@ -3,13 +3,13 @@ use Rattle.std.specs.Prelude.{IfSome}
 use Rattle.wot_types.specs.declared.name.Name.TheVariants.{Cert}
 use Rattle.wot_certd.specs.World.{Answer, World, read_answer}
 use Rattle.wot_script.specs.declared.reply.Reply.TheVariants as replies
-use Rattle.wot_step.specs.Entry.{stores}
+use Rattle.wot_plain.specs.Entry.{stores}
 use Rattle.wot_command.specs.CommandRun.{Seen}
 use Rattle.wot_stored.specs.Stored.{answer_of}
-use Rattle.wot_step.proofs.Faults.{failed}
-use Rattle.wot_step.proofs.Results.{any_err}
+use Rattle.wot_plain.proofs.Faults.{failed}
+use Rattle.wot_plain.proofs.Results.{any_err}
 use Rattle.wot_command.proofs.DirectoryAfterFailure.{on_err_as, puts_none, stored_may}
-use Rattle.wot_step.proofs.Results.{if_ok}
+use Rattle.wot_plain.proofs.Results.{if_ok}
 use Rattle.wot_command.proofs.Calling.{given_is, never_fault, stores_put, stores_told, told_so}
 use Rattle.wot_command.proofs.store.store_kept.Goals as goal
 

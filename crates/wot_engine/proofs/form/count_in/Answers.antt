@@ -1,6 +1,6 @@
 use Rattle.std.proofs.Common.{◌≡◌, ◌≤◌, None, sym, ◌∙◌, arith}
 use Rattle.std.specs.String.{string_bytes}
-use Rattle.wot_words.specs.Decimal.{positive_up_to}
+use Rattle.wot_fields.specs.Decimal.{positive_up_to}
 use Rattle.wot_engine.proofs.Forms.{count_none, count_other, count_some}
 use Rattle.wot_engine.proofs.form.count_in.Goals as goal
 use Rattle.wot_engine.proofs.form.count_in.Goals.{then-number-eq0-via-then-number-eq0}

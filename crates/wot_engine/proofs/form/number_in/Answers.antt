@@ -1,5 +1,5 @@
 use Rattle.std.proofs.Common.{◌≡◌, List, ℕ, length, get_or, ap, ◌∙◌, arith}
-use Rattle.wot_words.specs.Decimal.{decimal_up_to}
+use Rattle.wot_fields.specs.Decimal.{decimal_up_to}
 use Rattle.wot_engine.proofs.Forms.{parsed}
 use Rattle.wot_engine.proofs.form.number_in.Goals as goal
 

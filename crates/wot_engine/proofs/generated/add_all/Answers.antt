@@ -1,7 +1,7 @@
 use Rattle.std.proofs.Common.{◌≡◌, arith}
 use Rattle.wot_gen.specs.Summary.{amount_in}
-use Rattle.wot_step.specs.Watching.{IsWatchLine}
-use Rattle.wot_step.proofs.Watched.{first_is, line_worded}
+use Rattle.wot_plain.specs.Watching.{IsWatchLine}
+use Rattle.wot_plain.proofs.Watched.{first_is, line_worded}
 use Rattle.wot_engine.proofs.Plays.{adds_first, adds_last, adds_next, nothing_told}
 use Rattle.wot_engine.proofs.generated.add_all.Goals as goal
 

@@ -1,6 +1,6 @@
 use Rattle.std.proofs.Common.{◌≤◌, length}
 use Rattle.std.specs.List.{AllByRecursion}
-use Rattle.wot_step.specs.Watching.{IsWatchLine}
+use Rattle.wot_plain.specs.Watching.{IsWatchLine}
 use Rattle.wot_engine.proofs.Plays.{AddsUpTo}
 use Rattle.wot_engine.proofs.generated.add_all.Given as goal
 

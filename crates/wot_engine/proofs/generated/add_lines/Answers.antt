@@ -1,11 +1,11 @@
 use Rattle.std.proofs.Common.{◌≡◌, ◌∙◌, ap, refl, sym, subst, arith}
 use Rattle.wot_policy.specs.declared.rows.PolicyRows.{PolicyRows}
 use Rattle.wot_policy.specs.Kept.{rows_of}
-use Rattle.wot_held.specs.Kept.{IsJudgedBy}
+use Rattle.wot_keyring_spec.specs.Kept.{IsJudgedBy}
 use Rattle.wot_cache.specs.State.{Engine}
 use Rattle.wot_machine.specs.Machine.{kept}
-use Rattle.wot_step.specs.Scene.{Scene}
-use Rattle.wot_step.proofs.DirectoryGives.{over}
+use Rattle.wot_plain.specs.Scene.{Scene}
+use Rattle.wot_plain.proofs.DirectoryGives.{over}
 use Rattle.wot_engine.specs.Played.{Adds}
 use Rattle.wot_engine.proofs.Plays.{goes_on, starts_with}
 use Rattle.wot_engine.proofs.Fresh.{judged}

@@ -1,8 +1,8 @@
 use Rattle.std.proofs.Common.{◌≡◌, ◌+◌, ◌*◌, ◌<◌, ◌^◌, length}
 use Rattle.wot_policy.specs.Kept.{IsFaithful, rows_of}
-use Rattle.wot_held.specs.Kept.{IsJudgedBy}
+use Rattle.wot_keyring_spec.specs.Kept.{IsJudgedBy}
 use Rattle.wot_machine.specs.Machine.{kept}
-use Rattle.wot_step.proofs.DirectoryGives.{over}
+use Rattle.wot_plain.proofs.DirectoryGives.{over}
 use Rattle.wot_engine.proofs.Plays.{Plays}
 use Rattle.wot_engine.proofs.generated.add_lines.Given as goal
 

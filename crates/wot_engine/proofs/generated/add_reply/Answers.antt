@@ -1,6 +1,6 @@
 use Rattle.std.proofs.Common.{Some, refl, subst, sym}
 use Rattle.wot_policy.specs.Kept.{rows_of}
-use Rattle.wot_held.specs.Kept.{IsJudgedBy}
+use Rattle.wot_keyring_spec.specs.Kept.{IsJudgedBy}
 use Rattle.wot_cache.specs.State.{Engine}
 use Rattle.wot_machine.specs.Machine.{kept}
 use Rattle.wot_command.specs.CommandRun.{Seen}

@@ -1,8 +1,8 @@
 use Rattle.std.proofs.Common.{ap, subst, sym, ◌∙◌}
-use Rattle.wot_held.specs.Keyring.{Keyring}
+use Rattle.wot_keyring_spec.specs.Keyring.{Keyring}
 use Rattle.wot_cache.specs.State.{Engine, StaysButMarks}
-use Rattle.wot_step.specs.Watching.{told_all}
-use Rattle.wot_step.proofs.EdgesMadeByLine.{same_state}
+use Rattle.wot_plain.specs.Watching.{told_all}
+use Rattle.wot_plain.proofs.EdgesMadeByLine.{same_state}
 use Rattle.wot_machine.proofs.CommandsInLines.{tells_of}
 use Rattle.wot_engine.proofs.generated.add_told.Goals as goal
 

@@ -6,9 +6,9 @@ use Rattle.wot_io.specs.Sink.{Becomes, GainsPrefix}
 use Rattle.wot_io.specs.declared.lines.Line.TheVariants.{End, Long, Text}
 use Rattle.wot_policy.specs.declared.rows.PolicyRows.{PolicyRows}
 use Rattle.wot_policy.specs.Kept.{rows_of}
-use Rattle.wot_held.specs.Kept.{IsJudgedBy}
+use Rattle.wot_keyring_spec.specs.Kept.{IsJudgedBy}
 use Rattle.wot_command.specs.Asked.{LineAsks}
-use Rattle.wot_step.specs.Entry.{MayPut}
+use Rattle.wot_plain.specs.Entry.{MayPut}
 use Rattle.wot_machine.specs.Machine.{kept}
 use Rattle.wot_engine.specs.RunAsks.{MayAsk, command_by, done}
 use Rattle.wot_engine.specs.Ended.{Reached, IsBegun}

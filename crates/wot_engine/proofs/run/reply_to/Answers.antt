@@ -5,10 +5,10 @@ use Rattle.wot_policy.specs.Kept.{rows_of}
 use Rattle.wot_certd.specs.World.{World}
 use Rattle.wot_machine.specs.Machine.{kept}
 use Rattle.wot_machine.specs.Stepped.{TellsBehind}
-use Rattle.wot_step.specs.Transcript.{listed, octets_of}
-use Rattle.wot_step.specs.Session.{Session}
+use Rattle.wot_plain.specs.Transcript.{listed, octets_of}
+use Rattle.wot_plain.specs.Session.{Session}
 use Rattle.wot_cache.specs.State.{state_of}
-use Rattle.wot_step.proofs.Results.{any_err}
+use Rattle.wot_plain.proofs.Results.{any_err}
 use Rattle.wot_command.proofs.DirectoryAfterFailure.{served_puts}
 use Rattle.wot_engine.specs.RunAsks.{command_by, done}
 use Rattle.wot_engine.specs.Turn.{RepliesBehind, SaidBehind, use_by}

@@ -1,6 +1,6 @@
 use Rattle.std.proofs.Common.{[], inr, refl, ap}
 use Rattle.wot_policy.specs.Kept.{rows_of}
-use Rattle.wot_step.specs.Session.{beginning}
+use Rattle.wot_plain.specs.Session.{beginning}
 use Rattle.wot_engine.specs.Ends.{status_at}
 use Rattle.wot_engine.specs.declared.run.Stop.TheVariants.{Memory, Read, Write}
 use Rattle.wot_engine.proofs.HasAsked.{HasAsked-init, asks_between}

@@ -8,14 +8,14 @@ use Rattle.wot_script.specs.declared.reply.Reply.TheVariants as replies
 use Rattle.wot_script.specs.Replies.{reply_text}
 use Rattle.wot_certd.specs.World.{World}
 use Rattle.wot_machine.specs.Machine.{kept}
-use Rattle.wot_step.specs.Session.{Session}
+use Rattle.wot_plain.specs.Session.{Session}
 use Rattle.wot_command.specs.CommandRun.{Seen}
-use Rattle.wot_step.specs.Served.{unserved}
+use Rattle.wot_plain.specs.Served.{unserved}
 use Rattle.wot_machine.specs.Stepped.{Stepped}
 use Rattle.wot_cache.specs.State.{state_of}
-use Rattle.wot_step.proofs.Results.{any_err}
+use Rattle.wot_plain.proofs.Results.{any_err}
 use Rattle.wot_command.proofs.DirectoryAfterFailure.{puts_still}
-use Rattle.wot_step.proofs.StepsByKind.{one_reply, too_long}
+use Rattle.wot_plain.proofs.StepsByKind.{one_reply, too_long}
 use Rattle.wot_engine.specs.Turn.{SaidBehind, use_by}
 use Rattle.wot_engine.proofs.HasAsked.{looked_at, passed_over}
 use Rattle.wot_engine.proofs.run.say.Goals as goal

@@ -1,6 +1,6 @@
 use Rattle.std.proofs.Common.{List, ap, ◌∙◌}
-use Rattle.wot_part.specs.Certificate.{Certificate}
-use Rattle.wot_held.specs.Keyring.{certificates_in}
+use Rattle.wot_component.specs.Certificate.{Certificate}
+use Rattle.wot_keyring_spec.specs.Keyring.{certificates_in}
 use Rattle.wot_network.specs.Told.{record_of}
 use Rattle.wot_explain.specs.Listing.{pairs_in, pairs_of_all}
 use Rattle.wot_explain.proofs.Listed.{listed_here, the_list_same, pairs_named}

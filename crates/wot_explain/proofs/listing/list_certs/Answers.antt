@@ -1,5 +1,5 @@
 use Rattle.std.proofs.Common.{◌≡◌, List, [], sym, subst}
-use Rattle.wot_part.specs.Certificate.{Certificate}
+use Rattle.wot_component.specs.Certificate.{Certificate}
 use Rattle.wot_explain.specs.Listing.{AddsListed, pairs_of_all}
 use Rattle.wot_explain.proofs.Listed.{one_cert, none_added}
 use Rattle.wot_explain.proofs.listing.list_certs.Goals as goal

@@ -1,9 +1,9 @@
 use Rattle.std.proofs.Common.{Option, map, sym, ap, ◌∙◌}
 use Rattle.std.specs.Option.{option_copied}
 use Rattle.wot_types.specs.declared.fpr.Fpr.{Fpr}
-use Rattle.wot_held.specs.From.{entries_from}
-use Rattle.wot_held.specs.Keyring.{certificates_in}
-use Rattle.wot_held.specs.declared.kept.Kept.{Kept}
+use Rattle.wot_keyring_spec.specs.From.{entries_from}
+use Rattle.wot_keyring_spec.specs.Keyring.{certificates_in}
+use Rattle.wot_keyring_spec.specs.declared.kept.Kept.{Kept}
 use Rattle.wot_network.specs.Told.{record_of}
 use Rattle.wot_explain.specs.Listing.{pairs_in}
 use Rattle.wot_explain.proofs.Listed.{listed_same}

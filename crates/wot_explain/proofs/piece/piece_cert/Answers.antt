@@ -1,6 +1,6 @@
 use Rattle.std.proofs.Common.{List, OnOk, map, subst}
 use Rattle.wot_types.specs.declared.fpr.Fpr.{Fpr}
-use Rattle.wot_part.specs.Certificate.{Component}
+use Rattle.wot_component.specs.Certificate.{Component}
 use Rattle.wot_explain.specs.Listing.{pair_of}
 use Rattle.wot_explain.specs.Piece.{GoesOn}
 use Rattle.wot_explain.proofs.piece.piece_cert.Goals as goal

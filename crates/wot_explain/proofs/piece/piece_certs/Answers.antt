@@ -1,6 +1,6 @@
 use Rattle.std.proofs.Common.{◌≡◌, List, [], arith, sym, subst}
 use Rattle.std.specs.Option.{option_copied}
-use Rattle.wot_part.specs.Certificate.{Certificate}
+use Rattle.wot_component.specs.Certificate.{Certificate}
 use Rattle.wot_explain.specs.Listing.{pairs_of_all}
 use Rattle.wot_explain.specs.Piece.{AddsPiece}
 use Rattle.wot_explain.proofs.Pieces.{cert_piece, none_piece, full_piece}

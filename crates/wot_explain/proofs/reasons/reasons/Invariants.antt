@@ -2,7 +2,7 @@ use Rattle.std.proofs.Common.{◌≡◌, ◌++◌, length, map}
 use Rattle.std.specs.Prelude.{filter}
 use Rattle.wot_explain.specs.Reasons.{reason_of}
 use Rattle.wot_explain.specs.Explaining.{reasons_on}
-use Rattle.wot_held.specs.Keyring.{certificates_in}
+use Rattle.wot_keyring_spec.specs.Keyring.{certificates_in}
 use Rattle.wot_standing.specs.Kinds.{is_certification}
 use Rattle.wot_explain.proofs.reasons.reasons.Given as goal
 

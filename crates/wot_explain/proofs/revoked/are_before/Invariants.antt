@@ -1,7 +1,7 @@
 use Rattle.std.proofs.Common.{◌≡◌, ◌++◌, List, length}
 use Rattle.std.specs.Prelude.{◌||◌, not, nat_lt}
 use Rattle.std.specs.List.{list_all}
-use Rattle.wot_part.specs.Certificate.{Signature}
+use Rattle.wot_component.specs.Certificate.{Signature}
 use Rattle.wot_cert.specs.Revoked.{revokes_by}
 use Rattle.wot_cert.specs.Time.{made_of}
 use Rattle.wot_explain.proofs.revoked.are_before.Given as goal

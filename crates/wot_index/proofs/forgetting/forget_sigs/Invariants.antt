@@ -1,7 +1,7 @@
 use Rattle.std.proofs.Common.{◌≡◌, length}
 use Rattle.wot_types.specs.declared.number.SigNumber.{SigNumber}
 use Rattle.wot_index.specs.Index.{SaysSame, holder_of, unless}
-use Rattle.wot_held.specs.Verdict.{is_among}
+use Rattle.wot_keyring_spec.specs.Verdict.{is_among}
 use Rattle.wot_index.proofs.forgetting.forget_sigs.Given as goal
 
 abbrev pub invariant-sigs : goal.invariant-sigs

@@ -1,6 +1,6 @@
 use Rattle.std.proofs.Common.{subst}
 use Rattle.wot_types.specs.declared.fpr.Fpr.{Fpr}
-use Rattle.wot_held.specs.Keyring.{is_fpr}
+use Rattle.wot_keyring_spec.specs.Keyring.{is_fpr}
 use Rattle.wot_index.specs.Log.{LogsAt}
 use Rattle.wot_index.proofs.Logged.{none_logged, one_logged}
 use Rattle.wot_index.proofs.log.log_all.Goals as goal

@@ -1,4 +1,4 @@
-use Rattle.wot_held.specs.Keyring.{is_fpr}
+use Rattle.wot_keyring_spec.specs.Keyring.{is_fpr}
 use Rattle.wot_index.proofs.Logged.{logs_one, logs_anew}
 use Rattle.wot_index.proofs.log.log_at.Goals as goal
 

@@ -1,6 +1,6 @@
 use Rattle.std.proofs.Common.{List, ap, ◌∙◌}
 use Rattle.std.proofs.lemmas.List.{nil_from_length}
-use Rattle.wot_part.specs.Certificate.{Certificate}
+use Rattle.wot_component.specs.Certificate.{Certificate}
 use Rattle.wot_index.specs.Index.{stands_among, stands_on}
 use Rattle.wot_index.proofs.Indexed.{notes_all, notes_on, still_logged}
 use Rattle.wot_index.proofs.noting.note_certs.Goals as goal

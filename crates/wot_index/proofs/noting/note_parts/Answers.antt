@@ -4,10 +4,10 @@ use Rattle.std.proofs.lemmas.List.Folds.{list_any-append}
 use Rattle.wot_types.specs.declared.fpr.Fpr.{Fpr}
 use Rattle.wot_types.specs.declared.number.SigNumber.{SigNumber}
 use Rattle.wot_verdict.specs.Verdicts.{is_number}
-use Rattle.wot_part.specs.Certificate.{Signature, Component}
-use Rattle.wot_part.specs.Counts.{sigs_on}
-use Rattle.wot_held.specs.Keyring.{is_fpr}
-use Rattle.wot_held.specs.Verdict.{is_among}
+use Rattle.wot_component.specs.Certificate.{Signature, Component}
+use Rattle.wot_component.specs.Counts.{sigs_on}
+use Rattle.wot_keyring_spec.specs.Keyring.{is_fpr}
+use Rattle.wot_keyring_spec.specs.Verdict.{is_among}
 use Rattle.wot_index.proofs.Choices.{and_each}
 use Rattle.wot_index.proofs.Indexed.{notes_all, notes_on, still_logged}
 use Rattle.wot_index.proofs.noting.note_parts.Goals as goal

@@ -1,10 +1,10 @@
 use Rattle.std.proofs.Common.{◌&&◌, length}
 use Rattle.wot_types.specs.declared.fpr.Fpr.{Fpr}
 use Rattle.wot_types.specs.declared.number.SigNumber.{SigNumber}
-use Rattle.wot_part.specs.Counts.{sigs_on}
-use Rattle.wot_held.specs.Keyring.{is_fpr}
+use Rattle.wot_component.specs.Counts.{sigs_on}
+use Rattle.wot_keyring_spec.specs.Keyring.{is_fpr}
 use Rattle.wot_index.specs.Index.{NotesOn, SaysSame, StillLogged}
-use Rattle.wot_held.specs.Verdict.{is_among}
+use Rattle.wot_keyring_spec.specs.Verdict.{is_among}
 use Rattle.wot_index.proofs.noting.note_parts.Given as goal
 
 abbrev pub invariant-parts : goal.invariant-parts

@@ -1,9 +1,9 @@
 use Rattle.std.proofs.Common.{◌&&◌, length}
 use Rattle.wot_types.specs.declared.fpr.Fpr.{Fpr}
 use Rattle.wot_types.specs.declared.number.SigNumber.{SigNumber}
-use Rattle.wot_held.specs.Keyring.{is_fpr}
+use Rattle.wot_keyring_spec.specs.Keyring.{is_fpr}
 use Rattle.wot_index.specs.Index.{NotesOn, SaysSame, StillLogged}
-use Rattle.wot_held.specs.Verdict.{is_among}
+use Rattle.wot_keyring_spec.specs.Verdict.{is_among}
 use Rattle.wot_index.proofs.noting.note_sigs.Given as goal
 
 abbrev pub invariant-sigs : goal.invariant-sigs

@@ -1,5 +1,5 @@
 use Rattle.std.proofs.Common.{◌≡◌, length}
-use Rattle.wot_held.specs.Verdict.{is_among}
+use Rattle.wot_keyring_spec.specs.Verdict.{is_among}
 use Rattle.wot_index.proofs.restamp.has_sig.Given as goal
 
 abbrev pub invariant-sigs : goal.invariant-sigs

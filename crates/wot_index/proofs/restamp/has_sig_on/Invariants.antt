@@ -1,6 +1,6 @@
 use Rattle.std.proofs.Common.{◌≡◌, length}
-use Rattle.wot_part.specs.Counts.{sigs_on}
-use Rattle.wot_held.specs.Verdict.{is_among}
+use Rattle.wot_component.specs.Counts.{sigs_on}
+use Rattle.wot_keyring_spec.specs.Verdict.{is_among}
 use Rattle.wot_index.proofs.restamp.has_sig_on.Given as goal
 
 abbrev pub invariant-parts : goal.invariant-parts

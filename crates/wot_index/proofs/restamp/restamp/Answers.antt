@@ -1,6 +1,6 @@
 use Rattle.std.proofs.Common.{rules}
 use Rattle.std.proofs.lemmas.Map.Made.{map_same_pairs}
-use Rattle.wot_held.specs.Verdict.{restamped}
+use Rattle.wot_keyring_spec.specs.Verdict.{restamped}
 use Rattle.wot_index.proofs.restamp.restamp.Goals as goal
 
 pub returns : goal.returns

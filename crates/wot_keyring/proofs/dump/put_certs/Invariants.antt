@@ -1,8 +1,8 @@
 use Rattle.std.proofs.Common.{◌≤◌, map}
 use Rattle.std.specs.List.{AllByRecursion}
 use Rattle.wot_types.specs.Limits.{standard_limits}
-use Rattle.wot_part.specs.Certificate.{Certificate}
-use Rattle.wot_part.specs.Text.{size_of}
+use Rattle.wot_component.specs.Certificate.{Certificate}
+use Rattle.wot_component.specs.Text.{size_of}
 use Rattle.wot_keyring.specs.Dump.{text_import}
 use Rattle.wot_keyring.proofs.Lines.{PutSoFar}
 use Rattle.wot_keyring.proofs.dump.put_certs.Given as goal

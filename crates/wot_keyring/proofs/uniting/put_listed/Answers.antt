@@ -1,6 +1,6 @@
 use Rattle.std.proofs.Common.{◌≤◌, ◌+◌, List, sym, ap, ◌∙◌, subst}
 use Rattle.wot_policy.specs.Kept.{rows_of}
-use Rattle.wot_part.specs.Certificate.{Certificate}
+use Rattle.wot_component.specs.Certificate.{Certificate}
 use Rattle.wot_merge.specs.Staging.{kept_all, clash_in, sound_in, IsClashTold}
 use Rattle.wot_keyring.proofs.Adopted.{clash_alone, names_itself, new_named}
 use Rattle.wot_keyring.proofs.uniting.put_listed.Goals as goal

@@ -1,5 +1,5 @@
 use Rattle.std.proofs.Common.{List, sym, subst, refl}
-use Rattle.wot_part.specs.Certificate.{Certificate}
+use Rattle.wot_component.specs.Certificate.{Certificate}
 use Rattle.wot_merge.specs.declared.undo.Was.{Was as TheWas}
 use Rattle.wot_merge.specs.Staging.{IsLog}
 use Rattle.wot_keyring.specs.Uniting.{NamesSame}

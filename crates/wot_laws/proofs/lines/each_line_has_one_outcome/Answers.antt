@@ -1,5 +1,5 @@
 use Rattle.wot_laws.proofs.Outcomes.{LineStep-one, LineStep-some, LineStep-stays}
-use Rattle.wot_step.proofs.Watched.{Tells-one, Tells-some}
+use Rattle.wot_plain.proofs.Watched.{Tells-one, Tells-some}
 use Rattle.wot_laws.proofs.lines.each_line_has_one_outcome.Goals as goal
 
 pub returns-clause-some : goal.returns-clause-some

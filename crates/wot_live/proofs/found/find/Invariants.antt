@@ -1,7 +1,7 @@
 use Rattle.std.proofs.Common.{◌≡◌, ◌≤◌, ◌++◌, List, length}
 use Rattle.std.specs.List.{AllByRecursion}
-use Rattle.wot_part.specs.Certificate.{Component}
-use Rattle.wot_part.specs.Counts.{part_weight, sum_of}
+use Rattle.wot_component.specs.Certificate.{Component}
+use Rattle.wot_component.specs.Counts.{part_weight, sum_of}
 use Rattle.wot_live.specs.Found.{HasFew}
 use Rattle.wot_live.proofs.Finding.{AreNewestFrom, HasNoneBelow}
 use Rattle.wot_live.proofs.found.find.Given as goal

@@ -1,5 +1,5 @@
-use Rattle.wot_step.specs.Watching.{IsWatchLine}
-use Rattle.wot_step.proofs.Watched.{first_is, line_worded, text_all, text_on}
+use Rattle.wot_plain.specs.Watching.{IsWatchLine}
+use Rattle.wot_plain.proofs.Watched.{first_is, line_worded, text_all, text_on}
 use Rattle.wot_machine.proofs.machine.text_of.Goals as goal
 
 pub print_reply-requires : goal.print_reply-requires

@@ -1,7 +1,7 @@
 use Rattle.std.proofs.Common.{◌≡◌, ◌++◌, length}
 use Rattle.std.specs.List.{AllByRecursion}
-use Rattle.wot_step.specs.Transcript.{octets_of}
-use Rattle.wot_step.specs.Watching.{IsWatchLine}
+use Rattle.wot_plain.specs.Transcript.{octets_of}
+use Rattle.wot_plain.specs.Watching.{IsWatchLine}
 use Rattle.wot_machine.proofs.machine.text_of.Given as goal
 
 abbrev pub invariant-rest : goal.invariant-rest

@@ -1,6 +1,6 @@
 use Rattle.std.proofs.Common.{◌-◌, refl, sym, subst, arith}
 use Rattle.wot_policy.specs.Kept.{rows_of}
-use Rattle.wot_part.specs.Judged.{IsJudged}
+use Rattle.wot_component.specs.Judged.{IsJudged}
 use Rattle.wot_merge.proofs.ImportSteps.{not_asked}
 use Rattle.wot_merge.proofs.Unions.{counts_key, counts_others, few_marked, step_first}
 use Rattle.wot_merge.proofs.adopting.adopt.Goals as goal

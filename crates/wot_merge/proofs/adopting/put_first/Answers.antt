@@ -1,6 +1,6 @@
 use Rattle.std.proofs.Common.{Option, ap, sym, subst}
 use Rattle.wot_policy.specs.Kept.{rows_of}
-use Rattle.wot_held.specs.declared.kept.Kept.{Kept}
+use Rattle.wot_keyring_spec.specs.declared.kept.Kept.{Kept}
 use Rattle.wot_merge.specs.Staging.{clash_at, found_for, IsStaged}
 use Rattle.wot_merge.proofs.ImportSteps.{asked_first, none_asked}
 use Rattle.wot_merge.proofs.InPlace.{no_more}

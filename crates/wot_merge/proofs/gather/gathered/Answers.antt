@@ -1,7 +1,7 @@
 use Rattle.std.proofs.Common.{List, IfOk, subst, refl}
 use Rattle.std.specs.List.{AllByRecursion}
-use Rattle.wot_part.specs.Certificate.{Certificate}
-use Rattle.wot_part.specs.Whole.{IsCertificate}
+use Rattle.wot_component.specs.Certificate.{Certificate}
+use Rattle.wot_component.specs.Whole.{IsCertificate}
 use Rattle.wot_merge.specs.Gather.{DoTheSame, TellsNothing}
 use Rattle.wot_merge.proofs.gather.gathered.Goals as goal
 

@@ -1,6 +1,6 @@
 use Rattle.std.proofs.Common.{sym, subst}
 use Rattle.std.specs.List.{AllByRecursion}
-use Rattle.wot_part.specs.Whole.{IsCertificate}
+use Rattle.wot_component.specs.Whole.{IsCertificate}
 use Rattle.wot_merge.proofs.GatheredMerges.{values_whole}
 use Rattle.wot_merge.proofs.gather.gathered_anew.Goals as goal
 

@@ -5,7 +5,7 @@ use Rattle.std.specs.Map.{lookup, set_value}
 use Rattle.wot_types.specs.declared.fpr.Fpr.{Fpr}
 use Rattle.wot_types.specs.FprLaws.{same_cmp}
 use Rattle.wot_policy.specs.Kept.{rows_of}
-use Rattle.wot_held.specs.Keyring.{Entries, is_fpr}
+use Rattle.wot_keyring_spec.specs.Keyring.{Entries, is_fpr}
 use Rattle.wot_merge.specs.Staging.{IsLog}
 use Rattle.wot_merge.proofs.InPlace.{asked_found, grown_at, grown_goes_on, set_here}
 use Rattle.wot_merge.proofs.in_place.grow_at.Goals as goal

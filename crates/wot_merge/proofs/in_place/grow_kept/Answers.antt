@@ -1,7 +1,7 @@
 use Rattle.std.proofs.Common.{Some, refl}
 use Rattle.wot_policy.specs.Kept.{rows_of}
-use Rattle.wot_part.specs.Certificate.{unite}
-use Rattle.wot_part.specs.Judged.{judged}
+use Rattle.wot_component.specs.Certificate.{unite}
+use Rattle.wot_component.specs.Judged.{judged}
 use Rattle.wot_merge.proofs.InPlace.{none_asked}
 use Rattle.wot_merge.proofs.ImportSteps.{not_asked}
 use Rattle.wot_merge.proofs.Unions.{step_on, union_few}

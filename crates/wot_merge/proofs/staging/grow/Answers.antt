@@ -1,5 +1,5 @@
 use Rattle.wot_policy.specs.Kept.{rows_of}
-use Rattle.wot_part.specs.Judged.{judged}
+use Rattle.wot_component.specs.Judged.{judged}
 use Rattle.wot_merge.proofs.Unions.{union_few}
 use Rattle.wot_merge.proofs.staging.grow.Goals as goal
 

@@ -1,7 +1,7 @@
 use Rattle.std.proofs.Common.{◌≡◌, ◌≤◌, ◌+◌, ap, subst, refl}
 use Rattle.wot_policy.specs.declared.rows.PolicyRows.{PolicyRows}
 use Rattle.wot_policy.specs.Kept.{rows_of}
-use Rattle.wot_part.specs.Judged.{sound_of}
+use Rattle.wot_component.specs.Judged.{sound_of}
 use Rattle.wot_merge.specs.Staging.{kept_with, weigh_kept}
 use Rattle.wot_merge.proofs.ImportSteps.{Put, run_on, asked_again, not_asked, none_yet, asked_on, asked_up_to, clash_told}
 use Rattle.wot_merge.proofs.staging.put_all.Goals as goal

@@ -1,6 +1,6 @@
 use Rattle.std.proofs.Common.{◌≡◌, ◌+◌, ℕ, length}
 use Rattle.wot_policy.specs.Kept.{IsFaithful, rows_of, asked_more}
-use Rattle.wot_part.specs.Judged.{sound_of}
+use Rattle.wot_component.specs.Judged.{sound_of}
 use Rattle.wot_merge.specs.Staging.{weigh_kept}
 use Rattle.wot_merge.proofs.ImportSteps.{Run}
 use Rattle.wot_merge.proofs.staging.put_all.Given as goal

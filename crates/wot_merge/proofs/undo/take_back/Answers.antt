@@ -1,6 +1,6 @@
 use Rattle.std.proofs.Common.{List, subst}
 use Rattle.wot_merge.specs.declared.undo.Was.{Was as TheWas}
-use Rattle.wot_held.specs.Keyring.{Entries}
+use Rattle.wot_keyring_spec.specs.Keyring.{Entries}
 use Rattle.wot_merge.specs.Staging.{IsLog}
 use Rattle.wot_merge.proofs.Logs.{led_back, log_less}
 use Rattle.wot_merge.proofs.undo.take_back.Goals as goal

@@ -1,5 +1,5 @@
 use Rattle.std.proofs.Common.{vec_len}
-use Rattle.wot_held.specs.Keyring.{Entries}
+use Rattle.wot_keyring_spec.specs.Keyring.{Entries}
 use Rattle.wot_merge.specs.Staging.{IsLog, StillLeadsBack}
 use Rattle.wot_merge.proofs.undo.take_back.Given as goal
 

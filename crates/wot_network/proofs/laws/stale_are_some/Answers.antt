@@ -1,4 +1,4 @@
-use Rattle.wot_part.specs.Counts.{signatures_of}
+use Rattle.wot_component.specs.Counts.{signatures_of}
 use Rattle.wot_network.proofs.Current.{stale_some}
 use Rattle.wot_network.proofs.laws.stale_are_some.Goals as goal
 

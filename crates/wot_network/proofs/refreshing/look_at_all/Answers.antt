@@ -1,5 +1,5 @@
 use Rattle.std.proofs.Common.{◌∙◌, ap, inr, List}
-use Rattle.wot_part.specs.Certificate.{Certificate}
+use Rattle.wot_component.specs.Certificate.{Certificate}
 use Rattle.wot_index.specs.Log.{is_named_in}
 use Rattle.wot_network.proofs.Fprs.{found_named}
 use Rattle.wot_network.proofs.Steps.{no_progress, no_advance, progress_on, advance_on, done_on, named_split}

@@ -1,7 +1,7 @@
 use Rattle.std.proofs.Common.{rules, sym, subst}
 use Rattle.std.proofs.lemmas.Map.Made.{filter_same_pairs}
 use Rattle.wot_types.specs.declared.fpr.Fpr.{Fpr}
-use Rattle.wot_held.specs.Keyring.{cert_at}
+use Rattle.wot_keyring_spec.specs.Keyring.{cert_at}
 use Rattle.wot_network.specs.Net.{Line, Lines}
 use Rattle.wot_network.specs.Refreshing.{KeepsPresent}
 use Rattle.std.specs.Prelude.{is_some}

@@ -1,21 +1,21 @@
 use Rattle.std.proofs.Common.{arith}
 use Rattle.wot_types.specs.Fpr.{digits_of, octets_of}
 use Rattle.std.specs.Fmt.{decimal}
-use Rattle.wot_lines.specs.Claims.{IsClaimSpelled, claim_text, field_text, label_text}
-use Rattle.wot_lines.proofs.ClaimTexts.{claims_field, labels_field}
-use Rattle.wot_lines.specs.Entry.{entry_text}
-use Rattle.wot_lines.specs.Question.{question_parts}
-use Rattle.wot_lines.specs.declared.question.Question.{Question}
-use Rattle.wot_lines.proofs.Questions.{question}
+use Rattle.wot_reply_lines.specs.Claims.{IsClaimSpelled, claim_text, field_text, label_text}
+use Rattle.wot_reply_lines.proofs.ClaimTexts.{claims_field, labels_field}
+use Rattle.wot_reply_lines.specs.Entry.{entry_text}
+use Rattle.wot_reply_lines.specs.Question.{question_parts}
+use Rattle.wot_reply_lines.specs.declared.question.Question.{Question}
+use Rattle.wot_reply_lines.proofs.Questions.{question}
 use Rattle.wot_script.specs.Spelling.{spelling}
-use Rattle.wot_words.specs.Texts.{joined}
-use Rattle.wot_words.specs.Uid.{escaped}
-use Rattle.wot_words.proofs.Spaceless.{spaceless_digits}
-use Rattle.wot_words.specs.StateLine.{IsPrinted}
-use Rattle.wot_words.specs.declared.state_line.StateLine.TheVariants as lines
-use Rattle.wot_words.proofs.LineParts.{fpr_digits, name_is, numeral}
-use Rattle.wot_words.proofs.StateLines.{bad_printed, close_printed, good_printed, import_printed, root_printed}
-use Rattle.wot_words.proofs.StateLines.{time_printed, unjudge_printed}
+use Rattle.wot_fields.specs.Texts.{joined}
+use Rattle.wot_fields.specs.Uid.{escaped}
+use Rattle.wot_fields.proofs.Spaceless.{spaceless_digits}
+use Rattle.wot_fields.specs.StateLine.{IsPrinted}
+use Rattle.wot_fields.specs.declared.state_line.StateLine.TheVariants as lines
+use Rattle.wot_fields.proofs.LineParts.{fpr_digits, name_is, numeral}
+use Rattle.wot_fields.proofs.StateLines.{bad_printed, close_printed, good_printed, import_printed, root_printed}
+use Rattle.wot_fields.proofs.StateLines.{time_printed, unjudge_printed}
 use Rattle.wot_script.proofs.Readings.{absence_reads, ask_reads, check_reads, drop_reads, explain_reads, export_reads}
 use Rattle.wot_script.proofs.Readings.{list_reads, load_reads, set_reads, store_reads, end_reads, next_reads}
 use Rattle.wot_script.proofs.Readings.{over_reads, off_reads, on_reads}

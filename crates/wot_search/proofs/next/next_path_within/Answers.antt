@@ -4,7 +4,7 @@ use Rattle.wot_edge.specs.Record.{Has}
 use Rattle.wot_edge.specs.Sums.{use_in}
 use Rattle.wot_reach.specs.Reach.{number_at}
 use Rattle.wot_reach.proofs.Within.{reach_holds}
-use Rattle.wot_layer.proofs.Layers.{looked_grows}
+use Rattle.wot_first_path.proofs.Layers.{looked_grows}
 use Rattle.wot_search.specs.Widest.{widest_of, IsWidestNoted, IsWidestOrSpent}
 use Rattle.wot_search.proofs.NextOfTwo.{both_next, both_local}
 use Rattle.wot_search.proofs.next.next_path_within.Goals as goal

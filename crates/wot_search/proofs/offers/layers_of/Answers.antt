@@ -1,7 +1,7 @@
 use Rattle.std.proofs.Common.{◌≡◌, ◌+◌, suc, subst, ℕ, arith}
-use Rattle.wot_layer.specs.Quest.{quest_of}
-use Rattle.wot_layer.specs.Growth.{IsAfter}
-use Rattle.wot_layer.proofs.FirstPathFound.{after_begin}
+use Rattle.wot_first_path.specs.Quest.{quest_of}
+use Rattle.wot_first_path.specs.Growth.{IsAfter}
+use Rattle.wot_first_path.proofs.FirstPathFound.{after_begin}
 use Rattle.wot_search.proofs.offers.layers_of.Goals as goal
 
 pub layers-preserved : goal.layers-preserved

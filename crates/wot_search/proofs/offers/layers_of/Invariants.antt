@@ -1,5 +1,5 @@
-use Rattle.wot_layer.specs.Growth.{IsAfter}
-use Rattle.wot_layer.specs.Quest.{quest_of}
+use Rattle.wot_first_path.specs.Growth.{IsAfter}
+use Rattle.wot_first_path.specs.Quest.{quest_of}
 use Rattle.wot_search.proofs.offers.layers_of.Given as goal
 
 abbrev pub invariant-layers : goal.invariant-layers

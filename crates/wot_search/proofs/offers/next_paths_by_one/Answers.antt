@@ -3,15 +3,15 @@ use Rattle.wot_edge.specs.declared.path.Path.{Path}
 use Rattle.wot_edge.specs.Path.{asks}
 use Rattle.wot_edge.specs.Record.{Has}
 use Rattle.wot_edge.specs.Sums.{use_in}
-use Rattle.wot_layer.specs.Growth.{IsAfterPath, IsResult, IsLookedBy}
+use Rattle.wot_first_path.specs.Growth.{IsAfterPath, IsResult, IsLookedBy}
 use Rattle.wot_search.specs.Offers.{AreNext, AreOfferedBy}
 use Rattle.wot_reach.specs.Reach.{number_at}
-use Rattle.wot_layer.specs.Reached.{look}
-use Rattle.wot_layer.proofs.Layers.{looked_grows}
+use Rattle.wot_first_path.specs.Reached.{look}
+use Rattle.wot_first_path.proofs.Layers.{looked_grows}
 use Rattle.wot_search.proofs.NextOfTwo.{spent_next, spent_local, unordered_next, unordered_local}
 use Rattle.wot_search.proofs.OfRoots.{found_next, found_there}
 use Rattle.wot_search.proofs.OneSearch.{none_wide, some_wide, looked_wide, path_some, roots_left, after_more}
-use Rattle.wot_layer.proofs.Rooted.{widest_quest, least_quest}
+use Rattle.wot_first_path.proofs.Rooted.{widest_quest, least_quest}
 use Rattle.wot_reach.proofs.Within.{reach_holds}
 use Rattle.wot_search.proofs.offers.next_paths_by_one.Goals as goal
 

@@ -5,7 +5,7 @@ use Rattle.wot_edge.specs.declared.path.Path.{Path}
 use Rattle.wot_edge.specs.Path.{asks}
 use Rattle.wot_edge.specs.Record.{Has, IsRecord}
 use Rattle.wot_edge.specs.Sums.{use_in}
-use Rattle.wot_layer.proofs.Layers.{looked_grows}
+use Rattle.wot_first_path.proofs.Layers.{looked_grows}
 use Rattle.wot_search.specs.Asked.{AreNextIfSome, AreNextLocallyIfSome}
 use Rattle.wot_search.specs.Offers.{AreNext}
 use Rattle.wot_search.specs.Widest.{widest_of, IsWidestNoted, IsWidestOrSpent}

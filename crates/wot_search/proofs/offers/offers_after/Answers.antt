@@ -3,8 +3,8 @@ use Rattle.wot_edge.specs.Path.{asks}
 use Rattle.wot_edge.specs.Sums.{use_in}
 use Rattle.wot_reach.specs.Reach.{number_at}
 use Rattle.wot_reach.proofs.Within.{reach_holds}
-use Rattle.wot_layer.specs.Reached.{look}
-use Rattle.wot_layer.proofs.Rooted.{least_quest}
+use Rattle.wot_first_path.specs.Reached.{look}
+use Rattle.wot_first_path.proofs.Rooted.{least_quest}
 use Rattle.wot_search.specs.Offers.{AreFoundOffers}
 use Rattle.wot_search.proofs.OfRoots.{found_offers, found_there}
 use Rattle.wot_search.proofs.offers.offers_after.Goals as goal

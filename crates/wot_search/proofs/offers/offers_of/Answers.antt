@@ -4,8 +4,8 @@ use Rattle.wot_types.specs.declared.fpr.Fpr.{Fpr}
 use Rattle.wot_edge.specs.declared.path.Path.{Path}
 use Rattle.wot_edge.specs.Record.{Record}
 use Rattle.wot_search.specs.Offers.{AreOfferedBy}
-use Rattle.wot_layer.specs.Quest.{quest_of}
-use Rattle.wot_layer.specs.Reached.{look}
+use Rattle.wot_first_path.specs.Quest.{quest_of}
+use Rattle.wot_first_path.specs.Reached.{look}
 use Rattle.wot_search.proofs.OfRoots.{offered_more}
 use Rattle.wot_search.proofs.offers.offers_of.Goals as goal
 

@@ -2,8 +2,8 @@ use Rattle.std.proofs.Common.{◌++◌, List, ℕ}
 use Rattle.wot_edge.specs.declared.path.Path.{Path}
 use Rattle.wot_edge.specs.Record.{Record}
 use Rattle.wot_search.specs.Offers.{AreOfferedBy}
-use Rattle.wot_layer.specs.Quest.{quest_of}
-use Rattle.wot_layer.specs.Reached.{look}
+use Rattle.wot_first_path.specs.Quest.{quest_of}
+use Rattle.wot_first_path.specs.Reached.{look}
 use Rattle.wot_search.proofs.offers.offers_of.Given as goal
 
 abbrev pub invariant-roots : goal.invariant-roots

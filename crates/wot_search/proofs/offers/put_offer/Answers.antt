@@ -2,8 +2,8 @@ use Rattle.std.proofs.Common.{None, Some, Option, sym, subst}
 use Rattle.std.proofs.lemmas.List.{append-nil}
 use Rattle.wot_edge.specs.declared.path.Path.{Path}
 use Rattle.wot_search.specs.Offers.{IsOfferIf}
-use Rattle.wot_layer.specs.Quest.{quest_of}
-use Rattle.wot_layer.specs.Reached.{look}
+use Rattle.wot_first_path.specs.Quest.{quest_of}
+use Rattle.wot_first_path.specs.Reached.{look}
 use Rattle.wot_search.proofs.offers.put_offer.Goals as goal
 
 pub returns-in-None : goal.returns-in-None

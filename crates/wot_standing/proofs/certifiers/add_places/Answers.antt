@@ -4,7 +4,7 @@ use Rattle.std.specs.Prelude.{filter}
 use Rattle.std.specs.List.{slice_get}
 use Rattle.std.specs.Option.{option_flatten}
 use Rattle.wot_types.specs.PlainLaws.{seam}
-use Rattle.wot_part.specs.Ranked.{greatest}
+use Rattle.wot_component.specs.Ranked.{greatest}
 use Rattle.wot_cert.specs.Time.{newness}
 use Rattle.wot_standing.specs.declared.kinds.Binding.TheVariants.{Certification}
 use Rattle.wot_standing.specs.Certifiers.{certifier_of, newer_by}

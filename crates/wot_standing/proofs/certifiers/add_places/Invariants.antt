@@ -1,8 +1,8 @@
 use Rattle.std.proofs.Common.{◌≡◌, ◌+◌, ◌≤◌, ◌++◌, List, length}
 use Rattle.std.specs.Prelude.{filter}
 use Rattle.wot_types.specs.declared.fpr.Fpr.{Fpr}
-use Rattle.wot_part.specs.Certificate.{Signature}
-use Rattle.wot_part.specs.Ranked.{greatest}
+use Rattle.wot_component.specs.Certificate.{Signature}
+use Rattle.wot_component.specs.Ranked.{greatest}
 use Rattle.wot_cert.specs.Time.{newness}
 use Rattle.wot_standing.specs.declared.kinds.Binding.TheVariants.{Certification}
 use Rattle.wot_standing.specs.Certifiers.{StaysElsewhere, kept_for, place_for}

@@ -1,5 +1,5 @@
 use Rattle.std.proofs.Common.{◌≡◌, ◌++◌, List, length}
-use Rattle.wot_part.specs.Certificate.{Signature}
+use Rattle.wot_component.specs.Certificate.{Signature}
 use Rattle.wot_standing.specs.Certifiers.{KeepsLatest, number_for}
 use Rattle.wot_standing.proofs.certifiers.latest_revocations.Given as goal
 

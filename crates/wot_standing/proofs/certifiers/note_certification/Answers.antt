@@ -2,8 +2,8 @@ use Rattle.std.proofs.Common.{◌∙◌, ap, Option, None, refl, sym}
 use Rattle.std.specs.List.{slice_get}
 use Rattle.std.specs.Option.{option_and_then}
 use Rattle.wot_types.specs.declared.fpr.Fpr.{Fpr}
-use Rattle.wot_part.specs.Certificate.{Signature}
-use Rattle.wot_part.specs.Ranked.{higher_of}
+use Rattle.wot_component.specs.Certificate.{Signature}
+use Rattle.wot_component.specs.Ranked.{higher_of}
 use Rattle.wot_cert.specs.Time.{newness}
 use Rattle.wot_standing.specs.Certifiers.{kept_for, newer_by, place_for}
 use Rattle.wot_standing.proofs.NumbersByIssuer.{unchanged, none_newer, others_newer, not_newer, valid_by}

@@ -1,5 +1,5 @@
 use Rattle.std.proofs.Common.{sym}
-use Rattle.wot_part.specs.Certificate.{said_by}
+use Rattle.wot_component.specs.Certificate.{said_by}
 use Rattle.wot_verdict.specs.Verdicts.{verdict_at}
 use Rattle.wot_cert.specs.Issuer.{good_by}
 use Rattle.wot_standing.proofs.OtherIssuerNamed.{not_by}

@@ -1,5 +1,5 @@
 use Rattle.std.proofs.Common.{◌≡◌, ◌++◌, List, length}
-use Rattle.wot_part.specs.Certificate.{Signature}
+use Rattle.wot_component.specs.Certificate.{Signature}
 use Rattle.wot_standing.specs.Latest.{revoked_at}
 use Rattle.wot_standing.proofs.latest.latest_revocation.Given as goal
 

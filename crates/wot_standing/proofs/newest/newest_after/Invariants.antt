@@ -1,8 +1,8 @@
 use Rattle.std.proofs.Common.{◌≡◌, ◌++◌, List, length}
 use Rattle.std.specs.Prelude.{filter}
 use Rattle.std.specs.Option.{option_copied}
-use Rattle.wot_part.specs.Certificate.{Signature}
-use Rattle.wot_part.specs.Ranked.{greatest}
+use Rattle.wot_component.specs.Certificate.{Signature}
+use Rattle.wot_component.specs.Ranked.{greatest}
 use Rattle.wot_cert.specs.Time.{newness}
 use Rattle.wot_standing.specs.Latest.{is_valid_after}
 use Rattle.wot_standing.proofs.newest.newest_after.Given as goal

@@ -1,6 +1,6 @@
 use Rattle.std.proofs.Common.{◌∙◌, ap}
 use Rattle.std.specs.Prelude.{filter}
-use Rattle.wot_part.specs.Ranked.{greatest}
+use Rattle.wot_component.specs.Ranked.{greatest}
 use Rattle.wot_cert.specs.Time.{newness}
 use Rattle.wot_standing.specs.Latest.{is_valid_after}
 use Rattle.wot_standing.proofs.RevokedByNumber.{newest-latest}

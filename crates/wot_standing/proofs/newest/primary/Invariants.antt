@@ -1,6 +1,6 @@
 use Rattle.std.proofs.Common.{◌≡◌, ◌++◌, List, length}
 use Rattle.std.specs.Option.{option_copied}
-use Rattle.wot_part.specs.Certificate.{Component}
+use Rattle.wot_component.specs.Certificate.{Component}
 use Rattle.wot_standing.specs.Standing.{primary_among}
 use Rattle.wot_standing.proofs.newest.primary.Given as goal
 

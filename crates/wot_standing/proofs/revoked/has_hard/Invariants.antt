@@ -1,6 +1,6 @@
 use Rattle.std.proofs.Common.{◌≡◌, ◌++◌, List, length}
 use Rattle.std.specs.List.{list_any}
-use Rattle.wot_part.specs.Certificate.{Signature}
+use Rattle.wot_component.specs.Certificate.{Signature}
 use Rattle.wot_standing.specs.Standing.{is_hard_revocation}
 use Rattle.wot_standing.proofs.revoked.has_hard.Given as goal
 

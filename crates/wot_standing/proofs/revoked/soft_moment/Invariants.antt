@@ -1,5 +1,5 @@
 use Rattle.std.proofs.Common.{◌≡◌, ◌++◌, List, length}
-use Rattle.wot_part.specs.Certificate.{Signature}
+use Rattle.wot_component.specs.Certificate.{Signature}
 use Rattle.wot_standing.specs.Standing.{soft_moment}
 use Rattle.wot_standing.proofs.revoked.soft_moment.Given as goal
 

@@ -1,6 +1,6 @@
 use Rattle.std.proofs.Common.{ℕ, List, Result, Ok, ap, sym}
 use Rattle.wot_script.specs.declared.reply.Reply.{Reply}
-use Rattle.wot_step.proofs.Results.{if_ok}
+use Rattle.wot_plain.proofs.Results.{if_ok}
 use Rattle.wot_stored.proofs.StoredOrRefused.{if_err, nothing_told}
 use Rattle.wot_stored.proofs.text.text_for.Goals as goal
 

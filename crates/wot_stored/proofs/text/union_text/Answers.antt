@@ -1,9 +1,9 @@
 use Rattle.std.proofs.Common.{ℕ, List, Result, Ok, ap, sym, ◌∙◌}
 use Rattle.wot_types.specs.declared.name.Name.TheVariants.{Cert}
-use Rattle.wot_held.specs.Entry.{entry_in}
+use Rattle.wot_keyring_spec.specs.Entry.{entry_in}
 use Rattle.wot_script.specs.declared.reply.Reply.{Reply}
-use Rattle.wot_step.specs.Storing.{merged_entry}
-use Rattle.wot_step.proofs.Results.{if_ok}
+use Rattle.wot_plain.specs.Storing.{merged_entry}
+use Rattle.wot_plain.proofs.Results.{if_ok}
 use Rattle.wot_stored.proofs.StoredOrRefused.{if_err, nothing_told, told_refused}
 use Rattle.wot_stored.proofs.text.union_text.Goals as goal
 

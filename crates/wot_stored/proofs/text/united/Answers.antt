@@ -1,5 +1,5 @@
 use Rattle.std.proofs.Common.{ap, ◌∙◌}
-use Rattle.wot_part.specs.Certificate.{Certificate, unite, unmarked}
+use Rattle.wot_component.specs.Certificate.{Certificate, unite, unmarked}
 use Rattle.wot_stored.proofs.StoredOrRefused.{tells_clash, tells_union}
 use Rattle.wot_stored.proofs.text.united.Goals as goal
 

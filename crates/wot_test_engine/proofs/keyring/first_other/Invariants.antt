@@ -1,5 +1,5 @@
 use Rattle.wot_policy.specs.Kept.{IsFaithful, rows_of}
-use Rattle.wot_held.specs.Kept.{IsJudgedBy}
+use Rattle.wot_keyring_spec.specs.Kept.{IsJudgedBy}
 use Rattle.wot_test_engine.proofs.keyring.first_other.Given as goal
 
 abbrev pub invariant-loop-case : goal.invariant-loop-case

@@ -1,8 +1,8 @@
 use Rattle.std.proofs.Common.{◌≤◌, ◌+◌, inl, inr, ap, subst, sym, arith}
 use Rattle.wot_policy.specs.declared.rows.PolicyRows.{PolicyRows}
-use Rattle.wot_held.specs.Import.{IsOneChange}
-use Rattle.wot_held.specs.Keyring.{Keyring}
-use Rattle.wot_held.specs.Kept.{IsJudgedBy}
+use Rattle.wot_keyring_spec.specs.Import.{IsOneChange}
+use Rattle.wot_keyring_spec.specs.Keyring.{Keyring}
+use Rattle.wot_keyring_spec.specs.Kept.{IsJudgedBy}
 use Rattle.wot_test_engine.proofs.made.play.Goals as goal
 
 one_more : (old new : Keyring) → IsOneChange old new → new.changes ≤ old.changes + 1

@@ -1,6 +1,6 @@
 use Rattle.std.specs.Prelude.{◌≤◌}
 use Rattle.wot_policy.specs.Kept.{IsFaithful, rows_of}
-use Rattle.wot_held.specs.Kept.{IsJudgedBy}
+use Rattle.wot_keyring_spec.specs.Kept.{IsJudgedBy}
 use Rattle.wot_test_engine.proofs.made.play.Given as goal
 
 abbrev pub invariant-loop-number : goal.invariant-loop-number

@@ -1,6 +1,6 @@
 use Rattle.std.proofs.Common.{◌≡◌, ap, arith}
 use Rattle.wot_cache.specs.Basis.{Basis}
-use Rattle.wot_kept.specs.RightLaws.{stamp_past}
+use Rattle.wot_answers.specs.RightLaws.{stamp_past}
 use Rattle.wot_cache.proofs.basis.Basis.stands.Goals as goal
 
 pub returns-then-self-changes-clause-calm : goal.returns-then-self-changes-clause-calm

@@ -1,11 +1,11 @@
 use Rattle.std.proofs.Common.{Ok, refl, sym, subst}
 use Rattle.std.proofs.lemmas.Result.{err_from_is_err_and}
-use Rattle.wot_held.specs.Keyring.{Keyring}
-use Rattle.wot_kept.specs.Answers.{AreAllRight, answers_for}
+use Rattle.wot_keyring_spec.specs.Keyring.{Keyring}
+use Rattle.wot_answers.specs.Answers.{AreAllRight, answers_for}
 use Rattle.wot_cache.specs.Marks.{end_in}
 use Rattle.wot_cache.specs.Views.{view_at}
 use Rattle.wot_cache.proofs.PartsAnswer.{few_seen, present_seen, right_kept, right_seen, seen_after}
-use Rattle.wot_kept.specs.CaseLaws.{if_ok, if_some}
+use Rattle.wot_answers.specs.CaseLaws.{if_ok, if_some}
 use Rattle.wot_cache.proofs.PartsAnswer.{told_seen}
 use Rattle.wot_cache.proofs.ConsultsLeads.{consulted, found_seen, kept_all, others_themselves}
 use Rattle.wot_cache.proofs.OpenViewsMarks.{answered_open, engine_after, err_less, left, made_as}

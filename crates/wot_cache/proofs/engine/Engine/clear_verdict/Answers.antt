@@ -1,6 +1,6 @@
 use Rattle.std.proofs.Common.{sym, subst}
-use Rattle.wot_held.specs.Held.{verdict_cleared}
-use Rattle.wot_held.specs.Kept.{IsJudgedBy}
+use Rattle.wot_keyring_spec.specs.Held.{verdict_cleared}
+use Rattle.wot_keyring_spec.specs.Kept.{IsJudgedBy}
 use Rattle.wot_cache.specs.State.{Engine}
 use Rattle.wot_cache.proofs.Changes.{changes_keyring, held_state}
 use Rattle.wot_cache.proofs.Inside.{engine_on}

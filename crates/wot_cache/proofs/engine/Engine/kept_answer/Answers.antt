@@ -1,11 +1,11 @@
 use Rattle.std.specs.Prelude.{[], IfSome, Option}
 use Rattle.std.specs.Option.{option_map_or}
 use Rattle.std.proofs.Common.{sym, subst}
-use Rattle.wot_kept.specs.Answers.{IsAmong, OfView, RestsOnLeads}
+use Rattle.wot_answers.specs.Answers.{IsAmong, OfView, RestsOnLeads}
 use Rattle.wot_cache.specs.Consulted.{IsKeptFor}
 use Rattle.wot_cache.specs.State.{Engine}
-use Rattle.wot_kept.specs.CaseLaws.{if_some}
-use Rattle.wot_kept.specs.RightLaws.{right_found}
+use Rattle.wot_answers.specs.CaseLaws.{if_some}
+use Rattle.wot_answers.specs.RightLaws.{right_found}
 use Rattle.wot_cache.proofs.engine.Engine.kept_answer.Goals as goal
 
 pub returns-in-Some : goal.returns-in-Some

@@ -1,7 +1,7 @@
 use Rattle.std.specs.Prelude.{◌≡◌, ◌≤◌, [], length, Option}
 use Rattle.std.specs.Option.{option_map_or}
 use Rattle.std.proofs.Common.{arith, refl, subst}
-use Rattle.wot_kept.specs.Answers.{OfView, looked_of}
+use Rattle.wot_answers.specs.Answers.{OfView, looked_of}
 use Rattle.wot_cache.specs.Consulted.{AllRestOnLeads, kept_for}
 use Rattle.wot_cache.specs.State.{Engine}
 use Rattle.wot_cache.proofs.ConsultsLeads.{leads_of}

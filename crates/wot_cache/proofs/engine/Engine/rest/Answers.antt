@@ -1,4 +1,4 @@
-use Rattle.wot_kept.specs.CaseLaws.{both_some}
+use Rattle.wot_answers.specs.CaseLaws.{both_some}
 use Rattle.wot_cache.proofs.BasisStaysTrue.{found_now, found_rests}
 use Rattle.wot_cache.proofs.engine.Engine.rest.Goals as goal
 

@@ -1,8 +1,8 @@
 use Rattle.std.proofs.Common.{◌≡◌, ◌≢◌, Some, OnOk, sym, subst}
-use Rattle.wot_held.specs.Held.{verdict_set}
-use Rattle.wot_held.specs.Keyring.{verdict_on}
-use Rattle.wot_held.specs.Kept.{IsJudgedBy}
-use Rattle.wot_held.specs.Verdict.{with_verdict_on}
+use Rattle.wot_keyring_spec.specs.Held.{verdict_set}
+use Rattle.wot_keyring_spec.specs.Keyring.{verdict_on}
+use Rattle.wot_keyring_spec.specs.Kept.{IsJudgedBy}
+use Rattle.wot_keyring_spec.specs.Verdict.{with_verdict_on}
 use Rattle.wot_cache.specs.State.{Engine}
 use Rattle.wot_cache.proofs.Changes.{changes_keyring, held_state}
 use Rattle.wot_cache.proofs.Inside.{engine_on}

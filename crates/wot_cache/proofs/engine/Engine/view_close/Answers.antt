@@ -1,4 +1,4 @@
-use Rattle.wot_kept.specs.RightLaws.{all_right_without}
+use Rattle.wot_answers.specs.RightLaws.{all_right_without}
 use Rattle.wot_cache.proofs.Inside.{within_closed, fit_without}
 use Rattle.wot_cache.proofs.OpenViewsMarks.{closed_open, gone_itself, none_shown, others_left, others_marked}
 use Rattle.std.proofs.Common.{rules, ◌≡◌, true, subst, sym}

@@ -1,5 +1,5 @@
 use Rattle.std.proofs.Common.{ℕ, ◌≤◌, ◌<◌, arith}
-use Rattle.wot_part.proofs.TextSize.{size_less}
+use Rattle.wot_component.proofs.TextSize.{size_less}
 use Rattle.wot_cert.proofs.cert.Cert.adds.Goals as goal
 
 below : (n m p : ℕ) → n ≤ m → m < p → n < p

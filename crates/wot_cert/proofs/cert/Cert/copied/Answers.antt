@@ -1,9 +1,9 @@
 use Rattle.std.proofs.Common.{◌≡◌, ap, sym, ◌∙◌, subst}
 use Rattle.wot_key.specs.Key.{key_of, fpr_of}
-use Rattle.wot_part.specs.Copied.{mark_under}
-use Rattle.wot_part.specs.Whole.{IsCertificate}
+use Rattle.wot_component.specs.Copied.{mark_under}
+use Rattle.wot_component.specs.Whole.{IsCertificate}
 use Rattle.wot_cert.proofs.Same.{same_cert}
-use Rattle.wot_part.proofs.Wholes.{marked_whole}
+use Rattle.wot_component.proofs.Wholes.{marked_whole}
 use Rattle.wot_cert.proofs.cert.Cert.copied.Goals as goal
 
 pub whole-requires : goal.whole-requires

@@ -1,5 +1,5 @@
 use Rattle.std.proofs.Common.{◌∙◌}
-use Rattle.wot_part.proofs.Copies.{cert_kept}
+use Rattle.wot_component.proofs.Copies.{cert_kept}
 use Rattle.std.proofs.lemmas.Result.{IfOk-weaker}
 use Rattle.wot_cert.proofs.cert.Cert.duplicate.Goals as goal
 

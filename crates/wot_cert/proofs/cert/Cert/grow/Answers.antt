@@ -1,13 +1,13 @@
 use Rattle.std.proofs.Common.{◌+◌, ◌-◌, ◌<◌, ◌^◌, refl, sym, ap, ◌∙◌, subst}
 use Rattle.wot_policy.specs.Kept.{rows_of}
-use Rattle.wot_part.specs.Certificate.{Certificate, unite}
-use Rattle.wot_part.specs.Counts.{items_of}
-use Rattle.wot_part.specs.Judged.{IsJudged, if_sound, judged, sound_of}
-use Rattle.wot_part.specs.Text.{size_of}
-use Rattle.wot_part.proofs.PolicyAsked.{not_asked}
+use Rattle.wot_component.specs.Certificate.{Certificate, unite}
+use Rattle.wot_component.specs.Counts.{items_of}
+use Rattle.wot_component.specs.Judged.{IsJudged, if_sound, judged, sound_of}
+use Rattle.wot_component.specs.Text.{size_of}
+use Rattle.wot_component.proofs.PolicyAsked.{not_asked}
 use Rattle.wot_cert.proofs.Grown.{no_fewer, is_union, is_whole, new_totals, items_more, items_new}
 use Rattle.wot_cert.proofs.MergedMarks.{merged_judged}
-use Rattle.wot_part.proofs.Weights.{unite_more}
+use Rattle.wot_component.proofs.Weights.{unite_more}
 use Rattle.wot_cert.proofs.cert.Cert.grow.Goals as goal
 
 pub returns-then-not-has_key_of-clause-asked : goal.returns-then-not-has_key_of-clause-asked

@@ -1,11 +1,11 @@
 use Rattle.std.proofs.Common.{ℕ, ◌+◌, ap, ◌∙◌}
 use Rattle.wot_policy.specs.Kept.{rows_of}
-use Rattle.wot_part.specs.Certificate.{Certificate}
-use Rattle.wot_part.specs.Judged.{judged, sound_of}
+use Rattle.wot_component.specs.Certificate.{Certificate}
+use Rattle.wot_component.specs.Judged.{judged, sound_of}
 use Rattle.wot_cert.specs.Parts.{of_places}
 use Rattle.wot_cert.proofs.MergedMarks.{all_marked, all_asked}
 use Rattle.wot_cert.proofs.NewTotals.{lists_cert}
-use Rattle.wot_part.proofs.PolicyAsked.{asked_again}
+use Rattle.wot_component.proofs.PolicyAsked.{asked_again}
 use Rattle.wot_cert.proofs.cert.Cert.judge.Goals as goal
 
 pub invariant_of-self : goal.invariant_of-self

@@ -1,11 +1,11 @@
 use Rattle.std.proofs.Common.{◌+◌, refl, sym, ap, ◌∙◌, subst, arith}
 use Rattle.wot_policy.specs.Kept.{rows_of}
-use Rattle.wot_part.specs.Certificate.{unite}
-use Rattle.wot_part.specs.Counts.{items_of}
-use Rattle.wot_part.specs.Judged.{IsJudged, sound_of, if_sound}
+use Rattle.wot_component.specs.Certificate.{unite}
+use Rattle.wot_component.specs.Counts.{items_of}
+use Rattle.wot_component.specs.Judged.{IsJudged, sound_of, if_sound}
 use Rattle.wot_cert.proofs.MergedMarks.{merged, merged_sound, merged_judged}
-use Rattle.wot_part.proofs.TextSize.{union_items, first_items, more_items}
-use Rattle.wot_part.proofs.Weights.{beside_weight}
+use Rattle.wot_component.proofs.TextSize.{union_items, first_items, more_items}
+use Rattle.wot_component.proofs.Weights.{beside_weight}
 use Rattle.wot_cert.proofs.cert.Cert.merge.Goals as goal
 
 pub overflow_sub-added : goal.overflow_sub-added

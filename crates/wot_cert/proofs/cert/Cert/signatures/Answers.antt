@@ -1,8 +1,8 @@
 use Rattle.std.proofs.Common.{ap, ◌∙◌}
-use Rattle.wot_part.specs.Certificate.{Certificate}
-use Rattle.wot_part.specs.Counts.{signatures_of}
-use Rattle.wot_part.specs.Totals.{cap}
-use Rattle.wot_part.proofs.Follows.{uncapped}
+use Rattle.wot_component.specs.Certificate.{Certificate}
+use Rattle.wot_component.specs.Counts.{signatures_of}
+use Rattle.wot_component.specs.Totals.{cap}
+use Rattle.wot_component.proofs.Follows.{uncapped}
 use Rattle.wot_cert.proofs.Totals.{few_signatures}
 use Rattle.wot_cert.proofs.cert.Cert.signatures.Goals as goal
 

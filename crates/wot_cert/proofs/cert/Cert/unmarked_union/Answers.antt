@@ -1,5 +1,5 @@
 use Rattle.std.proofs.Common.{ap, ◌∙◌}
-use Rattle.wot_part.specs.Certificate.{unmarked}
+use Rattle.wot_component.specs.Certificate.{unmarked}
 use Rattle.std.proofs.lemmas.Result.{IfOk-weaker}
 use Rattle.wot_cert.proofs.cert.Cert.unmarked_union.Goals as goal
 

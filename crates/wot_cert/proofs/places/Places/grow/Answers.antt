@@ -1,15 +1,15 @@
 use Rattle.std.proofs.Common.{◌+◌, ◌≤◌, ℕ, List, map, refl, ap, ◌∙◌}
 use Rattle.wot_policy.specs.declared.rows.PolicyRows.{PolicyRows}
 use Rattle.wot_policy.specs.Kept.{rows_of}
-use Rattle.wot_part.specs.Certificate.{Component, part_cmp, part_with, unite_part, unite_parts}
-use Rattle.wot_part.specs.Counts.{sum_of}
-use Rattle.wot_part.specs.Growing.{sound_weight}
-use Rattle.wot_part.specs.Judged.{if_sound, judged_sig}
+use Rattle.wot_component.specs.Certificate.{Component, part_cmp, part_with, unite_part, unite_parts}
+use Rattle.wot_component.specs.Counts.{sum_of}
+use Rattle.wot_component.specs.Growing.{sound_weight}
+use Rattle.wot_component.specs.Judged.{if_sound, judged_sig}
 use Rattle.wot_cert.proofs.AllPlaces.{all_four, up_to_one, up_to_two, up_to_three, up_to_four, same_sigs, same_parts}
 use Rattle.wot_cert.proofs.AllPlaces.{less_by, counts_four}
-use Rattle.wot_part.proofs.PolicyAsked.{asked_again}
-use Rattle.wot_part.proofs.Fits.{parts_fit}
-use Rattle.wot_part.proofs.Weights.{part_more, united_more}
+use Rattle.wot_component.proofs.PolicyAsked.{asked_again}
+use Rattle.wot_component.proofs.Fits.{parts_fit}
+use Rattle.wot_component.proofs.Weights.{part_more, united_more}
 use Rattle.wot_cert.proofs.places.Places.grow.Goals as goal
 
 -- what a place has weighs no less in the union

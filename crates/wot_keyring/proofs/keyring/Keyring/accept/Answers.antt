@@ -1,8 +1,8 @@
 use Rattle.std.proofs.Common.{inr, sym, subst, refl}
 use Rattle.wot_policy.specs.Kept.{rows_of}
 use Rattle.wot_index.specs.Index.{IsIndexOf}
-use Rattle.wot_held.specs.Keyring.{Entries, Keyring}
-use Rattle.wot_held.specs.Kept.{IsJudgedBy}
+use Rattle.wot_keyring_spec.specs.Keyring.{Entries, Keyring}
+use Rattle.wot_keyring_spec.specs.Kept.{IsJudgedBy}
 use Rattle.wot_keyring.proofs.Accepted.{asked_now, asked_by_now, answered_now, held_now, next_now, keyring_now}
 use Rattle.wot_keyring.proofs.Imports.{judging_asked, next_still}
 use Rattle.wot_keyring.proofs.ImportStamps.{logged_now, united_later_now}

@@ -1,6 +1,6 @@
 use Rattle.std.proofs.Common.{◌≡◌, ◌<◌, ℕ, true, subst}
 use Rattle.wot_types.specs.declared.fpr.Fpr.{Fpr}
-use Rattle.wot_held.specs.Keyring.{Keyring}
+use Rattle.wot_keyring_spec.specs.Keyring.{Keyring}
 use Rattle.wot_index.specs.Log.{Logged, HasChangedSince, is_listed, is_logged_at}
 use Rattle.wot_index.proofs.Since.{has_changed}
 use Rattle.wot_keyring.proofs.keyring.Keyring.changed_since.Goals as goal

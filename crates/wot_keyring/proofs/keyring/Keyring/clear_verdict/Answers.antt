@@ -1,8 +1,8 @@
 use Rattle.std.proofs.Common.{◌≡◌, true, refl, sym, ap, ◌∙◌, subst}
 use Rattle.std.specs.Prelude.{is_some}
 use Rattle.wot_verdict.specs.Verdicts.{verdict_at}
-use Rattle.wot_held.specs.Keyring.{Keyring}
-use Rattle.wot_held.specs.Kept.{IsJudgedBy}
+use Rattle.wot_keyring_spec.specs.Keyring.{Keyring}
+use Rattle.wot_keyring_spec.specs.Kept.{IsJudgedBy}
 use Rattle.wot_keyring.proofs.Altered.{cleared_once}
 use Rattle.wot_keyring.proofs.HeldChanges.{cleared_in_place}
 use Rattle.wot_keyring.proofs.InvariantKept.{judged_keyring, cleared_few}

@@ -1,11 +1,11 @@
 use Rattle.std.proofs.Common.{◌≤◌, List, length, ap, subst, sym}
 use Rattle.std.specs.List.{AllByRecursion}
 use Rattle.wot_types.specs.Limits.{standard_limits}
-use Rattle.wot_part.specs.Certificate.{Certificate}
-use Rattle.wot_part.specs.Text.{size_of}
+use Rattle.wot_component.specs.Certificate.{Certificate}
+use Rattle.wot_component.specs.Text.{size_of}
 use Rattle.wot_keyring.specs.Dump.{AreLines, commands_of, lines_of, most_dumped}
-use Rattle.wot_held.specs.Held.{held_of}
-use Rattle.wot_held.specs.Keyring.{Keyring}
+use Rattle.wot_keyring_spec.specs.Held.{held_of}
+use Rattle.wot_keyring_spec.specs.Keyring.{Keyring}
 use Rattle.wot_keyring.proofs.DumpSize.{dump_fits}
 use Rattle.wot_keyring.proofs.Lines.{dumped, dumped_lines, sizes_of}
 use Rattle.wot_keyring.proofs.keyring.Keyring.dump.Goals as goal

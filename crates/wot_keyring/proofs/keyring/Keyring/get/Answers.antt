@@ -1,5 +1,5 @@
 use Rattle.std.proofs.Common.{sym}
-use Rattle.wot_held.specs.Keyring.{is_fpr}
+use Rattle.wot_keyring_spec.specs.Keyring.{is_fpr}
 use Rattle.wot_keyring.proofs.InvariantKept.{kept_small}
 use Rattle.wot_keyring.proofs.Places.{found_named}
 use Rattle.wot_keyring.proofs.keyring.Keyring.get.Goals as goal

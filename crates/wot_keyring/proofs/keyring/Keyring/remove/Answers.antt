@@ -1,5 +1,5 @@
 use Rattle.std.proofs.Common.{◌+◌, sym, refl}
-use Rattle.wot_held.specs.Keyring.{is_fpr}
+use Rattle.wot_keyring_spec.specs.Keyring.{is_fpr}
 use Rattle.wot_keyring.proofs.InvariantKept.{removed_keyring, removed_totals, kept_small, few_octets}
 use Rattle.wot_keyring.proofs.Altered.{removed_once}
 use Rattle.wot_keyring.proofs.HeldChanges.{removed_in_place}

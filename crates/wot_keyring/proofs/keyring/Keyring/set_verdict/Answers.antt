@@ -1,9 +1,9 @@
 use Rattle.std.proofs.Common.{◌≡◌, ◌∙◌, false, inl, length, nat_le, refl, sym, ap, subst}
 use Rattle.wot_verdict.specs.Verdicts.{AreSortedByNumber, ByNumber}
-use Rattle.wot_held.specs.Keyring.{Keyring, verdict_on}
-use Rattle.wot_held.specs.Kept.{IsJudgedBy}
-use Rattle.wot_held.specs.Later.{IsLater}
-use Rattle.wot_held.specs.Verdict.{is_over}
+use Rattle.wot_keyring_spec.specs.Keyring.{Keyring, verdict_on}
+use Rattle.wot_keyring_spec.specs.Kept.{IsJudgedBy}
+use Rattle.wot_keyring_spec.specs.Later.{IsLater}
+use Rattle.wot_keyring_spec.specs.Verdict.{is_over}
 use Rattle.wot_keyring.proofs.Altered.{not_over, set_now, set_once}
 use Rattle.wot_keyring.proofs.HeldChanges.{held_said, set_in_place}
 use Rattle.wot_keyring.proofs.InvariantKept.{judged_keyring, set_few}

@@ -1,4 +1,4 @@
-use Rattle.wot_held.proofs.Stamps.{stamp_found, stamp_absent}
+use Rattle.wot_keyring_spec.proofs.Stamps.{stamp_found, stamp_absent}
 use Rattle.wot_keyring.proofs.keyring.Keyring.stamp.Goals as goal
 
 pub returns-in-Some-clause-absent : goal.returns-in-Some-clause-absent

@@ -1,10 +1,10 @@
 use Rattle.std.proofs.Common.{◌≡◌, ◌<◌, ◌-◌, ◌^◌, ℕ, false, List, Err, OnOk, OnErr, refl, sym, ap, ◌∙◌, subst}
 use Rattle.wot_policy.specs.Kept.{rows_of}
-use Rattle.wot_part.specs.Certificate.{Certificate}
+use Rattle.wot_component.specs.Certificate.{Certificate}
 use Rattle.wot_merge.specs.Gather.{DoTheSame}
-use Rattle.wot_held.specs.Import.{any_clash, holding, with_certs, Asked, IsNext}
-use Rattle.wot_held.specs.Importing.{alone, AnswersUnited, MayUnite, asked_for}
-use Rattle.wot_held.specs.Keyring.{Keyring, certificates_in}
+use Rattle.wot_keyring_spec.specs.Import.{any_clash, holding, with_certs, Asked, IsNext}
+use Rattle.wot_keyring_spec.specs.Importing.{alone, AnswersUnited, MayUnite, asked_for}
+use Rattle.wot_keyring_spec.specs.Keyring.{Keyring, certificates_in}
 use Rattle.wot_keyring.specs.Merging.{AnswersCounting}
 use Rattle.wot_keyring.proofs.Imports.{asked_nothing, judging_at, judging_kept, judging_still, next_itself, next_still}
 use Rattle.wot_keyring.proofs.Same.{nothing_refused, same_refusal, same_counts, same_holding, same_asked}

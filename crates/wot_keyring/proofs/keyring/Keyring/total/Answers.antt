@@ -1,5 +1,5 @@
 use Rattle.std.proofs.Common.{subst}
-use Rattle.wot_held.specs.Keyring.{Keyring}
+use Rattle.wot_keyring_spec.specs.Keyring.{Keyring}
 use Rattle.wot_merge.specs.Staging.{IsTally}
 use Rattle.wot_keyring.proofs.ImportEffects.{tally_of}
 use Rattle.wot_keyring.proofs.keyring.Keyring.total.Goals as goal

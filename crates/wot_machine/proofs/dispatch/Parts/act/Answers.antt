@@ -3,12 +3,12 @@ use Rattle.wot_policy.specs.Kept.{rows_of}
 use Rattle.wot_script.specs.declared.reply.Reply.{Reply}
 use Rattle.wot_script.specs.Replies.{is_short}
 use Rattle.wot_cache.specs.State.{StaysButMarks, state_of}
-use Rattle.wot_step.specs.declared.class.Class.TheVariants.{State as OfState, Cursor as OfCursor, Watch as OfWatch}
-use Rattle.wot_step.specs.Entry.{use_by}
+use Rattle.wot_plain.specs.declared.class.Class.TheVariants.{State as OfState, Cursor as OfCursor, Watch as OfWatch}
+use Rattle.wot_plain.specs.Entry.{use_by}
 use Rattle.wot_command.proofs.PolicyAskedByLine.{asks_by_as}
-use Rattle.wot_step.proofs.EdgesMadeByLine.{makes_for_as, watch_makes_as}
+use Rattle.wot_plain.proofs.EdgesMadeByLine.{makes_for_as, watch_makes_as}
 use Rattle.wot_command.proofs.Lasting.{judging_still, touches_none}
-use Rattle.wot_step.proofs.Results.{if_ok}
+use Rattle.wot_plain.proofs.Results.{if_ok}
 use Rattle.wot_machine.proofs.Unchanged.{runs_none}
 use Rattle.wot_machine.proofs.CommandsInLines.{few_turns, kept_told, on_err_told, on_ok_told, paced_ran, ran_told}
 use Rattle.wot_machine.proofs.CommandsInLines.{still_turns, told_as, watched_told}

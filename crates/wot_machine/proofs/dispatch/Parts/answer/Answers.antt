@@ -4,15 +4,15 @@ use Rattle.wot_policy.specs.Kept.{rows_of}
 use Rattle.wot_script.specs.Grammar.{command_of}
 use Rattle.wot_policy.specs.declared.rows.PolicyRows.{PolicyRows}
 use Rattle.wot_cache.specs.State.{state_of}
-use Rattle.wot_step.specs.Fresh.{IsMadeAnew}
-use Rattle.wot_step.specs.Pacing.{settled}
-use Rattle.wot_step.specs.Session.{watched, session_of}
+use Rattle.wot_plain.specs.Fresh.{IsMadeAnew}
+use Rattle.wot_plain.specs.Pacing.{settled}
+use Rattle.wot_plain.specs.Session.{watched, session_of}
 use Rattle.wot_command.proofs.PolicyAskedByLine.{asks_not}
 use Rattle.wot_machine.proofs.DumpLine.{on_dump, dump_is_read}
 use Rattle.wot_command.proofs.EdgeLines.{none_marks}
-use Rattle.wot_step.specs.Entry.{use_of}
+use Rattle.wot_plain.specs.Entry.{use_of}
 use Rattle.wot_command.proofs.Lasting.{judging_still, touches_none}
-use Rattle.wot_step.proofs.Results.{if_ok}
+use Rattle.wot_plain.proofs.Results.{if_ok}
 use Rattle.wot_machine.proofs.CommandsInLines.{ran_told_line}
 use Rattle.wot_machine.proofs.Unchanged.{runs_none}
 use Rattle.wot_machine.proofs.Worded.{obeys_worded}

@@ -1,7 +1,7 @@
 use Rattle.std.proofs.Common.{[], subst}
 use Rattle.wot_cache.specs.State.{state_of}
 use Rattle.wot_machine.specs.Machine.{Machine}
-use Rattle.wot_step.specs.Watching.{AreLines}
+use Rattle.wot_plain.specs.Watching.{AreLines}
 use Rattle.wot_machine.proofs.machine.Machine.is_settled.Goals as goal
 
 pub returns-clause-settled : goal.returns-clause-settled

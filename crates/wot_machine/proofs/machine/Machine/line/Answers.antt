@@ -3,15 +3,15 @@ use Rattle.wot_types.specs.declared.memory.Memory.{Memory}
 use Rattle.wot_policy.specs.Kept.{rows_of}
 use Rattle.wot_machine.specs.Machine.{kept}
 use Rattle.wot_cache.specs.State.{Engine, state_of}
-use Rattle.wot_step.specs.declared.draft.DraftReply.{DraftReply}
-use Rattle.wot_step.specs.Entry.{use_of}
-use Rattle.wot_step.specs.Lines.{heard}
-use Rattle.wot_step.specs.Made.{LineMakes}
+use Rattle.wot_plain.specs.declared.draft.DraftReply.{DraftReply}
+use Rattle.wot_plain.specs.Entry.{use_of}
+use Rattle.wot_plain.specs.Lines.{heard}
+use Rattle.wot_plain.specs.Made.{LineMakes}
 use Rattle.wot_command.specs.CommandRun.{Seen}
 use Rattle.wot_command.specs.Asked.{LineAsks}
 use Rattle.wot_command.proofs.PolicyAskedByLine.{asks_as, asks_not}
-use Rattle.wot_step.proofs.EdgesMadeByLine.{line_makes_as}
-use Rattle.wot_step.proofs.Results.{any_err}
+use Rattle.wot_plain.proofs.EdgesMadeByLine.{line_makes_as}
+use Rattle.wot_plain.proofs.Results.{any_err}
 use Rattle.wot_command.proofs.DirectoryAfterFailure.{served_puts}
 use Rattle.wot_command.proofs.Lasting.{judging_still, touches_none}
 use Rattle.wot_command.specs.Lasting.{StaysJudging}

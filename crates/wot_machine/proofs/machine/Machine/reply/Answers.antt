@@ -3,12 +3,12 @@ use Rattle.wot_types.specs.declared.memory.Memory.{Memory}
 use Rattle.wot_policy.specs.Kept.{rows_of}
 use Rattle.wot_script.specs.Grammar.{command_of}
 use Rattle.wot_script.specs.Replies.{is_short}
-use Rattle.wot_step.specs.declared.draft.DraftReply.{DraftReply}
-use Rattle.wot_step.specs.Lines.{heard, is_silent}
+use Rattle.wot_plain.specs.declared.draft.DraftReply.{DraftReply}
+use Rattle.wot_plain.specs.Lines.{heard, is_silent}
 use Rattle.wot_machine.specs.Machine.{Machine, StaysKept, kept, machine_of}
-use Rattle.wot_step.specs.Made.{LineMakes}
-use Rattle.wot_step.specs.Pacing.{settled}
-use Rattle.wot_watching.specs.Settled.{AreSettled}
+use Rattle.wot_plain.specs.Made.{LineMakes}
+use Rattle.wot_plain.specs.Pacing.{settled}
+use Rattle.wot_watch_commands.specs.Settled.{AreSettled}
 use Rattle.wot_cache.specs.State.{StaysButMarks, state_of}
 use Rattle.wot_command.specs.Asked.{LineAsks}
 use Rattle.wot_command.specs.EdgeLines.{LineMarks}
@@ -16,13 +16,13 @@ use Rattle.wot_command.proofs.EdgeLines.{heard_marks}
 use Rattle.wot_command.proofs.Lasting.{judging_still, touches_err, touches_none, touches_ok}
 use Rattle.wot_command.proofs.PolicyAskedByLine.{asks_as, asks_heard}
 use Rattle.wot_command.specs.Lasting.{CanCount, IsJudging, Touches}
-use Rattle.wot_step.proofs.Results.{any_err}
-use Rattle.wot_step.specs.Entry.{use_of}
-use Rattle.wot_held.specs.Import.{IsOneChange}
+use Rattle.wot_plain.proofs.Results.{any_err}
+use Rattle.wot_plain.specs.Entry.{use_of}
+use Rattle.wot_keyring_spec.specs.Import.{IsOneChange}
 use Rattle.wot_machine.proofs.Unchanged.{unchanged}
-use Rattle.wot_step.proofs.EdgesMadeByLine.{line_makes_as, makes_heard}
+use Rattle.wot_plain.proofs.EdgesMadeByLine.{line_makes_as, makes_heard}
 use Rattle.wot_machine.proofs.CommandsInLines.{replied_long, replied_silent}
-use Rattle.wot_watching.proofs.WatchesSettled.{settled_told}
+use Rattle.wot_watch_commands.proofs.WatchesSettled.{settled_told}
 use Rattle.wot_machine.proofs.machine.Machine.reply.Goals as goal
 
 pub returns-clause-makes : goal.returns-clause-makes

@@ -1,13 +1,13 @@
 use Rattle.std.proofs.Common.{Result, Ok, inl, ap, refl, subst, sym, ◌∙◌}
 use Rattle.wot_types.specs.declared.memory.Memory.{Memory}
-use Rattle.wot_held.specs.Keyring.{Keyring}
+use Rattle.wot_keyring_spec.specs.Keyring.{Keyring}
 use Rattle.wot_cache.specs.State.{Engine, StaysButMarks}
 use Rattle.wot_machine.specs.Machine.{Machine, kept}
 use Rattle.wot_machine.specs.Stepped.{TellsBehind}
-use Rattle.wot_step.specs.Watching.{told_all}
-use Rattle.wot_watching.proofs.WatchEdges.{never_ok}
+use Rattle.wot_plain.specs.Watching.{told_all}
+use Rattle.wot_watch_commands.proofs.WatchEdges.{never_ok}
 use Rattle.wot_machine.proofs.Reported.{telling_made}
-use Rattle.wot_step.proofs.EdgesMadeByLine.{same_state}
+use Rattle.wot_plain.proofs.EdgesMadeByLine.{same_state}
 use Rattle.wot_machine.proofs.CommandsInLines.{tells_behind}
 use Rattle.wot_machine.proofs.Reported.{tells_nothing}
 use Rattle.wot_machine.proofs.machine.Machine.tell.Goals as goal

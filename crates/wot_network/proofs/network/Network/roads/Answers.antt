@@ -1,4 +1,4 @@
-use Rattle.wot_held.specs.Keyring.{certificates_in}
+use Rattle.wot_keyring_spec.specs.Keyring.{certificates_in}
 use Rattle.wot_network.proofs.Fprs.{named_certs}
 use Rattle.wot_network.proofs.network.Network.roads.Goals as goal
 

@@ -1,9 +1,9 @@
 use Rattle.std.proofs.Common.{◌∙◌, sym, ap, subst, ℕ, List, length, ◌<◌, ◌^◌}
-use Rattle.wot_part.specs.Certificate.{Component}
+use Rattle.wot_component.specs.Certificate.{Component}
 use Rattle.wot_edge.specs.Record.{Entry}
 use Rattle.wot_standing.specs.Standing.{standing_of}
 use Rattle.wot_standing.specs.Usable.{is_in_order}
-use Rattle.wot_held.specs.Keyring.{certificates_in}
+use Rattle.wot_keyring_spec.specs.Keyring.{certificates_in}
 use Rattle.wot_live.specs.Rows.{revoked_of}
 use Rattle.wot_network.specs.Told.{is_user_id}
 use Rattle.wot_network.proofs.Few.{user_ids_few}

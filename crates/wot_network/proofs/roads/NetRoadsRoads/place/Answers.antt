@@ -1,5 +1,5 @@
 use Rattle.std.proofs.Common.{◌∙◌, sym, ap, subst, List, length, ◌<◌, ◌^◌}
-use Rattle.wot_part.specs.Certificate.{Component}
+use Rattle.wot_component.specs.Certificate.{Component}
 use Rattle.wot_edge.specs.Record.{Entry}
 use Rattle.wot_network.specs.Told.{user_id_place}
 use Rattle.wot_network.proofs.Few.{user_ids_few}

@@ -2,7 +2,7 @@ use Rattle.std.proofs.Common.{◌∙◌, sym, subst, List}
 use Rattle.std.specs.List.Sorted.{IsStrictlySortedBy}
 use Rattle.wot_edge.specs.declared.edge.EdgeFacts.{EdgeFacts}
 use Rattle.wot_edge.specs.Order.{edge_cmp}
-use Rattle.wot_held.specs.Keyring.{certificates_in}
+use Rattle.wot_keyring_spec.specs.Keyring.{certificates_in}
 use Rattle.wot_network.proofs.Fprs.{named_certs}
 use Rattle.wot_network.proofs.LookupsAgree.{rows_some, rows_none, none_in_order}
 use Rattle.wot_network.proofs.roads.NetRoadsRoads.rows.Goals as goal

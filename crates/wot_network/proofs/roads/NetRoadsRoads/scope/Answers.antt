@@ -1,5 +1,5 @@
 use Rattle.std.proofs.Common.{◌≡◌, ◌∙◌, sym, ap, subst, List}
-use Rattle.wot_part.specs.Certificate.{Component}
+use Rattle.wot_component.specs.Certificate.{Component}
 use Rattle.wot_edge.specs.declared.edge.EdgeFacts.{EdgeFacts}
 use Rattle.wot_edge.specs.Record.{Has, Row, rows_into}
 use Rattle.wot_network.specs.Net.{told_of}

@@ -1,0 +1,19 @@
+use Rattle.std.proofs.Common.{refl}
+use Rattle.wot_answers.specs.declared.reach.KeptReach.{KeptReach}
+use Rattle.wot_answers.proofs.Grounds.{reaching_made}
+use Rattle.wot_answers.proofs.reach.KeptReach.new.Goals as goal
+
+pub returns : goal.returns
+returns c =
+    let p = c.args.parts.now in
+    let made : KeptReach = record {
+      count = c.changes.result;
+      turn = c.args.turn;
+      time = p.t;
+      making =
+          c.args.making;
+    } in
+    record {
+      reaching = reaching_made p.keyring.now p.roots.now c.args.turn made c.changes.ensures.changes refl
+          c.requires.making;
+    }

@@ -1,0 +1,9 @@
+use Rattle.std.proofs.Common.{◌≡◌, ◌++◌, map, length}
+use Rattle.wot_component.specs.Copied.{copied}
+use Rattle.wot_component.proofs.sig.push_copies.Given as goal
+
+abbrev pub invariant-rest : goal.invariant-rest
+invariant-rest l = l.out.items ++ map (copied l.marks) l.rest ≡ l.fn.out.items ++ map (copied l.marks) l.sigs
+
+abbrev pub decreases-rest : goal.decreases-rest
+decreases-rest l = length l.rest

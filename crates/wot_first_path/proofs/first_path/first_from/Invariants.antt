@@ -1,0 +1,19 @@
+use Rattle.std.proofs.Common.{suc}
+use Rattle.wot_edge.specs.Leads.{Leads}
+use Rattle.wot_first_path.specs.Looked.{Gains, Widens}
+use Rattle.wot_first_path.specs.Quest.{quest_of}
+use Rattle.wot_first_path.specs.Reached.{look}
+use Rattle.wot_first_path.specs.Growth.{IsAfter, IsUnrooted}
+use Rattle.wot_first_path.proofs.first_path.first_from.Given as goal
+
+abbrev pub invariant-layers : goal.invariant-layers
+invariant-layers g l =
+    let told = g.R.Roads.told l.roads in
+    let quest = quest_of told l.quest in
+    record {
+      after : IsAfter quest l.size l.reached (g.N.Notes.noted l.notes);
+      unrooted : IsUnrooted quest (look l.reached.nodes) (suc l.size);
+      grows : Widens (g.N.Notes.noted l.fn.notes) (g.N.Notes.noted l.notes);
+      leads : Gains (Leads (told l.quest.uid.now) l.quest.target.now) (g.N.Notes.noted l.fn.notes)
+          (g.N.Notes.noted l.notes);
+    }

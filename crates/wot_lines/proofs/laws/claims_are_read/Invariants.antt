@@ -1,7 +1,0 @@
-use Rattle.std.proofs.Common.{take}
-use Rattle.std.specs.List.{AllByRecursion}
-use Rattle.wot_lines.specs.ClaimLaws.{IsClaimPrinted}
-use Rattle.wot_lines.proofs.laws.claims_are_read.Given as goal
-
-abbrev pub invariant-loop-claim : goal.invariant-loop-claim
-invariant-loop-claim l = AllByRecursion IsClaimPrinted (take l.claim-index l.claims)

@@ -1,7 +1,0 @@
-use Rattle.std.proofs.Common.{take}
-use Rattle.std.specs.List.{AllByRecursion}
-use Rattle.wot_lines.specs.ClaimLaws.{IsLabelPrinted}
-use Rattle.wot_lines.proofs.laws.labels_are_read.Given as goal
-
-abbrev pub invariant-loop-label : goal.invariant-loop-label
-invariant-loop-label l = AllByRecursion IsLabelPrinted (take l.label-index l.labels)

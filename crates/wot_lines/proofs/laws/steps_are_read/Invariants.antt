@@ -1,7 +1,0 @@
-use Rattle.std.proofs.Common.{take}
-use Rattle.std.specs.List.{AllByRecursion}
-use Rattle.wot_lines.specs.ClaimLaws.{IsStepPrinted}
-use Rattle.wot_lines.proofs.laws.steps_are_read.Given as goal
-
-abbrev pub invariant-loop-step : goal.invariant-loop-step
-invariant-loop-step l = AllByRecursion IsStepPrinted (take l.step-index l.steps)

@@ -1,5 +1,0 @@
-use Rattle.wot_part.proofs.NewWhole.{judged_rising}
-use Rattle.wot_part.proofs.part.Part.judge_new.Goals as goal
-
-pub invariant_of-self : goal.invariant_of-self
-invariant_of-self g c = rw c.judge_new.ensures.judged (judged_rising _ _ _ c.self.invariant)

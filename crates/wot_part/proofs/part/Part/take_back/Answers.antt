@@ -1,6 +1,0 @@
-use Rattle.wot_part.specs.Certificate.{sig_cmp}
-use Rattle.wot_part.proofs.Backs.{rising_without}
-use Rattle.wot_part.proofs.part.Part.take_back.Goals as goal
-
-pub invariant_of-self : goal.invariant_of-self
-invariant_of-self c = rw c.take_sigs_back.ensures (rising_without sig_cmp c.args.log.items _ c.self.invariant)

@@ -1,5 +1,0 @@
-use Rattle.wot_part.proofs.Copies.{same_part}
-use Rattle.wot_part.proofs.part.PartRanked.again.Goals as goal
-
-pub returns : goal.returns
-returns c = same_part c.copied.result c.args.self.now c.copied.ensures

@@ -1,9 +1,0 @@
-use Rattle.std.proofs.Common.{◌≡◌, vec_len}
-use Rattle.wot_part.specs.Growing.{without_all}
-use Rattle.wot_part.proofs.shrinking.take_sigs_back.Given as goal
-
-abbrev pub invariant-log : goal.invariant-log
-invariant-log l = without_all l.log.items l.sigs.items ≡ without_all l.initial.log.items l.initial.sigs.items
-
-abbrev pub decreases-log : goal.decreases-log
-decreases-log l = vec_len l.log

@@ -1,5 +1,0 @@
-use Rattle.wot_part.proofs.Copies.{same_sig}
-use Rattle.wot_part.proofs.sig.SigRanked.joined.Goals as goal
-
-pub returns : goal.returns
-returns c = same_sig c.marked.result c.args.self.now c.admitted.result c.admitted.ensures.mark c.marked.ensures.marked

@@ -1,5 +1,0 @@
-use Rattle.wot_words.proofs.ImportFits.{fits_line}
-use Rattle.wot_words.proofs.laws.state_lines_fit.Goals as goal
-
-pub returns : goal.returns
-returns c = fits_line
