@@ -8,13 +8,14 @@ use std::path::Path;
 use crate::data::{Broken, Stop};
 use crate::input;
 use crate::message::copy_pieces;
+use crate::opening::{self, Source};
 use crate::spool;
 
 /// Data that are read once, or, if some of their signatures are the library's and others aren't, twice.
 pub struct Data<'p> {
     path: &'p Path,
     /// None is standard input.
-    file: Option<File>,
+    file: Option<Source>,
     /// Where they are copied if they can't be read twice.
     spare: Option<io::Result<File>>,
 }
@@ -22,7 +23,7 @@ pub struct Data<'p> {
 impl<'p> Data<'p> {
     pub fn open(path: &'p Path) -> Result<Data<'p>, Broken> {
         let mut file = open(path)?;
-        let is_whole = file.as_mut().map_or(Ok(false), spool::is_whole).map_err(|error| broken(path, error))?;
+        let is_whole = file.as_mut().map_or(Ok(false), Source::is_whole).map_err(|error| broken(path, error))?;
         Ok(Data { path, file, spare: (!is_whole).then(spool::unnamed) })
     }
 
@@ -35,7 +36,10 @@ impl<'p> Data<'p> {
         let path = self.path;
         let spare = self.spare.take();
         let read = match (self.file.take(), spare) {
-            (Some(mut file), None) => copy_pieces(&mut file, piece).map(|()| file),
+            (Some(whole), None) => {
+                let mut file = whole.into_file();
+                copy_pieces(&mut file, piece).map(|()| file)
+            }
             (file, spare) => {
                 let mut copy = spare.unwrap_or_else(spool::unnamed).map_err(|error| broken(path, error))?;
                 copy_pieces(&mut *reader(file), &mut |octets| piece(octets).and_then(|()| copy.write_all(octets)))
@@ -58,14 +62,14 @@ pub fn octets(path: &Path, most: u64) -> Result<Vec<u8>, Broken> {
 }
 
 /// None is standard input.
-fn open(path: &Path) -> Result<Option<File>, Broken> {
+fn open(path: &Path) -> Result<Option<Source>, Broken> {
     match input::is_standard_input(path) {
         true => Ok(None),
-        false => File::open(path).map(Some).map_err(|error| broken(path, error)),
+        false => opening::open(path).map(Some).map_err(|error| broken(path, error)),
     }
 }
 
-fn reader(file: Option<File>) -> Box<dyn Read + Send + Sync> {
+fn reader(file: Option<Source>) -> Box<dyn Read + Send + Sync> {
     match file {
         Some(file) => Box::new(file),
         None => Box::new(io::stdin()),

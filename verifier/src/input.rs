@@ -1,7 +1,7 @@
 //! Files and folders as texts of packets, out of their armor.
 
 use std::fmt::Display;
-use std::fs::{self, File, OpenOptions};
+use std::fs::{self, OpenOptions};
 use std::io::{self, Read};
 use std::os::unix::fs::OpenOptionsExt;
 use std::path::{Path, PathBuf};
@@ -9,6 +9,7 @@ use std::path::{Path, PathBuf};
 use sequoia_openpgp::armor::{Kind, Reader, ReaderMode};
 
 use crate::notice::{Notice, What};
+use crate::opening;
 
 /// How many octets are read of a file: as many as the service reads of a watched keyring.
 const MOST_OCTETS: u64 = 512 << 20;
@@ -132,9 +133,9 @@ fn read_file(path: &Path) -> io::Result<Raw> {
     let octets = if is_standard_input(path) {
         read_bounded(io::stdin().lock(), 0)?
     } else {
-        let file = File::open(path)?;
-        let size = file.metadata()?.len();
-        read_bounded(file, size)?
+        let source = opening::open(path)?;
+        let size = source.metadata()?.len();
+        read_bounded(source, size)?
     };
     Ok(Raw(Text { name: path.display().to_string(), octets, filed: None }))
 }

@@ -28,9 +28,9 @@
 //! # }
 //! ```
 //!
-//! Paths are `-` for standard input; `/dev/fd/N` names a descriptor. Data are read in pieces and may have any length.
-//! What isn't data is bounded: 16 MiB of signatures, 1000 of them, 16 MiB a line of a text, eight issuers a signature.
-//! [`confinement`] bounds what the process may use for this.
+//! Paths are `-` for standard input; `/dev/fd/N` names a descriptor. A FIFO may be silent for ten seconds: [`opening`].
+//! Data are read in pieces and may have any length. What isn't data is bounded: 16 MiB of signatures, 1000 of them,
+//! 16 MiB a line of a text, eight issuers a signature. [`confinement`] bounds what the process may use for this.
 //!
 //! Nothing here writes to standard output or standard error, or ends the process.
 
@@ -58,6 +58,7 @@ pub mod message;
 mod mixed;
 pub mod notice;
 pub mod number;
+pub mod opening;
 mod own;
 pub mod packets;
 pub mod said;

@@ -6,23 +6,19 @@ use std::os::unix::fs::OpenOptionsExt;
 use std::path::Path;
 
 use crate::input;
+use crate::opening::{self, Source};
 
 /// A file at its beginning. Standard input and whatever else can't be read twice is copied into a file without a name.
 pub fn open(path: &Path) -> io::Result<File> {
     if input::is_standard_input(path) {
         return copy(&mut io::stdin().lock());
     }
-    of_file(File::open(path)?)
+    of_source(opening::open(path)?)
 }
 
-/// The same of a file that is open.
-pub fn of_file(mut file: File) -> io::Result<File> {
-    if is_whole(&mut file)? { Ok(file) } else { copy(&mut file) }
-}
-
-/// Whether a file can be read more than once, and is at its beginning.
-pub fn is_whole(file: &mut File) -> io::Result<bool> {
-    Ok(file.metadata()?.is_file() && file.stream_position()? == 0)
+/// The same of what is open.
+pub fn of_source(mut source: Source) -> io::Result<File> {
+    if source.is_whole()? { Ok(source.into_file()) } else { copy(&mut source) }
 }
 
 fn copy(from: &mut dyn Read) -> io::Result<File> {

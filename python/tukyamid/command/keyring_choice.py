@@ -6,7 +6,7 @@ from __future__ import annotations
 from ..fast_imports import TYPE_CHECKING
 from ..keyrings.keyring import Keyring
 from .exit_statuses import WrongWords
-from .named_inputs import sources_of
+from .named_inputs import Pipe, sources_of
 
 if TYPE_CHECKING:
     from collections.abc import Callable, Sequence
@@ -56,6 +56,8 @@ class Inputs:
             self._refuse_words_of_inputs()
             from .user_service import of_service
             return of_service(self._ahead)
+        if any(isinstance(source, Pipe) for source in sources):
+            self.as_paths(sources)  # What is wrong with it is said at once, and not tried again.
         is_alone = self._given.no_service or self._given.no_cache or self._given.anew or self._given.engine
         if is_alone:
             return self._by_an_engine(sources)

@@ -1,4 +1,4 @@
-"""What the words name as inputs: files, certificate directories, standard input, and gpg's own keyring.
+"""What the words name as inputs: files, certificate directories, pipes, and gpg's own keyring.
 
 The stamp of an input says which files it is and when they were changed. An input whose stamp is the same needn't be
 read again to know that it is the same.
@@ -7,16 +7,21 @@ read again to know that it is the same.
 from __future__ import annotations
 
 import os
-import sys
+import stat
 
 from ..fast_imports import TYPE_CHECKING, Protocol
 from ..records import Value
+from .exit_statuses import WrongWords
 
 if TYPE_CHECKING:
     from collections.abc import Iterable, Iterator
     from contextlib import ExitStack
 
     from .parsed_words import Given
+
+
+# As many as the verifier reads of a file.
+MOST_OCTETS = 512 << 20
 
 
 class Stamp(Value):
@@ -41,8 +46,8 @@ def sources_of(given: Given) -> list[Source]:
     """The inputs that the words name, in the order in which they are read."""
     sources: list[Source] = []
     for name in given.keyring:
-        if name == "-":
-            sources.append(Input())
+        if _is_read_once(name):
+            sources.append(Pipe(name))
         else:
             sources.append(Named(name))
     if given.gpg or given.gpg_keyring:
@@ -64,14 +69,18 @@ class Named:
         return self._name
 
 
-class Input:
-    """Standard input, which is read once."""
+class Pipe:
+    """What can be read once alone: a pipe, a device, or standard input, which is `-`."""
+
+    def __init__(self, name: str) -> None:
+        self._name = name
 
     def stamp(self) -> Stamp | None:
         return None
 
     def path(self, stack: ExitStack) -> str:
-        return _as_file(sys.stdin.buffer.read(), stack)
+        from ..bounded_reading import pieces_of
+        return _as_file(pieces_of(self._name), stack)
 
 
 class Gpg:
@@ -83,7 +92,7 @@ class Gpg:
 
     def path(self, stack: ExitStack) -> str:
         from . import gpg
-        return _as_file(gpg.export(), stack)
+        return _as_file([gpg.export()], stack)
 
 
 def _files(name: str) -> Iterator[str]:
@@ -108,9 +117,23 @@ def stamp_of(files: Iterable[str]) -> Stamp | None:
     return Stamp("".join(parts), newest) if parts else None
 
 
-def _as_file(octets: bytes, stack: ExitStack) -> str:
+def _is_read_once(name: str) -> bool:
+    if name == "-":
+        return True
+    try:
+        mode = os.stat(name).st_mode
+    except OSError:
+        return False  # It is said where it is read.
+    return not stat.S_ISREG(mode) and not stat.S_ISDIR(mode)
+
+
+def _as_file(pieces: Iterable[bytes], stack: ExitStack) -> str:
+    """A file of these octets, as long as the stack is open. WrongWords if they are too many."""
     from tempfile import NamedTemporaryFile
     file = stack.enter_context(NamedTemporaryFile(prefix="tukyamid-"))
-    file.write(octets)
+    for piece in pieces:
+        file.write(piece)
+        if file.tell() > MOST_OCTETS:
+            raise WrongWords(f"an input has more than {MOST_OCTETS >> 20} MiB; give it in several files")
     file.flush()
     return file.name

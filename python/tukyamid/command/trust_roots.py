@@ -4,6 +4,7 @@ from __future__ import annotations
 
 import os
 
+from ..bounded_reading import read_at_most
 from ..fast_imports import TYPE_CHECKING
 from ..openpgp.certificates import key_fingerprint
 from ..openpgp.packets import KEY, packets
@@ -19,6 +20,7 @@ if TYPE_CHECKING:
     from .parsed_words import Given
 
 FULL = 120
+MOST_OCTETS = 16 << 20
 _SECRET_KEYS = {5, 7}
 
 
@@ -88,10 +90,12 @@ class Roots:
     def _of_directory(self, folder: str) -> list[str]:
         name = os.path.join(folder, "trust-root")
         try:
-            with open(name, "rb") as file:
-                return list(self._read(name, file.read()))
+            octets = read_at_most(name, MOST_OCTETS)
         except (FileNotFoundError, NotADirectoryError):
             return []
+        if octets is None:
+            raise NoAnswer(f"{name} has more than {MOST_OCTETS >> 20} MiB")
+        return list(self._read(name, octets))
 
     def _read(self, name: str, octets: bytes) -> Iterator[str]:
         """The fingerprints of a trust root, which may be armored, and may have secret parts."""

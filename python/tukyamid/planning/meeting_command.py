@@ -5,6 +5,7 @@ from __future__ import annotations
 import json
 import sys
 
+from ..bounded_reading import read_at_most
 from ..command.exit_statuses import NOT_REACHED, REACHED, NoAnswer, WrongWords
 from ..command.key_names import resolve
 from ..command.option_values import read_key
@@ -44,12 +45,11 @@ def run(given: Wanted, keyring: Keyring, at: int, roots: dict[str, int], notes: 
 
 def read_comers(path: str) -> list[str]:
     """The keys of those who come, one a line. What follows a key, or a `#`, is a remark."""
-    with open(path, encoding="utf-8", errors="surrogateescape") as file:
-        text = file.read(MOST_OCTETS + 1)
-    if len(text) > MOST_OCTETS:
+    octets = read_at_most(path, MOST_OCTETS)
+    if octets is None:
         raise WrongWords(f"{path} is too long for a list of keys")
     keys = []
-    for number, line in enumerate(text.splitlines(), 1):
+    for number, line in enumerate(octets.decode("utf-8", "surrogateescape").splitlines(), 1):
         said = line.partition("#")[0].strip()
         if said:
             keys.append(_read_line(path, number, said))

@@ -2,6 +2,7 @@
 
 from collections.abc import Iterator, Mapping, Sequence
 
+from ..bounded_reading import read_at_most
 from ..command.exit_statuses import NOT_REACHED, REACHED, NoAnswer, WrongWords
 from ..command.option_values import read_root
 from ..command.output import write
@@ -50,9 +51,8 @@ def run(words: Sequence[str]) -> int:
 
 
 def _octets(name: str) -> bytes:
-    with open(name, "rb") as file:
-        octets = file.read(MOST_OCTETS + 1)
-    if len(octets) > MOST_OCTETS:
+    octets = read_at_most(name, MOST_OCTETS)
+    if octets is None:
         raise NoAnswer(f"{name} has more than {MOST_OCTETS} octets")
     return octets
 

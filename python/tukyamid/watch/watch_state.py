@@ -4,6 +4,7 @@ from __future__ import annotations
 
 import json
 import os
+import stat
 
 from ..command.exit_statuses import NoAnswer
 from ..fast_imports import TYPE_CHECKING
@@ -36,10 +37,13 @@ class StateFile:
     def read(self) -> Last | None:
         """The last report; None if there is no file yet. NoAnswer if it is damaged, or of another watch."""
         try:
-            with open(self._path, "rb") as file:
-                octets = file.read(_LONGEST)
+            file = os.open(self._path, os.O_RDONLY | os.O_NONBLOCK | os.O_NOCTTY | os.O_CLOEXEC)
         except FileNotFoundError:
             return None
+        with open(file, "rb") as opened:
+            if not stat.S_ISREG(os.fstat(file).st_mode):
+                raise NoAnswer(f"{self._path} isn't a regular file")
+            octets = opened.read(_LONGEST)
         try:
             said = json.loads(octets)
             binding = said["fingerprint"], said["user_id"], said["wanted"]

@@ -101,7 +101,7 @@ class Confined(Case):
         self.assertEqual((run.returncode, run.stdout), (0, DATA), run)
 
     def test_pipes_that_one_program_writes_after_each_other(self):
-        """The second is opened when the first is read to its end, as its writer waits until then."""
+        """The writer of the second comes only when the first is read to its end."""
         pipes = [self.folder / name for name in ("first", "second")]
         for pipe in pipes:
             os.mkfifo(pipe)

@@ -215,3 +215,11 @@ class Files(Watching):
         done = run([COMMAND, "watch", "--root", self.fpr["Alice"], "--state", file, self.fpr["Bob"], PEOPLE["Bob"]],
                    env=self.environment)
         self.fails(done, 3, "is the file of another watch")
+
+    def test_a_pipe_is_no_state(self):
+        """Nobody writes to it, so reading it would never end."""
+        file = self.own / "watch.json"
+        os.mkfifo(file)
+        done = run([COMMAND, "watch", "--root", self.fpr["Alice"], "--state", file, self.fpr["Bob"], PEOPLE["Bob"]],
+                   env=self.environment)
+        self.fails(done, 3, f"{file} isn't a regular file")

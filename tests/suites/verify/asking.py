@@ -25,10 +25,11 @@ class Asking(unittest.TestCase):
         cls.cache = tempfile.TemporaryDirectory(prefix="wot")
         cls.addClassCleanup(cls.cache.cleanup)
 
-    def run_command(self, *words, given=None, question="verify", **environment):
+    def run_command(self, *words, given=None, question="verify", pass_fds=(), **environment):
         programs = {"TUKYAMID_ENGINE": str(ENGINE), "TUKYAMID_VERIFIER": str(PROGRAM)}
         return subprocess.run([sys.executable, COMMAND, question, *map(str, words)], capture_output=True, check=False,
-                              input=b"" if given is None else given, env={**os.environ, **programs, **environment})
+                              input=b"" if given is None else given, env={**os.environ, **programs, **environment},
+                              pass_fds=pass_fds)
 
     def words(self, name, *more, root=True):
         """The words for a file, as of a time at which all keys but the old one are in order."""

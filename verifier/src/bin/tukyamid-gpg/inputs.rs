@@ -1,11 +1,11 @@
 //! The files that a caller names, as gpg takes them: `-` is standard input, and `-&N` a descriptor if that is allowed.
 
 use std::ffi::OsStr;
-use std::fs::{File, OpenOptions};
 use std::io::{self, Read};
 use std::os::unix::ffi::OsStrExt;
-use std::os::unix::fs::OpenOptionsExt;
 use std::path::{Path, PathBuf};
+
+use tukyamid_verify::opening::{self, Source};
 
 use crate::streams::descriptor;
 
@@ -17,10 +17,10 @@ pub struct Names {
 }
 
 impl Names {
-    pub fn open(&self, name: &OsStr) -> io::Result<File> {
+    pub fn open(&self, name: &OsStr) -> io::Result<Source> {
         match self.descriptor_of(name) {
-            Some(number) => descriptor(number),
-            None => OpenOptions::new().read(true).custom_flags(libc::O_NOCTTY).open(name),
+            Some(number) => descriptor(number).map(Source::of),
+            None => opening::open(Path::new(name)),
         }
     }
 
@@ -45,7 +45,7 @@ impl Names {
 }
 
 /// All of a file of signatures.
-pub fn read_signatures(file: &mut File) -> io::Result<Vec<u8>> {
+pub fn read_signatures(file: &mut impl Read) -> io::Result<Vec<u8>> {
     let mut octets = Vec::new();
     file.take(LONGEST_SIGNATURES + 1).read_to_end(&mut octets)?;
     if octets.len() as u64 > LONGEST_SIGNATURES {

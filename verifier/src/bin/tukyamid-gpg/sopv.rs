@@ -10,6 +10,7 @@ use tukyamid_verify::certificate::{certificates, Certificate};
 use tukyamid_verify::holders::Holders;
 use tukyamid_verify::input::read_all;
 use tukyamid_verify::message::{copy_pieces, signatures_of, Message};
+use tukyamid_verify::opening::{self, Source};
 use tukyamid_verify::signature::kind::TEXT;
 use tukyamid_verify::spool;
 
@@ -133,8 +134,8 @@ impl Request {
 
     fn verify(&self) -> Result<()> {
         let name = self.signatures.as_deref().unwrap_or_default();
-        let file = File::open(path_of(name)?);
-        let octets = file.and_then(|mut file| read_signatures(&mut file)).map_err(|error| missing(name, &error))?;
+        let source = opening::open(&path_of(name)?);
+        let octets = source.and_then(|mut source| read_signatures(&mut source)).map_err(|error| missing(name, &error))?;
         let reading = bounds().map_err(failed)?;
         let bodies = signatures_of(&octets).map_err(|error| (Exit::BadData, error.to_string()))?;
         drop(reading);
@@ -143,7 +144,7 @@ impl Request {
     }
 
     fn inline_verify(&self) -> Result<()> {
-        let mut file = descriptor(0).and_then(spool::of_file).map_err(failed)?;
+        let mut file = descriptor(0).map(Source::of).and_then(spool::of_source).map_err(failed)?;
         let bad = |error: io::Error| (Exit::BadData, error.to_string());
         let reading = bounds().map_err(failed)?;
         let message = Message::read(&mut file).map_err(bad)?;

@@ -7,6 +7,7 @@ use std::os::unix::io::RawFd;
 use std::path::Path;
 
 use tukyamid_verify::message::{copy_pieces, signatures_of, Message};
+use tukyamid_verify::opening::Source;
 use tukyamid_verify::spool;
 
 use crate::contents::aside;
@@ -69,8 +70,8 @@ impl Signed {
 }
 
 /// Of one file alone.
-fn whole(call: &Call, names: &Names, name: &OsString, file: File) -> Result<Signed, Failed> {
-    let mut file = spool::of_file(file).map_err(|error| unopened(name, &error))?;
+fn whole(call: &Call, names: &Names, name: &OsString, source: Source) -> Result<Signed, Failed> {
+    let mut file = spool::of_source(source).map_err(|error| unopened(name, &error))?;
     let mut again = Again::new();
     if let Some(number) = names.descriptor_of(name) {
         again.push((number, file.try_clone().map_err(broken)?));
@@ -117,13 +118,13 @@ impl Data {
         }
     }
 
-    /// Opens what isn't open yet. Of several files, those that a caller may write in turn are left for later.
+    /// Opens what isn't open yet. Of several files, those that a caller may make in turn are left for later.
     pub fn opened(self, names: &Names) -> Result<Opened, Failed> {
         match self {
             Data::Apart(files) => {
                 let is_one = files.len() == 1;
                 let open = |name: OsString| {
-                    let can_wait = !is_one && names.descriptor_of(&name).is_none() && !Path::new(&name).is_file();
+                    let can_wait = !is_one && names.descriptor_of(&name).is_none() && !Path::new(&name).exists();
                     let file = (!can_wait).then(|| names.open(&name)).transpose();
                     file.map(|file| (name.clone(), file)).map_err(|error| unopened(&name, &error))
                 };
@@ -136,7 +137,7 @@ impl Data {
 
 /// Data whose files are open, but for those that are opened only when their turn comes.
 pub enum Opened {
-    Apart(Vec<(OsString, Option<File>)>),
+    Apart(Vec<(OsString, Option<Source>)>),
     Within(Message, File),
 }
 
