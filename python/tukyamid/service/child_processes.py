@@ -1,5 +1,5 @@
 """The processes that the service has started: engines, the verifier, gpg. One that was stopped is ended, so that
-whoever waits for it meets its end; and so are all when the service itself takes too long to end."""
+whoever waits for it meets its end."""
 
 from __future__ import annotations
 
@@ -7,14 +7,11 @@ import asyncio
 import contextlib
 import os
 import signal
-import threading
-import time
 from collections.abc import Callable, Iterator
 from pathlib import Path
 
 _LOOK_SECONDS = 1.0
 _STOPPED = "Tt"  # By a signal, or by a debugger.
-MOST_SECONDS = 8.0  # From a signal to the end of the process.
 
 
 def children() -> Iterator[int]:
@@ -46,28 +43,3 @@ async def end_stopped(tell: Callable[[str], None]) -> None:
 def kill(pid: int) -> None:
     with contextlib.suppress(ProcessLookupError):
         os.kill(pid, signal.SIGKILL)
-
-
-class Deadline:
-    """Ends the process some seconds after it should have begun to end, whatever hangs: what is acknowledged is on the
-    disk. `clear` is called before."""
-
-    def __init__(self, tell: Callable[[str], None], seconds: float = MOST_SECONDS) -> None:
-        self._tell = tell
-        self._seconds = seconds
-        self._thread: threading.Thread | None = None
-
-    def begin(self, clear: Callable[[], None]) -> None:
-        if self._thread is None:
-            self._thread = threading.Thread(target=self._end, args=(clear,), name="deadline", daemon=True)
-            self._thread.start()
-
-    def _end(self, clear: Callable[[], None]) -> None:
-        time.sleep(self._seconds)
-        try:
-            self._tell(f"something didn't end within {self._seconds:.0f} seconds; the service ends without it")
-            for pid in children():
-                kill(pid)
-            clear()
-        finally:
-            os._exit(0)

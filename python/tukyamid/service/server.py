@@ -4,8 +4,7 @@ from __future__ import annotations
 
 import asyncio
 import os
-import signal
-from collections.abc import Callable, Sequence
+from collections.abc import Sequence
 from dataclasses import dataclass
 from functools import partial
 from pathlib import Path
@@ -15,6 +14,7 @@ from tukyamid.version import VERSION
 
 from .accepting import Acceptor
 from .child_processes import end_stopped
+from .ending import Ending
 from .engines.certificate_directory import Directory
 from .keyring_files.keyring_updates import Keyrings
 from .line_intake import Desk
@@ -29,8 +29,6 @@ from .storage.shared_database import Shared
 _PATIENCE_AT_THE_END = 4
 _LARGEST_LOG = 128 << 20  # Octets.
 _MOST_SPOOLED = 256 << 20  # Octets of long replies of one user that aren't read.
-# Called when the service is to end, with what takes its sockets' files away: it ends within a bound then.
-Begun = Callable[[Callable[[], None]], None]
 
 
 @dataclass(frozen=True)
@@ -50,8 +48,7 @@ class Door:
 
 
 class Service:
-    def __init__(self, hub: Desk, keyrings: Keyrings, directory: Directory, settings: Settings,
-                 ending: Begun = lambda clear: None) -> None:
+    def __init__(self, hub: Desk, keyrings: Keyrings, directory: Directory, settings: Settings, ending: Ending) -> None:
         self._hub = hub
         self._keyrings = keyrings
         self._directory = directory
@@ -71,8 +68,7 @@ class Service:
         """Serves clients of these sockets until SIGTERM, SIGINT, or until nobody has used it for long."""
         loop = asyncio.get_running_loop()
         loop.set_exception_handler(self._tell_exception)
-        for number in (signal.SIGTERM, signal.SIGINT):
-            loop.add_signal_handler(number, self._begin_end)
+        self._ending.watch(self._begin_end, self._remove_sockets)
         self._doors = doors
         self._shares.has_others = any(door.listening.users is None for door in doors)
         warden = loop.create_task(end_stopped(self._hub.tell))
@@ -101,13 +97,13 @@ class Service:
             await self._end_sessions()
         finally:
             self._begin_end()
-            warden.cancel()
             await self._directory.close()
             await self._hub.close()
+            warden.cancel()
 
     def _begin_end(self) -> None:
         self._end.set()
-        self._ending(self._remove_sockets)
+        self._ending.begin()
 
     def _remove_sockets(self) -> None:
         for door in self._doors:

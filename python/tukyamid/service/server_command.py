@@ -15,7 +15,7 @@ from tukyamid.keyrings.verifier import find_verifier
 from tukyamid.output_files import Output
 from tukyamid.protocol.refusals import TukyamidError
 
-from .child_processes import Deadline
+from .ending import Ending
 from .engines.certificate_directory import Directory
 from .engines.program_run import pieces
 from .handing_in import hand_in
@@ -127,8 +127,8 @@ def serve(given: argparse.Namespace) -> int:
             access = Access(database, order)
             hub = Desk([*_program(given), "run"], given.engines, access, given.budget, given.max_age)
             directory = Directory([*_program(given), "run"], (given.directory or default_directory()).absolute())
-            keyrings, ending = Keyrings(hub, _verifier(given)), Deadline(access.tell).begin
-            await Service(hub, keyrings, directory, settings, ending).serve(doors)
+            keyrings = Keyrings(hub, _verifier(given))
+            await Service(hub, keyrings, directory, settings, Ending(access.tell)).serve(doors)
 
         _run(run)
     return ENDED

@@ -135,14 +135,14 @@ class Client:
 class Server:
     """The server as a process of its own, in a folder of its own."""
 
-    def __init__(self, *options, engine=PROGRAM, folder=None, environment=None, program=SERVER):
+    def __init__(self, *options, engine=PROGRAM, folder=None, environment=None, program=SERVER, log=None):
         self._made = None if folder else tempfile.TemporaryDirectory(prefix="tukyamid-server-")
         self.folder = Path(folder or self._made.name)
         self.path = self.folder / "socket"
         self.database = self.folder / "keyring.db"
         self.directory = self.folder / "pgp.cert.d"
         self._order = self.folder / "order"
-        self._said = open(self.folder / "said", "w+b")
+        self._said, self._log = open(self.folder / "said", "w+b"), log
         self._words = [PYTHON, program, "--socket", self.path, "--database", self.database, "--order", self._order,
                        "--engine", engine, "--directory", self.directory, *options]
         self._environment = {**os.environ, "XDG_STATE_HOME": str(self.folder / "state"), **(environment or {})}
@@ -151,8 +151,8 @@ class Server:
     def start(self):
         """Starts it, also again after it has ended."""
         self.process = subprocess.Popen(
-            self._words, stdin=subprocess.DEVNULL, stdout=subprocess.DEVNULL, stderr=self._said,
-            env=self._environment)
+            self._words, stdin=subprocess.DEVNULL, stdout=subprocess.DEVNULL,
+            stderr=self._said if self._log is None else self._log, env=self._environment)
         try:
             self.wait_for(self._is_there)
         except BaseException:
@@ -197,10 +197,12 @@ class Server:
         return self._said.read().decode(errors="replace")
 
     def engines(self):
-        """The process ids of its engines."""
-        # The main thread started them all. The others come and go, and with them their files.
-        children = Path(f"/proc/{self.process.pid}/task/{self.process.pid}/children")
-        return [int(pid) for pid in children.read_text().split()]
+        """The process ids of its engines, and of what else it has started."""
+        found = []
+        for task in Path(f"/proc/{self.process.pid}/task").iterdir():
+            with contextlib.suppress(OSError):  # Threads come and go.
+                found += [int(pid) for pid in (task / "children").read_text().split()]
+        return found
 
     def order(self):
         """The lines in the order in which they were sent, as (client's number, line); of a server that has ended."""

@@ -11,7 +11,7 @@ import time
 import unittest
 from pathlib import Path
 
-from outside import Client, Server, needs_engine, script_of
+from outside import HERE, Client, Server, needs_engine, script_of
 from tukyamid.service.storage.sqlite_database import Sqlite
 from world import World
 
@@ -110,6 +110,34 @@ class Ending(unittest.TestCase):
         finally:
             starting.kill()
         self.assertLess(time.monotonic() - begun, BOUND)
+
+    def test_while_the_loop_is_held(self):
+        """By a call of the system that doesn't end, and by Python's own work, from before the signal on."""
+        for how in ("call", "python"):
+            with self.subTest(how):
+                held = self.folder / how
+                self.begin(program=HERE / "held_server.py", environment={"HELD": str(held), "HOLDING": how})
+                held.touch()
+                self.client.send(b"keys")
+                self.server.wait_for(Path(f"{held}.begun").exists)
+                self.ends()
+
+    def test_while_nobody_reads_its_log(self):
+        """The log is a pipe that is full. Questions are answered, and it ends."""
+        reading, writing = os.pipe()
+        self.addCleanup(os.close, reading)
+        self.begin(log=writing)
+        os.set_blocking(writing, False)
+        with contextlib.suppress(BlockingIOError):
+            while True:
+                os.write(writing, b"x" * 4096)
+        os.set_blocking(writing, True)
+        os.close(writing)
+        (engine,) = self.server.engines()
+        os.kill(engine, signal.SIGKILL)
+        self.client.socket.settimeout(30)
+        self.assertEqual(self.client.tell(b"keys"), b"keys 6")
+        self.ends()
 
     def test_while_a_client_reads_nothing(self):
         self.begin("--patience", "600")

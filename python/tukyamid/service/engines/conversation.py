@@ -2,11 +2,10 @@
 
 from __future__ import annotations
 
-import asyncio
-import contextlib
 from collections import deque
 from collections.abc import Iterable, Sequence
 
+from ..started_program import StartedProgram, start_program
 from .framing import ReplyCutter
 
 _PIECE = 1 << 18
@@ -30,7 +29,7 @@ class Talk:
 
     def __init__(self, program: Sequence[str]) -> None:
         self._program = program
-        self._process: asyncio.subprocess.Process | None = None
+        self._process: StartedProgram | None = None
         self._cutter = ReplyCutter()
         self._replies: deque[bytes] = deque()
 
@@ -70,24 +69,27 @@ class Talk:
         self._replies.clear()
         return replies
 
-    async def _started(self) -> asyncio.subprocess.Process:
+    async def _started(self) -> StartedProgram:
         if self._process is not None and self._process.returncode is not None:
             raise EngineGone(f"status {self._process.returncode}")  # Another one doesn't hold what this one held.
         if self._process is None:
             self._cutter, self._replies = ReplyCutter(), deque()
+            cutter = self._cutter
             try:
-                self._process = await asyncio.create_subprocess_exec(
-                    *self._program, stdin=asyncio.subprocess.PIPE, stdout=asyncio.subprocess.PIPE, limit=_PIECE)
+                process = await start_program(self._program, limit=_PIECE)
             except OSError as error:
                 raise CannotStart(f"{self._program[0]}: {error.strerror or error}") from None
+            if self._cutter is not cutter:
+                process.kill()
+                raise EngineGone("it was ended while it was started")
+            self._process = process
         return self._process
 
     def kill(self) -> None:
         self._cutter, self._replies = ReplyCutter(), deque()
         process, self._process = self._process, None
         if process is not None and process.returncode is None:
-            with contextlib.suppress(ProcessLookupError):
-                process.kill()
+            process.kill()
 
     async def close(self) -> None:
         process = self._process

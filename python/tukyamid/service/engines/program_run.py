@@ -7,6 +7,7 @@ import contextlib
 import os
 from collections.abc import Callable, Iterable, Iterator, Sequence
 
+from ..started_program import StartedProgram, start_program
 from .framing import ReplyCutter
 
 _WRITTEN_PIECE = 1 << 14
@@ -51,7 +52,7 @@ class Program:
     def __init__(self, take: Callable[[bytes], None], tell: Callable[[str], None]) -> None:
         self._take = take
         self._tell = tell
-        self._process: asyncio.subprocess.Process | None = None
+        self._process: StartedProgram | None = None
         self._stdin: asyncio.StreamWriter | None = None
         self._cutter = ReplyCutter()
         self._lines: list[bytes] = []
@@ -119,12 +120,12 @@ class Program:
         if not self._is_killed:
             self._stdin = stdin
 
-    async def _start(self, words: Sequence[str], output: _Output) -> asyncio.subprocess.Process:
+    async def _start(self, words: Sequence[str], output: _Output) -> StartedProgram:
         """Starts the program, whose output goes to `output`."""
         reading, writing = os.pipe()
         pipe = os.fdopen(reading, "rb", 0)
         try:
-            process = await asyncio.create_subprocess_exec(*words, stdin=asyncio.subprocess.PIPE, stdout=writing)
+            process = await start_program(words, stdout=writing)
         except BaseException:
             pipe.close()
             raise
@@ -154,8 +155,7 @@ class Program:
         self._is_killed = True
         self._stdin = None
         if self._process is not None and self._process.returncode is None:
-            with contextlib.suppress(ProcessLookupError):
-                self._process.kill()
+            self._process.kill()
 
 
 def pieces(lines: Iterator[bytes]) -> Iterator[bytes]:

@@ -5,13 +5,12 @@ The verifier reads copies. A keyring's own files may be something else by then: 
 from __future__ import annotations
 
 import asyncio
-import contextlib
 import os
-import subprocess
 import tempfile
 from collections.abc import Sequence
 from dataclasses import dataclass
 
+from ..started_program import start_program
 from .verification import PIECE, NotVerified, lines_with
 from .watched_files import Unreadable
 
@@ -68,8 +67,7 @@ async def _run(words: Sequence[str], given: str, told: int) -> tuple[tuple[bytes
     """The certificates that the verifier writes, and its exit status. Its standard input is a file."""
     with open(given, "rb") as stdin:
         try:
-            process = await asyncio.create_subprocess_exec(
-                *words, stdin=stdin, stdout=subprocess.PIPE, stderr=told, limit=PIECE)
+            process = await start_program(words, stdin=stdin, stderr=told, limit=PIECE)
         except OSError as error:
             raise NotVerified(f"the verifier can't be started: {error}") from None
     assert process.stdout is not None
@@ -82,8 +80,7 @@ async def _run(words: Sequence[str], given: str, told: int) -> tuple[tuple[bytes
         raise NotVerified("the verifier failed: it wrote something else than a certificate") from None
     finally:
         if process.returncode is None:
-            with contextlib.suppress(ProcessLookupError):
-                process.kill()
+            process.kill()
             await process.wait()
 
 

@@ -12,6 +12,7 @@ from collections.abc import AsyncIterator, Callable, Iterable, Sequence
 from tukyamid.keyrings.verifier import VerifierFailed
 
 from ..line_intake import Desk
+from ..started_program import PIPE, start_program
 from ..storage.database import Actor, DatabaseFault, Snapshot
 
 _AHEAD = 64
@@ -147,9 +148,7 @@ class Verification:
 
     async def _judge(self, words: Sequence[str], questions: bytes, actor: Actor, say: Say) -> int:
         try:
-            verifier = await asyncio.create_subprocess_exec(
-                *words, stdin=asyncio.subprocess.PIPE, stdout=asyncio.subprocess.PIPE,
-                stderr=asyncio.subprocess.PIPE, limit=PIECE)
+            verifier = await start_program(words, stderr=PIPE, limit=PIECE)
         except OSError as error:
             raise NotVerified(f"the verifier can't be started: {error}") from None
         assert verifier.stdin is not None and verifier.stdout is not None and verifier.stderr is not None
@@ -168,8 +167,7 @@ class Verification:
             writing.cancel()
             said.cancel()
             if verifier.returncode is None:
-                with contextlib.suppress(ProcessLookupError):
-                    verifier.kill()
+                verifier.kill()
                 await verifier.wait()
         return count
 

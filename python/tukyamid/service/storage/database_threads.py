@@ -6,6 +6,7 @@ from __future__ import annotations
 import asyncio
 import contextlib
 import os
+import select
 from collections.abc import Callable
 from concurrent.futures import ThreadPoolExecutor
 from time import monotonic
@@ -77,11 +78,22 @@ class Lookups(Calls):
 
 
 def say(text: object) -> None:
-    """Writes a line of the log. Strangers' names may be in it, so nothing in it steers a terminal or ends the line. If
-    the disk is full, the line is lost: whoever reports something goes on."""
-    shown = for_people(str(text).encode("utf-8", "surrogateescape"), "\\")
+    """Writes a line for people. If the disk is full, it is lost: whoever reports something goes on."""
     with contextlib.suppress(OSError):
-        os.write(_STANDARD_ERROR, f"tukyamid-server: {shown}\n".encode("utf-8", "backslashreplace"))
+        os.write(_STANDARD_ERROR, _line_of(text) + b"\n")
+
+
+def log(text: object) -> None:
+    """Writes a line of the service's log. If nobody reads it at present, and its pipe is full, the line is lost."""
+    with contextlib.suppress(OSError):
+        if select.select((), (_STANDARD_ERROR,), (), 0)[1]:  # There is room for PIPE_BUF octets.
+            os.write(_STANDARD_ERROR, _line_of(text)[:select.PIPE_BUF - 1] + b"\n")
+
+
+def _line_of(text: object) -> bytes:
+    """Strangers' names may be in it, so nothing in it steers a terminal or ends the line."""
+    shown = for_people(str(text).encode("utf-8", "surrogateescape"), "\\")
+    return f"tukyamid-server: {shown}".encode("utf-8", "backslashreplace")
 
 
 class Access:
@@ -94,7 +106,7 @@ class Access:
         self._order = order
 
     def tell(self, text: str) -> None:
-        say(text)
+        log(text)
 
     @property
     def notes(self) -> bool:
