@@ -190,7 +190,7 @@ class Connection(Calls):
             raise
         if not isinstance(reply, ListingHead):
             return reply
-        listing: Listing[object] = Listing(reply, self._wire.line, self._lock)
+        listing: Listing[object] = Listing(reply, self._wire, self._lock)
         self._open_listing = listing
         return listing
 

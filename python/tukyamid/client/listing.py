@@ -7,7 +7,9 @@ from ..protocol.refusals import ProtocolError
 from ..protocol.reply_reader import ListingHead
 
 if TYPE_CHECKING:
-    from collections.abc import Callable
+    from collections.abc import Callable, Iterator
+
+    from .streams import Wire
 
 T = TypeVar("T")
 U = TypeVar("U")
@@ -18,11 +20,11 @@ class Listing(Generic[T]):
 
     Another command may be given at any time; what is left of the listing is then read into memory first."""
 
-    def __init__(self, head: ListingHead, next_line: Callable[[], str], lock: RLock) -> None:
+    def __init__(self, head: ListingHead, wire: Wire, lock: RLock) -> None:
         self.count = head.count
         self._item = head.item
-        self._read = cast("Callable[[str], T]", head.read)
-        self._next_line = next_line
+        self._read: Callable[[str], T] = cast("Callable[[str], T]", head.read)
+        self._wire = wire
         self._lock = lock
         self._left = head.count
         self._kept: list[T] = []  # The last one first.
@@ -47,6 +49,17 @@ class Listing(Generic[T]):
                 raise StopIteration
             return self._take()
 
+    def octets(self) -> Iterator[bytes]:
+        """What is left as it comes, in pieces that end anywhere: the quick way for a long dump. There must be no watch,
+        since its lines would come in between."""
+        while self._left:
+            with self._lock:
+                piece = self._wire.some()
+                self._left -= piece.count(b"\n")
+            if self._left < 0 or not self._left and not piece.endswith(b"\n"):
+                raise ProtocolError("more came than the reply has")
+            yield piece
+
     def settle(self) -> None:
         """Reads what is left into memory."""
         if self._left:
@@ -58,6 +71,6 @@ class Listing(Generic[T]):
             self._take()
 
     def _take(self) -> T:
-        item = self._read(self._next_line())
+        item = self._read(self._wire.line())
         self._left -= 1
         return item

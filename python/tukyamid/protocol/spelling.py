@@ -133,4 +133,5 @@ def for_people(octets: bytes, backslash: str = "\\\\") -> str:
             return character
         return "".join(f"\\x{o:02x}" for o in character.encode("utf-8", "surrogateescape"))
 
-    return "".join(map(shown, octets.decode("utf-8", "surrogateescape")))
+    text = octets.decode("utf-8", "surrogateescape")
+    return text if text.isprintable() and "\\" not in text else "".join(map(shown, text))

@@ -1,9 +1,9 @@
-"""What certificates and verdicts say, gathered from a dump as its lines go by, for an overview."""
+"""What certificates and verdicts say, gathered from a dump as it comes, for an overview."""
 
 import hashlib
 from binascii import a2b_hex
 from collections import defaultdict
-from collections.abc import Iterator
+from collections.abc import Iterable, Iterator
 from typing import NamedTuple
 
 from ..openpgp.certificates import ATTRIBUTE, CERTIFICATIONS, KEY, SIGNATURE, SUBKEY, USER_ID, key_fingerprint, packets
@@ -11,6 +11,8 @@ from ..openpgp.signatures import DIRECT, read_signature
 from ..protocol.spelling import for_people
 
 _MADE, _LASTS, _KEY_LASTS = 2, 3, 9  # Subpackets with a time of four octets.
+_OF_IMPORT, _OF_GOOD = b"import ", b" good "
+_NUMBER, _WORD, _ISSUER = slice(8, 72), slice(72, 78), slice(78, None)  # The fields of a line `verdict`.
 
 
 class Fact(NamedTuple):
@@ -23,23 +25,6 @@ class Fact(NamedTuple):
     algorithm: int
     user_id: bytes
     key_lasts: int
-
-
-class Script:
-    """Lines that come without line feeds, read as a file of them is."""
-
-    def __init__(self, lines: Iterator[bytes]) -> None:
-        self._lines = lines
-
-    def read(self, size: int) -> bytes:
-        """Some whole lines, of at least that many octets unless they end; none at the end."""
-        piece, left = list[bytes](), size
-        for line in self._lines:
-            piece.append(line)
-            left -= len(line) + 1
-            if left <= 0:
-                break
-        return b"\n".join(piece) + b"\n" if piece else b""
 
 
 class Facts:
@@ -56,16 +41,25 @@ class Facts:
     def name(self, fpr: str) -> str:
         return self.names.get(fpr, "")
 
-    def gather(self, lines: Iterator[bytes]) -> Iterator[bytes]:
-        """The lines of a dump as they are; what they say is gathered."""
-        for line in lines:
-            if line.startswith(b"import "):
-                self._take_certificate(a2b_hex(line[7:]))
-            elif line.startswith(b"verdict ") and b" good " in line:
-                _, number, _, issuer = line.split(b" ")
-                self._take_verdict(a2b_hex(number), issuer.decode("ascii"))
-            yield line
+    def gather(self, pieces: Iterable[bytes]) -> Iterator[bool]:
+        """Takes a dump in pieces that end anywhere. Yields for each piece whether certificates were in it: a dump has
+        them first."""
+        rest = b""
+        for piece in pieces:
+            *lines, rest = (rest + piece).split(b"\n")
+            yield self._take_lines(lines)
         self._by_number.clear()
+
+    def _take_lines(self, lines: list[bytes]) -> bool:
+        certificates = False
+        find, take = self._by_number.get, self._take_verdict
+        for line in lines:
+            if line.startswith(_OF_IMPORT):
+                self._take_certificate(a2b_hex(line[len(_OF_IMPORT):]))
+                certificates = True
+            elif line[_WORD] == _OF_GOOD and (fact := find(line[_NUMBER])) is not None:
+                take(fact, line[_ISSUER].decode("ascii"))
+        return certificates
 
     def _take_certificate(self, octets: bytes) -> None:
         """Reads what the engine exported in one pass: the numbers of signatures are most of the work, and what they
@@ -78,7 +72,7 @@ class Facts:
                 if start is not None and (fact := _fact_of(fpr, user_id, body)) is not None:
                     number = start.copy()
                     number.update(_with_length(body))
-                    self._by_number[number.digest()] = fact
+                    self._by_number[number.hexdigest().encode("ascii")] = fact
             elif sort == KEY:
                 fpr, key, user_id, start = key_fingerprint(body), body, b"", _start_of(body, 0, b"")
                 self.created[fpr] = int.from_bytes(body[1:5], "big")
@@ -90,10 +84,7 @@ class Facts:
         self.names[fpr] = for_people(next(iter(user_ids), b""))
         self.bindings += len(user_ids)
 
-    def _take_verdict(self, number: bytes, issuer: str) -> None:
-        fact = self._by_number.get(number)
-        if fact is None:
-            return
+    def _take_verdict(self, fact: Fact, issuer: str) -> None:
         if issuer == fact.fpr:
             self.self_signatures[issuer].append(fact)
         elif fact.kind in CERTIFICATIONS:
@@ -131,19 +122,28 @@ def times_of(body: bytes) -> tuple[int, int, int] | None:
 def _usual_times(body: bytes) -> tuple[int, int, int] | None:
     """The times of a signature of version 4 with short subpackets, none of which is critical but for those with times;
     None of another one."""
-    if len(body) < 10 or body[0] != 4:
+    size = len(body)
+    if size < 10 or body[0] != 4:
         return None
-    at, found = 6, {_MADE: -1, _LASTS: 0, _KEY_LASTS: 0}
+    at, made, lasts, key_lasts = 6, -1, 0, 0
     end = at + (body[4] << 8) + body[5]
-    if len(body) < end + 4 or len(body) < end + 4 + (body[end] << 8) + body[end + 1]:
+    if size < end + 4 or size < end + 4 + (body[end] << 8) + body[end + 1]:
         return None
     while at < end:
         length, kind = body[at], body[at + 1]
-        if not 0 < length < 192 or kind & 0x7F in found and length != 5:
+        if not 0 < length < 192:
             return None
-        if kind & 0x7F in found:
-            found[kind & 0x7F] = int.from_bytes(body[at + 2:at + 6], "big")
+        if kind & 0x7F in (_MADE, _LASTS, _KEY_LASTS):
+            if length != 5:
+                return None
+            value = int.from_bytes(body[at + 2:at + 6], "big")
+            if kind & 0x7F == _MADE:
+                made = value
+            elif kind & 0x7F == _LASTS:
+                lasts = value
+            else:
+                key_lasts = value
         elif kind >= 0x80:
             return None
         at += 1 + length
-    return (found[_MADE], found[_LASTS], found[_KEY_LASTS]) if at == end and found[_MADE] >= 0 else None
+    return (made, lasts, key_lasts) if at == end and made >= 0 else None

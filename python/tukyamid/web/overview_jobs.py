@@ -16,6 +16,8 @@ from .service_connections import Desk
 
 LONGEST_LINE = 1 << 26
 PATIENCE = 1800.0
+# Who asks again is answered as soon as there is something new, and after this time at the latest.
+NEWS_PATIENCE = 0.5
 
 
 class _Survey:
@@ -25,6 +27,19 @@ class _Survey:
         self.of = asked, change
         self.state: dict[str, Any] = {"progress": "starting"}
         self.task: asyncio.Task[None] | None = None
+        self._changed = asyncio.Event()
+
+    async def news(self) -> dict[str, Any]:
+        """The state once it has changed since the last call, or as it is if that takes longer."""
+        if "progress" in self.state:
+            with contextlib.suppress(TimeoutError):
+                await asyncio.wait_for(self._changed.wait(), NEWS_PATIENCE)
+            self._changed.clear()
+        return self.state
+
+    def _set(self, state: dict[str, Any]) -> None:
+        self.state = state
+        self._changed.set()
 
     async def run(self, words: list[str], asked: bytes) -> None:
         package = str(Path(__file__).resolve().parents[2])
@@ -37,16 +52,16 @@ class _Survey:
                 process.stdin.write(asked)
                 process.stdin.close()
                 async for line in process.stdout:
-                    self.state = json.loads(line)
+                    self._set(json.loads(line))
                 await process.wait()
         except (TimeoutError, ValueError, OSError) as error:
-            self.state = {"error": f"it wasn't finished: {error or 'it took too long'}"}
+            self._set({"error": f"it wasn't finished: {error or 'it took too long'}"})
         finally:
             with contextlib.suppress(ProcessLookupError):
                 process.terminate()
             await process.wait()
         if "progress" in self.state:
-            self.state = {"error": f"it ended with status {process.returncode}"}
+            self._set({"error": f"it ended with status {process.returncode}"})
 
 
 class Surveys:
@@ -62,10 +77,11 @@ class Surveys:
             change = max([one.number async for one in await client.log(1)], default=0)
         roots = dict(sorted(standpoint.roots.items()))
         asked = json.dumps({"time": standpoint.time, "roots": roots, **more}).encode()
-        survey = _Survey(asked, change)
-        if self._last is not None and self._last.of == survey.of:
-            state = self._last.state
-            self._last = None if "error" in state else self._last  # Who asks again after an error tries again.
+        survey, last = _Survey(asked, change), self._last
+        if last is not None and last.of == survey.of:
+            state = await last.news()
+            if "error" in state and self._last is last:
+                self._last = None  # Who asks again after an error tries again.
             return state
         await self.close()
         words = [sys.executable, "-m", f"tukyamid.web.{self._module}", self._desk.socket]

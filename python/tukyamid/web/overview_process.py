@@ -1,7 +1,6 @@
 """Makes an overview: `python3 -m tukyamid.web.overview_process SOCKET`, with a standpoint as JSON on standard input.
 Writes lines of JSON: how far it is, with the tables that are there so far, and at last all of them."""
 
-import gc
 import json
 import os
 import sys
@@ -12,9 +11,10 @@ from typing import Any, BinaryIO, cast
 
 from ..client import connect
 from ..client.engine import Engine
+from ..client.listing import Listing
 from ..protocol.refusals import ServiceEnded, TukyamidError
 from . import overview_tables
-from .dump_facts import Facts, Script
+from .facts_summary import Counts, FactsProcess
 
 FULL, PARTIAL, ANY = 120, 40, 1
 VIEW = "overview"
@@ -34,15 +34,33 @@ def say(**said: Any) -> None:
     sys.stdout.flush()
 
 
+class Copied:
+    """A dump as a file that the engine is filled from. What is read goes to the facts' process too."""
+
+    def __init__(self, dump: Listing[bytes], facts: FactsProcess) -> None:
+        self._pieces, self._facts = dump.octets(), facts
+        self._lines, self._copied, self._said_at = dump.count, 0, clock()
+
+    def read(self, size: int) -> bytes:
+        """The next piece, of any size; none at the end."""
+        piece = next(self._pieces, b"")
+        self._facts.write(piece)
+        self._copied += piece.count(b"\n")
+        if clock() - self._said_at > PAUSE:
+            self._said_at = clock()
+            say(progress=f"copying the keyring, {100 * self._copied // self._lines} %")
+        return piece
+
+
 class Overview:
     """A copy of the service's keyring in an engine of its own, from which keys can be taken out by turns."""
 
-    def __init__(self, engine: Engine, facts: Facts, time: int, roots: dict[str, int]) -> None:
-        self._engine, self._facts, self._time, self._roots = engine, facts, time, roots
+    def __init__(self, engine: Engine, facts: FactsProcess, time: int, roots: dict[str, int]) -> None:
+        self._engine, self._facts, self._roots = engine, facts, roots
         self._tables: dict[str, overview_tables.Table] = {}
         self._progress = "looking for what depends on whom"
         self._said_at = 0.0
-        self._about: dict[str, Any] = {"time": time, "roots": roots, "keys": len(facts.created)}
+        self._about: dict[str, Any] = {"time": time, "roots": roots}
         engine.open_view(VIEW, time)
         for fpr, amount in roots.items():
             engine.set_root(VIEW, fpr, amount)
@@ -50,16 +68,18 @@ class Overview:
     def every_table(self) -> Iterator[overview_tables.Table]:
         """The tables, in an order in which what takes longest comes last. A later one takes the place of one of its
         name."""
-        full, partial, some = self._levels()
-        yield self._counts(full, partial, some)
-        yield overview_tables.ending(self._facts, self._time)
-        yield overview_tables.hashes(self._facts)
-        yield overview_tables.islands(self._facts, frozenset(fpr for fpr, _ in some))
-        yield from self._introducers(full, some)
+        counts = self._facts.counts()
+        self._about["keys"] = counts.keys
+        full, partial, some = self._levels(counts)
+        yield _table_of_counts(counts, full, partial, some)
+        summary = self._facts.summary()
+        yield from summary.tables
+        yield overview_tables.islands(summary.groups, summary.names, summary.created, frozenset(fpr for fpr, _ in some))
+        yield from self._introducers(summary.names, full, some)
 
     def gather(self) -> None:
         """Makes the tables, and says those that are there so far whenever one is."""
-        say(progress="counting the bindings", tables=[], **self._about)
+        say(progress="counting the bindings")
         for table in self.every_table():
             self._tables[table["name"]] = table
             tables = sorted(self._tables.values(), key=lambda one: ORDER.index(one["name"]))
@@ -69,10 +89,10 @@ class Overview:
     def _reached(self, amount: int) -> set[Binding]:
         return {(one.fpr, one.user_id) for one in self._engine.list(VIEW, amount)}
 
-    def _levels(self) -> tuple[set[Binding], set[Binding], set[Binding]]:
+    def _levels(self, counts: Counts) -> tuple[set[Binding], set[Binding], set[Binding]]:
         """The bindings that are authenticated fully, partly and to any amount."""
         some = self._reached(ANY)
-        if len(some) * LISTED_PER_ASKED > self._facts.bindings:
+        if len(some) * LISTED_PER_ASKED > counts.bindings:
             return self._reached(FULL), self._reached(PARTIAL), some
         amounts = self._amounts(some)
         return ({one for one in some if amounts[one] >= FULL}, {one for one in some if amounts[one] >= PARTIAL}, some)
@@ -80,15 +100,8 @@ class Overview:
     def _amounts(self, bindings: Iterable[Binding]) -> dict[Binding, int]:
         return {one: self._engine.ask(VIEW, one[0], FULL, one[1]).amount for one in bindings}
 
-    def _counts(self, full: set[Any], partial: set[Any], some: set[Any]) -> overview_tables.Table:
-        rows = [("full", f"{FULL} or more", len(full)), ("partial", f"{PARTIAL} to {FULL - 1}", len(partial - full)),
-                ("less", f"1 to {PARTIAL - 1}", len(some - partial - full)),
-                ("none", "0", self._facts.bindings - len(some | partial | full))]
-        return overview_tables.table("bindings", "Bindings by their amounts",
-                                     "How far the user IDs of all keys are authenticated, from these roots and at "
-                                     "this time.", ("reach", "amount", "bindings"), rows)
-
-    def _introducers(self, full: set[Binding], some: set[Binding]) -> Iterator[overview_tables.Table]:
+    def _introducers(self, names: dict[str, str], full: set[Binding],
+                     some: set[Binding]) -> Iterator[overview_tables.Table]:
         """What would be lost without each key that is on a path, as the engine answers when it is taken out: the table
         as far as it is, with those first that are on most paths, and at last all of it."""
         on_paths = self._on_paths(some)
@@ -96,7 +109,7 @@ class Overview:
         rows: list[tuple[str, str, int, int, int, str]] = []
         for fpr in asked:
             lost_full, lost = self._lost_without(fpr, on_paths[fpr], full, some)
-            rows.append((self._facts.name(fpr), "root" if fpr in self._roots else "introducer", len(on_paths[fpr]),
+            rows.append((names.get(fpr, ""), "root" if fpr in self._roots else "introducer", len(on_paths[fpr]),
                          lost_full, lost, fpr))
             if len(rows) < len(asked) and self._is_due():
                 self._progress = f"left out introducer {len(rows)} of {len(asked)}"
@@ -141,6 +154,16 @@ class Overview:
                 {one for one, amount in amounts.items() if amount >= ANY})
 
 
+def _table_of_counts(counts: Counts, full: set[Binding], partial: set[Binding],
+                     some: set[Binding]) -> overview_tables.Table:
+    rows = [("full", f"{FULL} or more", len(full)), ("partial", f"{PARTIAL} to {FULL - 1}", len(partial - full)),
+            ("less", f"1 to {PARTIAL - 1}", len(some - partial - full)),
+            ("none", "0", counts.bindings - len(some | partial | full))]
+    return overview_tables.table("bindings", "Bindings by their amounts",
+                                 "How far the user IDs of all keys are authenticated, from these roots and at this "
+                                 "time.", ("reach", "amount", "bindings"), rows)
+
+
 def _table_of_introducers(rows: list[tuple[str, str, int, int, int, str]]) -> overview_tables.Table:
     rows.sort(key=lambda row: (-row[3], -row[4], -row[2]))
     return overview_tables.table("introducers", "Introducers, by what depends on them",
@@ -151,7 +174,6 @@ def _table_of_introducers(rows: list[tuple[str, str, int, int, int, str]]) -> ov
 
 def main(words: list[str]) -> int:
     os.nice(5)
-    gc.disable()  # What is gathered stays to the end and has no cycles; to look for them takes half of the time.
     asked = json.loads(sys.stdin.read())
     try:
         _survey(words[0], asked["time"], asked["roots"])
@@ -163,11 +185,10 @@ def main(words: list[str]) -> int:
 
 
 def _survey(socket: str, time: int, roots: dict[str, int]) -> None:
-    facts = Facts()
-    with Engine() as engine:
+    with Engine() as engine, FactsProcess(time) as facts:
         say(progress="copying the keyring")
         with connect(socket) as client:
-            is_whole = engine.restore(cast(BinaryIO, Script(facts.gather(iter(client.dump())))))
+            is_whole = engine.restore(cast(BinaryIO, Copied(client.dump(), facts)))
         if not is_whole:
             raise ServiceEnded("the keyring couldn't be copied")
         Overview(engine, facts, time, roots).gather()

@@ -62,14 +62,14 @@ def _is_admitted(algorithm: int, made: int) -> bool:
     return algorithm in _STRONG or (algorithm in (2, 3) and made < SHA1_ENDS)
 
 
-def islands(facts: Facts, reached: frozenset[str]) -> Table:
+def islands(groups: list[list[str]], names: dict[str, str], created: dict[str, int],
+            reached: frozenset[str]) -> Table:
     """Groups of keys that certify one another, and to which no path leads."""
-    groups = _groups(facts)
     rows = []
     for members in groups:
         if reached.isdisjoint(members):
-            first = min(members, key=lambda fpr: facts.created[fpr])
-            rows.append((len(members), facts.name(first), first))
+            first = min(members, key=created.__getitem__)
+            rows.append((len(members), names[first], first))
     rows.sort(key=lambda row: (-row[0], row[1]))
     alone = sum(row[0] == 1 for row in rows)
     about = ("Groups of keys that certify one another, and to which no path from a root leads. Each is shown by its "
@@ -77,7 +77,7 @@ def islands(facts: Facts, reached: frozenset[str]) -> Table:
     return table("islands", "Islands without a path", about, ("keys", "oldest key's user ID", "key"), rows)
 
 
-def _groups(facts: Facts) -> list[list[str]]:
+def groups(facts: Facts) -> list[list[str]]:
     """The keys, grouped by who has certified whom in either direction."""
     leader = {fpr: fpr for fpr in facts.created}
 
@@ -89,7 +89,7 @@ def _groups(facts: Facts) -> list[list[str]]:
     for issuer, fact in facts.good:
         if leader.get(issuer, leader[fact.fpr]) != leader[fact.fpr]:  # Most of them have the same leader soon.
             leader[find(issuer)] = find(fact.fpr)
-    groups: defaultdict[str, list[str]] = defaultdict(list)
+    found: defaultdict[str, list[str]] = defaultdict(list)
     for fpr in leader:
-        groups[find(fpr)].append(fpr)
-    return list(groups.values())
+        found[find(fpr)].append(fpr)
+    return list(found.values())

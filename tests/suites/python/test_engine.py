@@ -49,6 +49,7 @@ class Framing(unittest.TestCase):
             Path(40, B, (Step(B, A, 0, 40, b"Alice"),)),
             Path(80, B, (Step(B, B, 1, 80, b""), Step(B, A, 0, 120, b"Alice and more"))))))
         self.assertEqual(list(engine.dump()), [b"import ", b"verdict " + N.encode() + b" bad"])
+        self.assertEqual(b"".join(engine.dump().octets()), b"import \nverdict " + N.encode() + b" bad\n")
         self.assertEqual(engine.do(commands.Export(A)), Exported(b"\xaa" * 20))
 
     def test_claims_of_absence(self):

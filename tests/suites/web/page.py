@@ -51,9 +51,9 @@ def hostile(alice):
 
 
 class Page:
-    """`tukyamid web` over a service that holds some keyring files."""
+    """`tukyamid web` over a service that holds some keyring files, or a database that was made before."""
 
-    def __init__(self, files, roots, time=DECEMBER, verifier=TRUSTING):
+    def __init__(self, files, roots, time=DECEMBER, verifier=TRUSTING, database=None):
         self._folder = tempfile.TemporaryDirectory(prefix="web-", dir=folder(), ignore_cleanup_errors=True)
         own = Path(self._folder.name)
         self.own, self.runtime = own, own / "run"
@@ -62,6 +62,10 @@ class Page:
                             "XDG_STATE_HOME": str(own / "state"), "XDG_CACHE_HOME": str(own / "cache"),
                             "TUKYAMID_VERIFIER": str(verifier), "GNUPGHOME": str(own / "gnupg")}
         try:
+            if database is not None:
+                data = own / "data" / "tukyamid"
+                data.mkdir(parents=True, mode=0o700)
+                database.rename(data / "keyring.db")
             added = run([COMMAND, "keyring", "add", *files], env=self.environment) if files else None
             if added is not None and added.returncode:
                 raise AssertionError(added.stderr.decode())

@@ -7,7 +7,8 @@ from pathlib import Path
 from made import Made, trust
 from tukyamid.openpgp.certificates import SIGNATURE, packets, read_certificate
 from tukyamid.openpgp.signatures import read_signature
-from tukyamid.web.dump_facts import Facts, Script, times_of
+from tukyamid.web.dump_facts import Facts, times_of
+from tukyamid.web.facts_summary import MOST_PIECES, FactsEnded, FactsProcess
 
 DEBIAN = Path("/usr/share/keyrings/debian-keyring.gpg")
 MADE = 1_700_000_000
@@ -66,10 +67,17 @@ class Gathered(unittest.TestCase):
             b"One <one@example.org>", other, MADE + 5, trust(1, 60))
         certificate = read_certificate(one.octets)
         signatures = certificate.direct + certificate.user_ids[b"One <one@example.org>"]
-        lines = [b"import " + one.octets.hex().encode(),
-                 *(f"verdict {each.number} good {each.said.issuer}".encode() for each in signatures)]
+        dump = b"import %s\n" % one.octets.hex().encode() + b"".join(
+            f"verdict {each.number} good {each.said.issuer}\n".encode() for each in signatures) + (
+            b"verdict %s bad\nview v at 1\n" % (b"0" * 64))
+        for size in len(dump), 1000, 7:
+            with self.subTest(size):
+                self.check(dump, size, one, other, certificate)
+
+    def check(self, dump, size, one, other, certificate):
         facts = Facts()
-        self.assertEqual(list(facts.gather(iter(lines))), lines)
+        had_certificates = list(facts.gather(dump[at:at + size] for at in range(0, len(dump), size)))
+        self.assertEqual(sum(had_certificates), 1)
         self.assertEqual((facts.bindings, facts.created, facts.name(one.fpr)),
                          (1, {one.fpr: certificate.created}, "One <one@example.org>"))
         self.assertEqual(len(facts.self_signatures[one.fpr]), 2)
@@ -77,10 +85,19 @@ class Gathered(unittest.TestCase):
         self.assertEqual((issuer, fact.fpr, fact.made, fact.ends, fact.user_id),
                          (other.fpr, one.fpr, MADE + 5, None, b"One <one@example.org>"))
 
-    def test_a_script_is_read_in_pieces(self):
-        lines = [b"%d" % number for number in range(100)]
-        script = Script(iter(lines))
-        pieces = list(iter(lambda: script.read(10), b""))
-        self.assertGreater(len(pieces), 10)
-        self.assertTrue(all(piece.endswith(b"\n") for piece in pieces))
-        self.assertEqual(b"".join(pieces), b"\n".join(lines) + b"\n")
+
+class Process(unittest.TestCase):
+    def test_a_process_that_was_killed(self):
+        """Who still writes to it isn't held up, and who reads gets an error."""
+        with FactsProcess(MADE) as facts:
+            facts.end_at_once()
+            for _ in range(2 * MOST_PIECES):
+                facts.write(b"import 00\n")
+            facts.write(b"")
+            with self.assertRaisesRegex(FactsEnded, "status -9"):
+                facts.counts()
+
+    def test_it_ends_with_the_one_that_started_it(self):
+        with FactsProcess(MADE) as facts:
+            facts.write(b"import ")
+        self.assertEqual(facts.status, -9)

@@ -8,7 +8,7 @@ from made import Made, trust
 from outside import needs_engine
 from tukyamid.client.engine import Engine
 from tukyamid.openpgp.certificates import read_certificate
-from tukyamid.web.dump_facts import Facts
+from tukyamid.web.facts_summary import FactsProcess
 from tukyamid.web.overview_process import Overview
 
 MADE = 1_700_000_000
@@ -47,9 +47,11 @@ def lines_of(made):
 class Introducers(unittest.TestCase):
     def rows(self, roots):
         """The last table: for each name the bindings on a path, those no longer full, and those without a path."""
-        facts = Facts()
-        with Engine() as engine:
-            self.assertEqual(engine.feed(facts.gather(lines_of(self.made))), [])
+        lines = list(lines_of(self.made))
+        with Engine() as engine, FactsProcess(MADE + 1) as facts:
+            self.assertEqual(engine.feed(lines), [])
+            for part in *(line + b"\n" for line in lines), b"":
+                facts.write(part)
             *_, table = Overview(engine, facts, MADE + 1, roots).every_table()
         self.assertEqual(table["name"], "introducers")
         return {row[0]: tuple(row[2:5]) for row in table["rows"]}

@@ -5,7 +5,7 @@ import { byId, count, day, fill, make, name, save, short } from "./dom.js";
 import { keyLink } from "./links.js";
 import { addressOf, addressOfKey, standpoint, state } from "./state.js";
 
-const PAUSE = 500;
+const PAUSE = 100;
 const SHOWN = 50;
 let shownFor = "";
 let latest = null;

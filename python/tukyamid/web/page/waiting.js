@@ -3,7 +3,7 @@
 import { call } from "./asking.js";
 import { fill, make } from "./dom.js";
 
-const PAUSE = 500;
+const PAUSE = 100;
 
 /** What a call returns in the end; null as soon as `isWanted` says that nobody waits for it any more. */
 export async function waitFor(what, asked, place, isWanted) {
