@@ -145,7 +145,7 @@ def _change(path: str, edit: Callable[[Any], None]) -> None:
 def _list(given: Words) -> list[str]:
     text = config_file.read(config_file.HOST_FILE) if given.host else None
     config = config_values.read_checked(config_file.HOST_FILE, text) if text is not None else \
-        config_values.Config(None, {}, (), config_values.Policy(), {}) if given.host else config_values.load()
+        config_values.Config(None, {}, (), config_values.Policy(), {}, {}) if given.host else config_values.load()
     if not config.roots:
         return ["you have no roots of your own; use tukyamid root add KEY"]
     names = _names(config.roots)

@@ -21,7 +21,7 @@ from . import config_file, plain_toml
 if TYPE_CHECKING:
     from collections.abc import Mapping
 
-FULL, MOST_ROOT, MOST_AMOUNT, MOST_ROOTS, MOST_SIGNERS = 120, 255, 2**32 - 1, 1000, 64
+FULL, MOST_ROOT, MOST_AMOUNT, MOST_ROOTS, MOST_SIGNERS, MOST_SETS = 120, 255, 2**32 - 1, 1000, 64, 64
 SERVICE, GPG = "service", "gpg"
 _POLICY = ("amount", "for", "threshold", "strict")
 _MOST_DOTS = 100
@@ -39,19 +39,20 @@ class Policy(Value):
 
 class Config(Value):
     """What a file says. `path` is None if there is no file. `roots` are fingerprints in lower case with their
-    amounts."""
-    __slots__ = ("path", "roots", "inputs", "policy", "callers")
+    amounts. `sets` are the named sets of roots that `tukyamid web --public` offers."""
+    __slots__ = ("path", "roots", "inputs", "policy", "callers", "sets")
 
     def __init__(self, path: str | None, roots: Mapping[str, int], inputs: tuple[str, ...], policy: Policy,
-                 callers: Mapping[str, Policy]) -> None:
-        self.path, self.roots, self.inputs, self.policy, self.callers = path, roots, inputs, policy, callers
+                 callers: Mapping[str, Policy], sets: Mapping[str, Mapping[str, int]]) -> None:
+        self.path, self.roots, self.inputs, self.policy = path, roots, inputs, policy
+        self.callers, self.sets = callers, sets
 
 
 def load() -> Config:
     """The file that counts; without one there are no roots. ConfigUnusable if it can't be used."""
     found = config_file.find()
     if found is None:
-        return Config(None, {}, (SERVICE,), Policy(), {})
+        return Config(None, {}, (SERVICE,), Policy(), {}, {})
     return read_checked(*found)
 
 
@@ -75,14 +76,14 @@ def read_text(text: str) -> Config:
         table = _read_toml(text)
     policy = _policy(table, Policy())
     for key in table:
-        if key not in (*_POLICY, "roots", "inputs", "socket", "homes", "caller"):
+        if key not in (*_POLICY, "roots", "inputs", "socket", "homes", "caller", "sets"):
             raise ValueError(f"the key {key!r} isn't known")
     if "socket" in table:
         _absolute("socket", table["socket"])
     for home in _texts("homes", table.get("homes", [])):
         _absolute("homes", home)
-    return Config(None, _roots(table.get("roots", {})), _inputs(table.get("inputs", [SERVICE])), policy,
-                  _callers(table.get("caller", {}), policy))
+    return Config(None, _roots("roots", table.get("roots", {})), _inputs(table.get("inputs", [SERVICE])), policy,
+                  _callers(table.get("caller", {}), policy), _sets(table.get("sets", {})))
 
 
 def _read_toml(text: str) -> dict[str, object]:
@@ -97,18 +98,35 @@ def _read_toml(text: str) -> dict[str, object]:
         raise ValueError("it is nested too deeply") from None
 
 
-def _roots(value: object) -> dict[str, int]:
+def _roots(what: str, value: object) -> dict[str, int]:
     roots: dict[str, int] = {}
-    table = _table("roots", value)
+    table = _table(what, value)
     if len(table) > MOST_ROOTS:
-        raise ValueError(f"roots has more than {MOST_ROOTS} entries")
+        raise ValueError(f"{what} has more than {MOST_ROOTS} entries")
     for digits, amount in table.items():
         if len(digits) not in (40, 64) or not is_hexadecimal(digits.lower()):
-            raise ValueError(f"roots: {digits!r} isn't a fingerprint of 40 or 64 digits")
+            raise ValueError(f"{what}: {digits!r} isn't a fingerprint of 40 or 64 digits")
         if digits.lower() in roots:
-            raise ValueError(f"roots: {digits} is there twice")
-        roots[digits.lower()] = _number(f"roots: {digits}", amount, MOST_ROOT)
+            raise ValueError(f"{what}: {digits} is there twice")
+        roots[digits.lower()] = _number(f"{what}: {digits}", amount, MOST_ROOT)
     return roots
+
+
+def _sets(value: object) -> dict[str, Mapping[str, int]]:
+    table = _table("sets", value)
+    if len(table) > MOST_SETS:
+        raise ValueError(f"sets has more than {MOST_SETS} entries")
+    for name, roots in table.items():
+        if not is_set(name):
+            raise ValueError(f"sets: {name!r} isn't a name of 1 to 32 letters, digits, - and _")
+        if not _table(f"sets.{name}", roots):
+            raise ValueError(f"sets.{name} has no roots")
+    return {name: _roots(f"sets.{name}", roots) for name, roots in table.items()}
+
+
+def is_set(name: str) -> bool:
+    """Whether a set of roots can have this name."""
+    return name.isascii() and is_caller(name.lower())
 
 
 def _inputs(value: object) -> tuple[str, ...]:

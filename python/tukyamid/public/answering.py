@@ -3,7 +3,7 @@
 from __future__ import annotations
 
 from collections.abc import Mapping
-from typing import Any
+from typing import TYPE_CHECKING, Any
 
 from ..client import Client
 from ..command import questions
@@ -24,6 +24,9 @@ from ..protocol.replies import Binding, Missed
 from ..protocol.service_lines import Waiting
 from ..protocol.spelling import user_id, write_user_id
 from .read_only_service import connect_read_only
+
+if TYPE_CHECKING:
+    from .page_answering import Whole
 
 PATIENCE = 60.0
 MOST_KEPT = 20_000
@@ -47,12 +50,13 @@ class Answering:
         self._waiting: Waiting | None = None
         self._views: dict[tuple[int, tuple[tuple[str, int], ...]], View] = {}
         self._listed: tuple[object, list[Binding]] | None = None
+        self.whole: Whole | None = None  # The network that the page was shown last.
 
     def at(self, state: str) -> None:
         """Says in which state the keyring is: what was read in another one is forgotten."""
         keyring = self._keyring
         if state != self._state or keyring is None or keyring.kept() > MOST_KEPT:
-            self._state, self._listed = state, None
+            self._state, self._listed, self.whole = state, None, None
             self._views.clear()
             self._keyring = served_keyring(self.client)
             self._waiting = self._keyring.index.waiting()
@@ -68,15 +72,16 @@ class Answering:
         assert self._keyring is not None
         return self._keyring
 
-    def waits(self) -> bool:
-        """Whether signatures wait to be verified, so that another answer may come later."""
-        return self._waiting is not None
+    @property
+    def waiting(self) -> Waiting | None:
+        """The signatures that wait to be verified, so that another answer may come later."""
+        return self._waiting
 
     def forget(self) -> None:
         """Ends the connection: the next question begins another."""
         if self._client is not None:
             self._client.end_at_once()
-        self._client = self._keyring = self._listed = None
+        self._client = self._keyring = self._listed = self.whole = None
         self._views.clear()
 
     def view(self, time: int, roots: Mapping[str, int]) -> View:

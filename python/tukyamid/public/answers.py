@@ -53,7 +53,7 @@ class Answers:
     async def _made(self, question: Question, state: State) -> Answer:
         """The answer by a worker: over one state of the keyring, unless it changes all the time."""
         for _ in range(MOST_TRIES):
-            reply = await self._workers.ask(question.call, question.as_line(state.token))
+            reply = await self._workers.ask(question.as_line(state.token), question.is_long)
             before, state = state, await self._last.now()
             if before.token == state.token:
                 return self._taken(question, state, reply)

@@ -10,7 +10,7 @@ from typing import Any, NamedTuple
 from urllib.parse import parse_qsl
 
 from ..command.option_values import read_key, read_root, read_time, read_wanted
-from .root_sets import Sets
+from .root_sets import Sets, set_named
 
 MOST_ROOTS, MOST_KEYS, MOST_PARAMETERS = 16, 12, 64
 MOST_LISTED, MOST_BEGIN, MOST_TEXT = 500, 10**7, 2000
@@ -23,14 +23,18 @@ _ALLOWED = {**{name: {*needed, *_COMMON} for name, needed in NEEDED.items()},
             "list": {"pattern", "address", "begin", "most", *_COMMON}}
 _BY_ADDRESS = {"authenticate", "explain", "lookup", "path"}
 _STRICT = {"authenticate", "lookup", "identify", "explain", "list"}
+# What starts a program of its own, or reads much.
+_LONG = frozenset({"path", "absence", "proof", "list"})
 
 
 class Question(NamedTuple):
-    """What is asked: the call, from which roots, as of when, and the other parameters."""
+    """What is asked: the call, from which roots, as of when, and the other parameters. What is long has half of the
+    workers at most."""
     call: str
     time: int
     roots: tuple[tuple[str, int], ...]
     asked: str
+    is_long: bool = False
 
     def as_line(self, state: str) -> bytes:
         """What a worker reads."""
@@ -53,18 +57,18 @@ def read_question(call: str, query: str, sets: Sets, clock: Callable[[], float] 
     one = _single(pairs)
     at = read_time(one["time"]) if "time" in one else now_rounded(clock())
     asked = _asked(call, pairs, one)
-    return Question(call, at, _roots(call, pairs, one, sets), json.dumps(asked, sort_keys=True))
+    return Question(call, at, _roots(call, pairs, one, sets), json.dumps(asked, sort_keys=True), call in _LONG)
 
 
-def read_pairs(query: str) -> list[tuple[str, str]]:
+def read_pairs(query: str, most: int = MOST_TEXT) -> list[tuple[str, str]]:
     """The parameters of an address; octets that aren't UTF-8 stay what they are."""
     if not query:
         return []
     pairs = parse_qsl(query, keep_blank_values=True, strict_parsing=True, encoding="utf-8", errors="surrogateescape",
                       max_num_fields=MOST_PARAMETERS)
     for name, value in pairs:
-        if len(value) > MOST_TEXT:
-            raise ValueError(f"{name[:40]!r} has more than {MOST_TEXT} characters")
+        if len(value) > most:
+            raise ValueError(f"{name[:40]!r} has more than {most} characters")
     return pairs
 
 
@@ -104,13 +108,13 @@ def _roots(call: str, pairs: list[tuple[str, str]], one: Mapping[str, str], sets
         raise ValueError(f"more than {MOST_ROOTS} roots")
     if own:
         return tuple(sorted(dict(own).items()))
-    if "roots" in one and one["roots"] not in sets:
-        raise ValueError(f"there is no set of roots {one['roots'][:40]!r}: {', '.join(sets) or 'none has a name'}")
-    if not sets and call != "path":
-        raise ValueError("a trust root is missing: give root=FINGERPRINT[:AMOUNT]")
-    if call == "path" and "roots" not in one:
+    if "roots" in one:
+        return tuple(sorted(set_named(sets, one["roots"]).items()))
+    if call == "path":
         return ()
-    return tuple(sorted(sets[one.get("roots", next(iter(sets)))].items()))
+    if not sets:
+        raise ValueError("a trust root is missing: give root=FINGERPRINT[:AMOUNT]")
+    return tuple(sorted(sets[next(iter(sets))].items()))
 
 
 def _flag(one: Mapping[str, str], name: str) -> bool:

@@ -83,13 +83,14 @@ class Rates:
         self._rate, self._burst, self._clock = rate, burst, clock
         self._left: OrderedDict[str, tuple[float, float]] = OrderedDict()
 
-    def wait(self, address: str) -> float:
-        """Takes a request from the bucket of an address. Returns 0, or after how many seconds it may try again."""
+    def wait(self, address: str, cost: float = 1.0) -> float:
+        """Takes a request from the bucket of an address. Returns 0, or after how many seconds it may try again. What
+        costs less than others is a part of a request."""
         now = self._clock()
         left, since = self._left.pop(address, (self._burst, now))
         left = min(self._burst, left + (now - since) * self._rate)
-        is_let_in = left >= 1
-        self._left[address] = left - 1 if is_let_in else left, now
+        is_let_in = left >= cost
+        self._left[address] = left - cost if is_let_in else left, now
         if len(self._left) > MOST_ADDRESSES:
             self._left.popitem(last=False)
-        return 0.0 if is_let_in else (1 - left) / self._rate
+        return 0.0 if is_let_in else (cost - left) / self._rate

@@ -9,7 +9,7 @@ import math
 import signal
 import socket
 import time
-from collections.abc import Callable
+from collections.abc import Callable, Mapping
 from contextlib import AsyncExitStack
 from pathlib import Path
 from typing import NamedTuple
@@ -24,12 +24,15 @@ from .client_limits import Origins, Rates
 from .connections import Gates
 from .last_change import LastChange
 from .metrics import Metrics
+from .page_files import File
+from .page_questions import CALLS, begin_of, read_page_question
 from .root_sets import Sets
 from .workers import Refusal, Workers
 
 OPENAPI = Path(__file__).with_name("openapi.json")
 NEVER = {"Cache-Control": "no-store"}
 LATER = 5
+COST_OF_FILE = 0.1  # The page has fifty files, and they cost little.
 JSON = "application/json; charset=utf-8"
 
 
@@ -51,6 +54,7 @@ class Parts(NamedTuple):
     metrics: Metrics
     sets: Sets
     origins: Origins
+    files: Mapping[str, File]
 
 
 class Server:
@@ -106,12 +110,25 @@ class Server:
             return "health", web.Response(text="ok\n", headers=NEVER)
         if path == "/ready":
             return "ready", await self._ready()
-        if after := self._rates.wait(self._parts.origins.of(_peer(request), _passed_on(request))):
+        file = self._parts.files.get(path)
+        cost = 1.0 if file is None else COST_OF_FILE
+        if after := self._rates.wait(self._parts.origins.of(_peer(request), _passed_on(request)), cost):
             self._parts.metrics.refused["rate"] += 1
             return "other", _failure(429, "too many requests come from this address", math.ceil(after))
         if path.startswith("/api/v1/"):
             return await self._api(request, path.removeprefix("/api/v1/"), query)
-        return "other", _failure(404, "not here: /api/v1/openapi.json describes the API")
+        if path.startswith("/call/"):
+            return await self._page_call(request, path.removeprefix("/call/"), query)
+        if file is not None:
+            return "file", _file(request, file)
+        return "other", _failure(404, "not here: / is the page, and /api/v1/openapi.json describes the API")
+
+    async def _page_call(self, request: web.BaseRequest, call: str, query: str) -> tuple[str, web.Response]:
+        if call == "begin":
+            return "page/begin", await self._asked(request, lambda: begin_of(self._parts.sets))
+        if call not in CALLS:
+            return "other", _failure(404, "the page for everyone doesn't offer this")
+        return f"page/{call}", await self._asked(request, lambda: read_page_question(call, query, self._parts.sets))
 
     async def _api(self, request: web.BaseRequest, call: str, query: str) -> tuple[str, web.Response]:
         if call == "openapi.json":
@@ -159,6 +176,13 @@ class Server:
             return _failure(503, f"the service can't be asked: {error}", LATER)
         said = {"ready": True, "change": state.change, "waiting": state.waiting}
         return web.Response(body=json.dumps(said).encode(), headers={**NEVER, "Content-Type": JSON})
+
+
+def _file(request: web.BaseRequest, file: File) -> web.Response:
+    headers = {"ETag": file.tag, "Cache-Control": file.keep}
+    if file.tag in _tags(request):
+        return web.Response(status=304, headers=headers)
+    return web.Response(body=file.octets, headers={**headers, "Content-Type": f"{file.content_type}; charset=utf-8"})
 
 
 def _error(reason: str, status: int = 2) -> bytes:

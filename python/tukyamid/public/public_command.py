@@ -21,8 +21,8 @@ from .root_sets import read_sets
 
 HELP = """usage: tukyamid web --public [option..]
 
-Answers everyone by an API, which /api/v1/openapi.json describes. It asks a read-only socket alone, changes nothing, and
-reads nothing of your own but the files that --roots names. Put a web server before it (docs/PUBLIC.md)."""
+Serves the page and an API, which /api/v1/openapi.json describes, to everyone. It asks a read-only socket alone, changes
+nothing, and reads nothing of your own but sets of trust roots. Put a web server before it (docs/PUBLIC.md)."""
 PATIENCE = 30.0
 
 
@@ -43,12 +43,13 @@ class Words(Given):
 def parser() -> Parser:
     """The parser of its words."""
     made = Parser(prog="tukyamid web", description=HELP, add_help=False, allow_abbrev=False, formatter_class=Help)
-    add = made.add_argument_group("the API for everyone").add_argument
+    add = made.add_argument_group("for everyone").add_argument
     add("--public", action="store_true", required=True, help="answer everyone, and change nothing")
     add("--listen", metavar="ADDRESS", default="127.0.0.1:8475", help="HOST:PORT or unix:PATH (127.0.0.1:8475)")
     add("--socket", metavar="PATH", default=HOST_SOCKETS[1], help=f"the service's read-only socket ({HOST_SOCKETS[1]})")
     add("--roots", metavar="NAME=FILE", action="append", default=[],
-        help="a set of trust roots: a file with a table [roots]; the first set is the default one")
+        help="a set of trust roots: a file with a table [roots]; the first set is the default one (the sets of the "
+        "configuration file)")
     add("--proxy", metavar="ADDRESS", action="append", default=[],
         help="an address or network whose X-Forwarded-For or Forwarded is believed; one at a Unix socket always is")
     add("--metrics", metavar="ADDRESS", help="where Prometheus reads /metrics, as for --listen (nowhere)")
@@ -89,7 +90,7 @@ def run(words: Sequence[str]) -> int:
     try:
         asyncio.run(_serve(given))
     except ModuleNotFoundError as error:
-        raise NoAnswer(f"the API needs Python's {error.name}: apt-get install python3-aiohttp") from None
+        raise NoAnswer(f"it needs Python's {error.name}: apt-get install python3-aiohttp") from None
     return REACHED
 
 
@@ -100,6 +101,7 @@ async def _serve(given: Words) -> None:
     from .last_change import LastChange
     from .metrics import Metrics
     from .metrics_server import serve_metrics
+    from .page_files import read_public_files
     from .workers import Workers
     try:
         origins = Origins(read_networks(given.proxy))
@@ -111,7 +113,8 @@ async def _serve(given: Words) -> None:
         last, workers = LastChange(given.socket), Workers(given.socket, given.workers, given.seconds)
         stack.push_async_callback(last.close)
         stack.push_async_callback(workers.close)
-        parts = Parts(last, workers, Answers(workers, last), Metrics(), sets, origins)
+        parts = Parts(last, workers, Answers(workers, last), Metrics(), sets, origins,
+                      read_public_files())
         _take_many(given.connections)
         burst = max(1.0, 5 * given.rate)
         server = Server(parts, Bounds(given.seconds, given.rate, burst, given.connections, fresh=given.fresh))

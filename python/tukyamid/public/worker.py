@@ -12,6 +12,7 @@ from typing import Any
 from ..command.exit_statuses import NoAnswer, WrongWords, reason_of
 from ..protocol.refusals import TukyamidError
 from .answering import Answering
+from .page_answering import ask_page
 
 MOST_OCTETS = 16 << 20
 MOST_MEMORY = 2 << 30
@@ -38,11 +39,13 @@ def _reply(answering: Answering, line: bytes) -> tuple[int, dict[str, Any]]:
     call, time, roots, asked, state = json.loads(line)
     try:
         answering.at(state)
-        return 200, answering.ask(call, time, dict(roots), asked)
+        page = call.removeprefix("page/")
+        return 200, (ask_page(answering, page, asked) if page != call
+                     else answering.ask(call, time, dict(roots), asked))
     except (WrongWords, ValueError) as error:
         return 400, _error(2, str(error))
     except NoAnswer as error:
-        return 503 if answering.waits() else 404, _error(3, str(error))
+        return 404 if answering.waiting is None else 503, _error(3, str(error))
     except TukyamidError as error:
         answering.forget()
         return 503, _error(3, reason_of(error))

@@ -17,8 +17,6 @@ from ..protocol.refusals import TukyamidError
 T = TypeVar("T")
 LONGEST = 1 << 20
 MOST_WAITING = 256
-# What starts a program of its own, or reads much, has half of the workers at most.
-LONG_CALLS = frozenset({"path", "absence", "proof", "list"})
 
 
 class Reply(NamedTuple):
@@ -78,13 +76,14 @@ class Workers:
         self._seconds = seconds
         self.waiting = self.busy = 0
 
-    async def ask(self, call: str, line: bytes) -> Reply:
-        """The reply to a question. Refusal if there are too many, or if it takes too long."""
+    async def ask(self, line: bytes, is_long: bool) -> Reply:
+        """The reply to a question. What is long has half of the processes at most. Refusal if there are too many
+        questions, or if it takes too long."""
         if self.waiting >= MOST_WAITING:
             raise Refusal("crowded", "too many questions wait to be answered")
         self.waiting += 1
         try:
-            if call not in LONG_CALLS:
+            if not is_long:
                 return await self._answered(line)
             await self._in_time(self._long.acquire())
             try:

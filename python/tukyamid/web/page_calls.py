@@ -61,7 +61,7 @@ class Calls:
         sought = page_requests.text(asked, "text", 1000).strip()
         if len(sought) < LEAST_SOUGHT:
             return {"found": [], "more": False}
-        key = _key(sought)
+        key = sought_key(sought)
         found: list[dict[str, str]] = []
         async with self._desk.talking() as client:
             listing = await (client.find("key", key) if key else client.find("first", sought))
@@ -166,16 +166,13 @@ class Calls:
     async def proof(self, asked: Json) -> dict[str, Any]:
         """The answer as a file that somebody else can check."""
         from ..proofs.proof_making import make
-        subject = page_requests.read_subject(asked)
-        if subject.supposed:
-            raise ValueError("a proof is about the whole keyring as it is: include what is left out first, and suppose "
-                             "nothing")
+        subject = page_requests.read_unsupposed(asked)
         return await self._desk.do(lambda keyring: make(
             keyring, subject.fpr, subject.user_id, subject.wanted, subject.standpoint.time,
             dict(subject.standpoint.roots)))
 
 
-def _key(sought: str) -> str | None:
+def sought_key(sought: str) -> str | None:
     """The fingerprint or key ID that a text is; None if it is none."""
     if not re.fullmatch(r"(0x)?[0-9a-fA-F\s]{16,}", sought):
         return None

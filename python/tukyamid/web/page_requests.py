@@ -54,6 +54,15 @@ def read_subject(asked: Json) -> Subject:
                    left_out, added)
 
 
+def read_unsupposed(asked: Json) -> Subject:
+    """A question that a proof is wanted for."""
+    subject = read_subject(asked)
+    if subject.supposed:
+        raise ValueError("a proof is about the whole keyring as it is: include what is left out first, and suppose "
+                         "nothing")
+    return subject
+
+
 def read_plan(asked: Json) -> tuple[Subject, tuple[str, ...], int]:
     """A question that a plan is wanted for, who may certify, and how many certifications may be proposed together."""
     by = tuple(dict.fromkeys(_texts(asked, "by", MOST_ROOTS)))

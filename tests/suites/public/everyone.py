@@ -124,11 +124,11 @@ class Asking:
 class Everyone(Asking):
     """The server for everyone, over a service."""
 
-    def __init__(self, service, *more, listen="127.0.0.1:0"):
+    def __init__(self, service, *more, listen="127.0.0.1:0", config=None):
         words = [str(COMMAND), "web", "--public", "--listen", listen, "--socket", str(service.questions),
                  "--workers", "2", *map(str, more)]
-        self.process = subprocess.Popen(words, env=service.environment, stdout=subprocess.PIPE,
-                                        stdin=subprocess.DEVNULL)
+        environment = {**service.environment, **({"TUKYAMID_CONFIG": str(config)} if config else {})}
+        self.process = subprocess.Popen(words, env=environment, stdout=subprocess.PIPE, stdin=subprocess.DEVNULL)
         self.address = self.process.stdout.readline().decode().strip()
         if not self.address:
             raise AssertionError(f"it ended with status {self.process.wait(PATIENCE)}")

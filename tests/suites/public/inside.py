@@ -13,6 +13,7 @@ from tukyamid.public.http_server import Bounds, Parts, Server
 from tukyamid.public.last_change import LastChange
 from tukyamid.public.metrics import Metrics
 from tukyamid.public.metrics_server import serve_metrics
+from tukyamid.public.page_files import read_public_files
 from tukyamid.public.public_command import listening
 from tukyamid.public.root_sets import read_sets
 from tukyamid.public.workers import Workers
@@ -64,7 +65,7 @@ async def inside(service, sets, proxies=(), **bounds):
     given = Bounds(**bounds)
     last, workers = LastChange(str(service.questions)), Workers(str(service.questions), 1, given.seconds)
     parts = Parts(last, workers, Answers(workers, last), Metrics(), read_sets(sets[1::2]),
-                  Origins(read_networks(proxies)))
+                  Origins(read_networks(proxies)), read_public_files())
     bound, begun = listening("127.0.0.1:0"), asyncio.Event()
     address = "http://%s:%d/" % bound.getsockname()
     serving = asyncio.create_task(Server(parts, given).run(bound, begun.set))

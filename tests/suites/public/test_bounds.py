@@ -18,6 +18,16 @@ from tukyamid.public.client_limits import Origins, Rates, read_networks
 from tukyamid.public.worker import MOST_MEMORY
 
 
+def workers():
+    """The processes that answer questions for a server within this process."""
+    found = []
+    for children in Path("/proc/self/task").glob("*/children"):
+        for child in children.read_text().split():
+            if b"tukyamid.public.worker" in Path(f"/proc/{child}/cmdline").read_bytes():
+                found.append(int(child))
+    return found
+
+
 @needs_page
 class Bounds(Public):
     def within(self, tried, **bounds):
@@ -30,34 +40,34 @@ class Bounds(Public):
     def test_an_address_has_a_limit_of_its_own(self):
         async def tried(server):
             for address in "192.0.2.1", "2001:db8::1":
-                found = [await server.status("/", X_Forwarded_For=f"203.0.113.9, {address}") for _ in range(3)]
+                found = [await server.status("/x", X_Forwarded_For=f"203.0.113.9, {address}") for _ in range(3)]
                 self.assertEqual(found, [404, 404, 429])
             for passed, after in (0, "5"), (4, "1"):
                 server.move(passed)
-                status, headers, octets = await asyncio.to_thread(server.request, "/", X_Forwarded_For="192.0.2.1")
+                status, headers, octets = await asyncio.to_thread(server.request, "/x", X_Forwarded_For="192.0.2.1")
                 self.assertEqual((status, json.loads(octets)["status"], headers["Retry-After"]), (429, 3, after))
             self.assertEqual(await server.status("/health", X_Forwarded_For="192.0.2.1"), 200)
             server.move(1)
-            self.assertEqual([await server.status("/", X_Forwarded_For="192.0.2.1") for _ in range(2)], [404, 429])
-            self.assertEqual(await server.status("/", X_Forwarded_For="2001:db8:0:1::2"), 404)
+            self.assertEqual([await server.status("/x", X_Forwarded_For="192.0.2.1") for _ in range(2)], [404, 429])
+            self.assertEqual(await server.status("/x", X_Forwarded_For="2001:db8:0:1::2"), 404)
         self.within(tried, rate=0.2, burst=2, proxies=["127.0.0.1"])
 
     def test_all_of_a_network_of_64_bits_share_a_limit(self):
         async def tried(server):
-            found = [await server.status("/", X_Forwarded_For=f"2001:db8::{number}") for number in range(3)]
+            found = [await server.status("/x", X_Forwarded_For=f"2001:db8::{number}") for number in range(3)]
             self.assertEqual(found, [404, 404, 429])
         self.within(tried, rate=1, burst=2, proxies=["127.0.0.1"])
 
     def test_a_stranger_cant_name_another_address(self):
         async def tried(server):
-            found = [await server.status("/", X_Forwarded_For=f"192.0.2.{number}") for number in range(3)]
+            found = [await server.status("/x", X_Forwarded_For=f"192.0.2.{number}") for number in range(3)]
             self.assertEqual(found, [404, 404, 429])
         self.within(tried, rate=1, burst=2)
 
     def test_a_line_of_a_visitors_own_before_the_proxys_changes_nothing(self):
         async def tried(server):
             found = [await asyncio.to_thread(
-                server.raw, b"GET / HTTP/1.1\r\nHost: x\r\nConnection: close\r\nX-Forwarded-For: 192.0.2.%d\r\n"
+                server.raw, b"GET /x HTTP/1.1\r\nHost: x\r\nConnection: close\r\nX-Forwarded-For: 192.0.2.%d\r\n"
                 b"X-Forwarded-For: 203.0.113.1\r\n\r\n" % number) for number in range(3)]
             self.assertEqual([one.split()[1] for one in found], [b"404", b"404", b"429"])
         self.within(tried, rate=1, burst=2, proxies=["127.0.0.1"])
@@ -110,7 +120,7 @@ class Bounds(Public):
         async def tried(server):
             query = self.about("Carol", PEOPLE["Carol"])
             self.assertEqual((await asyncio.to_thread(server.ask, "authenticate", query))[0], 200)
-            (worker,) = self.workers()
+            (worker,) = workers()
             os.kill(worker, signal.SIGSTOP)
             asked = asyncio.create_task(asyncio.to_thread(server.ask, "explain", query))
             await until(lambda: server.figure("workers_busy") == 1)
@@ -118,7 +128,7 @@ class Bounds(Public):
             status, headers, found = await asked
             self.assertEqual((status, headers["Retry-After"], headers["ETag"], found["status"]), (503, "5", None, 3))
             self.assertIn("takes more than 10 seconds", found["error"])
-            self.assertEqual((server.parts.metrics.refused["costly"], self.workers()), (1, []))
+            self.assertEqual((server.parts.metrics.refused["costly"], workers()), (1, []))
             self.assertEqual((await asyncio.to_thread(server.ask, "explain", query))[0], 200)
         self.within(tried, seconds=10)
 
@@ -126,19 +136,10 @@ class Bounds(Public):
         async def tried(server):
             query = self.about("Carol", PEOPLE["Carol"])
             self.assertEqual((await asyncio.to_thread(server.ask, "authenticate", query))[0], 200)
-            (worker,) = self.workers()
+            (worker,) = workers()
             limits = Path(f"/proc/{worker}/limits").read_text()
             self.assertRegex(limits, rf"Max address space +{MOST_MEMORY} +{MOST_MEMORY} ")
         self.within(tried)
-
-    def workers(self):
-        """The processes that answer questions for a server within this process."""
-        found = []
-        for children in Path("/proc/self/task").glob("*/children"):
-            for child in children.read_text().split():
-                if b"tukyamid.public.worker" in Path(f"/proc/{child}/cmdline").read_bytes():
-                    found.append(int(child))
-        return found
 
 
 class Limits(unittest.TestCase):

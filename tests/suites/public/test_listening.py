@@ -88,7 +88,7 @@ class Metrics(Public):
     def test_what_a_bound_refuses_is_counted(self):
         async def test():
             async with inside(self.service, self.sets, rate=1, burst=2) as server, metrics_of(server) as metrics:
-                self.assertEqual([await server.status("/") for _ in range(4)], [404, 404, 429, 429])
+                self.assertEqual([await server.status("/nothing") for _ in range(4)], [404, 404, 429, 429])
                 found = read((await asyncio.to_thread(metrics.request, "/metrics"))[2])
                 self.assertEqual(found["tukyamid_public_refused_total", ("reason", "rate")], 2)
                 self.assertEqual(found["tukyamid_public_seconds_count",], 4)

@@ -77,6 +77,6 @@ class Behind(Public):
         self.addCleanup(everyone.close)
         nginx = Nginx(own)
         self.addCleanup(nginx.close)
-        self.assertEqual(nginx.request("/")[0], 404)
+        self.assertEqual(nginx.request("/nothing")[0], 404)
         for said in {}, {"X_Forwarded_For": "192.0.2.1"}, {"Forwarded": "for=192.0.2.1"}:
-            self.assertEqual(nginx.request("/", **said)[0], 429, said)
+            self.assertEqual(nginx.request("/nothing", **said)[0], 429, said)

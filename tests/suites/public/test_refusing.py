@@ -40,14 +40,15 @@ class Refusing(Public):
             self.assertIn(said, done.stderr)
 
     def test_every_reply_keeps_other_sites_out(self):
-        for path in "/", "/x", "/ready", "/api/v1/openapi.json", path_of("list", {}):
+        for path in "/", "/x", "/ready", "/call/begin", "/api/v1/openapi.json", path_of("list", {}):
             headers = self.everyone.request(path)[1]
             policy = dict(part.strip().partition(" ")[::2] for part in headers["Content-Security-Policy"].split(";"))
             self.assertEqual((policy["default-src"], policy["script-src"]), ("'none'", "'self'"))
             self.assertEqual((headers["X-Content-Type-Options"], headers["Set-Cookie"]), ("nosniff", None))
 
     def test_no_file_is_served(self):
-        for path in "/..%2Fserver.py", "/../server.py", "/%2e%2e/x", "//etc/passwd", "/etc/passwd", "/", "/call/answer":
+        for path in ("/..%2Fserver.py", "/../server.py", "/%2e%2e/x", "//etc/passwd", "/etc/passwd", "/main.js",
+                     "/call/add"):
             self.assertEqual(self.everyone.request(path)[0], 404, path)
         self.assertEqual(self.everyone.request("/metrics")[0], 404)
 

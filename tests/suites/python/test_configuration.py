@@ -17,7 +17,10 @@ DAMAGED = [
     "strikt = true", "strict = 1", "amount = 0", "amount = true", "amount = 4294967296", "threshold = 65", "for = []",
     'for = [""]', 'for = "@example.org"', 'for = ["@"]', 'socket = "run"', 'homes = ["gnupg"]', "inputs = [1]",
     "[caller.Git]\nstrict = true", "[caller.git]\nroots = 1", "caller = 1", "[caller]\ngit = 1", "x", "[roots",
-    "\0", "a = " + "[" * 5000]
+    "\0", "a = " + "[" * 5000,
+    "sets = 1", "sets.debian = 1", "[sets.debian]", "[sets.debian]\nabc = 1", f'[sets."a b"]\n{FPR} = 1',
+    f'[sets."\u212aeys"]\n{FPR} = 1', f"[sets]\n{FPR} = 1", f"[sets.debian]\n{FPR} = 256",
+    "".join(f"[sets.s{number}]\n{FPR} = 1\n" for number in range(65))]
 
 ALONE = [COMMAND, "--no-service", "--no-cache", "--verifier", TRUSTING, "--time", DECEMBER]
 

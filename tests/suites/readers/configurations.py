@@ -20,6 +20,7 @@ SAMPLES = [
     'inputs = ["gpg", "/x"]\nsocket = "/run/x"\nhomes = ["/etc/pacman.d/gnupg"]\nthreshold = 2\nfor = ["@x.org"]\n',
     'caller.apt.strict = true\ncaller.apt.amount = 240\ncaller.mutt = {threshold = 3}\n',
     'strict = true\nroots = {}\n',
+    f'[sets.Debian]\n{FPR} = 120\n[sets.me]\n{FPR} = 1\n',
     "",
 ]
 

@@ -2,6 +2,7 @@
 
 import { call } from "./asking.js";
 import { byId, count, day, fill, inWords, make, name, refill, short } from "./dom.js";
+import { your } from "./everyone.js";
 import { keyLink } from "./links.js";
 import { light } from "./picture.js";
 import { scopeText } from "./scopes.js";
@@ -23,7 +24,7 @@ export function sentence(reply) {
 }
 
 function why(reply) {
-  return explained(reply.word !== "ok" ? `: ${reply.meaning}.` : ": no path leads here from your roots.");
+  return explained(reply.word !== "ok" ? `: ${reply.meaning}.` : `: no path leads here from ${your} roots.`);
 }
 
 export function showAnswer(element, reply, binding, present) {
@@ -67,7 +68,7 @@ export function showSteps(element, reply, leaveOut) {
     onfocusout: () => light(-1) },
     make("h3", {}, `Path ${place + 1}: amount ${path.amount}, ${count(path.steps.length, "step")}`),
     make("ol", { class: "steps" },
-      make("li", {}, keyLink(path.root), " ", short(path.root), make("span", { class: "soft" }, " your root")),
+      make("li", {}, keyLink(path.root), " ", short(path.root), make("span", { class: "soft" }, ` ${your} root`)),
       path.steps.map((step) => make("li", {}, keyLink(step.target, step.user_id), " ", short(step.target), make("br"),
         make("span", { class: "soft" }, `certified by the one above: ${said(step)}`), " ",
         ...outOfAccount(step, leaveOut))))))] : make("p", {}, "There is no path."));

@@ -2,6 +2,8 @@
 // way is said and tried again, so that no question is lost.
 
 import { byId, fill, make } from "./dom.js";
+import { addressOfCall } from "./everyone.js";
+import { isPublic } from "./state.js";
 
 const LATE = 4000;
 const PATIENCE = 30000;
@@ -9,6 +11,10 @@ const MAY_TAKE_LONG = new Set(["add", "plan", "gone", "reach", "proof"]);
 const PAUSES = [300, 1000, 2000, 4000];  // Before each further try; the last one again and again.
 const FOREIGN = "what answers at this page’s address isn’t the command that opened it: close this page";
 const TRIES_OF_SERVICE = 3;
+const MAY_PASS = new Set([429, 502]);
+const SERVER = isPublic ? "this page’s server" : "the command tukyamid web";
+const LOST = `The connection to ${SERVER} is lost. Trying again; your question stays in the address.`
+  + (isPublic ? "" : " If you ended the command, start it again.");
 // A secret of this page and its server, for when the server has ended and another user's program listens at its port.
 const SECRET = document.querySelector("meta[name=seal]")?.content ?? "";
 const underWay = new Map();
@@ -24,11 +30,10 @@ export async function call(what, asked = {}, sort = what) {
       const reply = await once(what, asked, control.signal, MAY_TAKE_LONG.has(what) ? 0 : PATIENCE * 2 ** (tries - 1));
       if (reply.value) return reply.value;
       // Without an answer nobody knows whether it was done, so what changes something isn't tried again.
-      if (what === "add" || (!reply.lost && (reply.status !== 502 || tries >= TRIES_OF_SERVICE))) {
+      if (what === "add" || (!reply.lost && (!MAY_PASS.has(reply.status) || tries >= TRIES_OF_SERVICE))) {
         throw Object.assign(new Error(reply.error), { status: reply.status });
       }
-      tell(control, reply.lost ? "The connection to the command tukyamid web is lost. Trying again; your question "
-        + "stays in the address. If you ended the command, start it again." : `Trying again: ${reply.error}.`);
+      tell(control, reply.lost ? LOST : `Trying again: ${reply.error}.`);
       await pause(PAUSES[Math.min(tries, PAUSES.length) - 1], control.signal);
     }
   } catch (failure) {
@@ -48,10 +53,10 @@ async function once(what, asked, signal, patience) {
   const over = patience ? setTimeout(giveUp, patience) : 0;
   const late = setTimeout(() => tell(signal, "This takes longer than usual. Still waiting for the answer…"), LATE);
   try {
-    const nonce = crypto.randomUUID();
-    const reply = await fetch(`call/${what}`, {
+    const nonce = SECRET && crypto.randomUUID();
+    const reply = await (isPublic ? fetch(addressOfCall(what, asked), { signal: own.signal }) : fetch(`call/${what}`, {
       method: "POST", headers: { "Content-Type": "application/json", "Tukyamid-Nonce": nonce },
-      body: JSON.stringify(asked), signal: own.signal });
+      body: JSON.stringify(asked), signal: own.signal }));
     const text = await reply.text();
     const seal = reply.headers.get("Tukyamid-Seal") ?? "";
     if (SECRET && !await isSealed(`${nonce}\n${text}`, seal)) return { error: FOREIGN, status: 403 };
@@ -59,7 +64,7 @@ async function once(what, asked, signal, patience) {
     return value.error ? { error: value.error, status: reply.status } : { value };
   } catch (failure) {
     if (signal.aborted || !(failure instanceof TypeError || own.signal.aborted)) throw failure;
-    return { error: "the command tukyamid web can’t be reached", lost: true };
+    return { error: `${SERVER} can’t be reached`, lost: true };
   } finally {
     signal.removeEventListener("abort", giveUp);
     clearTimeout(over);

@@ -3,7 +3,7 @@
 import { call } from "./asking.js";
 import { byId, count, fill, make, name, short } from "./dom.js";
 import { attachSearch } from "./search.js";
-import { change, learn, state } from "./state.js";
+import { change, isPublic, learn, state } from "./state.js";
 import { word } from "./words.js";
 
 let held = null;
@@ -27,7 +27,8 @@ export function beginning() {
 }
 
 async function offer() {
-  const found = await call("offered", { time: state.time }).catch((failure) => ({ failure }));
+  const found = await (isPublic ? { roots: [], may_add: false }
+    : call("offered", { time: state.time }).catch((failure) => ({ failure })));
   const steps = byId("begin-steps");
   if (found === null || !steps) return;
   if (found.failure) {
@@ -40,7 +41,8 @@ async function offer() {
 
 function keyringStep(found) {
   if (!found.may_add) {
-    return make("p", {}, "The keyring that you named is empty. Start again with another one.");
+    return make("p", {}, isPublic ? "This keyring is empty so far."
+      : "The keyring that you named is empty. Start again with another one.");
   }
   const path = make("input", {
     type: "text", id: "keyring-path", autocomplete: "off", spellcheck: "false", placeholder: "/home/you/keyring.pgp" });
@@ -77,8 +79,9 @@ function rootStep(found) {
 function choose(fingerprint, amount, called) {
   learn({ [fingerprint]: called });
   const root = { fingerprint, amount, name: called };
-  state.firstRoots = [root];
+  if (!isPublic) state.firstRoots = [root];
   change({ roots: [root] });
+  if (isPublic) return;  // It is in the address.
   fill(byId("notes"), make("p", { class: "note", role: "status" },
     "This root holds for this page. To keep it: ", make("code", {}, `tukyamid root add ${fingerprint}`)));
 }

@@ -2,11 +2,12 @@
 
 import { call } from "./asking.js";
 import { byId, count, day, draw, fill, make, name } from "./dom.js";
+import { your } from "./everyone.js";
 import { offerGone } from "./gone.js";
 import { bindingLink, issuerLink } from "./links.js";
 import { showLife } from "./life.js";
 import { scopeNodes } from "./scopes.js";
-import { addressOf, learn, nameOf, standpoint, state } from "./state.js";
+import { addressOf, isPublic, learn, nameOf, standpoint, state } from "./state.js";
 import { explained, word } from "./words.js";
 
 const FIRST = 20;
@@ -43,8 +44,9 @@ function show(reply) {
   fill(byId("key-summary"),
     make("p", { class: reply.word === "ok" ? "soft" : "warn" }, !reply.there ? "This key isn’t in the keyring."
       : reply.word === "ok" ? `A key in order, created ${day(reply.created)}.` : explained(`${reply.meaning}.`)),
-    reply.root && make("p", {}, make("span", { class: "badge rooted" }, "your root"), " You trust this key yourself, ",
-      "with ", word("amount"), ` ${reply.root}.`),
+    reply.root && make("p", {}, make("span", { class: "badge rooted" }, `${your} root`),
+      isPublic ? " This is seen from this key, with " : " You trust this key yourself, with ", word("amount"),
+      ` ${reply.root}.`),
     fingerprintOf(reply.fingerprint));
   if (!reply.there) return;
   fill(byId("key-user-ids"), make("p", { class: "soft" }, "Each ", word("user ID"), " is a claim. Somebody has to ",

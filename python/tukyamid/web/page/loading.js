@@ -25,7 +25,8 @@
 
   window.addEventListener("error", (event) => {
     if (event.target instanceof HTMLScriptElement || event.target instanceof HTMLLinkElement) {
-      fail("A part of this page couldn’t be loaded. If the command tukyamid web has ended, start it again.");
+      fail(document.documentElement.dataset.public === "yes" ? "A part of this page couldn’t be loaded."
+        : "A part of this page couldn’t be loaded. If the command tukyamid web has ended, start it again.");
     } else if (box() && !box().hidden && !box().dataset.failed) {
       fail("This page couldn’t begin.");
     }

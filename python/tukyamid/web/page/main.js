@@ -4,6 +4,7 @@ import { call } from "./asking.js";
 import { showAnswer, showOthers, showSteps } from "./answer.js";
 import { whatIsHeld } from "./beginning.js";
 import { byId, count, day, fill, make } from "./dom.js";
+import { choiceOfSets, noteUnknownSet, your } from "./everyone.js";
 import { showKey } from "./key.js";
 import { keyLink } from "./links.js";
 import { showMeeting } from "./meeting.js";
@@ -15,7 +16,7 @@ import { showFragile } from "./fragile.js";
 import { showProof } from "./proof.js";
 import { showReach } from "./reach.js";
 import { attachMainSearch } from "./search.js";
-import { addressOf, change, learn, read, state, subject, VIEWS, whenChanged } from "./state.js";
+import { addressOf, change, isPublic, learn, read, state, subject, VIEWS, whenChanged } from "./state.js";
 import { showTime } from "./time.js";
 import { leaveOut, showWhatIf } from "./whatif.js";
 import { showWords, word } from "./words.js";
@@ -41,6 +42,7 @@ async function start() {
   hasBegun = true;
   Object.assign(state, read(location.hash));
   show();
+  noteUnknownSet();
   if (state.view === "start") byId("sought").focus();
 }
 
@@ -51,8 +53,10 @@ async function load() {
     const isFirst = !state.now;
     state.now = reply.time;
     if (isFirst) state.time = reply.time;
+    state.sets = reply.sets ?? [];
     if (isFirst || !state.firstRoots.length) state.roots = state.firstRoots = reply.roots;
-    learn(Object.fromEntries(reply.roots.map((root) => [root.fingerprint, root.name])));
+    const roots = [...reply.roots, ...state.sets.flatMap((set) => set.roots)];
+    learn(Object.fromEntries(roots.map((root) => [root.fingerprint, root.name])));
     const [keys, names] = [Number(reply.certificates), Number(reply.user_ids)];
     whatIsHeld(keys, async () => { await load(); show(); });
     fill(byId("held"), `${count(keys, "certificate")}, ${count(names, "user ID")}`);
@@ -67,7 +71,7 @@ async function load() {
 
 function notesOf(reply) {
   const notes = reply.notes.map((note) => make("p", { class: "note" }, note));
-  if (!window.d3) {
+  if (!window.d3 && !isPublic) {
     notes.push(make("p", { class: "note" }, "Scales need d3: apt-get install libjs-d3, and start again."));
   }
   return notes;
@@ -77,8 +81,9 @@ function notesOf(reply) {
 function standpointOf() {
   const roots = state.roots.flatMap((root, at) => [
     at ? ", " : "", keyLink(root.fingerprint), ` (amount ${root.amount})`]);
-  return ["Seen from ", ...(roots.length ? ["your ", word("root"), state.roots.length > 1 ? "s " : " ", ...roots]
-    : ["no root yet"]), `, as of ${day(state.time)}.`];
+  return ["Seen from ", ...choiceOfSets(),
+    ...(roots.length ? [`${your} `, word("root"), state.roots.length > 1 ? "s " : " ", ...roots]
+      : ["no root yet"]), `, as of ${day(state.time)}.`];
 }
 
 function show() {

@@ -3,8 +3,9 @@
 import { call } from "./asking.js";
 import { beginning } from "./beginning.js";
 import { byId, count, draw, fill, fitted, make, withoutAddress } from "./dom.js";
+import { your } from "./everyone.js";
 import { keyLink } from "./links.js";
-import { addressOf, addressOfKey, learn, nameOf, standpoint, state } from "./state.js";
+import { addressOf, addressOfKey, isPublic, learn, nameOf, standpoint, state } from "./state.js";
 import { explain } from "./tips.js";
 import { HEIGHT, layOutTree, lineBetween } from "./tree_layout.js";
 import { word } from "./words.js";
@@ -65,8 +66,8 @@ const countOf = (sort, sign, number, ...said) => make("p", { class: `count ${sor
 
 /** How to read the picture, for somebody who sees one for the first time. */
 const aboutPicture = () => [
-  "Each box is a key. Lines begin at your ", word("root"), ", and lead from left to right or downwards, from a key to ",
-  "one that it vouches for. The ", word("amount"), " says how much trust arrives. Choose a box to see whose it is."];
+  `Each box is a key. Lines begin at ${your} `, word("root"), ", and lead from left to right or downwards, from a key ",
+  "to one that it vouches for. The ", word("amount"), " says how much trust arrives. Choose a box to see whose it is."];
 
 function drawNetwork(reply) {
   const element = byId("network");
@@ -80,7 +81,7 @@ function drawNetwork(reply) {
   const byName = new Map(nodes.map((node) => [node.id, node]));
   const svg = draw("svg", {
     viewBox: `0 0 ${width} ${height}`, width, height, class: "tree", role: "group",
-    "aria-label": "Who vouches for whom, from your roots" });
+    "aria-label": `Who vouches for whom, from ${your} roots` });
   const lines = reply.links.filter((link) => link.tree || isWide);
   for (const link of lines) svg.append(...linkOf(link, byName.get(link.from), byName.get(link.to), isWide));
   for (const node of nodes) {
@@ -133,7 +134,7 @@ function sentencesOf(node, links) {
   const to = links.filter((link) => link.to === node.id);
   const reached = node.amount >= 120 ? "fully authenticated" : "partly authenticated";
   return [node.name || node.id,
-    node.root ? `Your root, with amount ${node.root}.` : `${node.amount} of 120: ${reached}.`,
+    node.root ? `${isPublic ? "A" : "Your"} root, with amount ${node.root}.` : `${node.amount} of 120: ${reached}.`,
     node.through > 0 && `It leads to ${count(node.through, "other key")}.`,
     ...to.slice(0, MOST_SAID).map(saidOf),
     to.length > MOST_SAID && `And ${count(to.length - MOST_SAID, "more key")}.`].filter(Boolean);

@@ -2,6 +2,7 @@
 
 import { call } from "./asking.js";
 import { byId, count, draw, fill, fitted, make, name, withoutAddress } from "./dom.js";
+import { your } from "./everyone.js";
 import { keyLink } from "./links.js";
 import { scopeText } from "./scopes.js";
 import { addressOfKey, learn, nameOf, state, subject } from "./state.js";
@@ -44,7 +45,7 @@ function shownOf(reply) {
 function sentenceOf(chain) {
   const keys = chain.keys.flatMap((key, at) => [at ? " → " : "", keyLink(key)]);
   const broken = chain.steps.filter((step) => step.broken);
-  const start = chain.from_root ? [] : [make("strong", {}, "No certification leads from your roots to "),
+  const start = chain.from_root ? [] : [make("strong", {}, `No certification leads from ${your} roots to `),
     keyLink(chain.keys[0]), ". "];
   const why = broken.flatMap((step) => [" ✗ ", ...whyOf(step), "."]);
   return [...start, ...keys, make("br"), make("span", { class: "no" }, ...why.length || start.length ? why

@@ -2,11 +2,13 @@
 
 import { readable, spelled } from "./spelling.js";
 
-export const VIEWS = ["start", "key", "ask", "overview", "plans", "words"];
+/** Whether this is the page that `tukyamid web --public` serves to everyone. */
+export const isPublic = document.documentElement.dataset.public === "yes";
+export const VIEWS = ["start", "key", "ask", ...isPublic ? [] : ["overview", "plans"], "words"];
 
 export const state = {
-  view: "start", binding: null, wanted: 120, now: 0, time: 0, roots: [], firstRoots: [], without: [], suppose: [],
-  opened: [], names: new Map(),
+  view: "start", binding: null, wanted: 120, now: 0, time: 0, roots: [], firstRoots: [], sets: [], without: [],
+  suppose: [], opened: [], names: new Map(),
 };
 
 const listeners = [];
@@ -31,8 +33,12 @@ export const subject = (changed = {}) => ({
 });
 
 export const standpoint = () => ({
-  time: state.time, roots: state.roots.map(({ fingerprint, amount }) => ({ fingerprint, amount })),
+  time: state.time, ...(setOf(state.roots) ? { set: setOf(state.roots).name }
+    : { roots: state.roots.map(({ fingerprint, amount }) => ({ fingerprint, amount })) }),
 });
+
+/** The named set that these roots are. */
+export const setOf = (roots) => state.sets.find((set) => rootsAsText(set.roots) === rootsAsText(roots));
 
 /** The address of the page with something changed: where a link leads. */
 export function addressOf(changed = {}) {
@@ -45,7 +51,10 @@ export function addressOf(changed = {}) {
   if (one.time !== one.now) words.set("time", one.time);
   if (one.wanted !== 120 && one.view === "ask") words.set("wanted", one.wanted);
   const roots = rootsAsText(one.roots);
-  if (roots !== rootsAsText(one.firstRoots)) words.set("roots", roots);
+  if (roots !== rootsAsText(one.firstRoots)) {
+    const set = setOf(one.roots);
+    words.set(...(set ? ["set", set.name] : ["roots", roots]));
+  }
   if (one.without.length && one.view === "ask") {
     words.set("without", one.without.map((left) => left.key ?? left.signature).join(","));
   }
@@ -76,7 +85,8 @@ export function read(hash) {
     view: VIEWS.includes(view) && (key || !needsKey) ? view : "start",
     binding: key ? { fingerprint: key, spelled: user, user_id: readable(user) } : null,
     time: number("time", state.now), wanted: number("wanted", 120),
-    roots: words.has("roots") ? list("roots").map(readRoot) : state.firstRoots,
+    roots: words.has("roots") ? list("roots").map(readRoot)
+      : state.sets.find((set) => set.name === words.get("set"))?.roots ?? state.firstRoots,
     without: list("without").map((one) => (one.length === 64 && state.names.get(one) === undefined
       ? { signature: one, name: "a certification" } : { key: one, name: state.names.get(one) ?? one })),
     suppose: readSupposed(words.get("suppose")), opened: list("open"),

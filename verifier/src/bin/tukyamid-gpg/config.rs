@@ -23,6 +23,7 @@ const LONGEST: u64 = 1 << 16;
 const FULL: u32 = 120;
 const MOST_ROOTS: usize = 1000;
 const MOST_SIGNERS: i64 = 64;
+const MOST_SETS: usize = 64;
 /// A key has few parts. Python's reader takes minutes for one that has thousands.
 const MOST_DOTS: usize = 100;
 /// A level takes less than 1 KiB of stack, and every thread has some MiB.
@@ -118,7 +119,8 @@ impl Config {
         let mut config = Config { policy: policy_of(table, &Policy::default())?, ..Config::default() };
         for (key, value) in table {
             match key.as_str() {
-                "roots" => config.roots = roots(value)?,
+                "roots" => config.roots = roots(key, value)?,
+                "sets" => check_sets(value)?,
                 "socket" => config.socket = Some(absolute(key, value)?),
                 "homes" => config.homes = absolutes(key, &texts(key, value)?)?,
                 "inputs" => check_inputs(&texts(key, value)?)?,
@@ -223,23 +225,41 @@ fn invalid(why: &str) -> io::Error {
     io::Error::new(io::ErrorKind::InvalidData, why)
 }
 
-fn roots(value: &Value) -> Result<BTreeMap<String, u32>, String> {
-    let table = value.as_table().ok_or("roots isn't a table of fingerprints")?;
+fn roots(what: &str, value: &Value) -> Result<BTreeMap<String, u32>, String> {
+    let table = value.as_table().ok_or(format!("{what} isn't a table of fingerprints"))?;
     if table.len() > MOST_ROOTS {
-        return Err(format!("roots has more than {MOST_ROOTS} entries"));
+        return Err(format!("{what} has more than {MOST_ROOTS} entries"));
     }
     let mut roots = BTreeMap::new();
     for (digits, amount) in table {
         let is_fingerprint = matches!(digits.len(), 40 | 64) && digits.bytes().all(|digit| digit.is_ascii_hexdigit());
         if !is_fingerprint {
-            return Err(format!("roots: {digits:?} isn't a fingerprint of 40 or 64 digits"));
+            return Err(format!("{what}: {digits:?} isn't a fingerprint of 40 or 64 digits"));
         }
-        let amount = number(&format!("roots: {digits}"), amount, 1, 255)?;
+        let amount = number(&format!("{what}: {digits}"), amount, 1, 255)?;
         if roots.insert(digits.to_ascii_lowercase(), amount as u32).is_some() {
-            return Err(format!("roots: {digits} is there twice"));
+            return Err(format!("{what}: {digits} is there twice"));
         }
     }
     Ok(roots)
+}
+
+/// The sets of roots that the page for everyone offers. They aren't used here, but what is refused there is refused
+/// here too.
+fn check_sets(value: &Value) -> Result<(), String> {
+    let table = value.as_table().ok_or("sets isn't a table of sets")?;
+    if table.len() > MOST_SETS {
+        return Err(format!("sets has more than {MOST_SETS} entries"));
+    }
+    for (name, value) in table {
+        if !is_caller(&name.to_ascii_lowercase()) {
+            return Err(format!("sets: {name:?} isn't a name of 1 to 32 letters, digits, - and _"));
+        }
+        if roots(&format!("sets.{name}"), value)?.is_empty() {
+            return Err(format!("sets.{name} has no roots"));
+        }
+    }
+    Ok(())
 }
 
 fn callers(value: &Value, default: &Policy) -> Result<BTreeMap<String, Policy>, String> {
@@ -333,7 +353,7 @@ mod tests {
         let text = format!(
             "amount = 100\nstrict = false\ninputs = [\"service\"]\nhomes = [\"/etc/pacman.d/gnupg\"]\n\
              socket = \"/run/x\"\n[roots]\n{FPR} = 60\n[caller.git]\nfor = [\"@example.org\"]\nstrict = true\n\
-             [caller.apt]\namount = 240\nthreshold = 2\n"
+             [caller.apt]\namount = 240\nthreshold = 2\n[sets.Debian]\n{FPR} = 120\n"
         );
         let config = Config::parse(&text).unwrap();
         assert_eq!(config.roots, BTreeMap::from([(FPR.to_ascii_lowercase(), 60)]));
@@ -385,6 +405,13 @@ mod tests {
             "inputs = [\"service\", \"gpg\"]",
             "inputs = [\"gpg\", \"keyring.pgp\"]",
             "for = [\"@\"]",
+            "sets = 1",
+            "sets.debian = 1",
+            "[sets.debian]",
+            "[sets.debian]\nabc = 1",
+            &format!("[sets.\"a b\"]\n{FPR} = 1"),
+            &format!("[sets.\"\u{212a}eys\"]\n{FPR} = 1"),
+            &format!("[sets]\n{FPR} = 1"),
         ] {
             assert!(Config::parse(text).is_err(), "{text}");
         }
