@@ -20,7 +20,8 @@ from .output import printable, tell, write
 from .parser import Parser
 from .user_service import service
 
-HELP = """usage: tukyamid keyring add NAME..      keep these keyrings: a file, a certificate directory, or gpg
+HELP = """usage: tukyamid keyring add NAME..      keep these keyrings: a file, a certificate directory, a folder
+                                        of keyring files, or gpg
        tukyamid keyring remove NAME..   stop watching them; their certificates stay, but for those that only they have
                                         with --certificates
        tukyamid keyring list            list the keyrings that are kept

@@ -2,7 +2,9 @@
 
 from __future__ import annotations
 
-from collections.abc import Callable
+import asyncio
+from collections.abc import Callable, Sequence
+from functools import partial
 from typing import TypeVar
 
 from .engine_capacity import Room
@@ -10,6 +12,8 @@ from .sliced.shared_sliced_keyring import SharedSliced
 from .sliced.sliced_keyring import Sliced
 from .storage.database import Database, Finder
 from .storage.database_threads import Access
+from .storage.shared_database import Shared
+from .storage.unlooked import Looked
 from .whole.engine_pool import Hub
 from .whole.shared_engine_pool import SharedHub
 
@@ -121,6 +125,11 @@ class Holding:
 
     async def write(self, call: Callable[[], _R]) -> _R:
         return await self._access.write(call)
+
+    async def put_looked(self, looked: Sequence[Looked]) -> None:
+        """Notes what the verifier has looked at."""
+        note = partial(self.database.put_looked, looked)
+        await (asyncio.to_thread(note) if isinstance(self.database, Shared) else self.write(note))
 
     async def find(self, look: Callable[[Finder], _R]) -> _R:
         return await self._access.find(look)

@@ -63,7 +63,8 @@ class Versions(InAFolder):
         with closing(self.open()) as database:
             database.fill([b"import " + WITH_SUBKEY.hex().encode()], "filled", Actor(0, 0))
         with closing(sqlite3.connect(self.path)) as raw, raw:
-            raw.execute("DROP TABLE subkeys")
+            for table in "subkeys", "unlooked", "awaited", "loaded":
+                raw.execute(f"DROP TABLE {table}")
             raw.execute("PRAGMA user_version = 3")
         with closing(Sqlite(self.path)) as database, closing(database.finder()) as finder:
             self.assertEqual(finder.holders(SUBKEY_ID, 9), [WITH_SUBKEY])

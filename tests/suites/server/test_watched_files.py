@@ -124,10 +124,10 @@ class Files(unittest.TestCase):
         file.write_bytes(self.certificate(0))
         self.assertRegex(self.add(str(self.folder) + r"/\xff.pgp"), b"^fault keyring .*name.*UTF-8")
 
-    def test_a_file_that_is_too_large(self):
+    def test_an_armored_file_that_is_too_large(self):
         """Its size alone says so: nothing of it is kept in memory."""
-        file = self.folder / "large.pgp"
-        file.write_bytes(self.certificate(0))
+        file = self.folder / "large.asc"
+        file.write_bytes(b"-----BEGIN PGP PUBLIC KEY BLOCK-----\n")
         os.truncate(file, 600 << 20)
         self.assertRegex(self.add(file), rb"^fault keyring .*more than 512 MiB")
         peak = int(Path(f"/proc/{self.server.process.pid}/status").read_text().partition("VmHWM:")[2].split()[0])

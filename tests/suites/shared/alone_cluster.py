@@ -29,8 +29,8 @@ class OneServer(unittest.TestCase):
         self.stack = contextlib.ExitStack()
         self.addCleanup(self.stack.close)
 
-    def serve(self, *options):
-        return self.stack.enter_context(serve(self.url, *options))
+    def serve(self, *options, **named):
+        return self.stack.enter_context(serve(self.url, *options, **named))
 
     def command(self, *words):
         done = subprocess.run([PYTHON, SERVER, *map(str, words)], capture_output=True, text=True, timeout=PATIENCE,

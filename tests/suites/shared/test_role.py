@@ -126,10 +126,11 @@ class Role(unittest.TestCase):
 
     def test_tables_of_an_earlier_version(self):
         """The service says whose matter they are; the owner brings them to this version."""
-        self.do("DROP TABLE handed_in; ALTER TABLE changes DROP COLUMN mark; UPDATE tukyamid SET version = 3",
-                "keyring")
+        self.do("DROP TABLE handed_in; DROP TABLE unlooked, awaited, loaded; ALTER TABLE changes DROP COLUMN mark; "
+                "UPDATE tukyamid SET version = 3", "keyring")
         status, said = self.command("check", "--database", self.url())
         self.assertEqual((status, "have their owner run tukyamid-server check" in said), (1, True), said)
         self.assertEqual(self.check(), (0, ""))
-        self.do("GRANT SELECT, INSERT ON handed_in TO tukyamid", "keyring")
+        self.do("GRANT SELECT, INSERT ON handed_in TO tukyamid;"
+                "GRANT SELECT, INSERT, UPDATE, DELETE ON unlooked, awaited, loaded TO tukyamid", "keyring")
         self.assertEqual(self.command("check", "--database", self.url()), (0, ""))

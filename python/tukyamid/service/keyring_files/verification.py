@@ -1,4 +1,4 @@
-"""Has the verifier look at the signatures that have no verdict, and makes its verdicts."""
+"""Has the verifier look at the signatures that have no verdict, some certificates at a time, and makes its verdicts."""
 
 from __future__ import annotations
 
@@ -7,22 +7,23 @@ import contextlib
 import os
 import shutil
 import tempfile
-from collections.abc import AsyncIterator, Callable, Iterable, Sequence
+from collections.abc import AsyncIterator, Callable, Iterable, Iterator, Sequence, Set
 
 from tukyamid.keyrings.verifier import VerifierFailed
 
 from ..line_intake import Desk
 from ..started_program import PIPE, start_program
-from ..storage.database import Actor, DatabaseFault, Snapshot
+from ..storage.database import Actor
+from ..storage.unlooked import Looked, Unlooked
+from .named_keys import NamedKeys
+from .progress import Progress, Say, make_changes
 
-_AHEAD = 64
 PIECE = 1 << 18
-_PROGRESS_SECONDS = 1.0
-# How long the verifier verifies at a time, and its exit status if it has left something.
+# What is verified at a time: certificates, and their octets.
+_MOST_CERTIFICATES, _MOST_OCTETS = 2000, 8 << 20
+# How long it is verified until others have their turn, and the verifier's exit status if it has left something.
 _SECONDS = 60
 _LATE = 5
-
-Say = Callable[[str], None]
 
 
 class NotVerified(Exception):
@@ -37,53 +38,15 @@ class OutOfTime(NotVerified):
         self.verdicts = verdicts
 
 
-class Progress:
-    """Says how far something is, not more than once a second."""
-
-    def __init__(self, say: Say, what: str, total: int | None = None) -> None:
-        self._say, self._what = say, what
-        self._of = "" if total is None else f" of {total}"
-        self._next = asyncio.get_running_loop().time() + _PROGRESS_SECONDS
-        self._count = 0
-
-    def advance(self) -> None:
-        """One more is done."""
-        self._count += 1
-        now = asyncio.get_running_loop().time()
-        if now >= self._next:
-            self._next = now + _PROGRESS_SECONDS
-            self._say(f"{self._what} {self._count}{self._of}")
-
-
-async def make_changes(hub: Desk, lines: Iterable[bytes], actor: Actor, progress: Progress) -> int:
-    """Has these changes made, some of them ahead of their replies; returns the number of refused ones. DatabaseFault if
-    the database couldn't take some of them."""
-    room, refused, failed = asyncio.Semaphore(_AHEAD), 0, 0
-
-    def done(reply: bytes | None, _: int) -> None:
-        nonlocal refused, failed
-        refused += reply is None or reply.startswith(b"refused ")
-        failed += reply is not None and reply.startswith(b"fault ")
-        room.release()
-
-    for line in lines:
-        await room.acquire()
-        hub.change(line, actor, done)
-        progress.advance()
-    for _ in range(_AHEAD):
-        await room.acquire()
-    if failed:
-        raise DatabaseFault(f"{failed} changes couldn't be committed")
-    return refused
-
-
 class Verification:
-    """`verifier` returns the words that start the verifier. `left` is how many signatures have no verdict, None if that
+    """`verifier` returns the words that start the verifier. `left` is how many signatures wait for it, None if that
     isn't known."""
 
     def __init__(self, hub: Desk, verifier: Callable[[], Sequence[str]]) -> None:
         self._hub = hub
         self._verifier = verifier
+        self._keys = NamedKeys(hub)
+        self._slow: set[int] = set()  # Certificates whose signatures take long.
         self.left: int | None = None
 
     def program(self) -> tuple[str, ...]:
@@ -100,53 +63,63 @@ class Verification:
         return *words, str(about.st_ino), str(about.st_mtime_ns)
 
     async def run(self, actor: Actor, say: Say) -> int:
-        """Verifies what has no verdict, with all certificates' keys. Returns how many verdicts are new."""
-        questions = await self._pending()  # Also without a verifier, since people hear how many wait for it.
-        words = self.program()[:-2]
-        keyring = await self._snapshot()
-        if keyring is None:
-            raise NotVerified("the database can't be read")
-        with contextlib.closing(keyring):
-            if not self.left:
-                return 0
-            with tempfile.NamedTemporaryFile(prefix="tukyamid-", suffix=".pgp") as file:
-                for octets in keyring.certificates():
-                    file.write(octets)
-                file.flush()
-                late = ["--seconds", str(_SECONDS)]
-                return await self._judge([*words, *late, "--pending", "--", file.name], questions, actor, say)
+        """Verifies what waits, with all certificates' keys, for one go. Returns how many verdicts are new."""
+        self._keys.forget()
+        # Also without a verifier, since people hear how many wait for it.
+        self.left = await self._hub.search(lambda finder: finder.count_unlooked())
+        return await self._go(self.program()[:-2], actor, Progress(say, "signatures", self.left))
 
-    async def _pending(self) -> bytes:
-        """What has no verdict, as the engine says it; `left` counts it from now on."""
-        reply = await self._asked_pending()
-        if reply is None or not reply.startswith(b"pending "):
-            raise NotVerified("the engine can't say which signatures have no verdict")
-        self.left = int(reply[8:reply.index(b"\n")])
-        return reply
+    async def _go(self, words: Sequence[str], actor: Actor, progress: Progress) -> int:
+        """Looks at all that waits, and at what is known to take long behind the rest."""
+        now = asyncio.get_running_loop().time
+        end, count = now() + _SECONDS, 0
+        slow, self._slow = self._slow, set()
+        async for part in self._parts(slow):
+            if now() >= end:
+                self._slow |= slow
+                raise OutOfTime(count, self.left or 0)
+            count += await self._look_at(words, part, actor, progress, end - now())
+        if self._slow:
+            raise OutOfTime(count, self.left or 0)
+        return count
 
-    async def _asked_pending(self) -> bytes | None:
-        answer: asyncio.Future[bytes | None] = asyncio.get_running_loop().create_future()
+    async def _parts(self, slow: Set[int]) -> AsyncIterator[list[Unlooked]]:
+        """What waits, each once, in parts."""
+        for is_slow in (False, True) if slow else (False,):
+            place = -1
+            while part := await self._hub.search(
+                    lambda finder: finder.unlooked(place, _MOST_CERTIFICATES, _MOST_OCTETS)):
+                place = part[-1].place
+                yield [one for one in part if (one.place in slow) is is_slow]
 
-        def take(reply: bytes | None, _: int) -> None:
-            if not answer.done():
-                answer.set_result(reply)
+    async def _look_at(self, words: Sequence[str], part: Sequence[Unlooked], actor: Actor, progress: Progress,
+                       seconds: float) -> int:
+        """How many verdicts the verifier brought. What it has looked at is noted when these are committed, and what it
+        had no time for is known as slow."""
+        judged: set[bytes] = set()
+        status, absent = 0, frozenset[bytes]()
+        if any(one.numbers for one in part):
+            keys, absent = await self._keys.named_by(part)
+            with _written(one.octets for one in part) as given, _written(keys) as others:
+                behind = ["--with", others] if keys else []  # The verifier would report an empty file.
+                status = await self._judge(
+                    [*words, "--seconds", str(max(1, int(seconds))), *behind, "--pending", "--", given],
+                    _questions(part), actor, progress, judged)
+        self._slow.update(one.place for one in part if status == _LATE and not judged.issuperset(one.numbers))
+        done = [one for one in part if one.place not in self._slow]
+        await self._hub.put_looked([Looked(one.place, one.change, one.named & absent) for one in done])
+        unjudged = sum(number not in judged for one in done for number in one.numbers)
+        progress.advance(unjudged)
+        self._note_fewer(unjudged)
+        return len(judged)
 
-        self._hub.ask(b"pending", take)
-        return await answer
+    def _note_fewer(self, count: int) -> None:
+        """That many wait no longer."""
+        self.left = max(0, (self.left or 0) - count)
 
-    async def _snapshot(self) -> Snapshot | None:
-        answer: asyncio.Future[Snapshot | None] = asyncio.get_running_loop().create_future()
-
-        def take(snapshot: Snapshot | None) -> None:
-            if not answer.done():
-                answer.set_result(snapshot)
-            elif snapshot is not None:  # Nobody waits for it any more.
-                snapshot.close()
-
-        self._hub.snapshot(take)
-        return await answer
-
-    async def _judge(self, words: Sequence[str], questions: bytes, actor: Actor, say: Say) -> int:
+    async def _judge(self, words: Sequence[str], questions: bytes, actor: Actor, progress: Progress,
+                     judged: set[bytes]) -> int:
+        """Has the verifier's verdicts made, and collects the signatures' numbers; returns its exit status."""
         try:
             verifier = await start_program(words, stderr=PIPE, limit=PIECE)
         except OSError as error:
@@ -156,12 +129,13 @@ class Verification:
         writing = loop.create_task(_pour(verifier.stdin, questions))
         said = loop.create_task(verifier.stderr.read())
         try:
-            count = await self._take(verifier.stdout, actor, Progress(say, "signatures", self.left))
+            async for lines in lines_with(b"verdict ", verifier.stdout):
+                await make_changes(self._hub, lines, actor, progress)
+                judged.update(bytes.fromhex(line[8:72].decode("latin-1")) for line in lines)
+                self._note_fewer(len(lines))
             await writing
             status = await verifier.wait()
-            if status == _LATE:
-                raise OutOfTime(count, self.left or 0)
-            if status not in (0, 1):
+            if status not in (0, 1, _LATE):
                 raise NotVerified(f"the verifier failed: {(await said).decode(errors='replace').strip()}")
         finally:
             writing.cancel()
@@ -169,14 +143,22 @@ class Verification:
             if verifier.returncode is None:
                 verifier.kill()
                 await verifier.wait()
-        return count
+        return status
 
-    async def _take(self, stdout: asyncio.StreamReader, actor: Actor, progress: Progress) -> int:
-        count, total = 0, self.left or 0
-        async for lines in lines_with(b"verdict ", stdout):
-            count += len(lines) - await make_changes(self._hub, lines, actor, progress)
-            self.left = max(0, total - count)
-        return count
+
+def _questions(part: Sequence[Unlooked]) -> bytes:
+    """What has no verdict, as the engine's reply to `pending` says it. The verifier reads the numbers alone."""
+    lines = [b"sig %s - -\n" % number.hex().encode() for one in part for number in one.numbers]
+    return b"".join([b"pending %d\n" % len(lines), *lines])
+
+
+@contextlib.contextmanager
+def _written(texts: Iterable[bytes]) -> Iterator[str]:
+    """A temporary file with these texts."""
+    with tempfile.NamedTemporaryFile(prefix="tukyamid-", suffix=".pgp") as file:
+        file.writelines(texts)
+        file.flush()
+        yield file.name
 
 
 async def _pour(stdin: asyncio.StreamWriter, octets: bytes) -> None:

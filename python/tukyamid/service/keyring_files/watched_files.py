@@ -1,8 +1,9 @@
-"""The files of a watched keyring: one file, or the entries of a certificate directory. They are regular files, and
-bounded in size: whatever else somebody names is refused, and never waited for."""
+"""The files of a watched keyring: one file, the entries of a certificate directory, or a folder of keyring files. They
+are regular files: whatever else somebody names is refused, and never waited for."""
 
 from __future__ import annotations
 
+import contextlib
 import os
 import re
 import stat
@@ -12,6 +13,7 @@ MOST_OCTETS = 512 << 20
 TRUST_ROOT = "trust-root"
 _FOLDER = re.compile(r"[0-9a-f]{2}")
 _ENTRY = re.compile(r"[0-9a-f]{38}|[0-9a-f]{62}")
+_KEYRING = (".pgp", ".gpg", ".asc")
 
 
 class Unreadable(Exception):
@@ -26,11 +28,19 @@ def files_of(name: str) -> list[str]:
             return [name]
         if not stat.S_ISDIR(mode):
             raise Unreadable(f"{name}: this is neither a regular file nor a directory")
-        found = sorted(_entries(name))
+        found = sorted(_entries(name)) or sorted(_keyrings(name))
         if not found and not _is_new(name):
             raise Unreadable(f"{name}: this isn't a certificate directory: it has no certificate as 0a/1b2c.., and no "
-                             f"{TRUST_ROOT}")
+                             f"{TRUST_ROOT}; nor has it keyrings as {', '.join(f'*{end}' for end in _KEYRING)}")
         return found
+    except OSError as error:
+        raise unreadable(name, error) from None
+
+
+def is_folder_of_files(name: str) -> bool:
+    """Whether a keyring is a folder of keyring files, as a keyserver dumps them."""
+    try:
+        return os.path.isdir(name) and not any(_entries(name)) and any(_keyrings(name))
     except OSError as error:
         raise unreadable(name, error) from None
 
@@ -82,18 +92,30 @@ def _is_new(folder: str) -> bool:
                for name in os.listdir(folder))
 
 
-def _read(file: str, most: int) -> bytes | None:
-    """What a file has; None if that is more than `most`. What was opened is looked at: by now it may be a device, or a
-    FIFO, on which opening doesn't wait. It may also grow while it is read."""
+def _keyrings(folder: str) -> Iterator[str]:
+    """The keyring files in a folder."""
+    with os.scandir(folder) as entries:
+        yield from (entry.path for entry in entries if entry.name.endswith(_KEYRING) and entry.is_file())
+
+
+@contextlib.contextmanager
+def open_regular(file: str) -> Iterator[int]:
+    """Opens a regular file. What was opened is looked at: by now it may be a device, or a FIFO, on which opening
+    doesn't wait."""
     number = os.open(file, os.O_RDONLY | os.O_NONBLOCK | os.O_CLOEXEC | os.O_NOCTTY)
     try:
-        about = os.fstat(number)
-        if not stat.S_ISREG(about.st_mode):
+        if not stat.S_ISREG(os.fstat(number).st_mode):
             raise Unreadable(f"{file}: this isn't a regular file")
-        if about.st_size > most:
+        yield number
+    finally:
+        os.close(number)
+
+
+def _read(file: str, most: int) -> bytes | None:
+    """What a file has; None if that is more than `most`. It may grow while it is read."""
+    with open_regular(file) as number:
+        if os.fstat(number).st_size > most:
             return None
         with open(number, "rb", closefd=False) as opened:
             text = opened.read(most + 1)
-    finally:
-        os.close(number)
     return text if len(text) <= most else None

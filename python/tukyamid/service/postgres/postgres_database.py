@@ -11,8 +11,10 @@ from psycopg.pq import TransactionStatus
 
 from ..storage.acknowledged_changes import Entry
 from ..storage.database import Actor, Change, DatabaseFault, Snapshot, Source, Uncertain
+from ..storage.loaded_files import Loaded
 from ..storage.shared_database import UNREAD, News, Place
 from ..storage.table_check import EVERY_CERTIFICATE, compare
+from ..storage.unlooked import Looked
 from . import postgres_schema
 from .acknowledged_check import lacked_of
 from .changes_since import lines_between
@@ -41,7 +43,7 @@ class Postgres:
         self.servers = Servers(url, state)
         self._machine = socket.gethostname()
         self._wire: Wire | None = None
-        self._beside = PostgresNotes(self.servers, self._machine)
+        self._beside, self._looking = (PostgresNotes(self.servers, self._machine) for _ in range(2))
         try:
             self._primary()
         except DatabaseFault as fault:
@@ -87,6 +89,7 @@ class Postgres:
     def close(self) -> None:
         self.disconnect()
         self._beside.close()
+        self._looking.close()
         self.servers.guard.close()
 
     def cut(self) -> None:
@@ -211,14 +214,23 @@ class Postgres:
         return PostgresFollower(self)
 
     def log_octets(self) -> int:
-        """None: a slow reader has a copy of its own."""
-        return 0
+        return 0  # A slow reader has a copy of its own.
 
     def put_source(self, source: Source) -> None:
         self._beside.put_source(source)
 
     def drop_source(self, name: str) -> bool:
         return self._beside.drop_source(name)
+
+    def put_loaded(self, name: str, loaded: Loaded) -> None:
+        self._beside.put_loaded(name, loaded)
+
+    def drop_loaded(self, name: str) -> None:
+        self._beside.drop_loaded(name)
+
+    def put_looked(self, looked: Sequence[Looked]) -> None:
+        """Waits for a turn, maybe this service's own: so the thread that writes doesn't call this."""
+        self._looking.put_looked(looked)
 
     @faults
     def lacked_of(self, entries: Sequence[Entry]) -> list[Entry]:

@@ -1,14 +1,20 @@
-"""What a service notes in the shared database beside the changes of the keyring. It has a connection to itself, since a
+"""What a service notes in the shared database beside the changes of the keyring. It has connections to itself, since a
 turn may be under way on the other one."""
 
 import contextlib
-from collections.abc import Iterable, Iterator
+import dataclasses
+from collections.abc import Iterable, Iterator, Sequence
 
 from ..storage.acknowledged_changes import Entry
 from ..storage.database import Source
+from ..storage.loaded_files import Loaded
+from ..storage.unlooked import Looked, put_looked
+from .notifications import PLACE
 from .postgres_connection import Connected, Servers, faults
 from .postgres_statements import Statements
 
+# As in a turn: a service that is silent or reads nothing doesn't hold others up.
+_BOUNDED = b"SET LOCAL idle_in_transaction_session_timeout = '2s'; SET LOCAL tcp_user_timeout = '2s'"
 NOW = "SELECT extract(epoch FROM clock_timestamp())::BIGINT"
 
 
@@ -41,6 +47,29 @@ class PostgresNotes(Connected):
         with self._statements() as statements:
             return bool(statements.rows("DELETE FROM sources WHERE machine = ? AND name = ? RETURNING 1",
                                         self._machine, name))
+
+    @faults
+    def put_loaded(self, name: str, loaded: Loaded) -> None:
+        with self._statements() as statements:
+            statements.execute(
+                "INSERT INTO loaded (machine, name, file, stamp, octets, size, digest, certificates, fault) "
+                "VALUES (?, ?, ?, ?, ?, ?, ?, ?, ?) ON CONFLICT (machine, name, file) DO UPDATE SET "
+                "stamp = excluded.stamp, octets = excluded.octets, size = excluded.size, digest = excluded.digest, "
+                "certificates = excluded.certificates, fault = excluded.fault",
+                (self._machine, name, *dataclasses.astuple(loaded)))
+
+    @faults
+    def drop_loaded(self, name: str) -> None:
+        with self._statements() as statements:
+            statements.execute("DELETE FROM loaded WHERE machine = ? AND name = ?", (self._machine, name))
+
+    @faults
+    def put_looked(self, looked: Sequence[Looked]) -> None:
+        """Waits for the turns of others: a key that comes meanwhile would otherwise wake nothing."""
+        with self._statements() as statements, statements.connection.transaction():
+            statements.connection.execute(_BOUNDED)
+            statements.row(f"{PLACE} FOR UPDATE")
+            put_looked(statements.rows, statements.executemany, looked)
 
     @faults
     def hand_in(self, entries: Iterable[Entry]) -> None:

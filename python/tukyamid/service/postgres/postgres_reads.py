@@ -3,13 +3,15 @@
 import os
 import tempfile
 from binascii import unhexlify
-from collections.abc import Iterator
+from collections.abc import Collection, Iterator
 from time import monotonic
 from typing import TYPE_CHECKING, Any
 
 from ..storage.database import AFTER_ALL, Actor, Binding, DatabaseFault, Figures, LogEntry, Source
+from ..storage.loaded_files import Loaded
 from ..storage.part_search import with_part
 from ..storage.sqlite_reads import CERTIFIED, HOLDERS
+from ..storage.unlooked import Unlooked, count_unlooked, keys_of_ids, unlooked_after
 from .postgres_connection import Connected, Servers, Wire, faults
 from .postgres_statements import Statements
 
@@ -154,3 +156,18 @@ class PostgresFinder(Connected):
                                self._machine)
         return [Source(os.fsdecode(name), digest, certificates, os.fsdecode(fault))
                 for name, digest, certificates, fault in rows]
+
+    def loaded(self, name: str) -> list[Loaded]:
+        rows = self._rows("SELECT file, stamp, octets, size, digest, certificates, fault FROM loaded "
+                          "WHERE machine = ? AND name = ? ORDER BY file", self._machine, name)
+        return [Loaded(file, os.fsdecode(stamp), octets, size, digest, certificates, os.fsdecode(fault))
+                for file, stamp, octets, size, digest, certificates, fault in rows]
+
+    def count_unlooked(self) -> int:
+        return count_unlooked(self._rows)
+
+    def unlooked(self, place: int, most: int, most_octets: int) -> list[Unlooked]:
+        return unlooked_after(self._rows, place, most, most_octets)
+
+    def keys_of_ids(self, key_ids: Collection[bytes]) -> list[tuple[bytes, bytes]]:
+        return keys_of_ids(self._rows, key_ids)

@@ -6,7 +6,7 @@ from ..storage.database import DatabaseFault
 from ..storage.table_changes import fill_subkeys
 from .postgres_statements import Statements
 
-VERSION = 4
+VERSION = 5
 
 # User IDs may be longer than what an index takes, so their digests are indexed.
 _FIRST = """
@@ -163,8 +163,36 @@ UPDATE changes SET mark = lines.mark FROM lines WHERE lines.number = changes.num
 CREATE TABLE handed_in (mark BYTEA PRIMARY KEY, time BIGINT NOT NULL);
 """
 
+# As the fifth version of the file has it.
+_FIFTH = """
+CREATE TABLE unlooked (
+    certificate BIGINT PRIMARY KEY REFERENCES certificates ON DELETE CASCADE,
+    change BIGINT NOT NULL
+);
+INSERT INTO unlooked SELECT DISTINCT certificate, 0 FROM verdicts WHERE certificate IS NOT NULL AND issuer IS NULL;
+
+CREATE TABLE awaited (
+    key_id BYTEA NOT NULL,
+    certificate BIGINT NOT NULL,
+    PRIMARY KEY (key_id, certificate)
+);
+
+CREATE TABLE loaded (
+    machine BYTEA NOT NULL,
+    name BYTEA NOT NULL,
+    file BYTEA NOT NULL,
+    stamp BYTEA NOT NULL,
+    octets BIGINT NOT NULL,
+    size BIGINT NOT NULL,
+    digest BYTEA NOT NULL,
+    certificates BIGINT NOT NULL,
+    fault BYTEA NOT NULL,
+    PRIMARY KEY (machine, name, file)
+);
+"""
+
 # What brings the tables of each version to the next.
-MIGRATIONS = (_FIRST, _SECOND, _THIRD, _FOURTH)
+MIGRATIONS = (_FIRST, _SECOND, _THIRD, _FOURTH, _FIFTH)
 _WITH_SUBKEYS = 3  # Before this version the table of subkeys wasn't there. It is filled from the certificates.
 _LOCK = 0x54756B79  # "Tuky": so that of two services that start at once one makes the tables.
 

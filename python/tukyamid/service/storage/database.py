@@ -5,10 +5,13 @@ A change is what one line of a client made of certificates or verdicts. The data
 which they are applied, and makes each of them whole or not at all.
 """
 
-from collections.abc import Iterable, Iterator, Sequence
+from collections.abc import Collection, Iterable, Iterator, Sequence
 from dataclasses import dataclass
 from pathlib import Path
 from typing import Protocol
+
+from .loaded_files import Loaded
+from .unlooked import Looked, Unlooked
 
 BAD = b""
 AFTER_ALL = (1 << 63) - 1  # A number that no change has.
@@ -154,6 +157,18 @@ class Finder(Protocol):
 
     def sources(self) -> list[Source]: ...
 
+    def loaded(self, name: str) -> list[Loaded]:
+        """How far the files of this keyring are loaded."""
+
+    def count_unlooked(self) -> int:
+        """How many signatures wait for the verifier's look."""
+
+    def unlooked(self, place: int, most: int, most_octets: int) -> list[Unlooked]:
+        """The first certificates after a place that the verifier has to look at, up to bounds, but at least one."""
+
+    def keys_of_ids(self, key_ids: Collection[bytes]) -> list[tuple[bytes, bytes]]:
+        """The IDs of kept keys among these, each with the first octets of its certificate."""
+
     def close(self) -> None: ...
 
 
@@ -181,6 +196,15 @@ class Database(Protocol):
     def finder(self) -> Finder: ...
 
     def put_source(self, source: Source) -> None: ...
+
+    def put_loaded(self, name: str, loaded: Loaded) -> None:
+        """Notes how far a file of a keyring is loaded."""
+
+    def drop_loaded(self, name: str) -> None:
+        """Forgets how far the files of a keyring are loaded."""
+
+    def put_looked(self, looked: Sequence[Looked]) -> None:
+        """Notes what the verifier has looked at."""
 
     def log_octets(self) -> int:
         """How large its log is that a slow reader makes larger; 0 if it has none."""

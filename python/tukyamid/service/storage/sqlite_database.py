@@ -1,6 +1,7 @@
 """The database in one file, by SQLite: a write-ahead log, synced at each commit."""
 
 import contextlib
+import dataclasses
 import os
 import sqlite3
 import time
@@ -12,11 +13,13 @@ from ..paths_and_locks import beside
 from . import sqlite_schema
 from .atomic_files import sync_folder
 from .database import Actor, Change, Damaged, DatabaseFault, Snapshot, Source
+from .loaded_files import Loaded
 from .sqlite_files import LOG, Files, more_names, only_log
 from .sqlite_partial_reads import SqliteParts
 from .sqlite_reads import SqliteFinder, SqliteSnapshot
 from .table_changes import Writing
 from .table_check import EVERY_CERTIFICATE, compare
+from .unlooked import Looked, put_looked
 
 _BUSY_SECONDS = 10.0
 _LOG_OCTETS = 64 << 20
@@ -164,6 +167,22 @@ class Sqlite:
     def put_source(self, source: Source) -> None:
         self._connection.execute("INSERT OR REPLACE INTO sources VALUES (?, ?, ?, ?)",
                                  (source.name, source.digest, source.certificates, source.fault))
+
+    @faults
+    def put_loaded(self, name: str, loaded: Loaded) -> None:
+        self._connection.execute(
+            "INSERT OR REPLACE INTO loaded (name, file, stamp, octets, size, digest, certificates, fault) "
+            "VALUES (?, ?, ?, ?, ?, ?, ?, ?)", (name, *dataclasses.astuple(loaded)))
+
+    @faults
+    def drop_loaded(self, name: str) -> None:
+        self._connection.execute("DELETE FROM loaded WHERE name = ?", (name,))
+
+    @faults
+    def put_looked(self, looked: Sequence[Looked]) -> None:
+        with self._transaction() as connection:
+            put_looked(lambda query, *values: connection.execute(query, values).fetchall(), connection.executemany,
+                       looked)
 
     @faults
     def drop_source(self, name: str) -> bool:

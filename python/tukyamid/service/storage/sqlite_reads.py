@@ -2,12 +2,15 @@
 
 import sqlite3
 from binascii import hexlify
-from collections.abc import Callable, Iterator
+from collections.abc import Callable, Collection, Iterator
 from contextlib import closing
 from pathlib import Path
+from typing import Any
 
 from .database import AFTER_ALL, Actor, Binding, DatabaseFault, Figures, LogEntry, Source
+from .loaded_files import Loaded
 from .part_search import with_part
+from .unlooked import Unlooked, count_unlooked, keys_of_ids, unlooked_after
 
 _BINDINGS = "SELECT fingerprint, user_id FROM user_ids JOIN keys ON keys.id = certificate"
 # The certificates with this key ID: those whose primary key has it, and then those whose subkey has it.
@@ -71,7 +74,20 @@ class SqliteFinder:
         self._path = path
         connection.execute("PRAGMA query_only = ON")
 
-    def _rows(self, query: str, *values: object) -> list[tuple[object, ...]]:
+    def loaded(self, name: str) -> list[Loaded]:
+        return [Loaded(*row) for row in self._rows("SELECT file, stamp, octets, size, digest, certificates, fault "
+                                                   "FROM loaded WHERE name = ? ORDER BY file", name)]
+
+    def count_unlooked(self) -> int:
+        return count_unlooked(self._rows)
+
+    def unlooked(self, place: int, most: int, most_octets: int) -> list[Unlooked]:
+        return unlooked_after(self._rows, place, most, most_octets)
+
+    def keys_of_ids(self, key_ids: Collection[bytes]) -> list[tuple[bytes, bytes]]:
+        return keys_of_ids(self._rows, key_ids)
+
+    def _rows(self, query: str, *values: object) -> list[tuple[Any, ...]]:
         try:
             return self._connection.execute(query, values).fetchall()
         except sqlite3.Error as error:

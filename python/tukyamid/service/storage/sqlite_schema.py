@@ -7,7 +7,7 @@ from .database import DatabaseFault
 from .table_changes import fill_subkeys
 
 APPLICATION_ID = 0x54756B79  # "Tuky", so that `file` and the service know it from other databases.
-VERSION = 4
+VERSION = 5
 # Most certificates are shorter than two thousand octets, and few of them share a smaller page without waste.
 PAGE_OCTETS = 8192
 
@@ -155,8 +155,36 @@ CREATE TABLE subkeys (
 CREATE INDEX subkeys_by_key_id ON subkeys (key_id);
 """
 
+# Which certificates the verifier has to look at since which change, and which wait for a key with this ID; and how far
+# the files of large keyrings are loaded.
+_FIFTH = """
+CREATE TABLE unlooked (
+    certificate INTEGER PRIMARY KEY REFERENCES certificates ON DELETE CASCADE,
+    change INTEGER NOT NULL
+) STRICT;
+INSERT INTO unlooked SELECT DISTINCT certificate, 0 FROM verdicts WHERE certificate IS NOT NULL AND issuer IS NULL;
+
+CREATE TABLE awaited (
+    key_id BLOB NOT NULL,
+    certificate INTEGER NOT NULL,
+    PRIMARY KEY (key_id, certificate)
+) STRICT, WITHOUT ROWID;
+
+CREATE TABLE loaded (
+    name TEXT NOT NULL,
+    file BLOB NOT NULL,
+    stamp TEXT NOT NULL,
+    octets INTEGER NOT NULL,
+    size INTEGER NOT NULL,
+    digest BLOB NOT NULL,
+    certificates INTEGER NOT NULL,
+    fault TEXT NOT NULL,
+    PRIMARY KEY (name, file)
+) STRICT, WITHOUT ROWID;
+"""
+
 # What brings a database from each version to the next; version 0 is an empty file.
-MIGRATIONS = (_FIRST, _SECOND, _THIRD, _FOURTH)
+MIGRATIONS = (_FIRST, _SECOND, _THIRD, _FOURTH, _FIFTH)
 _WITH_SUBKEYS = 4  # Before this version the table of subkeys wasn't there. It is filled from the certificates.
 _SMALLER = 3  # From the version before this one on, a file has room that nothing needs.
 

@@ -7,10 +7,11 @@ from typing import Any, Protocol
 
 from .certificate_rows import Described, describe
 from .database import Change, DropCertificate, Effect, PutCertificate, SetVerdict
+from .unlooked import LOOK, UNLOOK_ALL_JUDGED, WAKE
 
 NOBODY = 0  # The key of this number has no octets: the issuer of a signature that is bad.
 COUNTED = ("certificates", "octets", "user_ids", "signatures", "verdicts", "pending")
-_TABLES = ("verdicts", "user_ids", "subkeys", "certificates")
+_TABLES = ("awaited", "unlooked", "verdicts", "user_ids", "subkeys", "certificates")
 _LIST_SUBKEY = "INSERT INTO subkeys (certificate, key_id) VALUES (?, ?) ON CONFLICT DO NOTHING"
 _ADOPT = "UPDATE verdicts SET certificate = ?, depth = ? WHERE number = ? AND certificate IS NULL"
 _BRING = "INSERT INTO verdicts (number, certificate, depth) SELECT ?, ?, ? " \
@@ -81,6 +82,7 @@ class Writing:
                 number, _, issuer = rest.partition(b" ")
                 self._judge(bytes.fromhex(number.decode()), bytes.fromhex(issuer.removeprefix(b"good ").decode())
                             if issuer != b"bad" else b"")
+        self._connection.execute(UNLOOK_ALL_JUDGED)
         self._log(change, now)
         self.count()
         return self._number
@@ -133,7 +135,14 @@ class Writing:
         if described.subkeys:
             self._connection.executemany(_LIST_SUBKEY, [(place, key_id) for key_id in described.subkeys])
         self._bring(place, described.signatures, is_new=row is None)
+        if row is None:
+            for (waiting,) in self._connection.execute(WAKE, (described.key_id,)).fetchall():
+                self._have_looked_at(waiting)
         return True
+
+    def _have_looked_at(self, place: int) -> None:
+        """Has the verifier look at a certificate."""
+        self._connection.execute(LOOK, (self._number + 1, place))
 
     def _bring(self, place: int, signatures: dict[bytes, int], is_new: bool) -> None:
         """Has a certificate carry these signatures too. Some may have a verdict already, as those of a certificate
@@ -143,6 +152,8 @@ class Writing:
         new = [(number, depth) for number, depth in signatures.items() if number not in known]
         self._more["signatures"] += len(new)
         self._more["pending"] += len(new)
+        if new:
+            self._have_looked_at(place)
         if new and self._loose:
             adopted = self._connection.executemany(
                 _ADOPT, [(place, depth, number) for number, depth in new]).rowcount
@@ -184,6 +195,8 @@ class Writing:
         self._more["verdicts"] += more
         if row is not None and row[0] is not None:
             self._more["pending"] -= more
+            if by is None:
+                self._have_looked_at(row[0])
         else:
             self._loose += more
         return True
