@@ -29,7 +29,7 @@ class Holding:
         self._access = access
         self._room = room
         self._held: Hub | Sliced | None = None
-        self._most_age = most_age
+        self.most_age = most_age
 
     @property
     def held(self) -> Hub | Sliced:
@@ -58,8 +58,8 @@ class Holding:
     @property
     def is_too_old(self) -> bool:
         """Whether an answer isn't known to be as young as it has to be. At first nothing is known."""
-        return self._most_age is not None and isinstance(self._held, SharedHub | SharedSliced) and (
-            self.standby is None or self.age > self._most_age)
+        return self.most_age is not None and isinstance(self._held, SharedHub | SharedSliced) and (
+            self.standby is None or self.age > self.most_age)
 
     def lag(self) -> float:
         """For how many seconds lines have waited for the engines."""
@@ -114,10 +114,8 @@ class Holding:
 
     def note(self, session: int, line: bytes) -> None:
         """Writes down any other line when it is handed in."""
-        if isinstance(self.held, SharedSliced) and self._access.notes:
-            self.held.note(session, line)
-        else:
-            self._access.note(session, line)
+        if self._access.notes:
+            (self.held if isinstance(self.held, SharedSliced) else self._access).note(session, line)
 
     def cut_stuck(self) -> None:
         """Ends what a server of the database hasn't answered for long."""

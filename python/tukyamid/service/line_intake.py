@@ -92,7 +92,7 @@ class Desk(Holding):
     def takes(self, line: bytes) -> bool:
         """Whether this line may begin now."""
         if self.early is None:
-            return self._waiting.is_clear
+            return not (self._waiting.is_held_up or self._waiting.waiting)  # As `is_clear`, for every line.
         return not self._waiting.is_held_up and line.partition(b" ")[0] not in OF_THE_WHOLE
 
     async def close(self) -> None:

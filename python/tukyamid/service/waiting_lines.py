@@ -16,27 +16,27 @@ class WaitingLines:
         self.is_held_up = False
         self._resumed = resumed
         self._tell = tell
-        self._waiting: deque[Place] = deque()
+        self.waiting: deque[Place] = deque()
 
     @property
     def is_clear(self) -> bool:
         """Whether a line may have its place now."""
-        return not self.is_held_up and not self._waiting
+        return not self.is_held_up and not self.waiting
 
     def add(self, place: Place) -> None:
         """Gives a line its place behind those that wait."""
-        self._waiting.append(place)
+        self.waiting.append(place)
 
     def resume(self, first: list[Place]) -> None:
         """Gives all their places: these first. One of them may hold up those behind it again."""
-        self._waiting.extendleft(reversed(first))
+        self.waiting.extendleft(reversed(first))
         self.is_held_up = False
-        while self._waiting and not self.is_held_up:
-            place = self._waiting[0]
+        while self.waiting and not self.is_held_up:
+            place = self.waiting[0]
             try:
                 place()
             except Exception as error:  # Whatever one line meets, the others go on.
                 self._tell(repr(error))
-            self._waiting.popleft()
+            self.waiting.popleft()
         if self.is_clear:
             self._resumed()

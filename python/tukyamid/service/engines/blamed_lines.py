@@ -12,23 +12,18 @@ class Blame:
     behind it are innocent, and so are all while a program is given what the last one held, or can't be started."""
 
     def __init__(self) -> None:
-        self._suspect: Sent | None = None
+        self.suspect: Sent | None = None  # The line that is tried alone, if there is one.
         self._ends = 0
-
-    @property
-    def is_there(self) -> bool:
-        """Whether a line is tried alone."""
-        return self._suspect is not None
 
     def holds_back(self, sent: Sent) -> bool:
         """Whether a line has to wait until another one was tried alone."""
-        return self._suspect is not None and sent is not self._suspect
+        return self.suspect is not None and sent is not self.suspect
 
     def take_end(self, first: Sent) -> bool:
         """A program has ended that was to answer this line first. True if the line is to be given up."""
-        self._ends = self._ends + 1 if first is self._suspect else 1
-        self._suspect = first
+        self._ends = self._ends + 1 if first is self.suspect else 1
+        self.suspect = first
         return self._ends >= _TRIES
 
     def clear(self) -> None:
-        self._suspect, self._ends = None, 0
+        self.suspect, self._ends = None, 0

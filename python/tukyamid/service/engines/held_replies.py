@@ -6,7 +6,7 @@ from collections import deque
 
 from ..storage.journal import Point
 from .in_flight import Held, Sent
-from .replayed_state import Standing
+from .replayed_state import Standing, Watch
 
 
 class HeldReplies:
@@ -16,12 +16,14 @@ class HeldReplies:
     def __bool__(self) -> bool:
         return bool(self._held)
 
-    def add(self, held: Held) -> None:
+    def add(self, point: Point, sent: Sent | None, reply: bytes, watch: Watch | None) -> None:
         """Hands a reply on when all changes that it rests on are committed."""
-        if self._held or held.point.count is None:
-            self._held.append(held)
+        if self._held or point.count is None:
+            self._held.append(Held(point, sent, reply, watch))
+        elif sent is not None and watch is None:  # As nearly always.
+            sent.done(reply, point.count)
         else:
-            _hand_on(held)
+            _hand_on(Held(point, sent, reply, watch))
 
     def release(self) -> None:
         """Hands on what rests on committed changes alone."""

@@ -10,7 +10,7 @@ from collections.abc import Sequence
 from ..storage.journal import Change, Done, Journal, Point
 from .blamed_lines import Blame
 from .held_replies import HeldReplies
-from .in_flight import Held, Home, Sent, answered_without, ignore
+from .in_flight import Home, Sent, answered_without, ignore
 from .program_run import Program
 from .replay_replies import NO_COMMAND, Feed, fail
 from .replayed_state import Hear, Standing, Watch
@@ -73,7 +73,7 @@ class Engine:
              is_inner: bool = False, replies: int = 1) -> None:
         self.waiting.append(sent := Sent(line, done, change, watch, is_inner, self._now()))
         sent.replies = sent.left = replies
-        if self._running is not None and self._running.is_live and not self._blame.is_there:
+        if self._blame.suspect is None and self._running is not None and self._running.is_live:
             self._running.send(line)
 
     async def close(self) -> None:
@@ -186,10 +186,10 @@ class Engine:
             self._take_told(reply)
             return
         self._failures = 0
-        if self.waiting[0].take(reply):
+        if (sent := self.waiting[0]).left > 1 and sent.take(reply):
             return
-        sent = self.waiting.popleft()
-        if self._blame.is_there:
+        self.waiting.popleft()
+        if self._blame.suspect is not None:
             self._send_others()
         if sent.change is not None:
             self.point = sent.change
@@ -203,7 +203,7 @@ class Engine:
         if sent.is_inner:
             sent.done(reply, sent.replies - 1)
         else:
-            self._held.add(Held(self.point, sent, reply, sent.watch))
+            self._held.add(self.point, sent, reply, sent.watch)
 
     def _take_fed(self, feed: Feed, reply: bytes) -> None:
         if not self.has_begun.done():
@@ -225,7 +225,7 @@ class Engine:
         if reply.endswith(b" gone\n"):
             del self.standing.watches[name]
         watch.told = reply
-        self._held.add(Held(self.point, None, reply, watch))
+        self._held.add(self.point, None, reply, watch)
 
     def _fail(self, error: Exception) -> None:
         """The first program never came to stand; whoever waits for that gets this error."""

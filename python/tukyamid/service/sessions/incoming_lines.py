@@ -9,7 +9,7 @@ from tukyamid.protocol.spelling import has_reply
 
 from ..engines.framing import LineCutter
 from .outbox import Slot
-from .user_shares import FREE, Share, Waiter, kind_of
+from .user_shares import FIND, FREE, KINDS, Share, Waiter, kind_of
 
 _LONG_LINE = 1 << 16  # Octets; longer ones are few at a time.
 
@@ -39,8 +39,11 @@ class Intake:
 
     def has_room(self, word: bytes, line: bytes) -> bool:
         """Whether this line may begin now; if not, the client goes on once it may."""
-        self._kind = kind_of(word, line)
-        return self.share.has_room(self._kind, self._client)
+        kind, share = KINDS.get(word, FREE), self.share
+        self._kind = kind = kind_of(word, line) if kind == FIND else kind
+        if share.left_of_turn > 0 and share.under_way[kind] < share.most[kind]:
+            return True  # As `Share.has_room`, for every line.
+        return share.has_room(kind, self._client)
 
     def begin(self, slot: Slot) -> None:
         """The line that had room begins."""

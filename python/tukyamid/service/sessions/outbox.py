@@ -87,9 +87,11 @@ class Outbox:
     def answer(self, slot: Slot, reply: bytes | Pieces | None) -> None:
         """The reply to a slot's line; None drops the client, whose line nobody could answer."""
         slot.reply, slot.is_answered = reply, True
-        if slot.share is not None:
-            slot.end()
-        if isinstance(reply, Generator):
+        share = slot.share
+        if share is not None:
+            slot.share = None
+            share.end(slot.kind)
+        if not isinstance(reply, bytes) and isinstance(reply, Generator):
             self.pinned_since = self._loop.time()
         if self.slots and self.slots[0] is slot:
             self.deliver()

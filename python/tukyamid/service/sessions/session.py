@@ -158,7 +158,7 @@ class Session(asyncio.BufferedProtocol):
         slot = Slot(word, len(line or b""))
         self.outbox.add(slot)
         self.intake.begin(slot)
-        is_too_old = word in QUESTIONS and self.hub.is_too_old
+        is_too_old = self.hub.most_age is not None and word in QUESTIONS and self.hub.is_too_old
         if line is None or is_too_old:
             self.outbox.answer(slot, FAULT if is_too_old else REFUSED_LONG)
             return
@@ -192,7 +192,7 @@ class Session(asyncio.BufferedProtocol):
 
     def _answered(self, slot: Slot, reply: bytes | Pieces | None, count: int) -> None:
         try:
-            if reply is not None and slot.word in WITHOUT_EFFECT and self.hub.is_too_old:
+            if self.hub.most_age is not None and reply and slot.word in WITHOUT_EFFECT and self.hub.is_too_old:
                 reply = FAULT  # It has grown old meanwhile.
             elif reply is None:
                 self.hub.tell(f"client {self.number} is disconnected: its line killed the engine several times")

@@ -22,18 +22,19 @@ _FEWEST = 8
 _MOST_LONG_LINES = 2
 _MOST_VIEWS_AND_ROOTS = 1 << 16  # Some 20 MB.
 _LOOK_SECONDS, _LATE, _QUICK = 0.005, 0.02, 0.005
+_LOOK_ANSWERS = 16  # The clock is read once for so many, because that costs as much as the rest of an answer here.
 _FIRST_WINDOW, _LARGEST_WINDOW = 64.0, 4096.0
 _LINES_A_TURN = 256  # Each costs 5 to 60 us.
 
 # Kinds of lines: quick questions, long ones, what the database is searched for, changes, and what costs nothing.
 ASK, LONG, FIND, CHANGE, FREE = range(5)
 _LONG_LINES = 5  # What a client waits for that has sent a part of a long line.
-_KINDS = {b"ask": ASK, b"check": ASK, b"watch": ASK, b"list": LONG, b"explain": LONG, b"absence": LONG, b"cursor": LONG,
-          b"keys": LONG, b"pending": LONG, b"export": LONG, b"service": FIND, **{word: CHANGE for word in CHANGES}}
+KINDS = {b"ask": ASK, b"check": ASK, b"watch": ASK, b"list": LONG, b"explain": LONG, b"absence": LONG, b"cursor": LONG,
+         b"keys": LONG, b"pending": LONG, b"export": LONG, b"service": FIND, **{word: CHANGE for word in CHANGES}}
 
 
 def kind_of(word: bytes, line: bytes) -> int:
-    kind = _KINDS.get(word, FREE)
+    kind = KINDS.get(word, FREE)
     if kind == FIND and line.startswith(b"service keyring"):
         return FREE  # One keyring is read at a time, and that may take minutes.
     return kind
@@ -84,12 +85,13 @@ class Share:
         self.views = Room(_MOST_VIEWS_AND_ROOTS)
         self.long_lines = 0
         self.under_way = [0] * 5
-        self._most = [_FIRST_WINDOW, 2.0, 2.0, 1024.0, float("inf")]
+        self.most = [_FIRST_WINDOW, 2.0, 2.0, 1024.0, float("inf")]
         self._lag = lag
         self._looked = 0.0
+        self._unlooked = 0  # Questions that were answered since the clock was read.
         self._waiting: dict[Waiter, int] = {}  # Those that wait, in their order, and for what.
         self._is_waking = False
-        self._left_of_turn = _LINES_A_TURN
+        self.left_of_turn = _LINES_A_TURN
         self._turning: dict[Waiter, None] = {}  # Those who wait for the user's next turn.
         self._loop = asyncio.get_running_loop()
 
@@ -99,26 +101,27 @@ class Share:
 
     def has_room(self, kind: int, one: Waiter) -> bool:
         """Whether one more line may be under way; if not, this client goes on once there is room."""
-        if self.under_way[kind] < self._most[kind] and self._left_of_turn > 0:
+        if self.under_way[kind] < self.most[kind] and self.left_of_turn > 0:
             return True
-        if self._left_of_turn <= 0:
+        if self.left_of_turn <= 0:
             self._turning[one] = None
         else:
             self._waiting[one] = kind
         return False
 
     def begin(self, kind: int) -> None:
-        """A line of this kind is under way. All clients of a user begin few lines while the loop goes round once."""
+        """A line of this kind is under way. All clients of a user begin few lines while the loop goes round once: a new
+        turn begins only once half of the last one is used, since that costs as much as some lines."""
         self.under_way[kind] += 1
-        if self._left_of_turn == _LINES_A_TURN:
+        self.left_of_turn -= 1
+        if self.left_of_turn == _LINES_A_TURN // 2:
             self._loop.call_soon(self._turn)
-        self._left_of_turn -= 1
 
     def _turn(self) -> None:
-        self._left_of_turn = _LINES_A_TURN
+        self.left_of_turn = _LINES_A_TURN
         turning, self._turning = self._turning, {}
         for one in list(turning):
-            if self._left_of_turn <= 0:
+            if self.left_of_turn <= 0:
                 break
             del turning[one]
             one.resume()
@@ -128,18 +131,23 @@ class Share:
         """A line of this kind is answered."""
         self.under_way[kind] -= 1
         if kind == ASK:
-            now = self._loop.time()
-            if now - self._looked > _LOOK_SECONDS:
-                self._looked = now
-                self._set_window(self._lag())
+            self._unlooked += 1
+            if self._unlooked == _LOOK_ANSWERS:
+                self._look()
         if self._waiting:
             self._wake()
 
+    def _look(self) -> None:
+        self._unlooked, now = 0, self._loop.time()
+        if now - self._looked > _LOOK_SECONDS:
+            self._looked = now
+            self._set_window(self._lag())
+
     def _set_window(self, lag: float) -> None:
         if lag > _LATE:
-            self._most[ASK] = max(1.0, self._most[ASK] / 2)
+            self.most[ASK] = max(1.0, self.most[ASK] / 2)
         elif lag < _QUICK:
-            self._most[ASK] = min(_LARGEST_WINDOW, self._most[ASK] * 2)
+            self.most[ASK] = min(_LARGEST_WINDOW, self.most[ASK] * 2)
 
     def take_long_line(self, one: Waiter) -> bool:
         """Whether one more long line may be held; if not, this client goes on once there is room."""
@@ -172,7 +180,7 @@ class Share:
     def _has_room_again(self, kind: int) -> bool:
         if kind == _LONG_LINES:
             return self.long_lines < _MOST_LONG_LINES
-        return self.under_way[kind] < self._most[kind]
+        return self.under_way[kind] < self.most[kind]
 
 
 class Shares:

@@ -104,14 +104,10 @@ class Access:
         self._finding, self._searching = Lookups(database, "finding"), Lookups(database, "searching")
         self._reading = Calls("reading")
         self._order = order
+        self.notes = order is not None  # Whether the order of lines is written down.
 
     def tell(self, text: str) -> None:
         log(text)
-
-    @property
-    def notes(self) -> bool:
-        """Whether the order of lines is written down."""
-        return self._order is not None
 
     def note(self, session: int, line: bytes) -> None:
         """Writes down the order of lines, for those who check it."""
