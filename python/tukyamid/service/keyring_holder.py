@@ -114,8 +114,12 @@ class Holding:
 
     def note(self, session: int, line: bytes) -> None:
         """Writes down any other line when it is handed in."""
-        if self._access.notes:
-            (self.held if isinstance(self.held, SharedSliced) else self._access).note(session, line)
+        if not self._access.notes:
+            return
+        if isinstance(self.held, SharedSliced):
+            self.held.note(session, line)
+        else:
+            self._access.note(session, line)
 
     def cut_stuck(self) -> None:
         """Ends what a server of the database hasn't answered for long."""

@@ -14,6 +14,7 @@ from .paths_and_locks import Lock, Taken, beside
 
 _FIRST_PASSED = 3
 BACKLOG = 1024
+_NOTICE_SECONDS = 5.0
 # The names of passed sockets, with whether their clients may change something. A socket unit that names none passes
 # its own name.
 _NAMES = {"read-write": True, "tukyamid.socket": True, "read-only": False, "tukyamid-read-only.socket": False}
@@ -111,8 +112,10 @@ def passed_sockets() -> list[tuple[Passed, bool]]:
 
 
 def notify(text: str) -> None:
-    """Reports to systemd how the service is, if systemd has started it and wants to know."""
+    """Reports to systemd how the service is, if systemd has started it and wants to know. What it doesn't take within
+    some seconds is lost."""
     address = os.environ.get("NOTIFY_SOCKET")
     if address:
-        with socket.socket(socket.AF_UNIX, socket.SOCK_DGRAM) as sender:
+        with contextlib.suppress(TimeoutError), socket.socket(socket.AF_UNIX, socket.SOCK_DGRAM) as sender:
+            sender.settimeout(_NOTICE_SECONDS)
             sender.sendto(text.encode(), "\0" + address[1:] if address.startswith("@") else address)

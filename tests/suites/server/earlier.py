@@ -1,6 +1,11 @@
 """What the tables of earlier versions had of a keyring, before keys were numbered and things were counted."""
 
+import sqlite3
+from contextlib import closing
+
 from tukyamid.service.storage.certificate_rows import describe
+from tukyamid.service.storage.sqlite_tables import MIGRATIONS
+from tukyamid.service.storage.upgrade_steps import make_all
 
 
 class Earlier:
@@ -34,3 +39,15 @@ class Earlier:
         for table in ("certificates", "user_ids", "verdicts", "certifications"):
             rows = [*self.verdicts.values()] if table == "verdicts" else getattr(self, table)
             yield f"INSERT INTO {table} {overriding} VALUES ({', '.join('?' * len(rows[0]))})", rows
+
+
+def fill_earlier(path, version, lines):
+    """A file as this version has made it."""
+    with closing(sqlite3.connect(path)) as raw, raw:
+        raw.execute("PRAGMA journal_mode = WAL")
+        make_all(raw, [step for migration in MIGRATIONS[:version] for step in migration])
+        for statement, values in Earlier(lines).statements():
+            raw.executemany(statement, values)
+        raw.execute("INSERT INTO changes VALUES (1, 5, 0, 0, 'filled')")
+        raw.execute(f"PRAGMA user_version = {version}")
+        raw.execute("PRAGMA application_id = 0x54756B79")

@@ -3,14 +3,14 @@
 import sqlite3
 from contextlib import closing
 
-from earlier import Earlier
+from earlier import fill_earlier
 from outside import alone, needs_engine, script_of
 from test_database import InAFolder
 from test_lines import SUBKEY_ID, WITH_SUBKEY
 from tukyamid.service.storage.database import Actor, DatabaseFault
 from tukyamid.service.storage.partial_reads import Sizes
 from tukyamid.service.storage.sqlite_database import Sqlite
-from tukyamid.service.storage.sqlite_schema import MIGRATIONS, PAGE_OCTETS, VERSION
+from tukyamid.service.storage.sqlite_schema import PAGE_OCTETS, VERSION
 from world import World
 
 
@@ -21,18 +21,6 @@ class Versions(InAFolder):
             raw.execute(f"PRAGMA user_version = {VERSION + 1}")
         with self.assertRaisesRegex(DatabaseFault, "made by a later Tukyamid"):
             Sqlite(self.path)
-
-    def fill_earlier(self, version, lines):
-        """A file as this version has made it."""
-        with closing(sqlite3.connect(self.path)) as raw, raw:
-            raw.execute("PRAGMA journal_mode = WAL")
-            for migration in MIGRATIONS[:version]:
-                raw.executescript(migration)
-            for statement, values in Earlier(lines).statements():
-                raw.executemany(statement, values)
-            raw.execute("INSERT INTO changes VALUES (1, 5, 0, 0, 'filled')")
-            raw.execute(f"PRAGMA user_version = {version}")
-            raw.execute("PRAGMA application_id = 0x54756B79")
 
     @needs_engine
     def test_earlier_versions(self):
@@ -48,7 +36,7 @@ class Versions(InAFolder):
         for version in (1, 2):
             with self.subTest(version):
                 self.path.unlink(missing_ok=True)
-                self.fill_earlier(version, told)
+                fill_earlier(self.path, version, told)
                 with closing(Sqlite(self.path)) as database, closing(database.finder()) as finder:
                     self.assertEqual(database.check(), [])
                     self.assertEqual(script_of(database).splitlines(), told)

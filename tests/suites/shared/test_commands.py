@@ -1,13 +1,11 @@
 """What is found in PostgreSQL, what is wrong there, and its copies and scripts."""
 
-import contextlib
 import tempfile
 from pathlib import Path
 
 from alone_cluster import OneServer
-from earlier import Earlier
 from outside import Client
-from talking import dump_of, listed, log_of, status_of, told, wait_until_same
+from talking import dump_of, listed, log_of, told, wait_until_same
 
 
 class Commands(OneServer):
@@ -53,25 +51,6 @@ class Commands(OneServer):
         self.cluster.query("UPDATE counts SET pending = pending + 1", self.name)
         status, said = self.command("check", "--database", self.url)
         self.assertEqual((status, "the counts aren't those" in said), (1, True), said)
-
-    def test_an_earlier_version(self):
-        """Also with a verdict that is bad, and one on a signature that isn't kept."""
-        import psycopg
-        from tukyamid.service.postgres.postgres_statements import Statements
-        from tukyamid.service.postgres.postgres_schema import MIGRATIONS
-        lines = told([*self.world.lines(), b"verdict %s bad" % self.world.verdicts[0][0], b"verdict %064x bad" % 1,
-                      b"verdict %064x good %s" % (2, b"5" * 40), b"verdict %s none" % self.world.verdicts[1][0]])
-        with contextlib.closing(psycopg.connect(self.cluster.at(self.name), autocommit=True)) as connection:
-            connection.execute("CREATE TABLE tukyamid (version INTEGER NOT NULL)")
-            connection.execute("INSERT INTO tukyamid VALUES (1)")
-            connection.execute(MIGRATIONS[0])
-            for statement, values in Earlier(lines).statements("OVERRIDING SYSTEM VALUE"):
-                Statements(connection).executemany(statement, values)
-        self.assertEqual(self.command("check", "--database", self.url), (0, ""))
-        server = self.serve()
-        self.assertEqual(dump_of(server), lines)
-        self.assertEqual(status_of(server)[b"certificates"], b"8")
-        self.assertEqual(status_of(server)[b"verdicts"], b"%d" % sum(line.startswith(b"verdict") for line in lines))
 
     def test_odd_user_ids(self):
         """A long one, and one with octets that are no text."""

@@ -64,7 +64,7 @@ class Postgres:
         except DatabaseFault:
             raise fault from None
         with closing(wire), wire.bounded():
-            if not postgres_schema.version_of(Statements(wire.connection), self.name):
+            if not postgres_schema.is_current(wire.connection, self.name):
                 raise fault
 
     def _primary(self) -> Wire:
@@ -76,7 +76,7 @@ class Postgres:
                 with wire.bounded():
                     is_prepared = postgres_schema.is_current(wire.connection, self.name)
                 if not is_prepared:
-                    postgres_schema.prepare(wire.connection, self.name)
+                    postgres_schema.prepare(wire, self.name)
             wire.say_whole()
             self._wire = wire
         return self._wire

@@ -22,7 +22,7 @@ _FEWEST = 8
 _MOST_LONG_LINES = 2
 _MOST_VIEWS_AND_ROOTS = 1 << 16  # Some 20 MB.
 _LOOK_SECONDS, _LATE, _QUICK = 0.005, 0.02, 0.005
-_LOOK_ANSWERS = 16  # The clock is read once for so many, because that costs as much as the rest of an answer here.
+_LOOK_ANSWERS = 16  # The clock is read after that many answers, because reading it is slower than the rest here.
 _FIRST_WINDOW, _LARGEST_WINDOW = 64.0, 4096.0
 _LINES_A_TURN = 256  # Each costs 5 to 60 us.
 

@@ -12,7 +12,7 @@ from .unlooked import LOOK, UNLOOK_ALL_JUDGED, WAKE
 NOBODY = 0  # The key of this number has no octets: the issuer of a signature that is bad.
 COUNTED = ("certificates", "octets", "user_ids", "signatures", "verdicts", "pending")
 _TABLES = ("awaited", "unlooked", "verdicts", "user_ids", "subkeys", "certificates")
-_LIST_SUBKEY = "INSERT INTO subkeys (certificate, key_id) VALUES (?, ?) ON CONFLICT DO NOTHING"
+LIST_SUBKEY = "INSERT INTO subkeys (certificate, key_id) VALUES (?, ?) ON CONFLICT DO NOTHING"
 _ADOPT = "UPDATE verdicts SET certificate = ?, depth = ? WHERE number = ? AND certificate IS NULL"
 _BRING = "INSERT INTO verdicts (number, certificate, depth) SELECT ?, ?, ? " \
     "WHERE NOT EXISTS (SELECT 1 FROM verdicts WHERE number = ?)"
@@ -37,12 +37,6 @@ class Statements(Protocol):
     def execute(self, statement: str, values: Sequence[Any] = (), /) -> Rows: ...
 
     def executemany(self, statement: str, values: Iterable[Sequence[Any]], /) -> Counted: ...
-
-
-def fill_subkeys(connection: Statements, certificates: Iterable[Sequence[Any]]) -> None:
-    """Lists the subkeys of certificates that an earlier version has written: rows of number and octets."""
-    for place, octets in certificates:
-        connection.executemany(_LIST_SUBKEY, [(place, key_id) for key_id in describe(bytes(octets)).subkeys])
 
 
 class Writing:
@@ -133,7 +127,7 @@ class Writing:
                 "INSERT INTO user_ids VALUES (?, ?, ?) ON CONFLICT DO NOTHING",
                 [(place, user_id, address) for user_id, address in described.user_ids.items()]).rowcount
         if described.subkeys:
-            self._connection.executemany(_LIST_SUBKEY, [(place, key_id) for key_id in described.subkeys])
+            self._connection.executemany(LIST_SUBKEY, [(place, key_id) for key_id in described.subkeys])
         self._bring(place, described.signatures, is_new=row is None)
         if row is None:
             for (waiting,) in self._connection.execute(WAKE, (described.key_id,)).fetchall():
