@@ -18,7 +18,7 @@ from .exit_statuses import REACHED, NoAnswer, WrongWords
 from ..keyrings.gpg_keyring import home_directory
 from .output import printable, tell, write
 from .parser import Parser
-from .user_service import service
+from .user_service import host_service, service
 
 HELP = """usage: tukyamid keyring add NAME..      keep these keyrings: a file, a certificate directory, a folder
                                         of keyring files, or gpg
@@ -29,7 +29,8 @@ HELP = """usage: tukyamid keyring add NAME..      keep these keyrings: a file, a
        tukyamid log [N]                 show the last N changes (20), newest first: when, by whom, what
 
 The service keeps these keyrings, so that questions are answered at once. It starts by itself, and verifies a keyring
-again when it changes. With --quiet nothing is printed if all is well. See docs/SERVICE.md.
+again when it changes. With --host they are about the service of the host. With --quiet nothing is printed if all is
+well. See docs/SERVICE.md.
 """
 
 
@@ -37,6 +38,7 @@ class Words(argparse.Namespace):
     """What the words say: `words` are those that aren't options."""
     words: list[str]
     certificates: bool
+    host: bool
     quiet: bool
 
 
@@ -48,6 +50,7 @@ def parser(command: str) -> Parser:
         made.add_argument("--certificates", action="store_true", help="remove the certificates too")
     else:
         made.set_defaults(certificates=False)
+    made.add_argument("--host", action="store_true", help="ask the service of the host")
     made.add_argument("--quiet", "-q", action="store_true", help="print nothing if all is well")
     return made
 
@@ -62,7 +65,8 @@ def run(command: str, words: Sequence[str]) -> int:
     parser(command).parse_intermixed_args(words, given)
     if given.certificates and given.words[:1] != ["remove"]:
         raise WrongWords("--certificates goes with keyring remove")
-    with service() as client:
+    may_change = command == "keyring" and given.words[:1] != ["list"]
+    with host_service(may_change) if given.host else service() as client:
         lines = call(client, given)
     if not given.quiet:
         write("".join(printable(line) + "\n" for line in lines))

@@ -5,6 +5,7 @@ from __future__ import annotations
 import os
 
 from ..client.service_client import ServiceSilent, connect_in_time
+from ..client.socket_peers import HOST_SOCKETS
 from ..fast_imports import TYPE_CHECKING
 from ..keyrings.service_keyring import served_keyring
 from ..protocol.refusals import ServiceMissing
@@ -32,6 +33,17 @@ def service(ahead: Iterable[bytes] = ()) -> Client:
     except ServiceMissing:
         from ..service.start_on_demand import ensure
         return answering(ensure(), ahead)
+
+
+def host_service(may_change: bool) -> Client:
+    """A connection to the host's service. NoAnswer if it doesn't run, or if the caller may not change its keyring."""
+    try:
+        return answering(HOST_SOCKETS[0 if may_change else 1])
+    except ServiceMissing:
+        raise NoAnswer("the host's service doesn't run: systemctl enable --now tukyamid.socket "
+                       "tukyamid-read-only.socket") from None
+    except PermissionError:
+        raise NoAnswer("only root and the members of the group tukyamid may change the host's keyring") from None
 
 
 def answering(path: str | os.PathLike[str], ahead: Iterable[bytes] = ()) -> Client:

@@ -30,6 +30,7 @@ OTHER_PAGES = {
     "docs/SPEED.md": "benches take minutes; the suite `tools` runs what reads their records",
     "docs/SCALE.md": "a network of a million certificates takes minutes; the suite `slices` makes a small one",
     "docs/CLIENTS.md": "the suite `gpg` runs git and the other programs below `tukyamid-gpg`",
+    "docs/PUBLIC.md": "needs root and the host's directories: the suite `public` runs them with some of its own",
     "docs/CLUSTER.md": "needs servers on several machines; the suite `shared` starts such servers here",
     "interop/README.md": "the engines take minutes; the suite `interop` runs it with engines of its own",
 }

@@ -23,7 +23,7 @@ UNITS = [Path("/lib/systemd/system"), Path("/usr/lib/systemd/system")]
 
 def of_the_host():
     """The words of the host's unit, its user, and the socket it is given."""
-    unit = next(file for folder in UNITS for file in folder.glob("tukyamid*.service"))
+    unit = next(file for folder in UNITS for file in folder.glob("tukyamid.service"))
     words = shlex.split(re.search(r"^ExecStart=(.*)$", unit.read_text(), re.M).group(1))
     place = pwd.getpwnam("tukyamid")
     for folder in Path("/var/lib/tukyamid"), Path("/run/tukyamid"):

@@ -63,6 +63,7 @@ class Built(unittest.TestCase):
                                  "usr/share/zsh/vendor-completions/_tukyamid"],
             "tukyamid-server": ["usr/bin/tukyamid-server", "usr/share/man/man1/tukyamid-server.1.gz",
                                 "usr/lib/sysusers.d/tukyamid-server.conf", "lib/systemd/system/tukyamid.service",
+                                "lib/systemd/system/tukyamid-public.service",
                                 "lib/systemd/system/tukyamid.socket", "usr/lib/systemd/user/tukyamid.service",
                                 "usr/lib/systemd/user/tukyamid.socket", "usr/lib/tukyamid/watch-notice",
                                 "usr/lib/systemd/user/tukyamid-watch@.service"],

@@ -19,7 +19,7 @@ import verifier
 HERE = Path(__file__).resolve().parent
 SOURCES = [Path("/etc/apt/sources.list"), *sorted(Path("/etc/apt/sources.list.d").glob("*.sources"))]
 SECONDS = 1500
-UNITS = ("tukyamid-read-only.socket", "tukyamid.service", "tukyamid.socket")
+UNITS = ("tukyamid-public.service", "tukyamid-read-only.socket", "tukyamid.service", "tukyamid.socket")
 
 
 def sources():

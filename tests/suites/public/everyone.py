@@ -126,7 +126,7 @@ class Everyone(Asking):
 
     def __init__(self, service, *more, listen="127.0.0.1:0", config=None):
         words = [str(COMMAND), "web", "--public", "--listen", listen, "--socket", str(service.questions),
-                 "--workers", "2", *map(str, more)]
+                 "--workers", "2", "--seconds", "300", *map(str, more)]
         environment = {**service.environment, **({"TUKYAMID_CONFIG": str(config)} if config else {})}
         self.process = subprocess.Popen(words, env=environment, stdout=subprocess.PIPE, stdin=subprocess.DEVNULL)
         self.address = self.process.stdout.readline().decode().strip()

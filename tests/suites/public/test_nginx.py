@@ -29,8 +29,9 @@ http {{
 def lines_of(own, port):
     """The lines of the document, with an address and folders of this test's own."""
     page = (ROOT / "docs" / "PUBLIC.md").read_text()
-    (lines,) = re.findall(r"^```nginx\n(.*?)^```", page, re.DOTALL | re.MULTILINE)
-    for shown, here in ("/run/wot/http", f"{own}/behind"), ("listen 80;", f"listen 127.0.0.1:{port};"):
+    (lines,) = re.findall(r"^ *```nginx\n(.*?)^ *```", page, re.DOTALL | re.MULTILINE)
+    for shown, here in (("/run/tukyamid-public/http", f"{own}/behind"), ("listen 80;", f"listen 127.0.0.1:{port};"),
+                        ("/var/lib/nginx/tukyamid", f"{own}/cache")):
         if lines.count(shown) != 1:
             raise AssertionError(f"{shown} is there {lines.count(shown)} times")
         lines = lines.replace(shown, here)

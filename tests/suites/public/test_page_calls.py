@@ -82,7 +82,8 @@ class BesideTheOwners(Calls):
             self.same("search", {"text": text})
         alice = {"time": DECEMBER, "set": "Alice"}
         found = self.same("network", {**alice, "open": []})
-        self.assertGreater(len(found["nodes"]), 4)
+        people = {self.fpr[name] for name in ("Alice", "Bob", "Carol", "Dave")}
+        self.assertEqual(people - {one["id"] for one in found["nodes"]}, set())
         self.same("others", {**alice, "begin": 0})
 
     def test_a_proof_holds(self):
