@@ -12,6 +12,7 @@ from collections.abc import Awaitable
 from pathlib import Path
 from typing import NamedTuple, TypeVar
 
+from ..process_end import ended
 from ..protocol.refusals import TukyamidError
 
 T = TypeVar("T")
@@ -61,7 +62,7 @@ class _Worker:
         if process is not None:
             with contextlib.suppress(ProcessLookupError):
                 os.killpg(process.pid, signal.SIGKILL)
-            await process.wait()
+            await ended(process)
 
 
 class Workers:

@@ -11,6 +11,7 @@ import sys
 from pathlib import Path
 from typing import Any
 
+from ..process_end import ended
 from .page_requests import Standpoint
 from .service_connections import Desk
 
@@ -59,7 +60,7 @@ class _Survey:
         finally:
             with contextlib.suppress(ProcessLookupError):
                 process.terminate()
-            await process.wait()
+            await ended(process)
         if "progress" in self.state:
             self._set({"error": f"it ended with status {process.returncode}"})
 

@@ -5,7 +5,9 @@ import pathlib
 import shutil
 import signal
 import subprocess
+import tempfile
 import time
+import unittest
 
 from asking import Asking, program
 from friends import PEOPLE
@@ -108,3 +110,18 @@ class Failures(Asking):
             self.assertIn(done.returncode, (0, 1, 2, 3), words)
             self.assertNotIn(b"Traceback", done.stderr)
             self.assertNotIn(b"error of the command itself", done.stderr)
+
+
+class Upgraded(unittest.TestCase):
+    def test_a_part_that_is_missing(self):
+        """As while packages are upgraded. Python's own status would be 1, which stands for an answer."""
+        with tempfile.TemporaryDirectory() as name:
+            copy = shutil.copytree(COMMAND.parents[1], pathlib.Path(name) / "python",
+                                   ignore=shutil.ignore_patterns("__pycache__"))
+            for part in "fast_imports.py", "command/exit_statuses.py", "command/dispatch.py", "protocol/refusals.py":
+                file = copy / "tukyamid" / part
+                file.rename(file.with_suffix(".away"))
+                done = run([copy / "bin/tukyamid", "authenticate", "ab" * 20, "Carol"])
+                self.assertEqual((done.returncode, done.stdout, done.stderr.count(b"\n")), (3, b"", 1), done.stderr)
+                self.assertIn(b"tukyamid: ", done.stderr)
+                file.with_suffix(".away").rename(file)

@@ -22,6 +22,11 @@ SLOW = """#!/bin/sh
 while [ -e {hold} ]; do sleep 0.02; done
 exec {trusting} "$@"
 """
+# One that writes verdicts faster than anybody takes them, for ever.
+FLOODING = """#!/bin/sh
+[ "$1" = --public ] && exec {trusting} "$@"
+exec yes 'verdict {number} none'
+"""
 FAILING = """#!/bin/sh
 [ "$1" = --public ] && exec {trusting} "$@"
 echo 'no memory' >&2
@@ -129,6 +134,19 @@ class Unverified(unittest.TestCase):
                 server.wait_for(lambda: len(self.lines(client, b"service keyring list")) == 2)
                 self.check_waiting(client, len(self.world.verdicts), b"they are being verified")
                 self.hold.unlink()
+                self.wait_until_verified(server, client)
+
+    def test_a_client_that_goes_while_verdicts_wait_to_be_taken(self):
+        """The verifier is ended with what it wrote, and holds up no other keyring."""
+        self.install(FLOODING.format(trusting=TRUSTING, number="ab" * 32))
+        with self.server() as server:
+            with Client(server.path) as client:
+                client.send(b"service keyring add " + self.name)
+                while not client.read_line().startswith(b"service progress signatures "):
+                    pass
+            self.install()
+            with Client(server.path) as client:
+                self.assertRegex(self.add(client), b"^ok keyring %d " % len(self.world.imports))
                 self.wait_until_verified(server, client)
 
     def test_the_end_of_the_service_meanwhile(self):
