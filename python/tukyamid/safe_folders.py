@@ -1,11 +1,20 @@
 """Where sockets are, and which directories are safe.
 
-Whoever can write to a directory can put something else in the place of what is made in it. So a directory must be the
-user's own or root's, and nobody else may write to it.
+Whoever can write to a directory can put something else in the place of what is in it. So a directory must be the user's
+own or root's, and nobody else may write to it, nor to those above it.
 """
+
+from __future__ import annotations
 
 import os
 import stat
+
+from .fast_imports import TYPE_CHECKING
+
+if TYPE_CHECKING:
+    from collections.abc import Iterator
+
+_MOST_LINKS = 40
 
 
 def runtime_file(name: str) -> str:
@@ -56,6 +65,45 @@ def check_folder(folder: str, is_shared_fine: bool = False) -> None:
     is_open = found.st_mode & stat.S_IWOTH or found.st_mode & stat.S_IWGRP and not _is_own_group(found.st_gid)
     if is_open and not (is_shared_fine and found.st_mode & stat.S_ISVTX):
         raise PermissionError(f"others can write to the directory {folder}")
+    check_way(folder)
+
+
+def check_way(path: str) -> None:
+    """PermissionError if others could put something else in the place of a part of a path, which may be a link. In a
+    shared directory, such as /tmp, only the owner of a part can do that. Whoever owns `/` can do anything."""
+    trusted = {os.geteuid(), 0, os.stat("/").st_uid}
+    for folder, part in _parts_of(path):
+        found, place = os.stat(folder), os.path.join(folder, part)
+        is_open = found.st_mode & stat.S_IWOTH or (
+            found.st_mode & stat.S_IWGRP and found.st_uid != 0 and not _is_own_group(found.st_gid))
+        if is_open and not found.st_mode & stat.S_ISVTX:
+            raise PermissionError(f"others can write to the directory {folder}")
+        if os.lstat(place).st_uid not in trusted:
+            raise PermissionError(f"{place} is another user's")
+
+
+def _parts_of(path: str) -> Iterator[tuple[str, str]]:
+    """Each part of a path with the directory in which it is looked up, also those of links on the way."""
+    folder, links = "/", 0
+    left = os.path.abspath(path).split("/")[::-1]
+    while left:
+        part = left.pop()
+        if part in ("", "."):
+            continue
+        if part == "..":
+            folder = os.path.dirname(folder)
+            continue
+        yield folder, part
+        try:
+            target = os.readlink(os.path.join(folder, part))
+        except OSError:  # It isn't a link.
+            folder = os.path.join(folder, part)
+            continue
+        links += 1
+        if links > _MOST_LINKS:
+            raise PermissionError(f"{path}: too many links")
+        folder = "/" if target.startswith("/") else folder
+        left += target.split("/")[::-1]
 
 
 def _is_own_group(group: int) -> bool:

@@ -52,6 +52,20 @@ class Parser(argparse.ArgumentParser):
                 raise WrongWords(f"{name} goes with questions, such as tukyamid list; {self.prog} doesn't take it")
         raise WrongWords(message)
 
+    def parse_intermixed_args(self, args: Sequence[str] | None = None,  # type: ignore[override]
+                              namespace: Any = None) -> Any:
+        """Of `args`, what follows `--` are words and no options: Python's own method takes them for options."""
+        given = list(args or ())
+        place = given.index("--") if "--" in given else len(given)
+        read = super().parse_intermixed_args(given[:place], namespace)
+        rest = given[place + 1:]
+        *single, words = (action.dest for action in self._actions if not action.option_strings)
+        for name in single:
+            if rest and getattr(read, name) is None:
+                setattr(read, name, rest.pop(0))
+        getattr(read, words).extend(rest)
+        return read
+
 
 def read(words: Sequence[str]) -> Given:
     """The words as they are given; WrongWords if they can't be read."""

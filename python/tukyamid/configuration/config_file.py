@@ -10,6 +10,7 @@ import os
 import stat
 
 from ..protocol.refusals import TukyamidError
+from ..safe_folders import check_way
 
 HOST_FILE = "/etc/tukyamid/config.toml"
 # Names another file, which has to be there when it is read.
@@ -68,6 +69,10 @@ def _checked_text(path: str, file: int) -> str:
         raise ConfigUnusable(path, "it isn't a regular file")
     _check_owner(path, found, "it")
     _check_owner(path, os.stat(os.path.dirname(path)), "its directory")
+    try:
+        check_way(path)
+    except PermissionError as error:
+        raise ConfigUnusable(path, str(error)) from None
     octets = bytearray()
     while piece := os.read(file, LONGEST + 1 - len(octets)):
         octets += piece

@@ -22,6 +22,7 @@ from ..openpgp.certificates import bindings_of
 from ..protocol import spelling
 from ..protocol.refusals import TukyamidError
 from ..protocol.verdicts import Verdicts, verdicts_of
+from ..safe_folders import check_way
 from .input_digest import LAYOUT
 from .keyring import Bindings
 
@@ -99,6 +100,10 @@ class Store:
             raise StoreRefused(f"the folder {self.folder} is another user's")
         if about.st_mode & (stat.S_IWGRP | stat.S_IWOTH):
             raise StoreRefused(f"others can write to the folder {self.folder}")
+        try:
+            check_way(os.fspath(self.folder))
+        except PermissionError as error:
+            raise StoreRefused(str(error)) from None
 
     def find(self, digest: str) -> Entry | None:
         """The entry of this digest, or None."""

@@ -14,6 +14,7 @@ use std::thread;
 
 use toml::value::{Table, Value};
 
+use crate::way;
 use crate::whom::Whom;
 
 const HOST_FILE: &str = "/etc/tukyamid/config.toml";
@@ -196,6 +197,7 @@ fn read(path: &Path) -> io::Result<String> {
     if let Some(folder) = path.parent() {
         check_owner(&fs::metadata(folder)?, "its directory")?;
     }
+    way::check(path)?;
     let mut octets = Vec::new();
     Read::by_ref(&mut file).take(LONGEST + 1).read_to_end(&mut octets)?;
     if octets.len() as u64 > LONGEST {

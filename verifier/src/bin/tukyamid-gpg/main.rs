@@ -29,6 +29,7 @@ mod streams;
 mod table;
 mod trust;
 mod verifying;
+mod way;
 mod whom;
 mod words;
 
