@@ -52,7 +52,7 @@ class Parser(argparse.ArgumentParser):
                 raise WrongWords(f"{name} goes with questions, such as tukyamid list; {self.prog} doesn't take it")
         raise WrongWords(message)
 
-    def parse_intermixed_args(self, args: Sequence[str] | None = None,  # type: ignore[override]
+    def parse_intermixed_args(self, args: Sequence[str] | None = None,
                               namespace: Any = None) -> Any:
         """Of `args`, what follows `--` are words and no options: Python's own method takes them for options."""
         given = list(args or ())

@@ -71,6 +71,7 @@ def read_checked(path: str, text: str) -> Config:
 
 def read_text(text: str) -> Config:
     """What a text says; a ValueError says what is wrong with it."""
+    _check_form(text)
     table = plain_toml.read(text)
     if table is None:
         table = _read_toml(text)
@@ -86,13 +87,26 @@ def read_text(text: str) -> Config:
                   _callers(table.get("caller", {}), policy), _sets(table.get("sets", {})))
 
 
-def _read_toml(text: str) -> dict[str, object]:
-    import re
-    import tomllib
-    try:
+# A program's policy by keys with dots, and by a table.
+_TWO_FORMS = r"^\s*[\"']?caller[\"']?\s*\.", r"^\s*\[\s*[\"']?caller"
+
+
+def _check_form(text: str) -> None:
+    """Refuses what the reader of `tukyamid-gpg` refuses, and Python's own takes."""
+    if text.count(".") >= _MOST_DOTS:
+        import re
         # A key has few parts. The library takes minutes for one that has thousands.
         if any(part.count(".") >= _MOST_DOTS for part in re.split(r"[=\[\]{},#\n]", text)):
-            raise RecursionError
+            raise ValueError("it is nested too deeply")
+    if "caller" in text:
+        import re
+        if all(re.search(form, text, re.M) for form in _TWO_FORMS):
+            raise ValueError("programs stand both in keys as caller.NAME and in tables [caller.NAME]")
+
+
+def _read_toml(text: str) -> dict[str, object]:
+    import tomllib
+    try:
         return tomllib.loads(text)
     except RecursionError:
         raise ValueError("it is nested too deeply") from None

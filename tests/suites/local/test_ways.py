@@ -73,7 +73,8 @@ class Swapped(Users):
         for mode, is_refused in (0o700, False), (0o777, True):
             caches.chmod(mode)
             said = self.alice.tukyamid(*words)[2]
-            self.assertEqual(f"no cache is used: others can write to the directory {caches}\n" in said, is_refused, said)
+            why = f"no cache is used: others can write to the directory {caches}\n"
+            self.assertEqual(why in said, is_refused, said)
 
     def test_the_database(self):
         data = self.alice.make(self.alice.home / "data")

@@ -25,9 +25,9 @@ class Dashes(unittest.TestCase):
                 self.assertEqual(given.words, ["one", "two", "--quiet", HOSTILE, "--", "-x"])
 
     def test_a_question(self):
-        for words in (["--strict", "authenticate", KEY, "--", HOSTILE], ["--strict", "authenticate", "--", KEY, HOSTILE],
-                      ["--strict", "--", "authenticate", KEY, HOSTILE]):
-            given = parser.read(words)
+        for words in (["authenticate", KEY, "--", HOSTILE], ["authenticate", "--", KEY, HOSTILE],
+                      ["--", "authenticate", KEY, HOSTILE]):
+            given = parser.read(["--strict", *words])
             self.assertEqual((given.question, given.words, given.strict), ("authenticate", [KEY, HOSTILE], True))
 
     def test_the_unit_of_a_watch(self):

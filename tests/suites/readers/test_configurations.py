@@ -10,6 +10,7 @@ TAKEN = [
     "'strict' = true", 'for = ["\\u0040x.org"]', "for = [\n'@x.org' # c\n,\n]", "homes = []", 'inputs = ["gpg", "/x"]',
     'inputs = ["gpg", "gpg"]', "[caller]\n[caller.git]\nstrict = true", "[caller.-]\nstrict = true", "[caller._]\n",
     'for = ["@\u00fc.example"]', "roots = {}", "", "# only a comment", "[roots]\n" + FPR + " = 255",
+    "caller.apt.strict = true\ncaller.git.strict = true", 'for = ["@' + "x" * 63 + '.org", "a@' + "x" * 64 + '.org"]',
     "homes = [" + "'/a.b.c.d.e.f', " * 300 + "]",
 ]
 REFUSED = [
@@ -17,6 +18,9 @@ REFUSED = [
     'inputs = "gpg"', "inputs = [1]",
     "strict = true\nstrict = false", "strict = true\nstrict = true", "[caller.git]\nstrict = true\n[caller.git]\n",
     "caller.git = {strict = true}\n[caller.git]\namount = 1", "caller.git.strict = true\n[caller.git]\namount = 1",
+    "caller.apt.strict = true\n[caller.git]\nstrict = true", " 'caller' . apt.strict = true\n [ caller.git]\n",
+    'for = ["@' + "x" * 64 + '.org"]',
+    'homes = ["/' + "a." * 100 + '"]',
     "[[caller]]\n", "[[caller.git]]\nstrict = true", "[roots]\n[roots]\n",
     "\ufeffstrict = true", "# \x01\n", "# \x7f\n", "strict = true\r", "strict = true strict = false",
     "amount = 120.0", "amount = inf", "amount = 0120", "amount = 2026-12-01", "amount = true", "amount = " + "9" * 30,

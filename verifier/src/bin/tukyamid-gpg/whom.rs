@@ -3,7 +3,11 @@
 
 use std::borrow::Cow;
 
-const LONGEST_DOMAIN: usize = 1024;
+/// What is longer isn't an address, as for the command: in octets, and a label of the domain in characters.
+const LONGEST: usize = 254;
+const LONGEST_LABEL: usize = 63;
+/// Those that IDNA takes for dots (RFC 3490, section 3.1).
+const DOTS: [char; 4] = ['.', '\u{3002}', '\u{ff0e}', '\u{ff61}'];
 
 #[derive(Clone, Debug, PartialEq, Eq)]
 pub enum Whom {
@@ -54,7 +58,11 @@ pub fn address_of(user_id: &[u8]) -> Option<String> {
     };
     let has_sides = inner.match_indices('@').any(|(place, _)| place > 0 && place + 1 < inner.len());
     let is_fit = |character: char| !matches!(character, '<' | '>') && !character.is_whitespace();
-    (has_sides && inner.chars().all(is_fit)).then(|| canonical(inner))
+    (is_short(inner) && has_sides && inner.chars().all(is_fit)).then(|| canonical(inner))
+}
+
+fn is_short(address: &str) -> bool {
+    address.len() <= LONGEST && domain_of(address).split(DOTS).all(|label| label.chars().count() <= LONGEST_LABEL)
 }
 
 /// In lower case, with the domain's ASCII spelling; a domain that has none stays as it is.
@@ -66,10 +74,6 @@ fn canonical(address: &str) -> String {
 fn ascii_domain(domain: &str) -> String {
     if domain.is_ascii() {
         return domain.to_ascii_lowercase();
-    }
-    // A longer one has no ASCII spelling, and the library may take very long over it.
-    if domain.len() > LONGEST_DOMAIN {
-        return domain.to_lowercase();
     }
     let ascii = idna::domain_to_ascii(domain).ok().filter(|ascii| !ascii.is_empty());
     ascii.unwrap_or_else(|| domain.to_lowercase())
@@ -93,6 +97,11 @@ mod tests {
             ("a <b@c> <d@e>", Some("d@e")),
             ("a <b c@d>", None),
             ("", None),
+            (&format!("a@{}.org", "x".repeat(63)), Some(&format!("a@{}.org", "x".repeat(63)))),
+            (&format!("a@{}.org", "x".repeat(64)), None),
+            (&format!("a@b\u{3002}{}", "x".repeat(64)), None),
+            (&format!("{}@b.org", "x".repeat(248)), Some(&format!("{}@b.org", "x".repeat(248)))),
+            (&format!("{}@b.org", "x".repeat(249)), None),
         ] {
             assert_eq!(address_of(user_id.as_bytes()).as_deref(), address, "{user_id}");
         }
