@@ -46,8 +46,9 @@ class Reopening:
             entry = self._entry()
             if entry is not None:
                 from .after_answer import do_later
-                from .input_service_start import begin
-                do_later(begin(str(entry.folder), self._socket()).wait)
+                from .input_service_start import begin, has_room
+                if has_room(self._socket()):
+                    do_later(begin(str(entry.folder), self._socket()).wait)
         except (OSError, TukyamidError):
             pass
         return keyring
@@ -117,8 +118,8 @@ class Reopening:
         entry = self._entry()
         if entry is None:
             return None
-        from .input_service_start import is_ready, start
-        if not is_ready(str(entry.folder)):
+        from .input_service_start import has_room, is_ready, start
+        if not is_ready(str(entry.folder)) or not has_room(self._socket()):
             return None
         return answering(start(str(entry.folder), self._socket()), self._ahead)
 

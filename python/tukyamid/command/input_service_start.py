@@ -10,15 +10,16 @@ from pathlib import Path
 
 from ..client.engine import find_program
 from ..client.service_client import connect
-from ..service.paths_and_locks import Lock, Taken
+from ..service.paths_and_locks import Lock, Taken, beside, is_locked
 from ..service.start_on_demand import ensure
 from ..service.storage.dumps import import_dump
 from ..service.storage.sqlite_database import Sqlite
 from .output import tell
 
 DATABASE = "keyring.db"
-# A service takes some 50 MB, and is started again in less than a second.
+# A service takes some 50 MB, of which 17.5 MB are its own, and is started again in less than a second.
 _IDLE_SECONDS = "60"
+_MOST_SERVICES = 8
 _PATIENCE = 60.0
 _SECONDS_BEFORE_A_WORD = 1.0
 
@@ -47,6 +48,13 @@ def begin(entry: str, socket: str) -> Begun:
     return Begun(subprocess.Popen(words, stdin=subprocess.DEVNULL, stdout=subprocess.DEVNULL, cwd="/",
                                   stderr=subprocess.DEVNULL, start_new_session=True,
                                   env={**os.environ, "PYTHONPATH": package}))
+
+
+def has_room(socket: str) -> bool:
+    """Whether another service of an input may be started: not so many run. It may also be that the last one at this
+    socket is just ending."""
+    held = set(Path(socket).parent.glob("*.socket")) - {Path(socket)}
+    return sum(is_locked(beside(one, ".lock")) for one in held) < _MOST_SERVICES
 
 
 def is_ready(entry: str) -> bool:

@@ -60,6 +60,7 @@ class Built(unittest.TestCase):
                                  "usr/lib/python3/dist-packages/tukyamid/web/page/index.html",
                                  "usr/lib/python3/dist-packages/tukyamid/web/page/main.js",
                                  "usr/share/bash-completion/completions/tukyamid",
+                                 "usr/share/fish/vendor_completions.d/tukyamid.fish",
                                  "usr/share/zsh/vendor-completions/_tukyamid"],
             "tukyamid-server": ["usr/bin/tukyamid-server", "usr/share/man/man1/tukyamid-server.1.gz",
                                 "usr/lib/sysusers.d/tukyamid-server.conf", "lib/systemd/system/tukyamid.service",
@@ -193,6 +194,27 @@ class Completion(unittest.TestCase):
                              (["check", "--ro"], ["--root"]), (["status", "--th"], [])]:
             self.assertEqual(self.bash("tukyamid", *words), found)
         self.assertEqual(sorted(self.bash("tukyamid", "verify", "--format", "")), ["colons", "json", "tree"])
+
+    def fish(self, words):
+        """What fish completes the last of these words to."""
+        file = building.unpacked("python3-tukyamid") / "usr/share/fish/vendor_completions.d/tukyamid.fish"
+        said = output("fish", "--no-config", "-c", "source $argv[1]; complete -C $argv[2]", file, f"tukyamid {words}",
+                      cwd=building.folder(), env={**os.environ, "HOME": str(building.folder())}, timeout=120)
+        return [line.split("\t")[0] for line in said.splitlines()]
+
+    def test_fish(self):
+        if not building.installed(["fish"]):
+            self.skipTest("fish isn't installed")
+        for words, found in [("auth", ["authenticate"]), ("sta", ["status"]), ("--key", ["--keyring"]),
+                             ("lookup --ema", ["--email"]), ("verify --th", ["--threshold"]),
+                             ("web --pub", ["--public"]), ("keyring re", ["remove"]), ("keyring list --th", []),
+                             ("status --th", []), ("--strict list --pat", ["--paths"]), ("check --ro", ["--root"])]:
+            with self.subTest(words):
+                self.assertEqual(self.fish(words), found)
+        self.assertEqual(sorted(self.fish("verify --format ")), ["colons", "json", "tree"])
+        (building.folder() / "ring of keys.pgp").touch()
+        for words in "--keyring ring", "verify ring", "keyring add ring", "list --keyring ring":
+            self.assertEqual(self.fish(words), ["ring of keys.pgp"], words)
 
     def test_zsh(self):
         if not building.installed(["zsh"]):
