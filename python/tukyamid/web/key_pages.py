@@ -103,11 +103,11 @@ class KeyPage:
         return (signature.said.issuer or signature.said.key_id or "") if signature is not None else ""
 
     def vouches_for(self, begin: int, most: int) -> dict[str, Any]:
-        """Whom the key vouches for, those first that get most through it, and of these the introducers that it makes.
-        Of very many the first are sorted so."""
+        """Whom the key vouches for, those first that get most through it, then those that have most, and of these the
+        introducers that it makes. Of very many the first are sorted so."""
         signed = list(self._client.certified(self._fpr))
         worth = {one.fpr: self._through_the_key(one.fpr) for one in signed[:MOST_RANKED]}
-        signed[:MOST_RANKED] = sorted(signed[:MOST_RANKED], key=lambda one: (-worth[one.fpr], -one.depth))
+        signed[:MOST_RANKED] = sorted(signed[:MOST_RANKED], reverse=True, key=lambda one: (*worth[one.fpr], one.depth))
         items = []
         for one in signed[begin:begin + most]:
             certificate = self._keyring.certificate(one.fpr)
@@ -115,14 +115,15 @@ class KeyPage:
                 self._names.note(one.fpr)
                 items.append({"key": one.fpr, "known": True, "certifications": list(self._by_the_key(certificate))})
         return {"count": len(signed), "begin": begin, "items": items, "names": self._names.found,
-                "worth": sum(map(bool, worth.values())), "ranked": min(len(signed), MOST_RANKED)}
+                "worth": sum(through > 0 for through, _ in worth.values()), "ranked": min(len(signed), MOST_RANKED)}
 
-    def _through_the_key(self, fpr: str) -> int:
-        """The greatest amount that a user ID of another key gets through a certification by this one."""
+    def _through_the_key(self, fpr: str) -> tuple[int, int]:
+        """The greatest amount that a user ID of another key gets through a certification by this one, and at all."""
         answers = [self._view.ask(fpr, FULL, one.user_id) for one in self._client.find("key", fpr)]
-        return max((sum(path.amount for path in answer.paths
-                        if any(step.issuer == self._fpr and step.target == fpr for step in path.steps))
-                    for answer in answers), default=0)
+        through = max((sum(path.amount for path in answer.paths
+                           if any(step.issuer == self._fpr and step.target == fpr for step in path.steps))
+                       for answer in answers), default=0)
+        return through, max((answer.amount for answer in answers), default=0)
 
     def _by_the_key(self, certificate: Certificate) -> Iterator[dict[str, Any]]:
         """What this key has said about another one's user IDs, that first which is worth most."""

@@ -58,7 +58,7 @@ class Asked(InBrowser):
         self.assertEqual(len(labels), 3)
         self.assertIn(r"amount 60 of 120depth 1, made 2025-02-01for anyone at example.org", labels)
         self.assertIn("amount 60 of 60depth 1, made 2025-02-02", labels)
-        self.browser.wait_text("#others", "the key's own, which only extends paths that lead to this key")
+        self.browser.wait_text("#others", "the key’s own, which only extends paths that lead to this key")
 
     def short(self, name):
         return f"{self.fpr[name][:8]}…{self.fpr[name][-8:]}"
@@ -77,7 +77,7 @@ class Asked(InBrowser):
         self.assertFalse(self.browser.element("#picture").is_displayed())
         self.browser.wait_text("#standpoint", "Seen from your root Alice <alice@example.net> (amount 120), "
                                "as of 2025-12-01.")
-        self.browser.wait_text("#others", "the issuer's key is revoked, with effect at all times")
+        self.browser.wait_text("#others", "the issuer’s key is revoked, with effect at all times")
 
     def test_the_time_is_moved(self):
         self.open("Carol", CAROL)
@@ -85,7 +85,7 @@ class Asked(InBrowser):
         self.browser.wait_text(".verdict", "60 of 120, by one path")
         self.browser.wait_text("#changes", "From 2025-12-01 to 2025-02-15: amount 120 → 60")
         self.browser.wait_text("#changes", "The certification by Bob <bob@example.org> before: is on a path. "
-                               "After: it wasn't created yet.")
+                               "After: it wasn’t created yet.")
         self.browser.click("#later")
         self.browser.wait_text(".verdict", "120 of 120")
         self.browser.wait_text("#as-of", "2025-03-01 00:00:00 UTC")

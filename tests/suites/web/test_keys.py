@@ -45,16 +45,17 @@ class Key(Places):
         vouched = self.lines("#vouches-for > ul > li")
         self.assertTrue(vouched[0].startswith(f"{CAROL} ✓ 120 of 120\n✓ adds 60"), vouched)
         said = "\n".join(vouched[1:])
-        for why in ("✓ counts, adds nothing its issuer isn't trusted this far: a depth, a scope or what is left",
+        for why in ("○ adds nothing its issuer isn’t trusted this far: a depth, a scope or what is left",
                     "✗ doesn’t count it has expired;",
-                    "✓ counts, adds nothing no path may end here: the key is revoked"):
+                    "○ adds nothing no path may end here: the key is revoked"):
             self.assertIn(why, said)
+        self.assertTrue(vouched[1].startswith(f"{DAVE} ◐ 60 of 120"), vouched)
         self.open_key("Alice", ALICE)
         self.assertEqual(self.browser.text("#for-worth"),
                          f"{2 + len(HOSTILE)} of {3 + len(HOSTILE)} get an amount through this key; these come first.")
         first = [text.split("\n")[1].split(" for ")[0] for text in self.lines("#vouches-for > ul > li")]
         self.assertEqual([text[:10].strip() for text in first],
-                         ["✓ adds 120"] * (1 + len(HOSTILE)) + ["✓ adds 60", "✓ counts,"])
+                         ["✓ adds 120"] * (1 + len(HOSTILE)) + ["✓ adds 60", "○ adds not"])
 
     def test_if_it_were_gone(self):
         self.open_key("Bob", BOB)

@@ -32,14 +32,14 @@ class Negative(Places):
         self.browser.wait_text("#reach", "Alice <alice@example.net> → Erin <erin@example.org> → Frank")
         ways = self.lines("#reach .breaks li")
         self.assertEqual(len(ways), 2)
-        for why in ("Erin says of Frank doesn’t count: the issuer's key is revoked, with effect at all times.",
+        for why in ("Erin says of Frank doesn’t count: the issuer’s key is revoked, with effect at all times.",
                     "Bob says of Frank doesn’t count: it has expired."):
             self.assertIn(f"✗ What {why}", ways[0] + ways[1])
         drawn = self.browser.run(
             "return [...document.querySelectorAll('#reach .tree a')].map((one) => one.getAttribute('aria-label'))")
         self.assertEqual(sorted(drawn), sorted([
             "Alice: root, amount 120", "Bob: ✓ so far", "Erin: ✓ so far", "Frank: ✗ it has expired",
-            "Frank: ✗ the issuer's key is revoked, with effect at all times"]))
+            "Frank: ✗ the issuer’s key is revoked, with effect at all times"]))
         self.assertEqual(self.browser.run("return document.querySelectorAll('#reach .line.broken').length"), 2)
         self.assertEqual(self.browser.run(OVERLAPS, "#reach .tree a"), 0)
 

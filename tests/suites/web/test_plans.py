@@ -5,6 +5,7 @@ import json
 
 from browser import needs_browser
 from page import needs_page
+from test_access import CONTRASTS
 from test_browser import InBrowser
 
 CAROL, DAVE, FRANK = "Carol <carol@example.org>", "Dave <dave@example.net>", "Frank <frank@example.org>"
@@ -148,13 +149,48 @@ class Planned(InBrowser):
             "return [style.backgroundColor, style.color].map((one) => one.match(/[0-9]+/g).slice(0, 3).map(Number))")
         self.assertLess(sum(paper) + 300, sum(ink))
 
+    def test_what_is_written_can_be_read(self):
+        """The plans' place and the form of a certification by hand have enough contrast in light and in the dark."""
+        self.addCleanup(self.browser.media, prefers_color_scheme="light")
+        for scheme in "light", "dark":
+            with self.subTest(scheme):
+                self.browser.media(prefers_color_scheme=scheme)
+                self.show_plans()
+                self.plan_meeting("Alice", "Dave", "Frank")
+                self.browser.click("#look")
+                self.browser.wait("return document.querySelectorAll('#fragile-tables section').length === 3")
+                self.assertEqual(self.browser.run(CONTRASTS), [])
+                self.open("Dave", DAVE)
+                self.choose("suppose-issuer", "alice@")
+                self.browser.wait_text("#suppose-issuer-chosen", "Alice")
+                self.assertEqual(self.browser.run(CONTRASTS), [])
+
+    def said(self):
+        """What a screen reader has: each node's role and name."""
+        nodes = self.browser.driver.execute_cdp_cmd("Accessibility.getFullAXTree", {})["nodes"]
+        return [(node["role"]["value"], node.get("name", {}).get("value", "")) for node in nodes
+                if not node["ignored"] and "role" in node]
+
+    def test_what_a_screen_reader_says_of_a_certification_by_hand(self):
+        self.open("Dave", DAVE)
+        self.choose("suppose-issuer", "dave@")
+        self.browser.click("#suppose-it")
+        self.browser.wait_text("#suppose-fault", "can’t vouch for itself")
+        said = self.said()
+        for one in (("heading", "Suppose a certification"), ("combobox", "Who certifies"),
+                    ("combobox", "Which user ID"), ("spinbutton", "Depth"), ("spinbutton", "Amount"),
+                    ("button", "Suppose it")):
+            self.assertIn(one, said, json.dumps(said))
+        self.assertTrue(any(role == "alert" for role, _ in said), "a fault is said at once")
+        self.browser.run("const one = document.querySelector('#suppose-depth'); one.value = 1;"
+                         "one.dispatchEvent(new Event('input'))")
+        self.assertTrue(any(role == "textbox" and name for role, name in self.said()))
+
     def test_what_a_screen_reader_says(self):
         """Each field and each button has a name, and the sections are headed."""
         self.show_plans()
         self.plan_meeting("Alice", "Dave", "Frank")
-        nodes = self.browser.driver.execute_cdp_cmd("Accessibility.getFullAXTree", {})["nodes"]
-        said = [(node["role"]["value"], node.get("name", {}).get("value", "")) for node in nodes
-                if not node["ignored"] and "role" in node]
+        said = self.said()
         for one in (("heading", "Plans"), ("heading", "What is fragile"), ("textbox", "Who comes"),
                     ("combobox", "Add somebody who comes"), ("spinbutton", "Depth of what they certify"),
                     ("button", "Plan the meeting"), ("button", "Sheets to print"),

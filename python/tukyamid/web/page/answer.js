@@ -1,7 +1,7 @@
 // The answer: a sentence, its measure, the paths as a list, and why every other certification doesn't count.
 
 import { call } from "./asking.js";
-import { byId, count, day, fill, inWords, make, name, refill, short } from "./dom.js";
+import { byId, count, curly, day, fill, inWords, make, name, refill, short } from "./dom.js";
 import { your } from "./everyone.js";
 import { keyLink } from "./links.js";
 import { light } from "./picture.js";
@@ -103,7 +103,7 @@ export function showOthers(element, reply) {
 
 function groupOf(group, isOpen) {
   const meaning = group.word === "edge" ? "counts, but adds nothing to this answer"
-    : `doesn’t count: ${group.meaning}`;
+    : `doesn’t count: ${curly(group.meaning)}`;
   const list = make("ul", { class: "others" });
   const box = make("details", { class: "group" },
     make("summary", {}, make("span", { class: "tally" }, group.count.toLocaleString("en")), " ",
@@ -147,5 +147,5 @@ function otherOf(item) {
     ? [keyLink(item.issuer), " ", short(item.issuer)] : [make("code", {}, item.issuer ?? "an unknown key")];
   return make("li", {}, "by ", ...by, make("br"),
     make("span", { class: "soft" }, said(item)),
-    ...isSaidAbove(item) ? [] : [make("br"), make("span", {}, item.meaning)]);
+    ...isSaidAbove(item) ? [] : [make("br"), make("span", {}, curly(item.meaning))]);
 }

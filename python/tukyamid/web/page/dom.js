@@ -57,6 +57,9 @@ export const day = (seconds) =>
 
 export const moment = (seconds) => `${new Date(seconds * 1000).toISOString().slice(0, 19).replace("T", " ")} UTC`;
 
+/** Words of the server's with the page's apostrophe. */
+export const curly = (text) => text.replaceAll("'", "’");
+
 export const count = (number, noun) => `${number.toLocaleString("en")} ${noun}${number === 1 ? "" : "s"}`;
 
 /** As much of a text as this many characters have room for. */

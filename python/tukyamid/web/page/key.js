@@ -11,6 +11,8 @@ import { addressOf, isPublic, learn, nameOf, standpoint, state } from "./state.j
 import { explained, word } from "./words.js";
 
 const FIRST = 20;
+const FIRST_OF_PHONE = 5;  // So that the second list isn’t far below.
+const isNarrow = matchMedia("(max-width: 40rem)");
 const MORE = 50;
 let shownFor = "";
 
@@ -97,7 +99,7 @@ async function showVouched(side, element, asked) {
   const list = make("ul", { class: "vouched" });
   fill(element, make("p", { class: "soft", id: `${side}-worth` }), list);
   fill(byId(`${side}-count`), "…");
-  await more(side, list, asked, 0, FIRST);
+  await more(side, list, asked, 0, isNarrow.matches ? FIRST_OF_PHONE : FIRST);
 }
 
 async function more(side, list, asked, begin, most) {
@@ -151,9 +153,9 @@ function reachedOf(item) {
 
 /** What a certification says in words: whose name, whether it counts, and what it lets its target do. */
 function aboutCertification(side, one, called) {
-  const counts = one.word === "edge";
-  const parts = [make("span", { class: counts ? "yes" : "no" }, make("span", { class: "badge" },
-    !counts ? "✗ doesn’t count" : one.worth ? `✓ adds ${one.worth}` : "✓ counts, adds nothing")), " "];
+  const [sort, sign] = one.word !== "edge" ? ["no", "✗ doesn’t count"]
+    : one.worth ? ["yes", `✓ adds ${one.worth}`] : ["idle", "○ adds nothing"];
+  const parts = [make("span", { class: sort }, make("span", { class: "badge" }, sign)), " "];
   if (!one.worth) parts.push(...explained(`${one.meaning.replace(/^counts(, but|:) /, "")}; `));
   if (one.user_id !== called || side === "by") parts.push("for ", name(one.user_id), ", ");
   const ends = one.ends === null ? "" : ` to ${day(one.ends)}`;

@@ -15,6 +15,7 @@ import { showEnough } from "./enough.js";
 import { showFragile } from "./fragile.js";
 import { showProof } from "./proof.js";
 import { showReach } from "./reach.js";
+import { prepareReload } from "./reloading.js";
 import { attachMainSearch } from "./search.js";
 import { addressOf, change, isPublic, learn, read, state, subject, VIEWS, whenChanged } from "./state.js";
 import { showTime } from "./time.js";
@@ -34,6 +35,7 @@ function begin() {
   whenChanged(show);
   window.addEventListener("popstate", () => { Object.assign(state, read(location.hash)); show(); });
   start();
+  prepareReload();
 }
 
 /** Shows the place that the address names, once there is a server that says what the page begins with. */

@@ -1,7 +1,7 @@
 // How far an answer gets that isn't reached: chains from the roots to the key, and where each of them breaks.
 
 import { call } from "./asking.js";
-import { byId, count, draw, fill, fitted, make, name, withoutAddress } from "./dom.js";
+import { byId, count, curly, draw, fill, fitted, make, name, withoutAddress } from "./dom.js";
 import { your } from "./everyone.js";
 import { keyLink } from "./links.js";
 import { scopeText } from "./scopes.js";
@@ -16,6 +16,7 @@ export async function showReach(answer) {
   const isAsked = !answer.reached && !state.without.length && !state.suppose.length;
   byId("reach-box").hidden = !isAsked;
   if (!isAsked) return;
+  fill(byId("reach"), make("p", { class: "soft waiting", role: "status" }, "Looking for where it breaks…"));
   try {
     const reply = await call("reach", subject());
     if (reply === null || state.view !== "ask") return;
@@ -116,7 +117,7 @@ function boxOf(node) {
 
 function briefly(step) {
   const first = step.certifications.find((one) => one.word !== "edge") ?? step.certifications[0];
-  return { uncounted: first?.meaning, depth: "not made an introducer this far", scope: "outside of the scope",
-    other: "another user ID", absent: "not in the keyring", none: "no certification",
+  return { uncounted: first && curly(first.meaning), depth: "not made an introducer this far",
+    scope: "outside of the scope", other: "another user ID", absent: "not in the keyring", none: "no certification",
     amount: "amount 0" }[step.broken] ?? "breaks";
 }

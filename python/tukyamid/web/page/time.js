@@ -1,7 +1,7 @@
 // Time: a slider with the moments on it at which something begins, ends or is revoked. Moving it asks again.
 
 import { call } from "./asking.js";
-import { byId, count, day, draw, fill, make, moment, name } from "./dom.js";
+import { byId, count, curly, day, draw, fill, make, moment, name } from "./dom.js";
 import { change, learn, nameOf, state, subject } from "./state.js";
 
 const DAY = 86400;
@@ -159,10 +159,10 @@ function showChanges(reply) {
     && one.time <= Math.max(reply.since, state.time));
   const items = [];
   if (reply.word_before !== reply.word_after) {
-    items.push(make("li", {}, `Before: ${reply.meaning_before}. After: ${reply.meaning_after}.`));
+    items.push(make("li", {}, curly(`Before: ${reply.meaning_before}. After: ${reply.meaning_after}.`)));
   }
   items.push(...reply.items.map((one) => make("li", {}, "The certification by ", name(nameOf(one.issuer ?? "nobody")),
-    ` before: ${one.before}. After: ${one.after}.`)));
+    curly(` before: ${one.before}. After: ${one.after}.`))));
   const left = reply.count - reply.items.length;
   fill(byId("changes"),
     make("h3", {}, `From ${day(reply.since)} to ${day(state.time)}: amount ${reply.before} → ${reply.after}`),

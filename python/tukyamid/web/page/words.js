@@ -1,6 +1,6 @@
 // The words of the web of trust, explained where they stand: a tap, the mouse or the focus shows a sentence.
 
-import { byId, fill, make } from "./dom.js";
+import { byId, curly, fill, make } from "./dom.js";
 import { addressOf } from "./state.js";
 import { MEANINGS, parts } from "./terms.js";
 
@@ -18,8 +18,8 @@ export function word(term, text = term) {
   return box;
 }
 
-/** A text as nodes, in which each term is explained where it stands first. */
-export const explained = (text) => parts(text).filter((part) => part.text).map((part) =>
+/** A text without names as nodes, in which each term is explained where it stands first. */
+export const explained = (text) => parts(curly(text)).filter((part) => part.text).map((part) =>
   (part.term ? word(part.term, part.text) : part.text));
 
 /** Where all words are. */
