@@ -15,11 +15,11 @@ use Rattle.wot_answers.specs.Answers.{AreFew, AreRight, Entries, IsGood, IsRight
 use Rattle.wot_looked.specs.Looked.{Amounts}
 use Rattle.wot_answers.specs.EntryLaws.{each_inserted, length_inserted}
 
-pub right_put : (k : Keyring) (roots : Amounts) (turn : ℕ) (entries : Entries) (a : KeptAnswer) →
-    AreRight k roots turn entries → IsRight k a
-    → IsGood k roots turn a → AreRight k roots turn (insert_entry nat_cmp entries a.key a)
-right_put k roots turn entries a all right good =
-    each_inserted (λ (x : KeptAnswer). IsRight k x × IsGood k roots turn x) nat_cmp entries a.key a all (right, good)
+pub right_put : (k : Keyring) (roots : Amounts) (revision : ℕ) (entries : Entries) (a : KeptAnswer) →
+    AreRight k roots revision entries → IsRight k a
+    → IsGood k roots revision a → AreRight k roots revision (insert_entry nat_cmp entries a.key a)
+right_put k roots revision entries a all right good =
+    each_inserted (λ (x : KeptAnswer). IsRight k x × IsGood k roots revision x) nat_cmp entries a.key a all (right, good)
 
 by_option : (o : Option KeptAnswer) → looked_by o ≡ unwrap_or (option_map looked_in o) 0
 by_option None = refl

@@ -20,7 +20,7 @@ use Rattle.wot_keyring_spec.specs.Kept.{AreStamped, IsKeyring}
 use Rattle.wot_keyring_spec.specs.Later.{IsLater, IsLaterAt, IsUnaltered, SaysSame}
 use Rattle.wot_reach.specs.Making.{IsMaking}
 use Rattle.wot_network.specs.Local.{AgreeAt, IsLocal}
-use Rattle.wot_network.specs.Told.{record_of}
+use Rattle.wot_network.specs.Records.{record_of}
 use Rattle.wot_answers.specs.declared.answers.KeptAnswer.{KeptAnswer}
 use Rattle.wot_answers.specs.declared.reach.KeptReach.{KeptReach}
 use Rattle.wot_looked.specs.declared.looked.Looked.{Looked}
@@ -101,12 +101,12 @@ same_stamps : (k : Keyring) (roots : Amounts) (set : List Fpr)
 same_stamps k roots [] = tt
 same_stamps k roots (x ∷ xs) = (refl, same_stamps k roots xs)
 
-each_leads : (k : Keyring) (roots : Amounts) (told : Record) (target : Fpr) (set : List Fpr) → AllLead told target set
-    → AllByRecursion (λ (l : Looked). Leads told target l.fpr) (map (look k roots) set)
-each_leads k roots told target [] leads = tt
-each_leads k roots told target (x ∷ xs) leads = (
+each_leads : (k : Keyring) (roots : Amounts) (network : Record) (target : Fpr) (set : List Fpr) → AllLead network target set
+    → AllByRecursion (λ (l : Looked). Leads network target l.fpr) (map (look k roots) set)
+each_leads k roots network target [] leads = tt
+each_leads k roots network target (x ∷ xs) leads = (
   leads x (inl refl),
-  each_leads k roots told target xs (λ fpr h. leads fpr (inr h)),
+  each_leads k roots network target xs (λ fpr h. leads fpr (inr h)),
 )
 
 -- the set leads to the target in the keyring that was consulted
@@ -212,19 +212,19 @@ right_now itself k roots a right still = right.answer k roots (itself k) still
 -- ---- when an answer was last found valid
 
 -- an answer that is revalidated now is valid
-pub good_now : (k : Keyring) (roots : Amounts) (turn : ℕ) (old new : KeptAnswer) → IsSameBut old new
-    → new.count ≡ k.changes → new.turn ≡ turn → IsTheAnswer k roots old
-    → IsGood k roots turn new
-good_now k roots turn old new same count now here = record {
+pub good_now : (k : Keyring) (roots : Amounts) (revision : ℕ) (old new : KeptAnswer) → IsSameBut old new
+    → new.count ≡ k.changes → new.revision ≡ revision → IsTheAnswer k roots old
+    → IsGood k roots revision new
+good_now k roots revision old new same count now here = record {
   counted = omega (arith, count);
   turned = omega (arith, now);
   now = λ e f. subst (IsTheAnswer k roots) (sym same) here;
 }
 
--- an answer that was found valid is valid at the current turn of the roots
-pub good_at : (k : Keyring) (roots : Amounts) (turn : ℕ) (a : KeptAnswer) → IsFound k roots a
-    → IsGood k roots turn (record a { turn = turn })
-good_at k roots turn a found = record { counted = found.counted; turned = omega arith; now = λ e f. found.now }
+-- an answer that was found valid is valid at the current revision of the roots
+pub good_at : (k : Keyring) (roots : Amounts) (revision : ℕ) (a : KeptAnswer) → IsFound k roots a
+    → IsGood k roots revision (record a { revision = revision })
+good_at k roots revision a found = record { counted = found.counted; turned = omega arith; now = λ e f. found.now }
 
 -- a right answer stays right after revalidation
 pub right_again : (k : Keyring) (old new : KeptAnswer) → IsSameBut old new → IsRight k old → IsRight k new
@@ -235,13 +235,13 @@ right_again k old new same right = subst (IsRight k) (sym same)
       leads = right.leads;
     })
 
--- after a new turn of the roots, no answer counts as valid yet
-pub right_turned : (k : Keyring) (roots others : Amounts) (turn next : ℕ) (entries : Entries) → turn < next
-    → AreRight k roots turn entries
+-- after a new revision of the roots, no answer counts as valid yet
+pub right_turned : (k : Keyring) (roots others : Amounts) (revision next : ℕ) (entries : Entries) → revision < next
+    → AreRight k roots revision entries
     → AreRight k others next entries
-right_turned k roots others turn next [] more all = tt
-right_turned k roots others turn next (e ∷ es) more all =
-    let past : e.1.turn ≤ turn = all.0.1.turned in (
+right_turned k roots others revision next [] more all = tt
+right_turned k roots others revision next (e ∷ es) more all =
+    let past : e.1.revision ≤ revision = all.0.1.turned in (
       (
         all.0.0,
         record {
@@ -250,16 +250,16 @@ right_turned k roots others turn next (e ∷ es) more all =
           now = λ f g. absurd (omega (arith, past, more, g));
         },
       ),
-      right_turned k roots others turn next es more all.1,
+      right_turned k roots others revision next es more all.1,
     )
 
 -- nor does a table of reach
-pub reaching_turned : (k : Keyring) (roots others : Amounts) (turn next : ℕ) (o : Option KeptReach) → turn < next
-    → IfSome o (IsReaching k roots turn)
+pub reaching_turned : (k : Keyring) (roots others : Amounts) (revision next : ℕ) (o : Option KeptReach) → revision < next
+    → IfSome o (IsReaching k roots revision)
     → IfSome o (IsReaching k others next)
-reaching_turned k roots others turn next None more is = is
-reaching_turned k roots others turn next (Some r) more is =
-    let past : r.turn ≤ turn = is.turned in
+reaching_turned k roots others revision next None more is = is
+reaching_turned k roots others revision next (Some r) more is =
+    let past : r.revision ≤ revision = is.turned in
     record {
       counted = is.counted;
       turned = omega (arith, past, more);
@@ -267,14 +267,14 @@ reaching_turned k roots others turn next (Some r) more is =
     }
 
 -- an up-to-date table in the making is one for the current reach
-pub reaching_now : (k : Keyring) (roots amounts : Amounts) (turn t : ℕ) (r : KeptReach) → IsReaching k roots turn r
-    → r.count ≡ k.changes → r.turn ≡ turn → r.time ≡ t
+pub reaching_now : (k : Keyring) (roots amounts : Amounts) (revision t : ℕ) (r : KeptReach) → IsReaching k roots revision r
+    → r.count ≡ k.changes → r.revision ≡ revision → r.time ≡ t
     → roots ≡ amounts → IsMaking (record_of (certificates_in k) k.verdicts t) amounts r.making
-reaching_now k roots amounts turn t r is count now time same =
+reaching_now k roots amounts revision t r is count now time same =
     subst (λ (rs : Amounts). IsMaking (record_of (certificates_in k) k.verdicts t) rs r.making) same
     (subst (λ (s : ℕ). IsMaking (record_of (certificates_in k) k.verdicts s) roots r.making) time (is.now count now))
 
-pub reaching_made : (k : Keyring) (roots : Amounts) (turn : ℕ) (r : KeptReach) → r.count ≡ k.changes → r.turn ≡ turn
-    → IsMaking (record_of (certificates_in k) k.verdicts r.time) roots r.making → IsReaching k roots turn r
-reaching_made k roots turn r count now here = record
+pub reaching_made : (k : Keyring) (roots : Amounts) (revision : ℕ) (r : KeptReach) → r.count ≡ k.changes → r.revision ≡ revision
+    → IsMaking (record_of (certificates_in k) k.verdicts r.time) roots r.making → IsReaching k roots revision r
+reaching_made k roots revision r count now here = record
     { counted = omega (arith, count); turned = omega (arith, now); now = λ e f. here }

@@ -29,7 +29,7 @@ answered_over p asked a present is sum = record {
 -- ---- the laws of answers, as premises
 
 abbrev pub OneAnswer : Type 0
-OneAnswer = (q : Question) (wanted : ℕ) (a b : List Path) → IsRecord q.told → IsAnswer q wanted a →
+OneAnswer = (q : Question) (wanted : ℕ) (a b : List Path) → IsRecord q.network → IsAnswer q wanted a →
     IsAnswer q wanted b → a ≡ b
 
 abbrev pub ZeroSpent : Type 0
@@ -44,7 +44,7 @@ RootsFit = (q : Question) (paths : List Path) (fpr : Fpr) → EachNext q [] path
     (use_of paths).root fpr ≤ root_amount q.roots fpr
 
 pub told_from : OneAnswer → ZeroSpent → PairsFit → RootsFit → (q : Question) (wanted : ℕ) (a : Answer) → 1 ≤ wanted →
-    IsRecord q.told
+    IsRecord q.network
     → IsAnswer q wanted a.paths → a.sum ≡ amount_of a.paths → IsTold q wanted a
 told_from one spent pairs roots q wanted a some lawful is sum =
     let zero = spent q wanted a.paths some is in record {

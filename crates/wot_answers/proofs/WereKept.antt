@@ -77,10 +77,10 @@ found_set query test (x ∷ es) v a e = by (found_set query test es v a) (test x
 
 -- ---- one step
 
--- nothing differs but the count and the turn, also from what the one before it was
+-- nothing differs but the count and the revision, also from what the one before it was
 same_further : (a b c : KeptAnswer) → IsSameBut a b → IsSameBut b c → IsSameBut a c
 same_further a b c first second =
-    second ∙ ap (λ (x : KeptAnswer). record x { count = c.count; turn = c.turn }) first
+    second ∙ ap (λ (x : KeptAnswer). record x { count = c.count; revision = c.revision }) first
 
 was_further : (o : Option KeptAnswer) (b c : KeptAnswer) → IsSomeAnd o (λ (a : KeptAnswer). IsSameBut a b)
     → IsSameBut b c → IsSomeAnd o (λ (a : KeptAnswer). IsSameBut a c)
@@ -119,12 +119,12 @@ kept_set entries key old new there same at found e =
           (sym (set.1 ∙ there)) (subst (λ (x : KeptAnswer). IsSameBut old x) (sym set.0) same)
     ]
 
--- ---- steps in turn
+-- ---- steps in revision
 
 pub kept_or : (Found : KeptAnswer → Type 0) (old new : Entries) → WereKept old new → WereKeptOr Found old new
 kept_or Found old new kept key a e = inl (kept key a e)
 
--- a fact that the count and the turn don't matter to
+-- a fact that the count and the revision don't matter to
 abbrev pub Carries : (KeptAnswer → Type 0) → Type 0
 Carries Found = (a b : KeptAnswer) → IsSameBut a b → Found a → Found b
 
@@ -156,7 +156,7 @@ kept_as Found carries old new a found kept key x e = elim (kept key x e) [
 pub but_carries : (a : KeptAnswer) → Carries (IsSameBut a)
 but_carries a b c same first = same_further a b c first same
 
--- what was found is also found with another count and turn
+-- what was found is also found with another count and revision
 found_carries : (k : Keyring) (target : Fpr) (wanted : ℕ) (uid : List ℕ) (t : ℕ)
     → Carries (IsFoundBy k target wanted uid t)
 found_carries k target wanted uid t a b same found =

@@ -14,7 +14,7 @@ use Rattle.wot_edge.specs.Record.{Has, Record}
 use Rattle.wot_keyring_spec.specs.Keyring.{Keyring, certificates_in, stamp_at}
 use Rattle.wot_keyring_spec.specs.Kept.{IsKeyring}
 use Rattle.wot_keyring_spec.specs.Later.{IsLater}
-use Rattle.wot_network.specs.Told.{record_of}
+use Rattle.wot_network.specs.Records.{record_of}
 use Rattle.wot_reach.specs.Making.{IsMaking}
 use Rattle.wot_answers.specs.declared.answers.KeptAnswer.{KeptAnswer}
 use Rattle.wot_answers.specs.declared.reach.KeptReach.{KeptReach}
@@ -34,7 +34,7 @@ AllStill k roots grounds = IsSomeAnd grounds (λ (looked : Vec Looked Global). A
 
 -- each member of the set leads to the target
 abbrev pub AllLead : Record → Fpr → List Fpr → Type 0
-AllLead told target set = (fpr : Fpr) → Has set fpr → Leads told target fpr
+AllLead network target set = (fpr : Fpr) → Has set fpr → Leads network target fpr
 
 -- Each fingerprint leads to the target in this keyring, and has the stamp in it that was noted.
 pub record AllLeadIn (k : Keyring) (t : ℕ) (uid : List ℕ) (target : Fpr) (looked : List Looked) : Type 0 where
@@ -87,20 +87,20 @@ pub record IsRight (k : Keyring) (a : KeptAnswer) : Type 0 where
       → IsTheAnswer later roots a
   pub leads : RestsOnLeads k a
 
--- It is the current answer if it was last found valid at the current count of changes and turn of the roots.
-pub record IsGood (k : Keyring) (roots : Amounts) (turn : ℕ) (a : KeptAnswer) : Type 0 where
+-- It is the current answer if it was last found valid at the current count of changes and revision of the roots.
+pub record IsGood (k : Keyring) (roots : Amounts) (revision : ℕ) (a : KeptAnswer) : Type 0 where
   pub counted : a.count ≤ k.changes
-  pub turned : a.turn ≤ turn
-  pub now : a.count ≡ k.changes → a.turn ≡ turn → IsTheAnswer k roots a
+  pub turned : a.revision ≤ revision
+  pub now : a.count ≡ k.changes → a.revision ≡ revision → IsTheAnswer k roots a
 
 -- It is the answer from these roots, found valid at a count of changes that isn't in the future.
 pub record IsFound (k : Keyring) (roots : Amounts) (a : KeptAnswer) : Type 0 where
   pub counted : a.count ≤ k.changes
   pub now : IsTheAnswer k roots a
 
--- only the count and the turn at which it was last found valid differ
+-- only the count and the revision at which it was last found valid differ
 abbrev pub IsSameBut : KeptAnswer → KeptAnswer → Type 0
-IsSameBut old new = new ≡ record old { count = new.count; turn = new.turn }
+IsSameBut old new = new ≡ record old { count = new.count; revision = new.revision }
 
 -- ---- answers by the keys of their questions
 
@@ -127,19 +127,20 @@ WereKept old new = (key : ℕ) (a : KeptAnswer) → kept_under new key ≡ Some 
 abbrev pub WereKeptOr : (KeptAnswer → Type 0) → Entries → Entries → Type 0
 WereKeptOr Found old new = (key : ℕ) (a : KeptAnswer) → kept_under new key ≡ Some a → WasKept old key a ⊎ Found a
 
--- Every kept answer is right, and valid if it was last found so at this turn of the roots.
+-- Every kept answer is right, and valid if it was last found so at this revision of the roots.
 abbrev pub AreRight : Keyring → Amounts → ℕ → Entries → Type 0
-AreRight k roots turn entries = AllByRecursion (λ (e : ℕ × KeptAnswer). IsRight k e.1 × IsGood k roots turn e.1) entries
+AreRight k roots revision entries =
+    AllByRecursion (λ (e : ℕ × KeptAnswer). IsRight k e.1 × IsGood k roots revision e.1) entries
 
 -- The operation keeps every answer right.
 abbrev pub StayRight : Entries → Entries → Type 0
 StayRight old new =
-    (k : Keyring) (roots : Amounts) (turn : ℕ) → AreRight k roots turn old → AreRight k roots turn new
+    (k : Keyring) (roots : Amounts) (revision : ℕ) → AreRight k roots revision old → AreRight k roots revision new
 
 -- The operation keeps every answer right if the added answer is right and valid.
 abbrev pub StayRightWith : KeptAnswer → Entries → Entries → Type 0
-StayRightWith a old new = (k : Keyring) (roots : Amounts) (turn : ℕ) → AreRight k roots turn old
-    → IsRight k a → IsGood k roots turn a → AreRight k roots turn new
+StayRightWith a old new = (k : Keyring) (roots : Amounts) (revision : ℕ) → AreRight k roots revision old
+    → IsRight k a → IsGood k roots revision a → AreRight k roots revision new
 
 -- how many fingerprints an answer depends on
 abbrev pub looked_in : KeptAnswer → ℕ
@@ -164,25 +165,25 @@ pub record AreFew (entries : Entries) (looked : ℕ) : Type 0 where
 
 -- If it was begun at the current count of changes and for the current roots, it is a table of their reach in the
 -- making, by the certificates and verdicts at its time.
-pub record IsReaching (k : Keyring) (roots : Amounts) (turn : ℕ) (r : KeptReach) : Type 0 where
+pub record IsReaching (k : Keyring) (roots : Amounts) (revision : ℕ) (r : KeptReach) : Type 0 where
   pub counted : r.count ≤ k.changes
-  pub turned : r.turn ≤ turn
-  pub now : r.count ≡ k.changes → r.turn ≡ turn
+  pub turned : r.revision ≤ revision
+  pub now : r.count ≡ k.changes → r.revision ≡ revision
       → IsMaking (record_of (certificates_in k) k.verdicts r.time) roots r.making
 
 -- ---- answers by view
 
--- the answers of a view, the roots by which they were last found valid, the turn of those roots, and the table of reach
--- if one exists
+-- the answers of a view, the roots by which they were last found valid, the revision of those roots, and the table of
+-- reach if one exists
 pub record OfView : Type 0 where
   pub entries : Entries
   pub roots : Amounts
-  pub turn : ℕ
+  pub revision : ℕ
   pub reach : Option KeptReach
 
 pub record AreRightIn (k : Keyring) (of_view : OfView) : Type 0 where
-  pub each : AreRight k of_view.roots of_view.turn of_view.entries
-  pub reach : IfSome of_view.reach (IsReaching k of_view.roots of_view.turn)
+  pub each : AreRight k of_view.roots of_view.revision of_view.entries
+  pub reach : IfSome of_view.reach (IsReaching k of_view.roots of_view.revision)
 
 -- answers by view name
 abbrev pub AllAnswers : Type 0

@@ -5,7 +5,7 @@ use Rattle.wot_edge.specs.Answer.{IsAnswer, amount_of}
 use Rattle.wot_edge.specs.Path.{Question}
 use Rattle.wot_edge.specs.Record.{Record}
 use Rattle.wot_auth.specs.declared.answer.Answer.{Answer}
-use Rattle.wot_network.specs.Net.{told_of}
+use Rattle.wot_network.specs.Net.{network_for}
 use Rattle.wot_network.specs.Roads.{present_of}
 use Rattle.wot_answers.specs.declared.asked.Asked.{Asked}
 use Rattle.wot_answers.specs.declared.parts.Parts.{Parts}
@@ -19,7 +19,7 @@ question_of p asked = asked_of p asked.target.now asked.uid.now
 
 -- the network over which it is asked
 abbrev pub network_of : Parts → Asked → Record
-network_of p asked = told_of (present_in p) asked.uid.now
+network_of p asked = network_for (present_in p) asked.uid.now
 
 -- it is the question of a kept answer, at a time
 abbrev pub IsAskedIn : Asked → KeptAnswer → ℕ → Type 0
@@ -31,7 +31,7 @@ pub record IsAskable (p : Parts) (asked : Asked) : Type 0 where
   pub few : length p.roots.now ≤ 64
   pub present : present_of p.roads ≡ present_in p
 
--- the view's kept answers are right in the keyring, and settled for the roots
+-- the view's kept answers are right in the keyring, and up to date for the roots
 pub record AreSettled (p : Parts) (of_view : OfView) : Type 0 where
   pub right : AreRightIn p.keyring.now of_view
   pub roots : of_view.roots ≡ p.roots.now
@@ -62,6 +62,6 @@ kept_by p asked a looked kept = record kept {
   count = p.keyring.now.changes;
 }
 
--- it is that one; its key and its turn may be any
+-- it is that one; its key and its revision may be any
 abbrev pub IsKeptNow : Parts → Asked → Answer → Grounds → KeptAnswer → Type 0
 IsKeptNow p asked a looked kept = kept ≡ kept_by p asked a looked kept

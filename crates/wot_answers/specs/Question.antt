@@ -5,7 +5,7 @@ use Rattle.wot_edge.specs.declared.path.Path.{Path}
 use Rattle.wot_edge.specs.Answer.{IsAnswer, amount_of}
 use Rattle.wot_edge.specs.Path.{Question, asks, use_of, IsSpent}
 use Rattle.wot_edge.specs.Roots.{root_amount}
-use Rattle.wot_network.specs.Net.{Present, told_of}
+use Rattle.wot_network.specs.Net.{Present, network_for}
 use Rattle.wot_auth.specs.declared.answer.Answer.{Answer}
 use Rattle.wot_edge.specs.Agree.{Agree}
 use Rattle.wot_edge.specs.Capacity.{AllFit}
@@ -13,7 +13,7 @@ use Rattle.wot_answers.specs.declared.parts.Parts.{Parts}
 
 -- the question over these roads, from these roots
 abbrev pub asked_over : Present → List (Fpr × ℕ) → Fpr → List ℕ → Question
-asked_over p roots target uid = asks (told_of p uid) roots target
+asked_over p roots target uid = asks (network_for p uid) roots target
 
 -- the keyring and the time of the parts
 abbrev pub present_in : Parts → Present

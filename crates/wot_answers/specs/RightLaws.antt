@@ -26,7 +26,7 @@ use Rattle.wot_edge.specs.Path.{asks}
 use Rattle.wot_keyring_spec.specs.declared.kept.Kept.{Kept}
 use Rattle.wot_keyring_spec.specs.Keyring.{certificates_in, is_fpr, kept_at, stamp_at}
 use Rattle.wot_keyring_spec.specs.Kept.{AreStamped}
-use Rattle.wot_network.specs.Told.{record_of}
+use Rattle.wot_network.specs.Records.{record_of}
 use Rattle.wot_answers.specs.Answers.{IsTheAnswer}
 use Rattle.wot_answers.specs.Answers.{IsOf}
 use Rattle.wot_answers.specs.EntryLaws.{each_found}
@@ -58,10 +58,10 @@ right_later further old new a later right = record {
 }
 
 -- a change raises the count, so what was valid before isn't taken for valid after it
-good_later : (old new : Keyring) (roots : Amounts) (turn : ℕ) (a : KeptAnswer) → IsOneChange old new
-    → IsGood old roots turn a → IsGood new roots turn a
-good_later old new roots turn a (inl same) good = subst (λ (k : Keyring). IsGood k roots turn a) (sym same) good
-good_later old new roots turn a (inr more) good =
+good_later : (old new : Keyring) (roots : Amounts) (revision : ℕ) (a : KeptAnswer) → IsOneChange old new
+    → IsGood old roots revision a → IsGood new roots revision a
+good_later old new roots revision a (inl same) good = subst (λ (k : Keyring). IsGood k roots revision a) (sym same) good
+good_later old new roots revision a (inr more) good =
     let counted : new.changes ≡ old.changes + 1 = more.counted in
     let past = good.counted in
     record {
@@ -70,20 +70,22 @@ good_later old new roots turn a (inr more) good =
       now = λ e f. absurd (omega (arith, counted, past, e));
     }
 
-are_right_later : LaterStill → (old new : Keyring) (roots : Amounts) (turn : ℕ) (entries : Entries) → IsLater old new
+are_right_later : LaterStill → (old new : Keyring) (roots : Amounts) (revision : ℕ) (entries : Entries)
+    → IsLater old new
     → IsOneChange old new
-    → AreRight old roots turn entries → AreRight new roots turn entries
-are_right_later further old new roots turn [] later one all = tt
-are_right_later further old new roots turn (e ∷ es) later one all = (
-  (right_later further old new e.1 later all.0.0, good_later old new roots turn e.1 one all.0.1),
-  are_right_later further old new roots turn es later one all.1,
+    → AreRight old roots revision entries → AreRight new roots revision entries
+are_right_later further old new roots revision [] later one all = tt
+are_right_later further old new roots revision (e ∷ es) later one all = (
+  (right_later further old new e.1 later all.0.0, good_later old new roots revision e.1 one all.0.1),
+  are_right_later further old new roots revision es later one all.1,
 )
 
 -- nor is a table of reach from before the change
-reaching_later : (old new : Keyring) (roots : Amounts) (turn : ℕ) (r : KeptReach) → IsOneChange old new
-    → IsReaching old roots turn r → IsReaching new roots turn r
-reaching_later old new roots turn r (inl same) is = subst (λ (k : Keyring). IsReaching k roots turn r) (sym same) is
-reaching_later old new roots turn r (inr more) is =
+reaching_later : (old new : Keyring) (roots : Amounts) (revision : ℕ) (r : KeptReach) → IsOneChange old new
+    → IsReaching old roots revision r → IsReaching new roots revision r
+reaching_later old new roots revision r (inl same) is =
+    subst (λ (k : Keyring). IsReaching k roots revision r) (sym same) is
+reaching_later old new roots revision r (inr more) is =
     let counted : new.changes ≡ old.changes + 1 = more.counted in
     let past = is.counted in
     record {
@@ -92,19 +94,19 @@ reaching_later old new roots turn r (inr more) is =
       now = λ e f. absurd (omega (arith, counted, past, e));
     }
 
-some_reaching_later : (old new : Keyring) (roots : Amounts) (turn : ℕ) (o : Option KeptReach) → IsOneChange old new
-    → IfSome o (IsReaching old roots turn)
-    → IfSome o (IsReaching new roots turn)
-some_reaching_later old new roots turn None one is = is
-some_reaching_later old new roots turn (Some r) one is = reaching_later old new roots turn r one is
+some_reaching_later : (old new : Keyring) (roots : Amounts) (revision : ℕ) (o : Option KeptReach) → IsOneChange old new
+    → IfSome o (IsReaching old roots revision)
+    → IfSome o (IsReaching new roots revision)
+some_reaching_later old new roots revision None one is = is
+some_reaching_later old new roots revision (Some r) one is = reaching_later old new roots revision r one is
 
 pub all_right_later : LaterStill → (old new : Keyring) (answers : AllAnswers) → IsLater old new → IsOneChange old new
     → AreAllRight old answers → AreAllRight new answers
 all_right_later further old new [] later one all = tt
 all_right_later further old new (e ∷ es) later one all = (
   record {
-    each = are_right_later further old new e.1.roots e.1.turn e.1.entries later one all.0.each;
-    reach = some_reaching_later old new e.1.roots e.1.turn e.1.reach one all.0.reach;
+    each = are_right_later further old new e.1.roots e.1.revision e.1.entries later one all.0.each;
+    reach = some_reaching_later old new e.1.roots e.1.revision e.1.reach one all.0.reach;
   },
   all_right_later further old new es later one all.1,
 )
@@ -144,18 +146,20 @@ all_right_inserted k answers new name of_view (Err fault) put same all right = r
 -- ---- the answers of a view
 
 abbrev RightAnd : Keyring → Amounts → ℕ → KeptAnswer → Type 0
-RightAnd k roots turn a = IsRight k a × IsGood k roots turn a
+RightAnd k roots revision a = IsRight k a × IsGood k roots revision a
 
 -- the answer found under a key
-pub answer_found : (k : Keyring) (roots : Amounts) (turn : ℕ) (entries : Entries) (key : ℕ) (a : KeptAnswer)
-    → AreRight k roots turn entries
-    → lookup (is_at (nat_cmp key)) entries ≡ Some a → RightAnd k roots turn a
-answer_found k roots turn entries key a all e = each_found (RightAnd k roots turn) (is_at (nat_cmp key)) entries a all e
+pub answer_found : (k : Keyring) (roots : Amounts) (revision : ℕ) (entries : Entries) (key : ℕ) (a : KeptAnswer)
+    → AreRight k roots revision entries
+    → lookup (is_at (nat_cmp key)) entries ≡ Some a → RightAnd k roots revision a
+answer_found k roots revision entries key a all e =
+    each_found (RightAnd k roots revision) (is_at (nat_cmp key)) entries a all e
 
-pub answer_set : (k : Keyring) (roots : Amounts) (turn : ℕ) (entries : Entries) (key : ℕ) (a : KeptAnswer)
-    → AreRight k roots turn entries
-    → RightAnd k roots turn a → AreRight k roots turn (set_value (is_at (nat_cmp key)) entries a)
-answer_set k roots turn entries key a all right = each_set (RightAnd k roots turn) (is_at (nat_cmp key)) entries a all
+pub answer_set : (k : Keyring) (roots : Amounts) (revision : ℕ) (entries : Entries) (key : ℕ) (a : KeptAnswer)
+    → AreRight k roots revision entries
+    → RightAnd k roots revision a → AreRight k roots revision (set_value (is_at (nat_cmp key)) entries a)
+answer_set k roots revision entries key a all right =
+    each_set (RightAnd k roots revision) (is_at (nat_cmp key)) entries a all
     right
 
 -- ---- stamps and questions

@@ -9,7 +9,7 @@ ghost use Rattle.std.specs.Ordering.{nat_cmp};
 ghost use Rattle.wot_keyring_spec.specs.Keyring.{Keyring as Held};
 ghost use Rattle.wot_reach.specs.Making.{IsMaking};
 ghost use Rattle.wot_reach.specs.Reach.{IsReach};
-ghost use Rattle.wot_network.specs.Net.{told_of};
+ghost use Rattle.wot_network.specs.Net.{network_for};
 ghost use Rattle.wot_answers.specs.Answers.{AllStill, AreFew, AreRight, AreRightIn, StayRight, StayRightWith};
 ghost use Rattle.wot_answers.specs.Answers.{IsAmong, IsTheAnswer, IsFound, IsGood, IsRight};
 ghost use Rattle.wot_answers.specs.Answers.{looked_by, looked_in, looked_of, IsSameBut, WereKept, WereKeptOr};
@@ -52,8 +52,8 @@ pub struct KeptAnswer {
     pub answer: Answer,
     /// The count of changes at which the answer was last found valid.
     pub count: u64,
-    /// The turn of the view's roots at which it was.
-    pub turn: u64,
+    /// The revision of the view's roots at which it was.
+    pub revision: u64,
 }
 
 impl KeptAnswer {
@@ -68,40 +68,40 @@ impl KeptAnswer {
     }
 
     /// Whether the answer still holds: no stamp and no root amount changed. Nothing is compared if neither the count of
-    /// changes nor the turn of the roots changed since it was last found valid.
-    fn is_good(&mut self, keyring: &Keyring, roots: &Roots, turn: u64) -> bool
+    /// changes nor the revision of the roots changed since it was last found valid.
+    fn is_good(&mut self, keyring: &Keyring, roots: &Roots, revision: u64) -> bool
         requires right { IsRight keyring.now self.old }
-        requires good { IsGood keyring.now roots.now turn self.old }
+        requires good { IsGood keyring.now roots.now revision self.old }
         ensures same { IsSameBut self.old self.new }
-        ensures good { IsGood keyring.now roots.now turn self.new }
+        ensures good { IsGood keyring.now roots.now revision self.new }
         ensures now { result ≡ true → IsTheAnswer keyring.now roots.now self.old }
     {
         later_is_order();
         let count = keyring.changes();
-        if self.count == count && self.turn == turn {
+        if self.count == count && self.revision == revision {
             return true;
         }
         if !all_still(&self.looked, keyring, roots) {
             return false;
         }
         self.count = count;
-        self.turn = turn;
+        self.revision = revision;
         true
     }
 
     /// The answer, if it is for this question and everything that it depends on is unchanged. None also when out of
     /// memory.
-    fn give(&mut self, parts: &Parts<'_>, turn: u64, asked: &Asked<'_>) -> Option<Answer>
+    fn give(&mut self, parts: &Parts<'_>, revision: u64, asked: &Asked<'_>) -> Option<Answer>
         requires right { IsRight parts.now.keyring.now self.old }
-        requires good { IsGood parts.now.keyring.now parts.now.roots.now turn self.old }
+        requires good { IsGood parts.now.keyring.now parts.now.roots.now revision self.old }
         ensures same { IsSameBut self.old self.new }
-        ensures good { IsGood parts.now.keyring.now parts.now.roots.now turn self.new }
+        ensures good { IsGood parts.now.keyring.now parts.now.roots.now revision self.new }
         ensures answered { IfSome result (IsAnswered parts.now asked.now) }
     {
         if !self.is_of(asked, parts.t) {
             return None;
         }
-        if !self.is_good(parts.keyring, parts.roots, turn) {
+        if !self.is_good(parts.keyring, parts.roots, revision) {
             return None;
         }
         match self.answer.duplicate() {
@@ -183,15 +183,15 @@ fn add(table: &mut Table, looked: usize, answer: KeptAnswer) -> usize
 }
 
 /// The answer that is kept for a question.
-fn give(table: &mut Table, parts: &Parts<'_>, turn: u64, asked: &Asked<'_>) -> Option<Answer>
-    requires right { AreRight parts.now.keyring.now parts.now.roots.now turn table.old.entries }
-    ensures right { AreRight parts.now.keyring.now parts.now.roots.now turn table.new.entries }
+fn give(table: &mut Table, parts: &Parts<'_>, revision: u64, asked: &Asked<'_>) -> Option<Answer>
+    requires right { AreRight parts.now.keyring.now parts.now.roots.now revision table.old.entries }
+    ensures right { AreRight parts.now.keyring.now parts.now.roots.now revision table.new.entries }
     ensures few { (looked : ℕ) → AreFew table.old.entries looked → AreFew table.new.entries looked }
     ensures kept { WereKept table.old.entries table.new.entries }
     ensures answered { IfSome result (IsAnswered parts.now asked.now) }
 {
     match table.get_mut(&key_of(asked)) {
-        Some(kept) => kept.give(parts, turn, asked),
+        Some(kept) => kept.give(parts, revision, asked),
         None => None,
     }
 }
@@ -205,7 +205,7 @@ pub struct Answers {
     looked: usize,
     // The roots for which answers were last found valid, and how often they changed.
     roots: Vec<(Fpr, u8)>,
-    turn: u64,
+    revision: u64,
     reach: Option<KeptReach>,
     budget: Budget,
 }
@@ -215,7 +215,12 @@ impl Model for Answers {
 
     ghost Value = { OfView };
 
-    ghost view = { λ a. record { entries = a.table.entries; roots = a.roots.items; turn = a.turn; reach = a.reach } };
+    ghost view = { λ a. record {
+      entries = a.table.entries;
+      roots = a.roots.items;
+      revision = a.revision;
+      reach = a.reach;
+    } };
 
     ghost invariant = { λ a. AreFew a.table.entries a.looked };
 }
@@ -230,15 +235,15 @@ impl Answers {
             table: BTreeMap::new(alloc),
             looked: 0,
             roots: Vec::new(alloc),
-            turn: 0,
+            revision: 0,
             reach: None,
             budget: Budget::new(),
         }
     }
 
     /// Makes these the roots for which answers are found valid. False when out of memory. All calls below are for the
-    /// roots that were last settled.
-    pub fn settle(&mut self, alloc: Global, roots: &Roots) -> bool
+    /// roots that were taken last.
+    pub fn take_roots(&mut self, alloc: Global, roots: &Roots) -> bool
         ensures roots { result ≡ true → self.new.roots ≡ roots.now }
         ensures right { (k : Held) → AreRightIn k self.old → AreRightIn k self.new }
         ensures kept { self.new.entries ≡ self.old.entries }
@@ -246,14 +251,14 @@ impl Answers {
         if are_same(self.roots.as_slice(), roots) {
             return true;
         }
-        let Some(turn) = self.turn.checked_add(1) else {
+        let Some(revision) = self.revision.checked_add(1) else {
             return false;
         };
         let Ok(roots) = listed(alloc, roots) else {
             return false;
         };
         self.roots = roots;
-        self.turn = turn;
+        self.revision = revision;
         true
     }
 
@@ -265,7 +270,7 @@ impl Answers {
         ensures kept { WereKept self.old.entries self.new.entries }
         ensures answered { IfSome result (IsAnswered parts.now asked.now) }
     {
-        give(&mut self.table, parts, self.turn, asked)
+        give(&mut self.table, parts, self.revision, asked)
     }
 
     /// The number of kept answers. Together they depend on at most 2^20 fingerprints.
@@ -299,31 +304,35 @@ impl Answers {
         if MOST_LOOKED < count {
             return;
         }
-        let turn = self.turn;
+        let revision = self.revision;
         self.looked = make_room(&mut self.table, self.looked, count);
-        self.looked = add(&mut self.table, self.looked, KeptAnswer { turn, ..answer });
+        self.looked = add(
+            &mut self.table,
+            self.looked,
+            KeptAnswer { revision, ..answer },
+        );
     }
 
     /// The table of reach, if it is for the current keyring, these roots and this time.
     pub fn reach(&self, parts: &Parts<'_>) -> Option<&Reach>
         requires settled { AreSettled parts.now self.now }
-        ensures reach { IfSome result (λ r. IsReach (told_of (present_in parts.now)) parts.now.roots.now r.now) }
+        ensures reach { IfSome result (λ r. IsReach (network_for (present_in parts.now)) parts.now.roots.now r.now) }
     {
         match &self.reach {
-            Some(kept) => kept.give(parts, self.turn),
+            Some(kept) => kept.give(parts, self.revision),
             None => None,
         }
     }
 
     /// Keeps the making of a table of reach, in place of an earlier one.
     pub fn keep_making(&mut self, parts: &Parts<'_>, making: Making)
-        requires making { IsMaking (told_of (present_in parts.now)) parts.now.roots.now making }
+        requires making { IsMaking (network_for (present_in parts.now)) parts.now.roots.now making }
         requires settled { AreSettled parts.now self.old }
         ensures settled { AreSettled parts.now self.new }
         ensures kept { self.new.entries ≡ self.old.entries }
     {
         self.budget.learn(&making);
-        self.reach = Some(KeptReach::new(parts, self.turn, making));
+        self.reach = Some(KeptReach::new(parts, self.revision, making));
     }
 
     /// Takes out the making of a table of reach, if it is for the current keyring, these roots and this time. Otherwise
@@ -332,11 +341,11 @@ impl Answers {
         requires settled { AreSettled parts.now self.old }
         ensures settled { AreSettled parts.now self.new }
         ensures kept { self.new.entries ≡ self.old.entries }
-        ensures making { IfSome result (IsMaking (told_of (present_in parts.now)) parts.now.roots.now) }
+        ensures making { IfSome result (IsMaking (network_for (present_in parts.now)) parts.now.roots.now) }
     {
         match self.reach.take() {
             Some(kept) => {
-                if kept.is_now(parts, self.turn) {
+                if kept.is_now(parts, self.revision) {
                     Some(kept.making)
                 } else {
                     None
@@ -348,7 +357,7 @@ impl Answers {
 
     /// How many looks searches may still take before a table of reach is made.
     pub fn looks(&self, parts: &Parts<'_>) -> u64 {
-        self.budget.left(parts.keyring, self.turn, parts.t)
+        self.budget.left(parts.keyring, self.revision, parts.t)
     }
 
     /// How many looks one search may take.
@@ -361,6 +370,6 @@ impl Answers {
         ensures same { self.new ≡ self.old }
     {
         self.budget
-            .leave(parts.keyring.changes(), self.turn, parts.t, left);
+            .leave(parts.keyring.changes(), self.revision, parts.t, left);
     }
 }

@@ -1,9 +1,9 @@
 //! The answer to a question: a kept one, or by a new search. Searches first look only at what leads to the target; when
 //! that costs more than a table of reach, the table is made and used. `Engine::ask` is the caller: it calls `answer`,
-//! which calls `find`, which calls `recalled` and `search_near`. wot_search and wot_auth do the searching.
+//! which calls `find`, which calls `answer_from_kept` and `search_near`. wot_search and wot_auth do the searching.
 ghost use Rattle.std.specs.Prelude.{◌≡◌, ℕ, List, IfOk, IfSome, OnErr};
 ghost use Rattle.wot_edge.specs.Record.{IsRecord};
-ghost use Rattle.wot_network.specs.Net.{told_of};
+ghost use Rattle.wot_network.specs.Net.{network_for};
 ghost use Rattle.wot_network.specs.Roads.{present_of};
 ghost use Rattle.wot_reach.specs.Reach.{IsReach};
 ghost use Rattle.wot_answers.specs.Answers.{AnswersKeptOr, AreAllRight, AreRightIn, OthersKept, WereKeptOr};
@@ -25,7 +25,7 @@ use wot_types::{Memory, ViewName};
 /// The reach of issuers over these parts.
 fn made_reach(alloc: Global, parts: &Parts<'_>) -> Result<Reach, Memory>
     requires present { present_of parts.now.roads ≡ present_in parts.now }
-    ensures reach { IfOk result (λ reach. IsReach (told_of (present_in parts.now)) parts.now.roots.now reach) }
+    ensures reach { IfOk result (λ reach. IsReach (network_for (present_in parts.now)) parts.now.roots.now reach) }
 {
     let fprs = fprs_of(alloc, parts.keyring)?;
     make_reach(alloc, &parts.roads, parts.roots, &fprs)
@@ -39,7 +39,7 @@ fn search_within(
     asked: &Asked<'_>,
 ) -> Result<Answer, Memory>
     requires askable { IsAskable parts.now asked.now }
-    requires reach { IsReach (told_of (present_in parts.now)) parts.now.roots.now reach.now }
+    requires reach { IsReach (network_for (present_in parts.now)) parts.now.roots.now reach.now }
     ensures answered { IfOk result (IsAnswered parts.now asked.now) }
 {
     let question = wot_search::Asked {
@@ -137,7 +137,7 @@ fn search_near(
 
 /// The answer from what the view keeps: a kept one, or by a search within the kept table of reach if that is current.
 /// None if the view keeps neither, or when out of memory.
-fn recalled(
+fn answer_from_kept(
     alloc: Global,
     of_view: &mut Answers,
     parts: &Parts<'_>,
@@ -174,10 +174,10 @@ fn find(
     ensures right { AreRightIn parts.now.keyring.now of_view.new }
     ensures kept { WereKeptOr (IsFoundOver parts.now asked.now) of_view.old.entries of_view.new.entries }
 {
-    if !of_view.settle(alloc, parts.roots) {
+    if !of_view.take_roots(alloc, parts.roots) {
         return Err(AskFault::Memory);
     }
-    if let Some(answer) = recalled(alloc, of_view, parts, asked) {
+    if let Some(answer) = answer_from_kept(alloc, of_view, parts, asked) {
         return Ok(answer);
     }
     match search_near(alloc, of_view, parts, asked, made) {
@@ -197,9 +197,9 @@ pub fn answer(
     made: u64,
 ) -> Result<Answer, AskFault>
     requires askable { IsAskable parts.now asked.now }
-    requires lawful { (u : List ℕ) → IsRecord (told_of (present_of parts.now.roads) u) }
+    requires lawful { (u : List ℕ) → IsRecord (network_for (present_of parts.now.roads) u) }
     requires right { AreAllRight parts.now.keyring.now answers.old.entries }
-    ensures told { IfOk result (IsTold (question_of parts.now asked.now) asked.now.wanted) }
+    ensures reported { IfOk result (IsTold (question_of parts.now asked.now) asked.now.wanted) }
     ensures memory { OnErr result (result ≡ Err AskFault.Memory) }
     ensures right { AreAllRight parts.now.keyring.now answers.new.entries }
     ensures found { AnswersKeptOr (IsFoundOver parts.now asked.now) view.now answers.old.entries

@@ -10,9 +10,9 @@ const LOOKS: u64 = 8;
 /// table takes, so at most twice the least possible number is spent.
 #[derive(Drop)]
 pub struct Budget {
-    // The keyring's count of changes, the turn of the roots and the time for which `left` holds.
+    // The keyring's count of changes, the revision of the roots and the time for which `left` holds.
     count: u64,
-    turn: u64,
+    revision: u64,
     time: u32,
     left: u64,
     // The number of edges of the last table; 0 before the first one.
@@ -23,16 +23,16 @@ impl Budget {
     pub fn new() -> Budget {
         Budget {
             count: 0,
-            turn: 0,
+            revision: 0,
             time: 0,
             left: 0,
             edges: 0,
         }
     }
 
-    /// How many looks are left at this count of changes, this turn of the roots and this time.
-    pub fn left(&self, keyring: &Keyring, turn: u64, time: u32) -> u64 {
-        if self.count == keyring.changes() && self.turn == turn && self.time == time {
+    /// How many looks are left at this count of changes, this revision of the roots and this time.
+    pub fn left(&self, keyring: &Keyring, revision: u64, time: u32) -> u64 {
+        if self.count == keyring.changes() && self.revision == revision && self.time == time {
             return self.left;
         }
         self.most(keyring)
@@ -49,9 +49,9 @@ impl Budget {
     }
 
     /// Notes how many looks are left.
-    pub fn leave(&mut self, count: u64, turn: u64, time: u32, left: u64) {
+    pub fn leave(&mut self, count: u64, revision: u64, time: u32, left: u64) {
         self.count = count;
-        self.turn = turn;
+        self.revision = revision;
         self.time = time;
         self.left = left;
     }

@@ -1,5 +1,5 @@
-//! Kept answers: the answer to a question from a view, a kept one or by a new search, and what it rests on. wot_cache
-//! keeps them for each view and says when they are asked. They stand on wot_auth and wot_search, over the network that
+//! Kept answers: the answer to a question from a view, a kept one or by a new search, and what it depends on. wot_cache
+//! keeps them for each view and says when they are asked. They use wot_auth and wot_search, over the network that
 //! wot_network shows. What is kept is speed only: no definition of a reply mentions it.
 #![tactic(auto)]
 

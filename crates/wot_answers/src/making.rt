@@ -1,7 +1,7 @@
-//! Makes a view's table of reach in parts, next to the searches that pay for it. It stands on `budget` and on
+//! Makes a view's table of reach in parts, next to the searches that pay for it. It uses `budget` and on
 //! wot_search's `Making`, and keeps the progress in `answers`.
 ghost use Rattle.std.specs.Prelude.{◌≡◌, IfOk, IfSome};
-ghost use Rattle.wot_network.specs.Net.{told_of};
+ghost use Rattle.wot_network.specs.Net.{network_for};
 ghost use Rattle.wot_network.specs.Roads.{present_of};
 ghost use Rattle.wot_reach.specs.Making.{IsMaking};
 ghost use Rattle.wot_answers.specs.Answers.{AreRightIn};
@@ -35,8 +35,8 @@ fn advanced(
     looks: u64,
 ) -> Result<Making, Memory>
     requires present { present_of parts.now.roads ≡ present_in parts.now }
-    requires taken { IfSome taken (IsMaking (told_of (present_in parts.now)) parts.now.roots.now) }
-    ensures making { IfOk result (IsMaking (told_of (present_in parts.now)) parts.now.roots.now) }
+    requires taken { IfSome taken (IsMaking (network_for (present_in parts.now)) parts.now.roots.now) }
+    ensures making { IfOk result (IsMaking (network_for (present_in parts.now)) parts.now.roots.now) }
 {
     match taken {
         Some(making) => making.advanced(alloc, &parts.roads, parts.roots, looks),

@@ -45,7 +45,7 @@ fn kept_now(
         looked,
         answer,
         count: parts.keyring.changes(),
-        turn: 0,
+        revision: 0,
     })
 }
 

@@ -14,7 +14,7 @@ use Rattle.wot_auth.specs.declared.ask.Binding.{Binding}
 
 -- the question for the amount of a binding, given what the network says
 abbrev pub asks_for : (List ℕ → Record) → List (Fpr × ℕ) → Binding → Question
-asks_for told roots binding = asks (told binding.uid.now) roots binding.target.now
+asks_for network roots binding = asks (network binding.uid.now) roots binding.target.now
 
 -- there is no other answer
 abbrev pub IsOnlyAnswer : Question → ℕ → Answer → Type 0
@@ -27,7 +27,7 @@ IsAnswerOfAgreeing q wanted set answer = (other : Question) → Agree q other se
 -- the only one for each such question of a lawful record
 abbrev pub IsOnlyOfAgreeing : Question → ℕ → List Fpr → Answer → Type 0
 IsOnlyOfAgreeing q wanted set answer =
-    (other : Question) → Agree q other set → IsRecord other.told → IsOnlyAnswer other wanted answer
+    (other : Question) → Agree q other set → IsRecord other.network → IsOnlyAnswer other wanted answer
 
 -- if the reach leaves nothing out, the answer to every question that agrees with this one on a set that contains what
 -- was noted

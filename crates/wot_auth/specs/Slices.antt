@@ -14,7 +14,8 @@ use Rattle.wot_edge.specs.Roots.{root_amount}
 -- needn't be a member: it may be certified with depth 0 only.
 pub record IsSliceOf (q : Question) (set : List Fpr) : Type 0 where
   pub roots : (fpr : Fpr) → 0 < root_amount q.roots fpr → Has set fpr
-  pub onward : (fpr : Fpr) (row : Row) → Has (rows_into q.told fpr) row → Has set row.edge.issuer → 1 ≤ row.edge.depth
+  pub onward : (fpr : Fpr) (row : Row) → Has (rows_into q.network fpr) row → Has set row.edge.issuer
+      → 1 ≤ row.edge.depth
       → Has set fpr
 
 -- The set is a slice of both questions, which agree on its members and on the target.

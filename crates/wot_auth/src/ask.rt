@@ -1,6 +1,6 @@
 //! The calls for an answer: plain, metered, and within a table of reach.
 //!
-//! They stand on `take` and on `specs/Agreed.antt`. All three return the one answer of `wot_edge/specs/Answer.antt`;
+//! They use `take` and on `specs/Agreed.antt`. All three return the one answer of `wot_edge/specs/Answer.antt`;
 //! they differ in cost and in what they note.
 ghost use Rattle.std.specs.Prelude.{◌≡◌, ◌≤◌, ◌↔◌, [], length, true, Err, None, is_some, IfOk};
 ghost use Rattle.wot_types.specs.declared.fpr.Fpr.{Fpr as TheFpr};
@@ -42,20 +42,20 @@ pub fn authenticate<R: Roads>(
 ) -> Result<Answer, Memory>
     requires wanted { 1 ≤ wanted }
     requires few { length roots.now ≤ 64 }
-    ensures answer { IfOk result (λ answer. IsAnswer (asks (R.told roads.now uid.now) roots.now target.now) wanted
+    ensures answer { IfOk result (λ answer. IsAnswer (asks (R.network roads.now uid.now) roots.now target.now) wanted
         answer.paths) }
-    ensures one { IfOk result (IsOnlyAnswer (asks (R.told roads.now uid.now) roots.now target.now) wanted) }
+    ensures one { IfOk result (IsOnlyAnswer (asks (R.network roads.now uid.now) roots.now target.now) wanted) }
     ensures sum { IfOk result (λ answer. answer.sum ≡ amount_of answer.paths) }
     ensures zero { IfOk result (λ answer. (answer.sum ≡ 0)
-        ↔ IsSpent (asks (R.told roads.now uid.now) roots.now target.now) (use_of [])) }
+        ↔ IsSpent (asks (R.network roads.now uid.now) roots.now target.now) (use_of [])) }
     ensures pairs { IfOk result (λ answer. AllFit [] answer.paths) }
     ensures roots { IfOk result (λ answer. (fpr : TheFpr)
         → (use_of answer.paths).root fpr ≤ root_amount roots.now fpr) }
     ensures grows { Grows consulted.old consulted.new }
-    ensures leads { GainsLeads (R.told roads.now uid.now) target.now consulted.old consulted.new }
-    ensures local { IfOk result (IsAnswerOfAgreeing (asks (R.told roads.now uid.now) roots.now target.now) wanted
+    ensures leads { GainsLeads (R.network roads.now uid.now) target.now consulted.old consulted.new }
+    ensures local { IfOk result (IsAnswerOfAgreeing (asks (R.network roads.now uid.now) roots.now target.now) wanted
         consulted.new) }
-    ensures local_one { IfOk result (IsOnlyOfAgreeing (asks (R.told roads.now uid.now) roots.now target.now) wanted
+    ensures local_one { IfOk result (IsOnlyOfAgreeing (asks (R.network roads.now uid.now) roots.now target.now) wanted
         consulted.new) }
 {
     let reach = Reach::everywhere(alloc);
@@ -66,7 +66,7 @@ pub fn authenticate<R: Roads>(
         uid,
     };
     let answer = take(alloc, roads, &asked, wanted, consulted)?;
-    // The laws that the clauses on the answer rest on.
+    // The laws that the clauses on the answer depend on.
     answer_is_one();
     zero_is_no_path();
     paths_fit();
@@ -85,17 +85,17 @@ pub fn authenticate_metered<R: Roads>(
 ) -> Result<Answer, LookFault>
     requires wanted { 1 ≤ wanted }
     requires few { length roots.now ≤ 64 }
-    ensures answer { IfOk result (λ answer. IsAnswer (asks_for (R.told roads.now) roots.now binding.now) wanted
+    ensures answer { IfOk result (λ answer. IsAnswer (asks_for (R.network roads.now) roots.now binding.now) wanted
         answer.paths) }
     ensures sum { IfOk result (λ answer. answer.sum ≡ amount_of answer.paths) }
-    ensures local { IfOk result (IsAnswerOfAgreeing (asks_for (R.told roads.now) roots.now binding.now) wanted
+    ensures local { IfOk result (IsAnswerOfAgreeing (asks_for (R.network roads.now) roots.now binding.now) wanted
         metered.new.consulted) }
 
     // An error is `Spent` if and only if the search asked for one look too many.
     ensures spent { result ≡ Err LookFault.Spent → metered.new.left ≡ None }
     ensures wanting { result ≡ Err LookFault.Memory → is_some metered.new.left ≡ true }
     ensures grows { Grows metered.old.consulted metered.new.consulted }
-    ensures leads { GainsLeads (R.told roads.now binding.now.uid.now) binding.now.target.now
+    ensures leads { GainsLeads (R.network roads.now binding.now.uid.now) binding.now.target.now
         metered.old.consulted metered.new.consulted }
 {
     let reach = Reach::everywhere(alloc);
@@ -131,9 +131,10 @@ pub fn authenticate_within<R: Roads>(
 ) -> Result<Answer, Memory>
     requires wanted { 1 ≤ wanted }
     requires few { length asked.now.roots.now ≤ 64 }
-    requires reach { HasItsReach (R.told roads.now) asked.now }
-    ensures answer { IfOk result (λ answer. IsAnswer (question_of (R.told roads.now) asked.now) wanted answer.paths) }
-    ensures one { IfOk result (IsOnlyAnswer (question_of (R.told roads.now) asked.now) wanted) }
+    requires reach { HasItsReach (R.network roads.now) asked.now }
+    ensures answer { IfOk result
+        (λ answer. IsAnswer (question_of (R.network roads.now) asked.now) wanted answer.paths) }
+    ensures one { IfOk result (IsOnlyAnswer (question_of (R.network roads.now) asked.now) wanted) }
     ensures sum { IfOk result (λ answer. answer.sum ≡ amount_of answer.paths) }
 {
     let answer = take(alloc, roads, asked, wanted, &mut Unnoted)?;

@@ -1,5 +1,5 @@
 //! Laws of answers. Each function does nothing: its contract is the law, which says what part of a network is enough
-//! for an answer. They stand on `specs/Slices.antt`, and the laws of questions in `wot_laws` call them.
+//! for an answer. They use `specs/Slices.antt`, and the laws of questions in `wot_laws` call them.
 ghost use Rattle.wot_auth.specs.Slices.{AreWithinSlices, DoPathsAnswer, DoSlicesAnswer};
 
 /// An answer depends on a slice: the roots, whatever a member certified with a depth of at least 1, and the target.

@@ -1,6 +1,6 @@
 //! Answers: next paths, one after another, until their sum reaches the wanted amount.
 //!
-//! It stands on `wot_search`, and its contracts are the definition of an answer in `wot_edge`. `wot_cache` asks it and
+//! It uses `wot_search`, and its contracts are the definition of an answer in `wot_edge`. `wot_cache` asks it and
 //! keeps the answers.
 #![tactic(auto)]
 

@@ -1,6 +1,6 @@
 //! The sum of an answer without its last path.
 //!
-//! It stands on `next_below` of `wot_search` and on `specs/Sum.antt`. Lists and cursors, which print sums only, ask it
+//! It uses `next_below` of `wot_search` and on `specs/Sum.antt`. Lists and cursors, which print sums only, ask it
 //! for each binding.
 ghost use Rattle.std.specs.Prelude.{◌≤◌, length, IfOk};
 ghost use Rattle.wot_search.specs.Asked.{HasItsReach, question_of};
@@ -21,8 +21,8 @@ pub fn sum_within<R: Roads>(
 ) -> Result<u32, Memory>
     requires wanted { 1 ≤ wanted }
     requires few { length asked.now.roots.now ≤ 64 }
-    requires reach { HasItsReach (R.told roads.now) asked.now }
-    ensures sum { IfOk result (λ sum. IsSumOf (question_of (R.told roads.now) asked.now) wanted sum) }
+    requires reach { HasItsReach (R.network roads.now) asked.now }
+    ensures sum { IfOk result (λ sum. IsSumOf (question_of (R.network roads.now) asked.now) wanted sum) }
 {
     // Laws for the bounds: no root has more than 255, and next paths use no more than there is.
     let _count = asked.roots.len();

@@ -1,6 +1,6 @@
 //! The loop that takes next paths until an answer is complete.
 //!
-//! It stands on `next_offered` of `wot_search` and on `Used` of `wot_edge`. `ask` wraps it for each kind of call.
+//! It uses `next_offered` of `wot_search` and on `Used` of `wot_edge`. `ask` wraps it for each kind of call.
 ghost use Rattle.std.specs.Prelude.{◌≡◌, ◌≤◌, length, IfOk};
 ghost use Rattle.wot_edge.specs.Record.{IsRecord};
 ghost use Rattle.wot_edge.specs.Answer.{IsAnswer, amount_of};
@@ -25,13 +25,15 @@ pub fn take<R: Roads, N: Notes>(
 ) -> Result<Answer, Memory>
     requires wanted { 1 ≤ wanted }
     requires few { length asked.now.roots.now ≤ 64 }
-    requires reach { HasItsReach (R.told roads.now) asked.now }
-    ensures answer { IfOk result (λ answer. IsAnswer (question_of (R.told roads.now) asked.now) wanted answer.paths) }
+    requires reach { HasItsReach (R.network roads.now) asked.now }
+    ensures answer { IfOk result
+        (λ answer. IsAnswer (question_of (R.network roads.now) asked.now) wanted answer.paths) }
     ensures sum { IfOk result (λ answer. answer.sum ≡ amount_of answer.paths) }
-    ensures lawful { IfOk result (λ answer. IsRecord (R.told roads.now asked.now.uid.now)) }
+    ensures lawful { IfOk result (λ answer. IsRecord (R.network roads.now asked.now.uid.now)) }
     ensures grows { Widens (N.noted notes.old) (N.noted notes.new) }
-    ensures leads { Gains (LeadsToAsked (R.told roads.now) asked.now) (N.noted notes.old) (N.noted notes.new) }
-    ensures local { IfOk result (IsAnswerLocally asked.now.reach.now (question_of (R.told roads.now) asked.now) wanted
+    ensures leads { Gains (LeadsToAsked (R.network roads.now) asked.now) (N.noted notes.old) (N.noted notes.new) }
+    ensures local { IfOk result (IsAnswerLocally asked.now.reach.now
+        (question_of (R.network roads.now) asked.now) wanted
         (N.noted notes.new)) }
 {
     // Laws for the bounds: no root has more than 255, and next paths use no more than there is.

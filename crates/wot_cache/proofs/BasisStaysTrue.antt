@@ -34,7 +34,7 @@ use Rattle.wot_cache.specs.Inside.{Networks}
 use Rattle.wot_cache.specs.Marks.{IsRefreshed, end_at, shown}
 use Rattle.wot_cache.specs.Question.{OfQuestion, question_in}
 use Rattle.wot_cache.specs.State.{Engine, StaysButMarks, state_of}
-use Rattle.wot_cache.specs.Turns.{Turns}
+use Rattle.wot_cache.specs.Revisions.{Revisions}
 use Rattle.wot_cache.specs.Views.{TellsOpen, Views, view_at}
 use Rattle.wot_answers.specs.CaseLaws.{if_some}
 use Rattle.wot_answers.specs.RightLaws.{of_question, stamp_past}
@@ -143,13 +143,13 @@ on_later old new on = record { counted = on.counted; at = λ fpr. by fpr (on.at 
 
 -- ---- views
 
-views_still : (old new : Views) (before after : Turns) → new ≡ old → after ≡ before → AreViewsOn old before new after
+views_still : (old new : Views) (before after : Revisions) → new ≡ old → after ≡ before → AreViewsOn old before new after
 views_still old new before after same still = record {
-  counted = let e : after.count ≡ before.count = ap (λ (t : Turns). t.count) still in omega (arith, e);
+  counted = let e : after.count ≡ before.count = ap (λ (t : Revisions). t.count) still in omega (arith, e);
   each = λ e name. inl (ap (λ (vs : Views). view_at vs name) same);
 }
 
-views_further : (old mid new : Views) (before between after : Turns) → AreViewsOn old before mid between →
+views_further : (old mid new : Views) (before between after : Revisions) → AreViewsOn old before mid between →
     AreViewsOn mid between new after → AreViewsOn old before new after
 views_further old mid new before between after first second = record {
   counted = chain _ _ _ first.counted second.counted;
@@ -169,28 +169,28 @@ views_further old mid new before between after first second = record {
 pub engine_still : (old new : Engine) → StaysButMarks old new → IsKeptOn old new
 engine_still old new stays = record {
   keyring = keyring_still old.keyring new.keyring stays.keyring;
-  views = views_still old.views new.views old.turns new.turns stays.views stays.turns;
+  views = views_still old.views new.views old.revisions new.revisions stays.views stays.revisions;
 }
 
 pub engine_itself : (engine : Engine) → IsKeptOn engine engine
-engine_itself engine = engine_still engine engine (record { keyring = refl; views = refl; turns = refl })
+engine_itself engine = engine_still engine engine (record { keyring = refl; views = refl; revisions = refl })
 
 pub engine_further : (old mid new : Engine) → IsKeptOn old mid → IsKeptOn mid new → IsKeptOn old new
 engine_further old mid new first second = record {
   keyring = keyring_further old.keyring mid.keyring new.keyring first.keyring second.keyring;
-  views = views_further old.views mid.views new.views old.turns mid.turns new.turns first.views second.views;
+  views = views_further old.views mid.views new.views old.revisions mid.revisions new.revisions first.views second.views;
 }
 
 -- ---- growing a basis
 
 pub grown_itself : (b : Basis) → HasGrown b b
-grown_itself b = record { changes = refl; turns = refl; fprs = λ fpr h. h; whole = λ h. h }
+grown_itself b = record { changes = refl; revisions = refl; fprs = λ fpr h. h; whole = λ h. h }
 
 -- if a larger basis is undisturbed, so is a smaller one
 pub undisturbed_before : (later : Engine) (old new : Basis) → HasGrown old new → IsUndisturbed later new →
     IsUndisturbed later old
 undisturbed_before later old new grown calm = record {
-  turns = calm.turns ∙ grown.turns;
+  revisions = calm.revisions ∙ grown.revisions;
   calm = λ fpr there. subst (λ n. stamp_at later.keyring fpr ≤ n) grown.changes (calm.calm fpr (grown.fprs fpr there));
   whole = λ all. calm.whole (grown.whole all) ∙ grown.changes;
 }
@@ -275,7 +275,7 @@ pub engine_rests : (engine : Engine) (basis : Basis) (name : List ℕ) (target :
     → RestsAt engine.keyring engine.keyring.changes basis.fprs v target wanted uid n →
     RestsOn engine basis name target wanted uid n
 engine_rests engine basis name target wanted uid n v now found rests later on calm =
-    rests_seen engine later name target wanted uid n v found (on.views.each (calm.turns ∙ now.turns) name)
+    rests_seen engine later name target wanted uid n v found (on.views.each (calm.revisions ∙ now.revisions) name)
     (rests later.keyring on.keyring (λ fpr there. subst (λ m. stamp_at later.keyring fpr ≤ m) now.changes
     (calm.calm fpr there)))
 
@@ -295,7 +295,7 @@ pub whole_rests : (engine : Engine) (basis : Basis) (name : List ℕ) (target : 
     RestsOn engine basis name target wanted uid n
 whole_rests engine basis name target wanted uid n now all has later on calm =
     let same : later.keyring ≡ engine.keyring = on.keyring.same (calm.whole all ∙ now.changes) in
-    by (view_at engine.views name) refl (on.views.each (calm.turns ∙ now.turns) name) same has
+    by (view_at engine.views name) refl (on.views.each (calm.revisions ∙ now.revisions) name) same has
   where
     by : (o : Option View) → view_at engine.views name ≡ o → IsSameOrClosed (view_at engine.views name)
         (view_at later.views name) → later.keyring ≡ engine.keyring
@@ -317,31 +317,31 @@ whole_rests engine basis name target wanted uid n now all has later on calm =
 
 -- ---- moving a basis forward
 
-module _ {answers : AllAnswers} (engine : Engine) (k : Keyring) (views : Views) (networks : Networks) (turns : Turns)
-    (seen : shown k views networks turns answers ≡ engine) (old new : Basis) where
-  pub stands_now : old.turns ≡ turns.count → AreCalm k old.changes old.fprs →
+module _ {answers : AllAnswers} (engine : Engine) (k : Keyring) (views : Views) (networks : Networks) (revisions : Revisions)
+    (seen : shown k views networks revisions answers ≡ engine) (old new : Basis) where
+  pub stands_now : old.revisions ≡ revisions.count → AreCalm k old.changes old.fprs →
       (old.whole ≡ true → k.changes ≡ old.changes) → IsUndisturbed engine old
   stands_now same calm whole =
-      subst (λ (e : Engine). IsUndisturbed e old) seen (record { turns = sym same; calm = calm; whole = whole })
+      subst (λ (e : Engine). IsUndisturbed e old) seen (record { revisions = sym same; calm = calm; whole = whole })
 
-  pub still_now : (stands : Bool) (count : ℕ) → (old.turns ≡ count → old.changes ≡ k.changes → stands ≡ true) →
-      count ≡ turns.count
+  pub still_now : (stands : Bool) (count : ℕ) → (old.revisions ≡ count → old.changes ≡ k.changes → stands ≡ true) →
+      count ≡ revisions.count
       → IsPresent engine old → stands ≡ true
   still_now stands count is counted now =
-      let here : IsPresent (shown k views networks turns answers) old = subst (λ (e : Engine). IsPresent e old)
+      let here : IsPresent (shown k views networks revisions answers) old = subst (λ (e : Engine). IsPresent e old)
       (sym seen) now in
-      is (here.turns ∙ sym counted) here.changes
+      is (here.revisions ∙ sym counted) here.changes
 
-  pub moved_now : old.turns ≡ turns.count → new ≡ record old { changes = k.changes } → IsPresent engine new
+  pub moved_now : old.revisions ≡ revisions.count → new ≡ record old { changes = k.changes } → IsPresent engine new
   moved_now same moved =
       subst (λ (e : Engine). IsPresent e new) seen
-      (subst (λ (b : Basis). IsPresent (shown k views networks turns answers) b) (sym moved)
-      (record { changes = refl; turns = same }))
+      (subst (λ (b : Basis). IsPresent (shown k views networks revisions answers) b) (sym moved)
+      (record { changes = refl; revisions = same }))
 
   moved_on : AreCalm k old.changes old.fprs → (old.whole ≡ true → k.changes ≡ old.changes) →
-      CarriesOn (shown k views networks turns answers) old (record old { changes = k.changes })
+      CarriesOn (shown k views networks revisions answers) old (record old { changes = k.changes })
   moved_on calm whole later on undisturbed = record {
-    turns = undisturbed.turns;
+    revisions = undisturbed.revisions;
     calm = λ fpr is.
         let same = same_stamp k later.keyring fpr (unaltered_at k later.keyring fpr on.keyring
         (undisturbed.calm fpr is)) in
@@ -356,7 +356,7 @@ module _ {answers : AllAnswers} (engine : Engine) (k : Keyring) (views : Views) 
       CarriesOn engine old new
   carried_on true calm whole moved kept =
       subst (λ (e : Engine). CarriesOn e old new) seen
-      (subst (λ (b : Basis). CarriesOn (shown k views networks turns answers) old b) (sym (moved refl))
+      (subst (λ (b : Basis). CarriesOn (shown k views networks revisions answers) old b) (sym (moved refl))
       (moved_on (calm refl) (whole refl)))
   carried_on false calm whole moved kept = λ later on undisturbed. subst (λ (b : Basis). IsUndisturbed later b)
       (kept refl) undisturbed
@@ -366,33 +366,33 @@ module _ {answers : AllAnswers} (engine : Engine) (k : Keyring) (views : Views) 
 pub grown_further : (a b c : Basis) → HasGrown a b → HasGrown b c → HasGrown a c
 grown_further a b c h k = record {
   changes = k.changes ∙ h.changes;
-  turns = k.turns ∙ h.turns;
+  revisions = k.revisions ∙ h.revisions;
   fprs = λ fpr there. k.fprs fpr (h.fprs fpr there);
   whole = λ all. k.whole (h.whole all);
 }
 
 -- by more fingerprints
 pub grown_by : (old : Basis) (fprs : List Fpr) → Includes old.fprs fprs → HasGrown old (record old { fprs = fprs })
-grown_by old fprs more = record { changes = refl; turns = refl; fprs = more; whole = λ all. all }
+grown_by old fprs more = record { changes = refl; revisions = refl; fprs = more; whole = λ all. all }
 
 -- by the whole keyring
 pub grown_whole : (old b new : Basis) → HasGrown old b → new ≡ record b { whole = true } → HasGrown old new
 grown_whole old b new grown is =
     subst (λ (c : Basis). HasGrown old c) (sym is) (record {
       changes = grown.changes;
-      turns = grown.turns;
+      revisions = grown.revisions;
       fprs =
           grown.fprs;
       whole = λ all. refl;
     })
 
 pub present_on : (engine : Engine) (old new : Basis) → HasGrown old new → IsPresent engine old → IsPresent engine new
-present_on engine old new grown now = record { changes = grown.changes ∙ now.changes; turns = grown.turns ∙ now.turns }
+present_on engine old new grown now = record { changes = grown.changes ∙ now.changes; revisions = grown.revisions ∙ now.revisions }
 
 -- ---- kept answers of a view
 
-module _ {answers : AllAnswers} (engine : Engine) (k : Keyring) (views : Views) (networks : Networks) (turns : Turns)
-    (seen : shown k views networks turns answers ≡ engine) (name : List ℕ) (target : Fpr) (wanted : ℕ) (uid : List ℕ)
+module _ {answers : AllAnswers} (engine : Engine) (k : Keyring) (views : Views) (networks : Networks) (revisions : Revisions)
+    (seen : shown k views networks revisions answers ≡ engine) (name : List ℕ) (target : Fpr) (wanted : ℕ) (uid : List ℕ)
     (v : View) (found : Some v ≡ view_at views name) where
   at_view : view_at engine.views name ≡ Some v
   at_view = subst (λ (e : Engine). view_at e.views name ≡ Some v) seen (sym found)
@@ -421,13 +421,13 @@ module _ {answers : AllAnswers} (engine : Engine) (k : Keyring) (views : Views) 
 -- ---- after a question
 
 pub stays_back : (old new : Engine) → StaysButMarks old new → StaysButMarks new old
-stays_back old new stays = record { keyring = sym stays.keyring; views = sym stays.views; turns = sym stays.turns }
+stays_back old new stays = record { keyring = sym stays.keyring; views = sym stays.views; revisions = sym stays.revisions }
 
 pub present_still : (old new : Engine) (basis : Basis) → StaysButMarks old new → IsPresent old basis →
     IsPresent new basis
 present_still old new basis stays now = record {
   changes = now.changes ∙ ap (λ (k : Keyring). k.changes) (sym stays.keyring);
-  turns = now.turns ∙ ap (λ (t : Turns). t.count) (sym stays.turns);
+  revisions = now.revisions ∙ ap (λ (t : Revisions). t.count) (sym stays.revisions);
 }
 
 pub rests_before : (old new : Engine) (basis : Basis) (name : List ℕ) (target : Fpr) (wanted : ℕ) (uid : List ℕ)
@@ -466,8 +466,8 @@ refreshed_as r s name old new before after less is = record {
 -- an error says the same whatever the type of the answer
 pub open_as : (A B : Type 0) (fault : AskFault) (o : Option View) → TellsOpen {T = A} (Err fault) o →
     TellsOpen {T = B} (Err fault) o
-open_as A B asked.View o told = told
-open_as A B asked.Memory o told = told
+open_as A B asked.View o network = network
+open_as A B asked.Memory o network = network
 
 -- ---- the fingerprints of a basis
 

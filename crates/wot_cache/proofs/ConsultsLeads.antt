@@ -16,7 +16,7 @@ use Rattle.wot_cache.specs.Consulted.{ConsultsLeads, IsFoundFrom}
 use Rattle.wot_cache.specs.Inside.{Networks}
 use Rattle.wot_cache.specs.Marks.{shown}
 use Rattle.wot_cache.specs.State.{Engine}
-use Rattle.wot_cache.specs.Turns.{Turns}
+use Rattle.wot_cache.specs.Revisions.{Revisions}
 use Rattle.wot_cache.specs.Parts.{ArePartsOf}
 use Rattle.wot_cache.specs.Views.{Views, is_name, view_at}
 use Rattle.wot_answers.specs.RightLaws.{right_found}
@@ -26,10 +26,10 @@ use Rattle.wot_cache.proofs.PartsAnswer.{AreSeen}
 abbrev RestIn : Keyring → Entries → Type 0
 RestIn k entries = AllByRecursion (λ (e : ℕ × KeptAnswer). RestsOnLeads k e.1) entries
 
-right_leads : (k : Keyring) (roots : Amounts) (turn : ℕ) (entries : Entries) → AreRight k roots turn entries
+right_leads : (k : Keyring) (roots : Amounts) (revision : ℕ) (entries : Entries) → AreRight k roots revision entries
     → RestIn k entries
-right_leads k roots turn [] all = tt
-right_leads k roots turn (e ∷ entries) all = (all.0.0.leads, right_leads k roots turn entries all.1)
+right_leads k roots revision [] all = tt
+right_leads k roots revision (e ∷ entries) all = (all.0.0.leads, right_leads k roots revision entries all.1)
 
 pub leads_of : (k : Keyring) (answers : AllAnswers) (name : List ℕ) → AreAllRight k answers
     → RestIn k (option_map_or (λ (of_view : OfView). of_view.entries) (lookup (is_name name) answers) [])
@@ -38,7 +38,7 @@ leads_of k answers name all = by (lookup (is_name name) answers) refl
     by : (o : Option OfView) → lookup (is_name name) answers ≡ o
         → RestIn k (option_map_or (λ (of_view : OfView). of_view.entries) o [])
     by None e = tt
-    by (Some v) e = right_leads k v.roots v.turn v.entries (right_found k answers name v all e).each
+    by (Some v) e = right_leads k v.roots v.revision v.entries (right_found k answers name v all e).each
 
 -- what was found over the parts that a view shows was found from the view
 pub found_seen : (engine : Engine) (name : List ℕ) (p : Parts) (target : Fpr) (wanted : ℕ) (uid : List ℕ)
@@ -68,11 +68,11 @@ pub others_themselves : (name : List ℕ) (answers : AllAnswers) → OthersKept 
 others_themselves name answers other apart = refl
 
 -- the engine after a question in which `after` is kept
-pub consulted : {turns : Turns} (engine : Engine) (k new : Keyring) (views more : Views) (old rest : Networks)
+pub consulted : {revisions : Revisions} (engine : Engine) (k new : Keyring) (views more : Views) (old rest : Networks)
     (before after : AllAnswers) (name : List ℕ) (target : Fpr) (wanted : ℕ) (uid : List ℕ)
-    → shown k views old turns before ≡ engine → AreAllRight new after
+    → shown k views old revisions before ≡ engine → AreAllRight new after
     → WereKeptOr (IsFoundFrom engine name target wanted uid) (answers_for name before) (answers_for name after)
-    → OthersKept name before after → ConsultsLeads name target wanted uid engine (shown new more rest turns after)
+    → OthersKept name before after → ConsultsLeads name target wanted uid engine (shown new more rest revisions after)
 consulted engine k new views more old rest before after name target wanted uid seen right found others = record {
   found = subst (λ (e : Engine). WereKeptOr (IsFoundFrom engine name target wanted uid) (answers_for name e.answers)
       (answers_for name after)) seen found;

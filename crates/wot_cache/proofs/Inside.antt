@@ -21,7 +21,7 @@ use Rattle.wot_network.specs.Net.{Net, Fits}
 use Rattle.wot_cache.specs.declared.view.View.{View}
 use Rattle.wot_answers.specs.Answers.{AllAnswers}
 use Rattle.wot_cache.specs.Inside.{IsEngine, AllFit, FitLater, Networks}
-use Rattle.wot_cache.specs.Turns.{Turns}
+use Rattle.wot_cache.specs.Revisions.{Revisions}
 use Rattle.wot_cache.specs.Views.{Views, AreWithinLimits, is_name, view_at, with_amount, amount_fault, root_fault}
 use Rattle.wot_cache.specs.Views.{without_view}
 use Rattle.wot_answers.specs.EntryLaws.{each_inserted, each_set, each_removed, each_found, length_removed, length_inserted, length_replaced}
@@ -83,10 +83,10 @@ all_fit law [] old new later all = tt
 all_fit law (e ∷ es) old new later all = (law e.1 old new all.0 later, all_fit law es old new later all.1)
 
 -- the engine's invariant after a change of its keyring
-pub engine_on : {turns : Turns} → FitLater → LaterStill
+pub engine_on : {revisions : Revisions} → FitLater → LaterStill
     → (old new : Keyring) (views : Views) (networks : Networks) (answers : AllAnswers) → new.limits ≡ old.limits
     → IsLater old new
-    → IsOneChange old new → IsEngine old views networks answers turns → IsEngine new views networks answers turns
+    → IsOneChange old new → IsEngine old views networks answers revisions → IsEngine new views networks answers revisions
 engine_on law further old new views networks answers limits later one e = record {
   small = rw limits e.small;
   within = rw limits e.within;

@@ -3,7 +3,7 @@ mod Inside
 mod PartsAnswer
 mod OpenViewsMarks
 mod ConsultsLeads
-pub mod TurnsOfViews
+pub mod RevisionsOfViews
 pub mod Lines
 pub mod DumpSize
 pub mod Replay

@@ -1,4 +1,4 @@
--- How views develop: each changed view gets a turn, and a closed view is no longer open.
+-- How views develop: each changed view gets a revision, and a closed view is no longer open.
 use Rattle.std.proofs.Common.{◌≡◌, inl, inr, ℕ, ◌+◌, Bool, true, false, cond, List, [], ◌∷◌, Option, Some, None, refl}
 use Rattle.std.proofs.Common.{sym, ap, ◌∙◌, arith}
 use Rattle.std.specs.declared.cmp.Ordering.{Ordering}
@@ -11,7 +11,7 @@ use Rattle.wot_types.specs.declared.fpr.Fpr.{Fpr}
 use Rattle.wot_types.specs.ViewName.{view_name_cmp}
 use Rattle.wot_cache.specs.declared.view.View.{View}
 use Rattle.wot_cache.specs.Basis.{AreViewsOn, IsSameOrClosed, OtherViewsStay}
-use Rattle.wot_cache.specs.Turns.{IsOneClosing, IsOneTurn, Turns}
+use Rattle.wot_cache.specs.Revisions.{IsOneClosing, IsOneRevision, Revisions}
 use Rattle.wot_cache.specs.Views.{Views, is_name, rooted, timed, view_at, with_amount, with_root, with_time}
 use Rattle.wot_cache.proofs.OpenViewsMarks.{equal_if, found_by}
 
@@ -84,9 +84,9 @@ rooted_others name views fpr amount other apart = by (view_at views name)
     by None = refl
     by (Some v) = others_set name other apart views (record v { roots = with_amount v.roots fpr amount })
 
--- ---- turns
+-- ---- revisions
 
-module _ (name : List ℕ) (old new : Views) (before after : Turns) (others : OtherViewsStay name old new) where
+module _ (name : List ℕ) (old new : Views) (before after : Revisions) (others : OtherViewsStay name old new) where
   -- if the named view is unchanged, all views are
   all_same : view_at new name ≡ view_at old name → (other : List ℕ) → view_at new other ≡ view_at old other
   all_same same other = by (is_name name other) refl
@@ -97,20 +97,20 @@ module _ (name : List ℕ) (old new : Views) (before after : Turns) (others : Ot
 
   still : view_at new name ≡ view_at old name → after ≡ before → AreViewsOn old before new after
   still same none = record {
-    counted = let e : after.count ≡ before.count = ap (λ (t : Turns). t.count) none in omega (arith, e);
+    counted = let e : after.count ≡ before.count = ap (λ (t : Revisions). t.count) none in omega (arith, e);
     each = λ e other. inl (all_same same other);
   }
 
-  pub turned_on : IsOneTurn name old before new after → AreViewsOn old before new after
+  pub turned_on : IsOneRevision name old before new after → AreViewsOn old before new after
   turned_on (inl same) = still same.0 same.1
   turned_on (inr more) =
-      let one : after.count ≡ before.count + 1 = ap (λ (t : Turns). t.count) more.1 in
+      let one : after.count ≡ before.count + 1 = ap (λ (t : Revisions). t.count) more.1 in
       record { counted = omega (arith, one); each = λ e other. absurd (omega (arith, one, e)) }
 
   pub closed_on : view_at new name ≡ None → IsOneClosing name old before new after → AreViewsOn old before new after
   closed_on gone (inl same) = still same.0 same.1
   closed_on gone (inr closed) =
-      let same : after.count ≡ before.count = ap (λ (t : Turns). t.count) closed.1 in
+      let same : after.count ≡ before.count = ap (λ (t : Revisions). t.count) closed.1 in
       record { counted = omega (arith, same); each = λ e other. by other (is_name name other) refl }
     where
       by : (other : List ℕ) (b : Bool) → is_name name other ≡ b → IsSameOrClosed (view_at old other) (view_at new other)

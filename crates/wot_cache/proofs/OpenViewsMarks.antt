@@ -21,7 +21,7 @@ use Rattle.wot_cache.specs.Inside.{AllFit, AreOfOpen, IsEngine, Networks, networ
 use Rattle.wot_cache.specs.Marks.{End, IsForgotten, IsMadeFor, IsRefreshed, OthersStay, end_at, end_in, marks_by}
 use Rattle.wot_cache.specs.Marks.{marks_in, marks_shown, shown}
 use Rattle.wot_cache.specs.State.{Engine, OtherMarksStay, marks_at}
-use Rattle.wot_cache.specs.Turns.{Turns}
+use Rattle.wot_cache.specs.Revisions.{Revisions}
 use Rattle.wot_cache.specs.Views.{MovesTime, SetsAmount, Views, is_name, view_at, with_amount}
 use Rattle.wot_answers.specs.EntryLaws.{none_set, none_put}
 
@@ -130,18 +130,18 @@ shown_at networks name =
     by (Some n) = refl
 
 -- a closed view has no marks, and still none right after it is opened
-pub unmarked : {turns : Turns} {answers : AllAnswers} (next : Turns) (engine : Engine) (k : Keyring)
-    (views new : Views) (networks : Networks) (name : List ℕ) → shown k views networks turns answers ≡ engine
+pub unmarked : {revisions : Revisions} {answers : AllAnswers} (next : Revisions) (engine : Engine) (k : Keyring)
+    (views new : Views) (networks : Networks) (name : List ℕ) → shown k views networks revisions answers ≡ engine
     → AreOfOpen views networks → view_at engine.views name ≡ None
     → marks_at (shown k new networks next answers) name ≡ []
-unmarked {turns} {answers} next engine k views new networks name seen all =
+unmarked {revisions} {answers} next engine k views new networks name seen all =
     subst (λ (e : Engine). view_at e.views name ≡ None → marks_at (shown k new networks next answers) name ≡ []) seen
     (λ none. shown_at networks name ∙ ap marks_by (all name none))
 
-pub others_marked : {turns : Turns} {answers : AllAnswers} (next : Turns) (engine : Engine) (k new : Keyring)
-    (views more : Views) (old rest : Networks) (name : List ℕ) → shown k views old turns answers ≡ engine
+pub others_marked : {revisions : Revisions} {answers : AllAnswers} (next : Revisions) (engine : Engine) (k new : Keyring)
+    (views more : Views) (old rest : Networks) (name : List ℕ) → shown k views old revisions answers ≡ engine
     → OthersStay name old rest → OtherMarksStay name engine (shown new more rest next answers)
-others_marked {turns} {answers} next engine k new views more old rest name seen others =
+others_marked {revisions} {answers} next engine k new views more old rest name seen others =
     subst (λ (e : Engine). OtherMarksStay name e (shown new more rest next answers)) seen
     (λ other e. shown_at rest other ∙ ap marks_by (others other e) ∙ sym (shown_at old other))
 
@@ -155,9 +155,9 @@ gone_itself name old rest forgotten =
     forgotten name ∙ ap (λ (o : Ordering). cond (is_eq o) None (network_at old name))
     (tied_itself nat_list_cmp_total name)
 
-pub none_shown : (turns : Turns) (k : Keyring) (views : Views) (rest : Networks) (name : List ℕ) →
-    network_at rest name ≡ None → marks_at (shown k views rest turns []) name ≡ []
-none_shown turns k views rest name none = shown_at rest name ∙ ap marks_by none
+pub none_shown : (revisions : Revisions) (k : Keyring) (views : Views) (rest : Networks) (name : List ℕ) →
+    network_at rest name ≡ None → marks_at (shown k views rest revisions []) name ≡ []
+none_shown revisions k views rest name none = shown_at rest name ∙ ap marks_by none
 
 -- ---- questions
 
@@ -187,21 +187,21 @@ made_as (Some v) r s k old new less m = record {
   never_less = m.never_less;
 }
 
-pub left : {T E : Type 0} {turns : Turns} {answers later : AllAnswers} (s : Result T E) (engine : Engine)
+pub left : {T E : Type 0} {revisions : Revisions} {answers later : AllAnswers} (s : Result T E) (engine : Engine)
     (k new : Keyring) (views more : Views) (old rest : Networks) (name : List ℕ) (before after : ℕ)
-    → shown k views old turns answers ≡ engine → new ≡ k → more ≡ views
+    → shown k views old revisions answers ≡ engine → new ≡ k → more ≡ views
     → IsMadeFor s (view_at views name) k (end_in old name before) (end_in rest name after)
     → OthersStay name old rest → (view_at views name ≡ None → (rest ≡ old) × (after ≡ before)) →
-    IsRefreshed s name engine (shown new more rest turns later) before after
-left {turns = turns} {answers = answers} {later = later} s engine k new views more old rest name before after seen same
+    IsRefreshed s name engine (shown new more rest revisions later) before after
+left {revisions = revisions} {answers = answers} {later = later} s engine k new views more old rest name before after seen same
     equal made others closed =
-    subst (λ (e : Engine). IsRefreshed s name e (shown new more rest turns later) before after) seen (record {
-      stays = record { keyring = same; views = equal; turns = refl };
+    subst (λ (e : Engine). IsRefreshed s name e (shown new more rest revisions later) before after) seen (record {
+      stays = record { keyring = same; views = equal; revisions = refl };
       made = subst (λ (m : Marks). IsMadeFor s (view_at views name) k (record { marks = m; made = before })
-          (end_at (shown new more rest turns later) name after)) (sym (shown_at old name))
+          (end_at (shown new more rest revisions later) name after)) (sym (shown_at old name))
           (subst (λ (m : Marks). IsMadeFor s (view_at views name) k (end_in old name before)
           (record { marks = m; made = after })) (sym (shown_at rest name)) made);
-      others = others_marked turns (shown k views old turns answers) k new views more old rest name refl others;
+      others = others_marked revisions (shown k views old revisions answers) k new views more old rest name refl others;
       closed = λ none. (
         shown_at rest name ∙ ap (λ (ns : Networks). marks_in ns name) (closed none).0
             ∙ sym (shown_at old name),
@@ -210,13 +210,13 @@ left {turns = turns} {answers = answers} {later = later} s engine k new views mo
     })
 
 -- the engine after its networks were refreshed
-pub engine_after : {turns : Turns} (answers : AllAnswers) (k new : Keyring) (views more : Views) (old rest : Networks)
+pub engine_after : {revisions : Revisions} (answers : AllAnswers) (k new : Keyring) (views more : Views) (old rest : Networks)
     (name : List ℕ) (before after : ℕ) → new ≡ k → more ≡ views → AllFit rest new
     → OthersStay name old rest → (view_at views name ≡ None → (rest ≡ old) × (after ≡ before)) →
-    IsEngine k views old answers turns → IsEngine new more rest answers turns
-engine_after {turns} answers k new views more old rest name before after same equal fit others closed e =
-    subst (λ (k : Keyring). IsEngine k more rest answers turns) (sym same)
-    (subst (λ (vs : Views). IsEngine k vs rest answers turns) (sym equal) (record {
+    IsEngine k views old answers revisions → IsEngine new more rest answers revisions
+engine_after {revisions} answers k new views more old rest name before after same equal fit others closed e =
+    subst (λ (k : Keyring). IsEngine k more rest answers revisions) (sym same)
+    (subst (λ (vs : Views). IsEngine k vs rest answers revisions) (sym equal) (record {
       small = e.small;
       within = e.within;
       fit = subst (λ (x : Keyring). AllFit rest x) same fit;

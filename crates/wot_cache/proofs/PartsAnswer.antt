@@ -17,13 +17,13 @@ use Rattle.wot_cache.specs.Parts.{ArePartsOf}
 use Rattle.wot_cache.specs.Question.{IsLocalTo, IsTold, asked_of, asked_over, present_in, question_in}
 use Rattle.wot_cache.specs.Dump.{engine_of}
 use Rattle.wot_cache.specs.State.{Engine, ViewMarks, state_of}
-use Rattle.wot_cache.specs.Turns.{Turns}
+use Rattle.wot_cache.specs.Revisions.{Revisions}
 use Rattle.wot_cache.specs.Views.{AreWithinLimits, Views, view_at}
 use Rattle.wot_cache.proofs.Inside.{few_there}
 
 -- an engine with only its networks replaced keeps its keyring and views
-pub same_engine : {marks : ViewMarks} {turns : Turns} {answers : AllAnswers} (engine : Engine) (k new : Keyring)
-    (views more : Views) → record { keyring = k; views = views; marks = marks; turns = turns; answers = answers } ≡ engine
+pub same_engine : {marks : ViewMarks} {revisions : Revisions} {answers : AllAnswers} (engine : Engine) (k new : Keyring)
+    (views more : Views) → record { keyring = k; views = views; marks = marks; revisions = revisions; answers = answers } ≡ engine
     → new ≡ k → more ≡ views → engine_of new more ≡ engine_of engine.keyring engine.views
 same_engine engine k new views more seen same equal =
     ap (λ (k : Keyring). engine_of k more) same ∙ ap (λ (vs : Views). engine_of k vs) equal
@@ -50,9 +50,9 @@ as_asked P engine name p target uid seen holds =
     (subst (λ (roots : List (Fpr × ℕ)). P (asked_over (present_of p.roads) roots target uid)) are.roots holds)) seen
 
 -- the parts are still those of the view after the engine's networks are replaced
-pub seen_after : {marks : ViewMarks} {turns : Turns} {answers : AllAnswers} (engine : Engine) (k new : Keyring)
+pub seen_after : {marks : ViewMarks} {revisions : Revisions} {answers : AllAnswers} (engine : Engine) (k new : Keyring)
     (views more : Views) (name : List ℕ) (p : Parts)
-    → record { keyring = k; views = views; marks = marks; turns = turns; answers = answers } ≡ engine → new ≡ k
+    → record { keyring = k; views = views; marks = marks; revisions = revisions; answers = answers } ≡ engine → new ≡ k
     → more ≡ views →
     IsSomeAnd (view_at more name) (λ (v : View). ArePartsOf new v p) → AreSeen engine name p
 seen_after engine k new views more name p is same equal seen =
@@ -72,10 +72,10 @@ few_of limits k views name p within small seen = by (view_at views name) refl se
         omega (arith, few, small, same)
 
 -- the parts have no more roots than the limit allows
-pub few_seen : {marks : ViewMarks} {turns : Turns} (engine : Engine) (k : Keyring) (views : Views) (networks : Networks)
+pub few_seen : {marks : ViewMarks} {revisions : Revisions} (engine : Engine) (k : Keyring) (views : Views) (networks : Networks)
     (answers : AllAnswers) (name : List ℕ) (p : Parts)
-    → record { keyring = k; views = views; marks = marks; turns = turns; answers = answers } ≡ engine →
-    IsEngine k views networks answers turns → AreSeen engine name p → length p.roots.now ≤ 64
+    → record { keyring = k; views = views; marks = marks; revisions = revisions; answers = answers } ≡ engine →
+    IsEngine k views networks answers revisions → AreSeen engine name p → length p.roots.now ≤ 64
 few_seen engine k views networks answers name p same inside seen =
     few_of k.limits engine.keyring engine.views name p (subst (λ (e : Engine). AreWithinLimits k.limits e.views) same
     inside.within) inside.small.roots seen
@@ -125,9 +125,9 @@ present_seen engine name p = by (view_at engine.views name)
         ∙ ap (λ (t : ℕ). record { keyring = engine.keyring; time = t }) are.time)
 
 -- kept answers that are right in the engine's keyring are right in the keyring of the parts
-pub right_seen : {marks : ViewMarks} {turns : Turns} (engine : Engine) (k : Keyring) (views : Views) (name : List ℕ)
+pub right_seen : {marks : ViewMarks} {revisions : Revisions} (engine : Engine) (k : Keyring) (views : Views) (name : List ℕ)
     (p : Parts) (answers : AllAnswers)
-    → record { keyring = k; views = views; marks = marks; turns = turns; answers = answers } ≡ engine
+    → record { keyring = k; views = views; marks = marks; revisions = revisions; answers = answers } ≡ engine
     → AreSeen engine name p → AreAllRight k answers → AreAllRight p.keyring.now answers
 right_seen engine k views name p answers same seen right = by (view_at engine.views name) seen
   where
@@ -138,9 +138,9 @@ right_seen engine k views name p answers same seen right = by (view_at engine.vi
         ∙ sym are.keyring) right
 
 -- the converse
-pub right_kept : {marks : ViewMarks} {turns : Turns} {before : AllAnswers} (engine : Engine) (k new : Keyring)
+pub right_kept : {marks : ViewMarks} {revisions : Revisions} {before : AllAnswers} (engine : Engine) (k new : Keyring)
     (views : Views) (name : List ℕ) (p : Parts) (answers : AllAnswers)
-    → record { keyring = k; views = views; marks = marks; turns = turns; answers = before } ≡ engine
+    → record { keyring = k; views = views; marks = marks; revisions = revisions; answers = before } ≡ engine
     → new ≡ k → AreSeen engine name p → AreAllRight p.keyring.now answers → AreAllRight new answers
 right_kept engine k new views name p answers same equal seen right = by (view_at engine.views name) seen
   where
@@ -154,7 +154,7 @@ pub told_seen : (engine : Engine) (name : List ℕ) (p : Parts) (target : Fpr) (
     AreSeen engine name p
     → IsTold (asked_of p target uid) wanted a →
     IfSome (view_at engine.views name) (λ (v : View). IsTold (question_in (state_of engine) v target uid) wanted a)
-told_seen engine name p target uid wanted a seen told =
+told_seen engine name p target uid wanted a seen network =
     as_asked (λ (q : Question). IsTold q wanted a) engine name p target uid seen
     (subst (λ (present : Present). IsTold (asked_over present p.roots.now target uid) wanted a)
-    (sym (present_seen engine name p seen)) told)
+    (sym (present_seen engine name p seen)) network)

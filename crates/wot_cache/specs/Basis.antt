@@ -9,31 +9,32 @@ use Rattle.wot_edge.specs.Path.{Question, asks}
 use Rattle.wot_keyring_spec.specs.Keyring.{Keyring, certificates_in, is_fpr, stamp_at}
 use Rattle.wot_keyring_spec.specs.Later.{IsUnaltered}
 use Rattle.wot_index.specs.Log.{Logged, is_listed}
-use Rattle.wot_network.specs.Told.{record_of}
+use Rattle.wot_network.specs.Records.{record_of}
 use Rattle.wot_looked.specs.declared.looked.Looked.{Looked}
 use Rattle.wot_answers.specs.declared.asked.Asked.{Asked}
 use Rattle.wot_cache.specs.declared.view.View.{View}
 use Rattle.wot_cache.specs.Question.{OfQuestion}
 use Rattle.wot_cache.specs.State.{Engine}
-use Rattle.wot_cache.specs.Turns.{IsOneClosing, IsOneTurn, Turns}
+use Rattle.wot_cache.specs.Revisions.{IsOneClosing, IsOneRevision, Revisions}
 use Rattle.wot_cache.specs.Views.{Views, is_name, view_at}
 
--- the counts of changes and of turns at which the answers were found, the fingerprints that they depend on, and whether
--- one of them depends on the whole keyring
+-- the counts of changes and of revisions at which the answers were found, the fingerprints that they depend on, and
+-- whether one of them depends on the whole keyring
 pub record Basis : Type 0 where
   pub changes : ℕ
-  pub turns : ℕ
+  pub revisions : ℕ
   pub fprs : List Fpr
   pub whole : Bool
 
 -- the basis of no answers, at the current counts
 abbrev pub empty_at : Engine → Basis
-empty_at engine = record { changes = engine.keyring.changes; turns = engine.turns.count; fprs = []; whole = false }
+empty_at engine =
+    record { changes = engine.keyring.changes; revisions = engine.revisions.count; fprs = []; whole = false }
 
 -- its counts are the current ones
 pub record IsPresent (engine : Engine) (basis : Basis) : Type 0 where
   pub changes : basis.changes ≡ engine.keyring.changes
-  pub turns : basis.turns ≡ engine.turns.count
+  pub revisions : basis.revisions ≡ engine.revisions.count
 
 -- whether the basis has a fingerprint
 abbrev pub is_in : Fpr → List Fpr → Bool
@@ -54,7 +55,7 @@ IsFreeOf fprs changed = (fpr : Fpr) → is_in fpr fprs ≡ true → is_listed fp
 -- the new basis has the old counts and everything that the old one depends on
 pub record HasGrown (old new : Basis) : Type 0 where
   pub changes : new.changes ≡ old.changes
-  pub turns : new.turns ≡ old.turns
+  pub revisions : new.revisions ≡ old.revisions
   pub fprs : Includes old.fprs new.fprs
   pub whole : old.whole ≡ true → new.whole ≡ true
 
@@ -74,15 +75,15 @@ pub record IsKeyringOn (old new : Keyring) : Type 0 where
 abbrev pub IsSameOrClosed : Option View → Option View → Type 0
 IsSameOrClosed old new = (new ≡ old) ⊎ (new ≡ None)
 
--- The count of turns doesn't fall. If it is unchanged, each view is unchanged or closed.
-pub record AreViewsOn (old : Views) (before : Turns) (new : Views) (after : Turns) : Type 0 where
+-- The count of revisions doesn't fall. If it is unchanged, each view is unchanged or closed.
+pub record AreViewsOn (old : Views) (before : Revisions) (new : Views) (after : Revisions) : Type 0 where
   pub counted : before.count ≤ after.count
   pub each : after.count ≡ before.count → (name : List ℕ) → IsSameOrClosed (view_at old name) (view_at new name)
 
 -- the engine after any number of lines that remove no certificate
 pub record IsKeptOn (old new : Engine) : Type 0 where
   pub keyring : IsKeyringOn old.keyring new.keyring
-  pub views : AreViewsOn old.views old.turns new.views new.turns
+  pub views : AreViewsOn old.views old.revisions new.views new.revisions
 
 -- all other views are unchanged
 abbrev pub OtherViewsStay : List ℕ → Views → Views → Type 0
@@ -96,7 +97,7 @@ AreCalm k count fprs = (fpr : Fpr) → is_in fpr fprs ≡ true → stamp_at k fp
 
 -- nothing that the answers depend on was altered since
 pub record IsUndisturbed (later : Engine) (basis : Basis) : Type 0 where
-  pub turns : later.turns.count ≡ basis.turns
+  pub revisions : later.revisions.count ≡ basis.revisions
   pub calm : AreCalm later.keyring basis.changes basis.fprs
   pub whole : basis.whole ≡ true → later.keyring.changes ≡ basis.changes
 
@@ -114,7 +115,7 @@ RestsAt k count fprs view target wanted uid amount =
     (later : Keyring) → IsKeyringOn k later → AreCalm later count fprs
     → HasAmount wanted amount (question_on later view target uid)
 
--- the amount of what is asked rests on these fingerprints from now on
+-- the amount of what is asked depends on these fingerprints from now on
 abbrev pub IsKeptSum : Keyring → List Fpr → View → Asked → ℕ → Type 0
 IsKeptSum k fprs view asked amount = RestsAt k k.changes fprs view asked.target.now asked.wanted asked.uid.now amount
 
@@ -125,7 +126,7 @@ RestsOn engine basis name target wanted uid amount =
     (later : Engine) → IsKeptOn engine later → IsUndisturbed later basis
     → OfQuestion later name target uid (HasAmount wanted amount)
 
--- This is the sum of what is asked from a view, and it rests on the basis.
+-- This is the sum of what is asked from a view, and it depends on the basis.
 pub record IsRested (engine : Engine) (name : List ℕ) (asked : Asked) (basis : Basis) (amount : ℕ) : Type 0 where
   pub sum : OfQuestion engine name asked.target.now asked.uid.now (HasAmount asked.wanted amount)
   pub rests : RestsOn engine basis name asked.target.now asked.wanted asked.uid.now amount
@@ -150,14 +151,14 @@ RestsOnLater =
     → IsKeptOn old new → RestsOn old basis name target wanted uid amount
     → RestsOn new basis name target wanted uid amount
 
--- A view that is opened or changed gets a turn.
-abbrev pub TurnGoesOn : Type 0
-TurnGoesOn =
-    (name : List ℕ) (old new : Views) (before after : Turns) → OtherViewsStay name old new
-    → IsOneTurn name old before new after → AreViewsOn old before new after
+-- A view that is opened or changed gets a revision.
+abbrev pub RevisionGoesOn : Type 0
+RevisionGoesOn =
+    (name : List ℕ) (old new : Views) (before after : Revisions) → OtherViewsStay name old new
+    → IsOneRevision name old before new after → AreViewsOn old before new after
 
 -- A view that is closed is no longer open.
 abbrev pub ClosingGoesOn : Type 0
 ClosingGoesOn =
-    (name : List ℕ) (old new : Views) (before after : Turns) → OtherViewsStay name old new
+    (name : List ℕ) (old new : Views) (before after : Revisions) → OtherViewsStay name old new
     → view_at new name ≡ None → IsOneClosing name old before new after → AreViewsOn old before new after

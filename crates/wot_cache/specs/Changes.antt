@@ -4,14 +4,14 @@ use Rattle.wot_policy.specs.declared.rows.PolicyRows.{PolicyRows}
 use Rattle.wot_keyring_spec.specs.Import.{IsOneChange, imported, importing}
 use Rattle.wot_cache.specs.State.{Engine, IsStateAfter}
 
--- Only the keyring changed, and at most once: its limits, the views, their marks, their turns and what is kept for them
--- stay.
+-- Only the keyring changed, and at most once: its limits, the views, their marks, their revisions and what is kept for
+-- them stay.
 pub record ChangesKeyring (old new : Engine) : Type 0 where
   pub counted : IsOneChange old.keyring new.keyring
   pub limits : new.keyring.limits ≡ old.keyring.limits
   pub views : new.views ≡ old.views
   pub marks : new.marks ≡ old.marks
-  pub turns : new.turns ≡ old.turns
+  pub revisions : new.revisions ≡ old.revisions
   pub answers : new.answers ≡ old.answers
 
 -- These octets were imported: into the keyring, and so into the state.

@@ -16,7 +16,7 @@ use Rattle.wot_keyring.specs.Dump.{after_all, judged_by}
 use Rattle.wot_keyring_spec.specs.Keyring.{Keyring}
 use Rattle.wot_cache.specs.declared.view.View.{View}
 use Rattle.wot_cache.specs.declared.view.ViewFault.{ViewFault}
-use Rattle.wot_cache.specs.Turns.{no_turns}
+use Rattle.wot_cache.specs.Revisions.{no_revisions}
 use Rattle.wot_cache.specs.Views.{Views, AreWithinLimits, root_fault, time_fault, view_at}
 use Rattle.wot_cache.specs.State.{Engine, State, start, state_of, with_held, rooting, timing}
 
@@ -51,7 +51,8 @@ pub record CarriesOver (rows : PolicyRows) (old new : State) : Type 0 where
 
 -- an engine with this keyring and these views that hasn't been asked anything
 abbrev pub engine_of : Keyring → Views → Engine
-engine_of keyring views = record { keyring = keyring; views = views; marks = []; turns = no_turns; answers = [] }
+engine_of keyring views =
+    record { keyring = keyring; views = views; marks = []; revisions = no_revisions; answers = [] }
 
 -- the commands of such an engine
 abbrev pub commands_over : Keyring → Views → List StateLine

@@ -8,7 +8,7 @@ use Rattle.wot_keyring_spec.specs.Later.{IsLater}
 use Rattle.wot_network.specs.Net.{Net, Fits, IsRight}
 use Rattle.wot_cache.specs.declared.view.View.{View}
 use Rattle.wot_answers.specs.Answers.{AllAnswers, AreAllRight}
-use Rattle.wot_cache.specs.Turns.{Turns, AreTurnsOf}
+use Rattle.wot_cache.specs.Revisions.{Revisions, AreRevisionsOf}
 use Rattle.wot_cache.specs.Views.{Views, AreWithinLimits, is_name, view_at}
 
 -- networks by view name
@@ -30,7 +30,7 @@ network_at networks name = lookup (is_name name) networks
 abbrev pub AreOfOpen : {X : Type 0} → Views → List (List ℕ × X) → Type 0
 AreOfOpen views kept = (name : List ℕ) → view_at views name ≡ None → lookup (is_name name) kept ≡ None
 
-pub record IsEngine (k : Keyring) (views : Views) (networks : Networks) (answers : AllAnswers) (turns : Turns)
+pub record IsEngine (k : Keyring) (views : Views) (networks : Networks) (answers : AllAnswers) (revisions : Revisions)
     : Type 0 where
   pub small : AreSmall k.limits
   pub within : AreWithinLimits k.limits views
@@ -38,7 +38,7 @@ pub record IsEngine (k : Keyring) (views : Views) (networks : Networks) (answers
   pub of_open : AreOfOpen views networks
   pub answered : AreOfOpen views answers
   pub right : AreAllRight k answers
-  pub turned : AreTurnsOf views turns
+  pub turned : AreRevisionsOf views revisions
 
 -- the view is open and its network is up to date: it is for the current keyring at the view's time
 abbrev pub IsReady : Keyring → Views → Networks → List ℕ → Type 0

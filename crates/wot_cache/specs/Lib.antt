@@ -1,5 +1,5 @@
 pub mod Views
-pub mod Turns
+pub mod Revisions
 pub mod Basis
 pub mod Inside
 pub mod Marks

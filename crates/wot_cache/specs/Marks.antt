@@ -10,7 +10,7 @@ use Rattle.wot_cache.specs.declared.view.View.{View}
 use Rattle.wot_answers.specs.Answers.{AllAnswers}
 use Rattle.wot_cache.specs.Inside.{Networks, network_at}
 use Rattle.wot_cache.specs.State.{Engine, StaysButMarks, OtherMarksStay, ViewMarks, marks_at}
-use Rattle.wot_cache.specs.Turns.{Turns}
+use Rattle.wot_cache.specs.Revisions.{Revisions}
 use Rattle.wot_cache.specs.Views.{Views, is_name, view_at}
 pub use Rattle.wot_answers.specs.Names.{IsForgotten}
 
@@ -26,9 +26,9 @@ abbrev pub marks_shown : Networks → ViewMarks
 marks_shown networks = map (λ (e : List ℕ × Net). (e.0, marks_of e.1.lines)) networks
 
 -- what contracts see of an engine that keeps these
-abbrev pub shown : Keyring → Views → Networks → Turns → AllAnswers → Engine
-shown k views networks turns answers =
-    record { keyring = k; views = views; marks = marks_shown networks; turns = turns; answers = answers }
+abbrev pub shown : Keyring → Views → Networks → Revisions → AllAnswers → Engine
+shown k views networks revisions answers =
+    record { keyring = k; views = views; marks = marks_shown networks; revisions = revisions; answers = answers }
 
 -- the networks of other views are unchanged
 abbrev pub OthersStay : List ℕ → Networks → Networks → Type 0

@@ -4,8 +4,8 @@ use Rattle.wot_types.specs.declared.fpr.Fpr.{Fpr}
 use Rattle.wot_edge.specs.Path.{Question, asks}
 use Rattle.wot_keyring_spec.specs.Keyring.{Keyring, certificates_in}
 use Rattle.wot_network.specs.Local.{IsLocal}
-use Rattle.wot_network.specs.Net.{Present, told_of}
-use Rattle.wot_network.specs.Told.{record_of}
+use Rattle.wot_network.specs.Net.{Present, network_for}
+use Rattle.wot_network.specs.Records.{record_of}
 use Rattle.wot_cache.specs.declared.view.View.{View}
 use Rattle.wot_cache.specs.State.{Engine, State, state_of}
 use Rattle.wot_cache.specs.Views.{view_at}
@@ -25,4 +25,4 @@ OfQuestion engine name target uid P =
 -- the network that the roads show is that of the keyring's certificates and verdicts at a time, and each part of it
 -- depends on a few of them
 abbrev pub IsLocalTo : Keyring → ℕ → Present → Type 0
-IsLocalTo k t p = IsLocal (certificates_in k) k.verdicts t (told_of p)
+IsLocalTo k t p = IsLocal (certificates_in k) k.verdicts t (network_for p)

@@ -12,7 +12,7 @@ use Rattle.wot_keyring_spec.specs.Keyring.{Keyring}
 use Rattle.wot_keyring_spec.specs.Keyring as keyrings
 use Rattle.wot_network.specs.Net.{Marks}
 use Rattle.wot_answers.specs.Answers.{AllAnswers}
-use Rattle.wot_cache.specs.Turns.{Turns, no_turns}
+use Rattle.wot_cache.specs.Revisions.{Revisions, no_revisions}
 use Rattle.wot_cache.specs.Views.{Views, is_name, with_time, with_root, without_view}
 
 -- What is held, and the open views by name. Stamps, counts of changes and cached policy rows aren't part of it, since
@@ -54,17 +54,18 @@ abbrev pub ViewMarks : Type 0
 ViewMarks = List (List ℕ × Marks)
 
 -- what contracts see of an engine: its keyring, its views, the marks and the kept answers of each view that was asked
--- something, and turns
+-- something, and revisions
 pub record Engine : Type 0 where
   pub keyring : Keyring
   pub views : Views
   pub marks : ViewMarks
-  pub turns : Turns
+  pub revisions : Revisions
   pub answers : AllAnswers
 
 -- an empty engine
 abbrev pub empty : Limits → Engine
-empty limits = record { keyring = keyrings.empty limits; views = []; marks = []; turns = no_turns; answers = [] }
+empty limits =
+    record { keyring = keyrings.empty limits; views = []; marks = []; revisions = no_revisions; answers = [] }
 
 -- the marks of a view
 abbrev pub marks_at : Engine → List ℕ → Marks
@@ -75,11 +76,11 @@ abbrev pub state_of : Engine → State
 state_of engine = record { held = held_of engine.keyring; views = engine.views }
 
 -- All but the marks and the kept answers is unchanged: certificates with their stamps of admission, verdicts, the count
--- of changes, and the open views with their times, roots and turns.
+-- of changes, and the open views with their times, roots and revisions.
 pub record StaysButMarks (old new : Engine) : Type 0 where
   pub keyring : new.keyring ≡ old.keyring
   pub views : new.views ≡ old.views
-  pub turns : new.turns ≡ old.turns
+  pub revisions : new.revisions ≡ old.revisions
 
 -- the marks of other views are unchanged
 abbrev pub OtherMarksStay : List ℕ → Engine → Engine → Type 0

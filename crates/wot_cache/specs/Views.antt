@@ -99,7 +99,7 @@ pub record AreWithinLimits (l : Limits) (views : Views) : Type 0 where
 abbrev pub TellsFault : {T : Type 0} → Result T ViewFault → Option ViewFault → Type 0
 TellsFault (Ok done) fault = fault ≡ None
 TellsFault (Err faults.Memory) fault = fault ≡ None
-TellsFault (Err told) fault = fault ≡ Some told
+TellsFault (Err why) fault = fault ≡ Some why
 
 -- Ok comes only if the view is open, and the fault `View` exactly if it isn't. The only other answer is out of memory.
 abbrev pub TellsOpen : {T : Type 0} → Result T AskFault → Option View → Type 0

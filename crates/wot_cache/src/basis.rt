@@ -1,5 +1,5 @@
 //! What the answers to a set of questions depend on, so that it is known without asking again that none has changed.
-//! The machine keeps one for all watches, and wot_watch_commands asks it and renews it. It stands on the turns of
+//! The machine keeps one for all watches, and wot_watch_commands asks it and renews it. It uses the revisions of
 //! views, the keyring's log of changes and the kept answers.
 ghost use Rattle.std.specs.Prelude.{◌≡◌, false, true, IfSome};
 ghost use Rattle.wot_answers.specs.Answers.{AreAllRight, IsRight};
@@ -20,11 +20,11 @@ const MOST_CHANGED: usize = 64;
 
 type Set = BTreeSet<Fpr, Global>;
 
-/// The counts of changes and of turns at which some answers were found, and the fingerprints that they depend on.
+/// The counts of changes and of revisions at which some answers were found, and the fingerprints that they depend on.
 #[derive(Drop)]
 pub struct Basis {
     changes: u64,
-    turns: u64,
+    revisions: u64,
     fprs: Set,
     // Whether one of them depends on the whole keyring.
     whole: bool,
@@ -35,7 +35,7 @@ impl Model for Basis {
 
     ghost Value = { TheBasis };
 
-    ghost view = { λ b. record { changes = b.changes; turns = b.turns; fprs = b.fprs.keys; whole = b.whole } };
+    ghost view = { λ b. record { changes = b.changes; revisions = b.revisions; fprs = b.fprs.keys; whole = b.whole } };
 }
 
 impl Basis {
@@ -45,7 +45,7 @@ impl Basis {
     {
         Basis {
             changes: engine.keyring().changes(),
-            turns: engine.turns(),
+            revisions: engine.revisions(),
             fprs: BTreeSet::new(alloc),
             whole: false,
         }
@@ -80,18 +80,18 @@ impl Basis {
 
     /// Whether nothing that it depends on was altered since its count of changes. If so, the count becomes the current
     /// one, so that the next call has less to look at.
-    pub(crate) fn stands(&mut self, keyring: &Keyring, turns: u64) -> bool
-        ensures turns { result ≡ true → self.old.turns ≡ turns }
+    pub(crate) fn still_current(&mut self, keyring: &Keyring, revisions: u64) -> bool
+        ensures revisions { result ≡ true → self.old.revisions ≡ revisions }
         ensures calm { result ≡ true → AreCalm keyring.now self.old.changes self.old.fprs }
         ensures whole { result ≡ true → self.old.whole ≡ true → keyring.now.changes ≡ self.old.changes }
-        ensures still { self.old.turns ≡ turns → self.old.changes ≡ keyring.now.changes → result ≡ true }
+        ensures still { self.old.revisions ≡ revisions → self.old.changes ≡ keyring.now.changes → result ≡ true }
         ensures moved { result ≡ true → self.new ≡ record self.old { changes = keyring.now.changes } }
         ensures kept { result ≡ false → self.new ≡ self.old }
     {
         // Its contract says that stamps are at most the count of changes.
         let _count = keyring.len();
         let changes = keyring.changes();
-        if self.turns != turns {
+        if self.revisions != revisions {
             return false;
         }
         if self.changes == changes {

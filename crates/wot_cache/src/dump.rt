@@ -1,5 +1,5 @@
-//! The dump of the engine: the keyring's commands, then the commands that open each view and set its roots. It stands
-//! on wot_keyring's dump. `replayed` is the law that these lines restore the state; what is added to a view has to be
+//! The dump of the engine: the keyring's commands, then the commands that open each view and set its roots. It uses
+//! wot_keyring's dump. `replayed` is the law that these lines restore the state; what is added to a view has to be
 //! added here.
 ghost use Rattle.std.specs.Prelude.{◌≡◌, ◌<◌, ◌^◌, ◌++◌, length, map, IfOk, OnOk, OnErr};
 ghost use Rattle.std.specs.List.{flat_map};

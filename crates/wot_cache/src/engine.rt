@@ -15,7 +15,7 @@ ghost use Rattle.wot_edge.specs.Answer.{IsAnswer, amount_of};
 ghost use Rattle.wot_edge.specs.Capacity.{AllFit};
 ghost use Rattle.wot_edge.specs.Lawful.{AreEntries};
 ghost use Rattle.wot_edge.specs.Record.{IsRecord};
-ghost use Rattle.wot_network.specs.Net.{signatures_in, told_of};
+ghost use Rattle.wot_network.specs.Net.{signatures_in, network_for};
 ghost use Rattle.wot_network.specs.Roads.{present_of};
 ghost use Rattle.wot_keyring.specs.Dump.{lines_of, AreLines};
 ghost use Rattle.wot_policy.specs.declared.rows.PolicyRows.{PolicyRows as Rows};
@@ -36,7 +36,7 @@ mod view;
 use crate::dump::put_engine;
 use crate::laws::kept_fits_later;
 use crate::present::Networked;
-use crate::turns::Turns;
+use crate::revisions::Revisions;
 use std::alloc::Global;
 use std::collections::BTreeMap;
 use std::marker::Model;
@@ -54,7 +54,7 @@ pub struct Engine {
     alloc: Global,
     networked: Networked,
     answers: AllAnswers,
-    turns: Turns,
+    revisions: Revisions,
 }
 
 impl Model for Engine {
@@ -64,11 +64,11 @@ impl Model for Engine {
 
     ghost Value = { TheEngine };
 
-    ghost view = { λ a. shown a.networked.keyring a.networked.views.entries a.networked.networks.entries a.turns
+    ghost view = { λ a. shown a.networked.keyring a.networked.views.entries a.networked.networks.entries a.revisions
         a.answers.entries };
 
     ghost invariant = { λ a. IsEngine a.networked.keyring a.networked.views.entries a.networked.networks.entries
-        a.answers.entries a.turns };
+        a.answers.entries a.revisions };
 }
 
 impl Engine {
@@ -88,7 +88,7 @@ impl Engine {
                 networks: BTreeMap::new(alloc),
             },
             answers: BTreeMap::new(alloc),
-            turns: Turns::new(alloc),
+            revisions: Revisions::new(alloc),
         }
     }
 
@@ -212,8 +212,8 @@ impl Engine {
         ensures* refreshed { sem 𝓛 (RestsRefreshed self.entry result view.now steps.old.made steps.new.made) }
         ensures keyring { IfOk result (λ r. (present_of r).keyring ≡ self.old.keyring) }
         ensures time { IfOk result (λ r. IfSome (view_at self.old.views view.now) (λ v. (present_of r).time ≡ v.time)) }
-        ensures entries { IfOk result (λ r. (u : List ℕ) → AreEntries (told_of (present_of r) u)) }
-        ensures lawful { IfOk result (λ r. (u : List ℕ) → IsRecord (told_of (present_of r) u)) }
+        ensures entries { IfOk result (λ r. (u : List ℕ) → AreEntries (network_for (present_of r) u)) }
+        ensures lawful { IfOk result (λ r. (u : List ℕ) → IsRecord (network_for (present_of r) u)) }
         ensures local { IfOk result (λ r. IfSome (view_at self.old.views view.now) (λ v.
             IsLocalTo self.old.keyring v.time (present_of r))) }
         ensures open { TellsOpen result (view_at self.old.views view.now) }
@@ -231,8 +231,8 @@ impl Engine {
         ensures parts { IfOk result (λ p. IsSomeAnd (view_at self.old.views view.now)
             (λ v. ArePartsOf self.old.keyring v p)) }
         ensures few { IfOk result (λ p. length p.roots.now ≤ 64) }
-        ensures entries { IfOk result (λ p. (u : List ℕ) → AreEntries (told_of (present_of p.roads) u)) }
-        ensures lawful { IfOk result (λ p. (u : List ℕ) → IsRecord (told_of (present_of p.roads) u)) }
+        ensures entries { IfOk result (λ p. (u : List ℕ) → AreEntries (network_for (present_of p.roads) u)) }
+        ensures lawful { IfOk result (λ p. (u : List ℕ) → IsRecord (network_for (present_of p.roads) u)) }
         ensures local { IfOk result (λ p. IfSome (view_at self.old.views view.now) (λ v.
             IsLocalTo self.old.keyring v.time (present_of p.roads))) }
         ensures open { TellsOpen result (view_at self.old.views view.now) }

@@ -4,7 +4,7 @@ ghost use Rattle.std.specs.Prelude.{◌≤◌, ℕ, List, length};
 ghost use Rattle.wot_types.specs.declared.fpr.Fpr.{Fpr};
 ghost use Rattle.wot_keyring_spec.specs.Import.{IsOneChange};
 ghost use Rattle.wot_keyring_spec.specs.Keyring.{Keyring};
-ghost use Rattle.wot_cache.specs.Basis.{ClosingGoesOn, IsKeptOn, IsKeyringOn, OtherViewsStay, TurnGoesOn};
+ghost use Rattle.wot_cache.specs.Basis.{ClosingGoesOn, IsKeptOn, IsKeyringOn, OtherViewsStay, RevisionGoesOn};
 ghost use Rattle.wot_cache.specs.Basis.{RestsOnLater, RestsOnMore};
 ghost use Rattle.wot_cache.specs.Inside.{FitLater};
 ghost use Rattle.wot_cache.specs.State.{Engine, StaysButMarks};
@@ -26,9 +26,9 @@ pub fn change_goes_on()
     ensures { (old new : Keyring) → IsOneChange old new → length old.certs ≤ length new.certs → IsKeyringOn old new }
 {}
 
-/// A view that is opened or changed gets a turn, and a closed view is no longer open.
+/// A view that is opened or changed gets a revision, and a closed view is no longer open.
 pub fn views_go_on()
-    ensures turned { TurnGoesOn }
+    ensures turned { RevisionGoesOn }
     ensures closed { ClosingGoesOn }
     ensures timed { (name : List ℕ) (views : Views) (t : ℕ) → OtherViewsStay name views (with_time views name t) }
     ensures rooted { (name : List ℕ) (views : Views) (fpr : Fpr) (amount : ℕ) →

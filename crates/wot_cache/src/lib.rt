@@ -9,7 +9,7 @@ mod engine;
 pub mod laws;
 mod networks;
 mod present;
-mod turns;
+mod revisions;
 mod view;
 mod views;
 

@@ -3,7 +3,7 @@
 ghost use Rattle.std.specs.Prelude.{◌≡◌, ◌≤◌, ◌+◌, ℕ, List, IfSome, IsSomeAnd, OnOk};
 ghost use Rattle.wot_edge.specs.Lawful.{AreEntries};
 ghost use Rattle.wot_edge.specs.Record.{IsRecord};
-ghost use Rattle.wot_network.specs.Net.{signatures_in, told_of};
+ghost use Rattle.wot_network.specs.Net.{signatures_in, network_for};
 ghost use Rattle.wot_network.specs.Roads.{present_of};
 ghost use Rattle.wot_cache.specs.Question.{IsLocalTo};
 ghost use Rattle.wot_cache.specs.Inside.{AllFit, IsReady};
@@ -70,8 +70,8 @@ impl Networked {
         requires ready { IsReady self.now.keyring self.now.views.entries self.now.networks.entries view.now }
         ensures parts { IsSomeAnd (view_at self.now.views.entries view.now)
             (λ v. ArePartsOf self.now.keyring v result) }
-        ensures entries { (u : List ℕ) → AreEntries (told_of (present_of result.roads) u) }
-        ensures lawful { (u : List ℕ) → IsRecord (told_of (present_of result.roads) u) }
+        ensures entries { (u : List ℕ) → AreEntries (network_for (present_of result.roads) u) }
+        ensures lawful { (u : List ℕ) → IsRecord (network_for (present_of result.roads) u) }
         ensures local { IfSome (view_at self.now.views.entries view.now)
             (λ v. IsLocalTo self.now.keyring v.time (present_of result.roads)) }
     {

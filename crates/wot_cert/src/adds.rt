@@ -1,6 +1,6 @@
 //! What a merge would add, without merging: how many keys, components, signatures and octets.
 //!
-//! It stands on `wot_component`, which says it of sorted lists. No crate of the program calls it: `Cert::grow` merges
+//! It uses `wot_component`, which says it of sorted lists. No crate of the program calls it: `Cert::grow` merges
 //! and says what was added.
 ghost use Rattle.std.specs.Prelude.{◌≡◌, ◌<◌, ◌^◌, ◌+◌};
 ghost use Rattle.wot_component.specs.Certificate.{unite};

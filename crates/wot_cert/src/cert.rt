@@ -1,6 +1,6 @@
 //! The type `Cert` and its calls: build, read, mark, merge, grow and shrink.
 //!
-//! It stands on `wot_component` and `places`; `export` and `adds` have its other calls. Their public clauses are what
+//! It uses `wot_component` and `places`; `export` and `adds` have its other calls. Their public clauses are what
 //! all crates above know of a certificate.
 ghost use Rattle.std.specs.Prelude.{◌≡◌, ◌≢◌, ◌+◌, ◌-◌, ◌<◌, ◌^◌, min, MatchBool, Some, true, false, []};
 ghost use Rattle.std.specs.Prelude.{OnOk, OnErr, IfOk, IfSome};

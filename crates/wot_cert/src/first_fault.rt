@@ -1,6 +1,6 @@
 //! The first fault in a list of packets that isn't a list of certificates.
 //!
-//! It stands on `specs/Fault.antt`. `assemble` asks it before it assembles anything, so nothing is imported from a
+//! It uses `specs/Fault.antt`. `assemble` asks it before it assembles anything, so nothing is imported from a
 //! faulty text.
 ghost use Rattle.std.specs.Prelude.{◌≡◌};
 ghost use Rattle.wot_packet.specs.Spelling.{spelled_of, spelled_all};

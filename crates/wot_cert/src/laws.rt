@@ -1,5 +1,5 @@
 //! Laws of certificates. Each function does nothing: its contract is the law, and the crates above cite it by a call.
-//! They stand on `specs/Certificate.antt` and the definitions that it names.
+//! They use `specs/Certificate.antt` and the definitions that it names.
 ghost use Rattle.std.specs.Prelude.{◌≡◌, ◌≤◌, ◌+◌, ℕ, List};
 ghost use Rattle.std.specs.List.{AllByRecursion};
 ghost use Rattle.wot_packet.specs.Spelling.{AreShort, Spelled};
@@ -68,7 +68,7 @@ pub fn united_holds_both()
 {}
 
 /// A merge has exactly what is in one of both: a component is in it if and only if one of both has it, and a signature
-/// is on the key or on a component if and only if it is there in one of both. They are told apart by their bodies.
+/// is on the key or on a component if and only if it is there in one of both. They are distinguished by their bodies.
 pub fn united_has_both()
     ensures direct { (body : List ℕ) → IsOfBoth (λ c. HasSig body c.direct) }
     ensures user_ids { AreOfBoth (λ c. c.user_ids) }

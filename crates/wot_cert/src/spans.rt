@@ -1,6 +1,6 @@
 //! The span of a time: between which moments no signature of a certificate begins or ends.
 //!
-//! It stands on `specs/Span.antt`. Edges are kept for as long as a view's time stays in the span, so a moment that is
+//! It uses `specs/Span.antt`. Edges are kept for as long as a view's time stays in the span, so a moment that is
 //! missed here would keep stale edges; the contract rules that out.
 ghost use Rattle.std.specs.Prelude.{◌≡◌, ℕ, [], ◌∷◌};
 ghost use Rattle.std.specs.List.{flat_map};

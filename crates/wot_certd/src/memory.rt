@@ -1,7 +1,7 @@
 //! A certificate directory in memory, with calls that fail on demand. It is for tests, and shows what `Shelf` promises:
 //! its contracts say exactly what each call does.
 //!
-//! It stands on `specs/World.antt` and `specs/Memory.antt`.
+//! It uses `specs/World.antt` and `specs/Memory.antt`.
 ghost use Rattle.std.specs.Prelude.{◌≡◌, ◌≤◌, [], Some, IfOk, IfErr, IfSome, OnOk, OnErr, IsErrOf};
 ghost use Rattle.std.specs.Option.{option_copied};
 ghost use Rattle.wot_io.specs.Counts.{Rose, next_count};
@@ -132,7 +132,7 @@ impl MemoryShelf {
 
     /// Counts a fault, and returns it.
     fn fault(&mut self) -> ShelfFault
-        ensures told { result ≡ ShelfFault.Failed }
+        ensures reported { result ≡ ShelfFault.Failed }
         ensures counted { self.new ≡ faulted self.old }
         ensures later { self.old.faults ≤ self.new.faults }
     {

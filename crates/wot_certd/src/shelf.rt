@@ -1,6 +1,6 @@
 //! The trait `Shelf`: how entries of a certificate directory are read and replaced.
 //!
-//! It stands on `specs/World.antt` and `specs/Shelf.antt`. `FolderShelf` and `MemoryShelf` implement it, and
+//! It uses `specs/World.antt` and `specs/Shelf.antt`. `FolderShelf` and `MemoryShelf` implement it, and
 //! `wot_machine` calls it. The longest entry is set here; `docs/PROTOCOL.md` states that limit.
 ghost use Rattle.std.specs.Prelude.{◌≤◌, ℕ, Option, IfOk, IfSome, IsErrOf};
 ghost use Rattle.wot_io.specs.Counts.{Rose};

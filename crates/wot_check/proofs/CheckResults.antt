@@ -13,7 +13,7 @@ use Rattle.wot_check.specs.Trace.{AreUsedBy}
 use Rattle.wot_check.proofs.ShownPaths.{each_shows_one}
 use Rattle.wot_check.proofs.Trails.{absence_spent}
 
-module _ (q : Question) (good : IsRecord q.told) (claims : List Claim) (table : Labels) where
+module _ (q : Question) (good : IsRecord q.network) (claims : List Claim) (table : Labels) where
   clash : Accepts q claims table → Rejects q claims table → ⊥
   clash a r = r.2
       (subst (λ (paths : List Path). IsAbsence q (use_of paths) table) (each_shows_one q good [] claims a.0 r.0 a.1 r.1)
@@ -66,7 +66,7 @@ module _ (q : Question) (claims : List Claim) (used : Sums) (table : Labels) (u 
       (u.0, u.1, λ a. elim a [ inl f ↦ cc | inr x ↦ n (subst (λ (w : Use). Excludes q w table) (sym u.2) x) ])
 
 -- each check has exactly one result
-pub check_one : (q : Question) (claims : List Claim) (table : Labels) (a b : Checked) → IsRecord q.told
+pub check_one : (q : Question) (claims : List Claim) (table : Labels) (a b : Checked) → IsRecord q.network
     → IsChecked q claims table a → IsChecked q claims table b → a ≡ b
 check_one q claims table Yes b good m n = sym ((checked_yes q good claims table b n).1 m)
 check_one q claims table BadPaths b good m n = sym ((checked_bad_paths q good claims table b n).1 m)

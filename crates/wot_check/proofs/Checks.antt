@@ -29,11 +29,11 @@ introducers_back q other set agree at member has row h deep =
     (has x into (subst (λ (z : EdgeFacts). 1 ≤ z.depth) e deep))
 
 pub certifiers_back : (q other : Question) (set : List Fpr) (agree : Agree q other (q.target ∷ set))
-    → ((row : Row) → Has (rows_into q.told q.target) row → Has set row.edge.issuer)
-    → (row : Row) → Has (rows_into other.told other.target) row → Has set row.edge.issuer
+    → ((row : Row) → Has (rows_into q.network q.target) row → Has set row.edge.issuer)
+    → (row : Row) → Has (rows_into other.network other.target) row → Has set row.edge.issuer
 certifiers_back q other set agree has row h =
     let (x, into, e, scope) = edge_there other q (q.target ∷ set) (agree_back q other (q.target ∷ set) agree) q.target
-    row (inl refl) (subst (λ (f : Fpr). Has (rows_into other.told f) row) (sym agree.target) h) in
+    row (inl refl) (subst (λ (f : Fpr). Has (rows_into other.network f) row) (sym agree.target) h) in
     subst (λ (z : EdgeFacts). Has set z.issuer) (sym e) (has x into)
 
 pub turned : (q other : Question) (set : List Fpr) → Agree q other (q.target ∷ set)
@@ -62,7 +62,7 @@ module _ (q other : Question) (claims : List Claim) (table : Labels) (set : List
 
   -- A row into a member of the other question is one of this one.
   row_here : (at : Fpr) (row : Row) → Has (q.target ∷ set) at → Has set row.edge.issuer
-      → Has (rows_into other.told at) row → IsRowOf q at row
+      → Has (rows_into other.network at) row → IsRowOf q at row
   row_here at row member from h =
       row_there other q (q.target ∷ set) (agree_back q other (q.target ∷ set) s.agree) at row member (inr from) h
 
@@ -82,7 +82,7 @@ module _ (q other : Question) (claims : List Claim) (table : Labels) (set : List
   closes_there used c = record { last = last; others = others }
     where
       last : (row : Row) → Carries other used other.target row
-          → (entry_at other.told other.target).place ≡ Some row.edge.uid → label_at table row.edge.issuer ≡ Some 1
+          → (entry_at other.network other.target).place ≡ Some row.edge.uid → label_at table row.edge.issuer ≡ Some 1
       last row carries place =
           let carries' : Carries other used q.target row =
           subst (λ (f : Fpr). Carries other used f row) (sym s.agree.target) carries in

@@ -62,7 +62,7 @@ module _ (q : Question) (used : Use) where
   -- its row
   record Here (item : ClaimedStep) (later : List ClaimedStep) (L : Step → Type 0) (row : Row) : Type 0 where
     named : has_name item row.edge ≡ true
-    stands : may_stand q.target used (demand_of q (length later)) row ≡ true
+    carries : may_stand q.target used (demand_of q (length later)) row ≡ true
     so : L (step_of row.edge)
 
   here : (item : ClaimedStep) (later : List ClaimedStep) (L : Step → Type 0) → ((step : Step) → Dec (L step))
@@ -74,13 +74,13 @@ module _ (q : Question) (used : Use) where
       by : Dec (has_name item row.edge ≡ true) → Dec (may_stand q.target used (demand_of q (length later)) row ≡ true)
           → Dec (L (step_of row.edge))
           → Dec (Here item later L row)
-      by (inl a) (inl b) (inl c) = inl (record { named = a; stands = b; so = c })
+      by (inl a) (inl b) (inl c) = inl (record { named = a; carries = b; so = c })
       by (inr n) b c = inr (λ h. n h.named)
-      by (inl a) (inr n) c = inr (λ h. n h.stands)
+      by (inl a) (inr n) c = inr (λ h. n h.carries)
       by (inl a) (inl b) (inr n) = inr (λ h. n h.so)
 
   stepped_by : (item : ClaimedStep) (later : List ClaimedStep) (L : Step → Type 0)
-      → Found (Here item later L) (rows_into q.told (begin_of q.target later))
+      → Found (Here item later L) (rows_into q.network (begin_of q.target later))
       → Stepped item later L
   stepped_by item later L f = record {
     step = step_of f.it.edge;
@@ -89,13 +89,13 @@ module _ (q : Question) (used : Use) where
       into = f.there;
       shown = refl;
       same = edge_named item f.it.edge (has_name-true item f.it.edge f.so.named);
-      stands = f.so.stands;
+      carries = f.so.carries;
     };
     so = f.so.so;
   }
 
   by_stepped : (item : ClaimedStep) (later : List ClaimedStep) (L : Step → Type 0) → Stepped item later L
-      → Found (Here item later L) (rows_into q.told (begin_of q.target later))
+      → Found (Here item later L) (rows_into q.network (begin_of q.target later))
   by_stepped item later L s =
       let f = s.follows in
       record {
@@ -103,7 +103,7 @@ module _ (q : Question) (used : Use) where
         there = f.into;
         so = record {
           named = true-has_name item f.row.edge (named_edge item f.row (f.same ∙ ap claimed_step (sym f.shown)));
-          stands = f.stands;
+          carries = f.carries;
           so = subst L (sym f.shown) s.so;
         };
       }
@@ -112,7 +112,7 @@ module _ (q : Question) (used : Use) where
       → Dec (Stepped item later L)
   step_there item later L dec =
       decided (stepped_by item later L) (by_stepped item later L)
-      (find (Here item later L) (here item later L dec) (rows_into q.told (begin_of q.target later)))
+      (find (Here item later L) (here item later L dec) (rows_into q.network (begin_of q.target later)))
 
   -- claimed steps for which something more holds
   record Traced (items : List ClaimedStep) (K : List Step → Type 0) : Type 0 where
@@ -269,7 +269,7 @@ module _ (q : Question) (used : Use) (table : Labels) (good : IsTable table) whe
   are_covered : (size : ℕ) (at : Fpr) → Dec (Covers q used size table at)
   are_covered size at =
       all (λ (row : Row). is_covered q.target used (demand_of q size) (size + 1) table row ≡ true)
-      (λ row. is_so (is_covered q.target used (demand_of q size) (size + 1) table row)) (rows_into q.told at)
+      (λ row. is_so (is_covered q.target used (demand_of q size) (size + 1) table row)) (rows_into q.network at)
 
   abbrev IsCovered : Fpr × ℕ → Type 0
   IsCovered entry = entry.1 < 255 → Covers q used entry.1 table entry.0

@@ -48,8 +48,8 @@ pub record Traced (q : Question) (used : Use) (items : List ClaimedStep) (steps 
   pub only : (all : List Step) → Traces q used items all
       → (more : List Step) × (all ≡ steps ++ more) × Traces q used rest more
 
-module _ (q : Question) (used : Use) (good : IsRecord q.told) where
-  row_one : (at : Fpr) (x y : Row) (item : ClaimedStep) → Has (rows_into q.told at) x → Has (rows_into q.told at) y
+module _ (q : Question) (used : Use) (good : IsRecord q.network) where
+  row_one : (at : Fpr) (x y : Row) (item : ClaimedStep) → Has (rows_into q.network at) x → Has (rows_into q.network at) y
       → IsNamed item x.edge → IsNamed item y.edge → x ≡ y
   row_one at x y item h k m n = good.one at x y h k (m.0 ∙ sym n.0) (m.1 ∙ sym n.1)
 
@@ -76,25 +76,25 @@ module _ (q : Question) (used : Use) (good : IsRecord q.told) where
 
   -- no edge is named so
   pub none_named : (item : ClaimedStep) (later : List ClaimedStep) (at : Fpr) (edges : List EdgeFacts)
-      → at ≡ begin_of q.target later → edges ≡ edges_into q.told at
+      → at ≡ begin_of q.target later → edges ≡ edges_into q.network at
       → ((edge : EdgeFacts) → Has edges edge → IsNamed item edge → ⊥) → IsFollower q used item later None
   none_named item later at edges a e none step f =
-      let h = subst (λ (x : Fpr). Has (edges_into q.told x) f.row.edge) (sym a)
-      (row_edge q.told (begin_of q.target later) f.row f.into) in
+      let h = subst (λ (x : Fpr). Has (edges_into q.network x) f.row.edge) (sym a)
+      (row_edge q.network (begin_of q.target later) f.row f.into) in
       none f.row.edge (subst (λ (xs : List EdgeFacts). Has xs f.row.edge) (sym e) h) (follows_named item later step f)
 
   module _ (item : ClaimedStep) (later : List ClaimedStep) (row : Row)
-      (into : Has (rows_into q.told (begin_of q.target later)) row) (named : IsNamed item row.edge) where
+      (into : Has (rows_into q.network (begin_of q.target later)) row) (named : IsNamed item row.edge) where
     pub row_follows : may_stand q.target used (demand_of q (length later)) row ≡ true
         → IsFollower q used item later (Some (step_of row.edge))
-    row_follows s = record { row = row; into = into; shown = refl; same = edge_named item row.edge named; stands = s }
+    row_follows s = record { row = row; into = into; shown = refl; same = edge_named item row.edge named; carries = s }
 
     pub row_fails : may_stand q.target used (demand_of q (length later)) row ≡ false → IsFollower q used item later None
     row_fails s step f =
         let same = row_one (begin_of q.target later) f.row row item f.into into (follows_named item later step f)
         named in
         let t : may_stand q.target used (demand_of q (length later)) row ≡ true =
-        subst (λ (r : Row). may_stand q.target used (demand_of q (length later)) r ≡ true) same f.stands in
+        subst (λ (r : Row). may_stand q.target used (demand_of q (length later)) r ≡ true) same f.carries in
         cc
 
   -- ---- so far
@@ -170,10 +170,10 @@ module _ (q : Question) (used : Use) where
       → Follows q used item (map claimed_step rest) step → Stands q step rest × (0 < step_left used step)
   follows_stands item step rest f =
       let s = stands_reaches q used f.row rest
-      (subst (λ (n : ℕ). may_stand q.target used (demand_of q n) f.row ≡ true) (longs rest) f.stands) in (
+      (subst (λ (n : ℕ). may_stand q.target used (demand_of q n) f.row ≡ true) (longs rest) f.carries) in (
         record {
           row = f.row;
-          into = subst (λ (x : Fpr). Has (rows_into q.told x) f.row) (begins q.target rest) f.into;
+          into = subst (λ (x : Fpr). Has (rows_into q.network x) f.row) (begins q.target rest) f.into;
           usable = s.1.usable;
           shown = f.shown;
           reaches = s.0;
@@ -196,10 +196,10 @@ module _ (q : Question) (used : Use) where
       let s = t.0 in (
         record {
           row = s.row;
-          into = subst (λ (f : Fpr). Has (rows_into q.told f) s.row) (sym (begins q.target rest)) s.into;
+          into = subst (λ (f : Fpr). Has (rows_into q.network f) s.row) (sym (begins q.target rest)) s.into;
           shown = s.shown;
           same = refl;
-          stands = subst (λ (n : ℕ). may_stand q.target used (demand_of q n) s.row ≡ true) (sym (longs rest))
+          carries = subst (λ (n : ℕ). may_stand q.target used (demand_of q n) s.row ≡ true) (sym (longs rest))
               (reaches_stands q used s.row rest s.reaches
               (record { usable = s.usable; left = subst (λ (z : Step). 0 < step_left used z) (sym s.shown) t.1 }));
         },

@@ -69,7 +69,7 @@ module _ (target : Fpr) (used : Use) (row : Row) where
 
 pub stands_reaches : (q : Question) (used : Use) (row : Row) (rest : List Step)
     → may_stand q.target used (demand_of q (length rest)) row ≡ true → Reaches q row rest × IsOpenRow used row
-stands_reaches q used row [] s = on_parts q.target used row (entry_at q.told q.target).place s
+stands_reaches q used row [] s = on_parts q.target used row (entry_at q.network q.target).place s
 stands_reaches q used row (next ∷ rest) s =
     let p = before_parts q.target used row (length (next ∷ rest))
     (subst (λ (d : Demand). may_stand q.target used d row ≡ true) (demand_some q (length rest)) s) in
@@ -77,7 +77,7 @@ stands_reaches q used row (next ∷ rest) s =
 
 pub reaches_stands : (q : Question) (used : Use) (row : Row) (rest : List Step) → Reaches q row rest
     → IsOpenRow used row → may_stand q.target used (demand_of q (length rest)) row ≡ true
-reaches_stands q used row [] r o = on_whole q.target used row (entry_at q.told q.target).place r o
+reaches_stands q used row [] r o = on_whole q.target used row (entry_at q.network q.target).place r o
 reaches_stands q used row (next ∷ rest) r o =
     subst (λ (d : Demand). may_stand q.target used d row ≡ true) (sym (demand_some q (length rest)))
     (before_whole q.target used row (length (next ∷ rest)) r.0 r.1 r.2 o)
@@ -136,11 +136,11 @@ module _ (q : Question) (used : Use) (table : Labels) where
   covers_last some c row r e =
       one_is (label_at table row.edge.issuer) (some row.edge.issuer)
       (covered_within q.target used (demand_of q 0) 1 table row (c row r.into)
-      (on_whole q.target used row (entry_at q.told q.target).place e (record { usable = r.usable; left = r.left })))
+      (on_whole q.target used row (entry_at q.network q.target).place e (record { usable = r.usable; left = r.left })))
 
   pub last_covers : LastLabelled q used table → Covers q used 0 table q.target
   last_covers l row h = within_covered q.target used (demand_of q 0) 1 table row (λ s.
-      let p = on_parts q.target used row (entry_at q.told q.target).place s in
+      let p = on_parts q.target used row (entry_at q.network q.target).place s in
       let e = l row (record { into = h; usable = p.1.usable; left = p.1.left }) p.0 in
       some_within 1 1 (label_at table row.edge.issuer) e (omega arith))
 

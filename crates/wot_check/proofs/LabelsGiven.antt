@@ -144,19 +144,19 @@ module _ (q : Question) (used : Use) where
     given_at = given.labels fpr
         ∙ ap (λ (b : Bool). cond b (Some (size + 1)) (label_at old.table fpr)) (same_fpr-refl fpr)
 
-    module _ (at : Fpr) (row : Row) (h : Has (rows_into q.told at) row) (issuer : row.edge.issuer ≡ fpr)
-        (stands : may_stand q.target used (demand_of q size) row ≡ true) (from : Leads q used old.table size at) where
+    module _ (at : Fpr) (row : Row) (h : Has (rows_into q.network at) row) (issuer : row.edge.issuer ≡ fpr)
+        (carries : may_stand q.target used (demand_of q size) row ≡ true) (from : Leads q used old.table size at) where
       given_leads : Leads q used new.table (suc size) fpr
       given_leads =
           let s = stands_reaches q used row from.steps
-          (subst (λ (n : ℕ). may_stand q.target used (demand_of q n) row ≡ true) (sym from.long) stands) in
+          (subst (λ (n : ℕ). may_stand q.target used (demand_of q n) row ≡ true) (sym from.long) carries) in
           let e : suc (length from.steps) ≡ suc size = ap suc from.long in
           let label : label_at new.table row.edge.issuer ≡ Some (length (step_of row.edge ∷ from.steps)) =
           ap (label_at new.table) issuer ∙ given_at ∙ ap Some (omega (arith, e)) in
           let step : Stands q (step_of row.edge) from.steps =
           record {
             row = row;
-            into = subst (λ (f : Fpr). Has (rows_into q.told f) row) (sym from.there) h;
+            into = subst (λ (f : Fpr). Has (rows_into q.network f) row) (sym from.there) h;
             usable = s.1.usable;
             shown = refl;
             reaches = s.0;
@@ -232,7 +232,7 @@ module _ (q : Question) (used : Use) where
   some_label (Some x) e = (x, refl)
 
   -- One edge: the layer grew, and the labels cover its row.
-  module _ (size : ℕ) (old new : Growth) (at : Fpr) (row : Row) (h : Has (rows_into q.told at) row)
+  module _ (size : ℕ) (old new : Growth) (at : Fpr) (row : Row) (h : Has (rows_into q.network at) row)
       (given : GivesIf (is_new q.target used (demand_of q size) old.table row) old new row.edge.issuer (size + 1))
       (from : Leads q used old.table size at) (layered : IsLayered q used (suc size) old) where
     abbrev Grown : Type 0
@@ -278,29 +278,29 @@ module _ (q : Question) (used : Use) (size : ℕ) where
   -- the layer grew, and each edge into a fingerprint is covered or still to be considered
   pub record GrewInto (at : Fpr) (old new : Growth) (rest : List EdgeFacts) : Type 0 where
     pub advances : Advances q used size old new
-    pub covered : (row : Row) → Has (rows_into q.told at) row
+    pub covered : (row : Row) → Has (rows_into q.network at) row
         → (is_covered q.target used (demand_of q size) (size + 1) new.table row ≡ true) ⊎ Has rest row.edge
 
-  pub grew_begin : (at : Fpr) (growth : Growth) (edges : List EdgeFacts) → edges ≡ edges_into q.told at
+  pub grew_begin : (at : Fpr) (growth : Growth) (edges : List EdgeFacts) → edges ≡ edges_into q.network at
       → IsLayered q used (suc size) growth → GrewInto at growth growth edges
   grew_begin at growth edges e l = record {
     advances = advances_refl q used size growth l;
-    covered = λ row h. inr (subst (λ (xs : List EdgeFacts). Has xs row.edge) (sym e) (row_edge q.told at row h));
+    covered = λ row h. inr (subst (λ (xs : List EdgeFacts). Has xs row.edge) (sym e) (row_edge q.network at row h));
   }
 
   pub grew_more : (at : Fpr) (old mid new : Growth) (rest later : List EdgeFacts) (edge : EdgeFacts)
-      → rest ≡ edge ∷ later → edge.target ≡ at → Has (edges_into q.told at) edge → Leads q used old.table size at
-      → EachRow q.told edge
+      → rest ≡ edge ∷ later → edge.target ≡ at → Has (edges_into q.network at) edge → Leads q used old.table size at
+      → EachRow q.network edge
       (λ row. GivesIf (is_new q.target used (demand_of q size) mid.table row) mid new row.edge.issuer (size + 1))
       → GrewInto at old mid rest → GrewInto at old new later
   grew_more at old mid new rest later edge e t there from gives g =
       let from' = leads_keeps q used size old.table mid.table g.advances.extends size at from in
-      let one : (row : Row) → Has (rows_into q.told at) row → row.edge ≡ edge
+      let one : (row : Row) → Has (rows_into q.network at) row → row.edge ≡ edge
       → Advances q used size mid new
       × (is_covered q.target used (demand_of q size) (size + 1) new.table row ≡ true) =
       (λ row h f. grown_edge q used size mid new at row h
-      (gives row (subst (λ (x : Fpr). Has (rows_into q.told x) row) (sym t) h) f) from' g.advances.layered) in
-      let r = row_there q.told at edge there in
+      (gives row (subst (λ (x : Fpr). Has (rows_into q.network x) row) (sym t) h) f) from' g.advances.layered) in
+      let r = row_there q.network at edge there in
       let adv = (one r.0 r.1 r.2).0 in
       record {
         advances = advances_trans q used size old mid new g.advances adv;

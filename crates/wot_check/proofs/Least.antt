@@ -211,13 +211,13 @@ least_one q used a b s t = by (is_in_order q)
 
 -- ---- trails of a length
 
-row_key : (told : Record) (at : Fpr) (row : Row) → Has (rows_into told at) row → Has (keys_of told) at
+row_key : (network : Record) (at : Fpr) (row : Row) → Has (rows_into network at) row → Has (keys_of network) at
 row_key [] at row h = absurd h
-row_key (e ∷ told) at row h = by (same_fpr at e.0) refl h (row_key told at row)
+row_key (e ∷ network) at row h = by (same_fpr at e.0) refl h (row_key network at row)
   where
     by : (b : Bool) → same_fpr at e.0 ≡ b
-        → Has (unwrap_or (cond b (Some e.1) (lookup (is_at (fpr_cmp at)) told)) blank).rows row
-        → (Has (rows_into told at) row → Has (keys_of told) at) → Has (keys_of (e ∷ told)) at
+        → Has (unwrap_or (cond b (Some e.1) (lookup (is_at (fpr_cmp at)) network)) blank).rows row
+        → (Has (rows_into network at) row → Has (keys_of network) at) → Has (keys_of (e ∷ network)) at
     by true same h later = inl (same_fpr-true at e.0 same)
     by false apart h later = inr (later h)
 
@@ -230,22 +230,22 @@ module _ (q : Question) (used : Use) where
     there : start q.target steps ≡ fpr
 
   -- one more step
-  led_on : (size : ℕ) (at : Fpr) (row : Row) → Has (rows_into q.told at) row → Led size at
+  led_on : (size : ℕ) (at : Fpr) (row : Row) → Has (rows_into q.network at) row → Led size at
       → may_stand q.target used (demand_of q size) row ≡ true
       → Led (suc size) row.edge.issuer
   led_on size at row h l s =
       let r = stands_reaches q used row l.steps
       (subst (λ (n : ℕ). may_stand q.target used (demand_of q n) row ≡ true) (sym l.long) s) in
-      let stands : Stands q (step_of row.edge) l.steps = record {
+      let carries : Stands q (step_of row.edge) l.steps = record {
         row = row;
-        into = subst (λ (f : Fpr). Has (rows_into q.told f) row) (sym l.there) h;
+        into = subst (λ (f : Fpr). Has (rows_into q.network f) row) (sym l.there) h;
         usable = r.1.usable;
         shown = refl;
         reaches = r.0;
       } in
       record {
         steps = step_of row.edge ∷ l.steps;
-        trail = (stands, r.1.left, l.trail);
+        trail = (carries, r.1.left, l.trail);
         long = ap suc l.long;
         there = refl;
       }
@@ -256,36 +256,36 @@ module _ (q : Question) (used : Use) where
       Both (may_stand q.target used (demand_of q size) row ≡ true) (same_fpr row.edge.issuer fpr ≡ true)
 
   abbrev LeadsFrom : ℕ → Fpr → Fpr → Type 0
-  LeadsFrom size fpr at = Both (Led size at) (Found (Leads size fpr at) (rows_into q.told at))
+  LeadsFrom size fpr at = Both (Led size at) (Found (Leads size fpr at) (rows_into q.network at))
 
-  led_by : (size : ℕ) (fpr : Fpr) → Found (LeadsFrom size fpr) (keys_of q.told) → Led (suc size) fpr
+  led_by : (size : ℕ) (fpr : Fpr) → Found (LeadsFrom size fpr) (keys_of q.network) → Led (suc size) fpr
   led_by size fpr f =
       let r = f.so.two in
       subst (Led (suc size)) (same_fpr-true r.it.edge.issuer fpr r.so.two)
       (led_on size f.it r.it r.there f.so.one r.so.one)
 
-  by_led : (size : ℕ) (fpr : Fpr) → Led (suc size) fpr → Found (LeadsFrom size fpr) (keys_of q.told)
+  by_led : (size : ℕ) (fpr : Fpr) → Led (suc size) fpr → Found (LeadsFrom size fpr) (keys_of q.network)
   by_led size fpr l = by l.steps l.trail l.long l.there
     where
       by : (steps : List Step) → Trail q used steps → length steps ≡ suc size → start q.target steps ≡ fpr
-          → Found (LeadsFrom size fpr) (keys_of q.told)
+          → Found (LeadsFrom size fpr) (keys_of q.network)
       by [] t long there = absurd (omega (arith, long))
       by (x ∷ rest) t long there =
           let s = t.0 in
           let size_is : length rest ≡ size = omega (arith, long) in
           let left = subst (λ (y : Step). 0 < step_left used y) (sym s.shown) t.1 in
-          let stands = reaches_stands q used s.row rest s.reaches (record { usable = s.usable; left = left }) in
+          let carries = reaches_stands q used s.row rest s.reaches (record { usable = s.usable; left = left }) in
           let issuer : s.row.edge.issuer ≡ fpr = ap (λ (y : Step). y.issuer) s.shown ∙ there in
           record {
             it = start q.target rest;
-            there = row_key q.told (start q.target rest) s.row s.into;
+            there = row_key q.network (start q.target rest) s.row s.into;
             so = record {
               one = record { steps = rest; trail = t.2; long = size_is; there = refl };
               two = record {
                 it = s.row;
                 there = s.into;
                 so = record {
-                  one = subst (λ (n : ℕ). may_stand q.target used (demand_of q n) s.row ≡ true) size_is stands;
+                  one = subst (λ (n : ℕ). may_stand q.target used (demand_of q n) s.row ≡ true) size_is carries;
                   two = subst (λ (f : Fpr). same_fpr s.row.edge.issuer f ≡ true) issuer
                       (same_fpr-refl s.row.edge.issuer);
                 };
@@ -309,8 +309,8 @@ module _ (q : Question) (used : Use) where
       (λ at. both (led_so size at)
       (find (Leads size fpr at)
       (λ row. both (is_so (may_stand q.target used (demand_of q size) row))
-      (is_so (same_fpr row.edge.issuer fpr))) (rows_into q.told at)))
-      (keys_of q.told))
+      (is_so (same_fpr row.edge.issuer fpr))) (rows_into q.network at)))
+      (keys_of q.network))
 
   -- a shortest trail from there has this many steps
   record Shortest (size : ℕ) (fpr : Fpr) : Type 0 where
@@ -404,10 +404,10 @@ module _ (q : Question) (used : Use) where
 
   -- all who certify
   abbrev issuers_into : Fpr → List Fpr
-  issuers_into at = map (λ (row : Row). row.edge.issuer) (rows_into q.told at)
+  issuers_into at = map (λ (row : Row). row.edge.issuer) (rows_into q.network at)
 
   abbrev all_issuers : List Fpr
-  all_issuers = flat_map issuers_into (keys_of q.told)
+  all_issuers = flat_map issuers_into (keys_of q.network)
 
   issuer_there : (rows : List Row) (row : Row) → Has rows row
       → Has (map (λ (r : Row). r.edge.issuer) rows) row.edge.issuer
@@ -424,19 +424,19 @@ module _ (q : Question) (used : Use) where
   has_right [] b x h = h
   has_right (y ∷ a) b x h = inr (has_right a b x h)
 
-  issuer_among : (keys : List Fpr) (at : Fpr) (row : Row) → Has keys at → Has (rows_into q.told at) row
+  issuer_among : (keys : List Fpr) (at : Fpr) (row : Row) → Has keys at → Has (rows_into q.network at) row
       → Has (flat_map issuers_into keys) row.edge.issuer
   issuer_among [] at row h r = absurd h
   issuer_among (k ∷ keys) at row (inl e) r =
       has_left (issuers_into k) (flat_map issuers_into keys) row.edge.issuer
-      (issuer_there (rows_into q.told k) row (subst (λ (f : Fpr). Has (rows_into q.told f) row) e r))
+      (issuer_there (rows_into q.network k) row (subst (λ (f : Fpr). Has (rows_into q.network f) row) e r))
   issuer_among (k ∷ keys) at row (inr h) r =
       has_right (issuers_into k) (flat_map issuers_into keys) row.edge.issuer (issuer_among keys at row h r)
 
   module _ (b : Built all_issuers) where
     covers_led : (size : ℕ) (at : Fpr) → size < 255 → Led size at → Covers q used size b.table at
     covers_led size at lt l row h = within_covered q.target used (demand_of q size) (size + 1) b.table row (λ s.
-        b.each row.edge.issuer (size + 1) (issuer_among (keys_of q.told) at row (row_key q.told at row h) h)
+        b.each row.edge.issuer (size + 1) (issuer_among (keys_of q.network) at row (row_key q.network at row h) h)
         (omega arith) (omega (arith, lt))
         (subst (λ (n : ℕ). Led n row.edge.issuer) (omega arith) (led_on size at row h l s)))
 
@@ -492,8 +492,8 @@ module _ (q : Question) (used : Use) where
 
         among : Has all_issuers x.issuer
         among = subst (Has all_issuers) issuer
-            (issuer_among (keys_of q.told) (start q.target rest) t.0.row
-            (row_key q.told (start q.target rest) t.0.row t.0.into) t.0.into)
+            (issuer_among (keys_of q.network) (start q.target rest) t.0.row
+            (row_key q.network (start q.target rest) t.0.row t.0.into) t.0.into)
 
         label_is : label_at b.table x.issuer ≡ Some (length (x ∷ rest))
         label_is =

@@ -28,20 +28,20 @@ none_left (y ∷ rest) x e h = omega (arith, e)
 
 -- these edges are among those into it
 abbrev pub AreInto : (List ℕ → Record) → Fpr → List EdgeFacts → Type 0
-AreInto told at edges = (id : List ℕ) → Within edges (edges_into (told id) at)
+AreInto network at edges = (id : List ℕ) → Within edges (edges_into (network id) at)
 
-pub all_into : (told : List ℕ → Record) (at : Fpr) (edges : List EdgeFacts)
-    → ((id : List ℕ) → edges ≡ edges_into (told id) at) → AreInto told at edges
-all_into told at edges e id x h = subst (λ (xs : List EdgeFacts). Has xs x) (e id) h
+pub all_into : (network : List ℕ → Record) (at : Fpr) (edges : List EdgeFacts)
+    → ((id : List ℕ) → edges ≡ edges_into (network id) at) → AreInto network at edges
+all_into network at edges e id x h = subst (λ (xs : List EdgeFacts). Has xs x) (e id) h
 
-module _ (told : List ℕ → Record) (good : (id : List ℕ) → IsRecord (told id)) (at : Fpr) where
-  pub into_target : (edge : EdgeFacts) → ((id : List ℕ) → Has (edges_into (told id) at) edge) → (id : List ℕ)
+module _ (network : List ℕ → Record) (good : (id : List ℕ) → IsRecord (network id)) (at : Fpr) where
+  pub into_target : (edge : EdgeFacts) → ((id : List ℕ) → Has (edges_into (network id) at) edge) → (id : List ℕ)
       → edge.target ≡ at
   into_target edge h id =
-      let r = row_there (told id) at edge (h id) in
+      let r = row_there (network id) at edge (h id) in
       ap (λ (x : EdgeFacts). x.target) (sym r.2) ∙ (good id).into at r.0 r.1
 
   -- an edge into it is one of those into its target
-  pub into_own : (edge : EdgeFacts) → ((id : List ℕ) → Has (edges_into (told id) at) edge) → (id : List ℕ)
-      → Has (edges_into (told id) edge.target) edge
-  into_own edge h id = subst (λ (f : Fpr). Has (edges_into (told id) f) edge) (sym (into_target edge h id)) (h id)
+  pub into_own : (edge : EdgeFacts) → ((id : List ℕ) → Has (edges_into (network id) at) edge) → (id : List ℕ)
+      → Has (edges_into (network id) edge.target) edge
+  into_own edge h id = subst (λ (f : Fpr). Has (edges_into (network id) f) edge) (sym (into_target edge h id)) (h id)

@@ -41,7 +41,7 @@ module _ (q : Question) (used : Use) where
       subst (λ (c : Claim). Traces q used c.steps path.steps) (sym s.same)
       (trail_traces q used path.steps (shows_trail claim path s))
 
-  pub shows_one : IsRecord q.told → (claim : Claim) (a b : Path) → Shows q used claim a → Shows q used claim b → a ≡ b
+  pub shows_one : IsRecord q.network → (claim : Claim) (a b : Path) → Shows q used claim a → Shows q used claim b → a ≡ b
   shows_one good claim a b s t =
       let steps : a.steps ≡ b.steps =
       traces_one q used good claim.steps a.steps b.steps (shows_traces claim a s) (shows_traces claim b t) in
@@ -70,7 +70,7 @@ module _ (q : Question) (used : Use) where
 
   -- ---- from traced steps
 
-  module _ (good : IsRecord q.told) (items : List ClaimedStep) (steps : List Step) (t : Traces q used items steps)
+  module _ (good : IsRecord q.network) (items : List ClaimedStep) (steps : List Step) (t : Traces q used items steps)
       (amount : ℕ) where
     abbrev stated : Claim
     stated = record { amount = amount; steps = items }
@@ -134,7 +134,7 @@ pub record SomeShown (q : Question) (sums : Sums) (claims : List Claim) (rest : 
   pub paths : List Path
   pub shown : Shown q sums claims paths rest
 
-module _ (q : Question) (good : IsRecord q.told) where
+module _ (q : Question) (good : IsRecord q.network) where
   pub each_shows_one : (earlier : List Path) (claims : List Claim) (a b : List Path) → EachShows q earlier claims a
       → EachShows q earlier claims b → a ≡ b
   each_shows_one earlier [] [] [] s t = refl

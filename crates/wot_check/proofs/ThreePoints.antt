@@ -17,29 +17,29 @@ use Rattle.wot_check.proofs.Rows.{first_or_later, none_left}
 -- each edge into a fingerprint is covered, or is still to be gone through
 abbrev pub CoveredSoFar : Question → Use → ℕ → Labels → Fpr → List EdgeFacts → Type 0
 CoveredSoFar q used size table at rest =
-    (row : Row) → Has (rows_into q.told at) row
+    (row : Row) → Has (rows_into q.network at) row
     → (is_covered q.target used (demand_of q size) (size + 1) table row ≡ true) ⊎ Has rest row.edge
 
 module _ (q : Question) (used : Use) where
   pub covered_more : (size : ℕ) (table : Labels) (at : Fpr) (rest later : List EdgeFacts) (edge : EdgeFacts)
       → rest ≡ edge ∷ later → edge.target ≡ at
-      → EachRow q.told edge (λ row. is_covered q.target used (demand_of q size) (size + 1) table row ≡ true)
+      → EachRow q.network edge (λ row. is_covered q.target used (demand_of q size) (size + 1) table row ≡ true)
       → CoveredSoFar q used size table at rest → CoveredSoFar q used size table at later
   covered_more size table at rest later edge e t each so row h = elim (so row h) [
     | inl c ↦ inl c
     | inr k ↦ elim (first_or_later rest later edge row.edge e k) [
-      | inl same ↦ inl (each row (subst (λ (f : Fpr). Has (rows_into q.told f) row) (sym t) h) same)
+      | inl same ↦ inl (each row (subst (λ (f : Fpr). Has (rows_into q.network f) row) (sym t) h) same)
       | inr k' ↦ inr k'
     ]
   ]
 
-  pub covered_fails : (size : ℕ) (table : Labels) (at : Fpr) (edge : EdgeFacts) → Has (edges_into q.told at) edge
+  pub covered_fails : (size : ℕ) (table : Labels) (at : Fpr) (edge : EdgeFacts) → Has (edges_into q.network at) edge
       → edge.target ≡ at
-      → EachRow q.told edge (λ row. is_covered q.target used (demand_of q size) (size + 1) table row ≡ false)
+      → EachRow q.network edge (λ row. is_covered q.target used (demand_of q size) (size + 1) table row ≡ false)
       → Covers q used size table at → ⊥
   covered_fails size table at edge there t each c =
-      let r = row_there q.told at edge there in
-      let f = each r.0 (subst (λ (x : Fpr). Has (rows_into q.told x) r.0) (sym t) r.1) r.2 in
+      let r = row_there q.network at edge there in
+      let f = each r.0 (subst (λ (x : Fpr). Has (rows_into q.network x) r.0) (sym t) r.1) r.2 in
       let g = c r.0 r.1 in
       cc
 

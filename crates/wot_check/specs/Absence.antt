@@ -17,14 +17,14 @@ use Rattle.wot_check.specs.Table.{Labels, label_at, IsAtMost, IsTable}
 
 -- a usable edge into a fingerprint with a positive residual amount
 pub record Carries (q : Question) (used : Use) (at : Fpr) (row : Row) : Type 0 where
-  pub into : Has (rows_into q.told at) row
+  pub into : Has (rows_into q.network at) row
   pub usable : row.usable ≡ true
   pub left : 0 < step_left used (step_of row.edge)
 
 -- the first point: the issuer of each such edge into the target, on U, has the label 1
 abbrev pub LastLabelled : Question → Use → Labels → Type 0
 LastLabelled q used table =
-    (row : Row) → Carries q used q.target row → (entry_at q.told q.target).place ≡ Some row.edge.uid
+    (row : Row) → Carries q used q.target row → (entry_at q.network q.target).place ≡ Some row.edge.uid
     → label_at table row.edge.issuer ≡ Some 1
 
 -- such an edge may come before as many edges as a label says
@@ -55,7 +55,7 @@ pub record Excludes (q : Question) (used : Use) (table : Labels) : Type 0 where
   pub roots : RootsSpent q used table
 
 abbrev pub is_in_order : Question → Bool
-is_in_order q = (entry_at q.told q.target).in_order
+is_in_order q = (entry_at q.network q.target).in_order
 
 -- A proof of absence after what is used: the target isn't valid for U, or the three points hold.
 abbrev pub IsAbsence : Question → Use → Labels → Type 0
@@ -110,8 +110,8 @@ IsChecked q claims table BadPaths = AreGood q claims → ⊥
 IsChecked q claims table BadTable = Rejects q claims table
 
 -- a client's paths and table have this result
-abbrev pub AreJudged : Question → Claims → Checked → Type 0
-AreJudged q claims checked = IsChecked q claims.paths.now claims.table.now checked
+abbrev pub AreCheckedClaims : Question → Claims → Checked → Type 0
+AreCheckedClaims q claims checked = IsChecked q claims.paths.now claims.table.now checked
 
 -- if a check has a result, it is this one if and only if a fact holds
 abbrev pub SaysIff : Result Checked Memory → Checked → Type 0 → Type 0

@@ -10,23 +10,23 @@ use Rattle.wot_check.specs.declared.asked.Asked.{Asked}
 
 -- the program's question, given what the network says
 abbrev pub question_of : (List ℕ → Record) → Asked → Question
-question_of told asked = asks (told asked.uid.now) asked.roots.now asked.target.now
+question_of network asked = asks (network asked.uid.now) asked.roots.now asked.target.now
 
 abbrev pub used_in : Asked → Use
 used_in asked = use_in asked.used.now
 
 -- what holds for the program's question and what is used
 abbrev pub Asking : (List ℕ → Record) → Asked → (Question → Use → Type 0) → Type 0
-Asking told asked fact = fact (question_of told asked) (used_in asked)
+Asking network asked fact = fact (question_of network asked) (used_in asked)
 
 -- what holds for each row of an edge, the target and what is used
 abbrev pub EachAsked : (List ℕ → Record) → Asked → EdgeFacts → (Fpr → Use → Row → Type 0) → Type 0
-EachAsked told asked edge fact = EachRow (told asked.uid.now) edge (fact asked.target.now (used_in asked))
+EachAsked network asked edge fact = EachRow (network asked.uid.now) edge (fact asked.target.now (used_in asked))
 
 -- a test of each row of an edge has this result
 abbrev pub TellsEach : (List ℕ → Record) → Asked → EdgeFacts → (Fpr → Use → Row → Bool) → Bool → Type 0
-TellsEach told asked edge test comes = EachAsked told asked edge (λ target used row. test target used row ≡ comes)
+TellsEach network asked edge test comes = EachAsked network asked edge (λ target used row. test target used row ≡ comes)
 
 -- the amount of a path by these steps
 abbrev pub amount_left : (List ℕ → Record) → Asked → List Step → ℕ
-amount_left told asked steps = path_amount (question_of told asked) (used_in asked) steps
+amount_left network asked steps = path_amount (question_of network asked) (used_in asked) steps

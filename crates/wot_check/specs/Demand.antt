@@ -41,7 +41,7 @@ is_covered_by demand most table target used row = is_covered target used demand 
 -- each edge into a fingerprint that is this many edges from the target is covered
 abbrev pub Covers : Question → Use → ℕ → Labels → Fpr → Type 0
 Covers q used size table at =
-    (row : Row) → Has (rows_into q.told at) row
+    (row : Row) → Has (rows_into q.network at) row
     → is_covered q.target used (demand_of q size) (size + 1) table row ≡ true
 
 -- the greatest label demands nothing

@@ -14,12 +14,12 @@ use Rattle.wot_check.specs.Table.{IsTable, Labels, label_at}
 
 -- The set has the issuer of each edge into the target.
 abbrev pub HasCertifiersOf : Question → List Fpr → Type 0
-HasCertifiersOf q set = (row : Row) → Has (rows_into q.told q.target) row → Has set row.edge.issuer
+HasCertifiersOf q set = (row : Row) → Has (rows_into q.network q.target) row → Has set row.edge.issuer
 
 -- The set has the issuer of each edge into a fingerprint whose depth is at least 1.
 abbrev pub HasIntroducersOf : Question → List Fpr → Fpr → Type 0
 HasIntroducersOf q set at =
-    (row : Row) → Has (rows_into q.told at) row → 1 ≤ row.edge.depth → Has set row.edge.issuer
+    (row : Row) → Has (rows_into q.network at) row → 1 ≤ row.edge.depth → Has set row.edge.issuer
 
 -- ---- `absence`
 

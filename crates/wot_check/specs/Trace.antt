@@ -24,10 +24,10 @@ begin_of target (item ∷ later) = item.issuer
 pub record Follows (q : Question) (used : Use) (item : ClaimedStep) (later : List ClaimedStep)
     (step : Step) : Type 0 where
   pub row : Row
-  pub into : Has (rows_into q.told (begin_of q.target later)) row
+  pub into : Has (rows_into q.network (begin_of q.target later)) row
   pub shown : step_of row.edge ≡ step
   pub same : item ≡ claimed_step step
-  pub stands : may_stand q.target used (demand_of q (length later)) row ≡ true
+  pub carries : may_stand q.target used (demand_of q (length later)) row ≡ true
 
 -- it is the one that was found, if any
 abbrev pub IsFollower : Question → Use → ClaimedStep → List ClaimedStep → Option Step → Type 0
@@ -67,7 +67,7 @@ IsShown q used claim (Some path) = Shows q used claim path
 -- it is made of traced steps
 abbrev pub IsPathBy : Question → Use → ℕ → List Step → Option Path → Type 0
 IsPathBy q used amount steps found =
-    IsRecord q.told → is_in_order q ≡ true → length steps ≤ 255
+    IsRecord q.network → is_in_order q ≡ true → length steps ≤ 255
     → (items : List ClaimedStep) → Traces q used items steps
     → IsShown q used (record { amount = amount; steps = items }) found
 

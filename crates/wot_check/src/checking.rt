@@ -1,12 +1,12 @@
 //! `check`: claimed paths and a table are right or not.
 //!
-//! It stands on `show` for the paths and on `points` for the table, and on `specs/Absence.antt`. It looks at nothing
+//! It uses `show` for the paths and on `points` for the table, and on `specs/Absence.antt`. It looks at nothing
 //! but the network and the roots, so a reply to `check` doesn't depend on how a path was found.
 ghost use Rattle.std.specs.Prelude.{◌≡◌, ◌<◌, ◌^◌, length, IfOk};
 ghost use Rattle.wot_edge.specs.Path.{asks};
 ghost use Rattle.wot_edge.specs.Record.{IsRecord};
 ghost use Rattle.wot_check.specs.declared.checking.Checked.TheVariants as answers;
-ghost use Rattle.wot_check.specs.Absence.{Accepts, AreJudged, AreSpent, IsChecked, Rejects, SaysIff};
+ghost use Rattle.wot_check.specs.Absence.{Accepts, AreCheckedClaims, AreSpent, IsChecked, Rejects, SaysIff};
 ghost use Rattle.wot_check.specs.Claim.{AreGood};
 
 use crate::asked::Asked;
@@ -37,7 +37,7 @@ pub struct Claims<'a> {
     pub table: &'a Table,
 }
 
-fn judge<R: Roads>(
+fn check_claims<R: Roads>(
     alloc: Global,
     roads: &R,
     roots: &Roots,
@@ -47,8 +47,8 @@ fn judge<R: Roads>(
 ) -> Result<Checked, Memory>
     requires few { length claims.now.paths.now < 2 ^ 24 }
     ensures checked { IfOk result
-        (λ checked. AreJudged (asks (R.told roads.now uid.now) roots.now target.now) claims.now checked) }
-    ensures lawful { IfOk result (λ checked. IsRecord (R.told roads.now uid.now)) }
+        (λ checked. AreCheckedClaims (asks (R.network roads.now uid.now) roots.now target.now) claims.now checked) }
+    ensures lawful { IfOk result (λ checked. IsRecord (R.network roads.now uid.now)) }
 {
     if !roads.in_order(target, uid) {
         if claims.paths.is_empty() {
@@ -87,19 +87,19 @@ pub fn check<R: Roads>(
 ) -> Result<Checked, Memory>
     requires few { length paths.now < 2 ^ 24 }
     ensures checked { IfOk result (λ checked.
-        IsChecked (asks (R.told roads.now uid.now) roots.now target.now) paths.now table.now checked) }
+        IsChecked (asks (R.network roads.now uid.now) roots.now target.now) paths.now table.now checked) }
     ensures yes { SaysIff result answers.Yes
-        (Accepts (asks (R.told roads.now uid.now) roots.now target.now) paths.now table.now) }
+        (Accepts (asks (R.network roads.now uid.now) roots.now target.now) paths.now table.now) }
     ensures bad_paths { SaysIff result answers.BadPaths
-        (AreGood (asks (R.told roads.now uid.now) roots.now target.now) paths.now → ⊥) }
-    ensures bad_table { SaysIff result answers.BadTable
-        (Rejects (asks (R.told roads.now uid.now) roots.now target.now) paths.now table.now) }
+        (AreGood (asks (R.network roads.now uid.now) roots.now target.now) paths.now → ⊥) }
+    ensures rejects { SaysIff result answers.BadTable
+        (Rejects (asks (R.network roads.now uid.now) roots.now target.now) paths.now table.now) }
 
     // After paths and a table that are accepted, no valid path of positive amount is left.
-    ensures spent { IfOk result (λ checked. checked ≡ answers.Yes
-        → AreSpent (asks (R.told roads.now uid.now) roots.now target.now) paths.now) }
+    ensures spent { IfOk result (λ it. it ≡ answers.Yes
+        → AreSpent (asks (R.network roads.now uid.now) roots.now target.now) paths.now) }
 {
     let claims = Claims { paths, table };
-    let checked = judge(alloc, roads, roots, &claims, target, uid)?;
+    let checked = check_claims(alloc, roads, roots, &claims, target, uid)?;
     Ok(checked)
 }

@@ -1,6 +1,6 @@
 //! Whether an edge may come at a place on a path: its demand, usability, scope and residual amount.
 //!
-//! It stands on `wot_edge`, which tests demands, and on `specs/Demand.antt`. It shares nothing else with the search.
+//! It uses `wot_edge`, which tests demands, and on `specs/Demand.antt`. It shares nothing else with the search.
 ghost use Rattle.std.specs.Prelude.{◌≡◌, ℕ, List, IfOk};
 ghost use Rattle.wot_edge.specs.Demand.{demand_of};
 ghost use Rattle.wot_edge.specs.Record.{EachRow, Has, edges_into};
@@ -13,7 +13,7 @@ use wot_types::Memory;
 
 /// What is demanded of edges with `size` edges after them.
 pub fn demanded<R: Roads>(roads: &R, asked: &Asked, size: u8) -> Demand
-    ensures { result ≡ demand_of (question_of (R.told roads.now) asked.now) size }
+    ensures { result ≡ demand_of (question_of (R.network roads.now) asked.now) size }
 {
     demand_at(roads, asked.target, asked.uid, size)
 }
@@ -26,8 +26,8 @@ fn offers(asked: &Asked, demand: Demand, edge: &EdgeFacts) -> bool
 
 /// Whether the scope of an edge holds if it has to.
 fn holds<R: Roads>(roads: &R, asked: &Asked, demand: Demand, edge: &Edge) -> Result<bool, Memory>
-    requires row { (id : List ℕ) → Has (edges_into (R.told roads.now id) edge.now.target) edge.now }
-    ensures { IfOk result (λ holds. EachRow (R.told roads.now asked.now.uid.now) edge.now
+    requires row { (id : List ℕ) → Has (edges_into (R.network roads.now id) edge.now.target) edge.now }
+    ensures { IfOk result (λ holds. EachRow (R.network roads.now asked.now.uid.now) edge.now
         (λ row. is_in_scope demand row ≡ holds)) }
 {
     match demand {
@@ -40,15 +40,15 @@ fn holds<R: Roads>(roads: &R, asked: &Asked, demand: Demand, edge: &Edge) -> Res
 }
 
 /// Whether an edge meets a demand, is usable, and has something left.
-pub fn stands<R: Roads>(
+pub fn carries<R: Roads>(
     roads: &R,
     asked: &Asked,
     demand: Demand,
     edge: &Edge,
 ) -> Result<bool, Memory>
-    requires row { (id : List ℕ) → Has (edges_into (R.told roads.now id) edge.now.target) edge.now }
-    ensures { IfOk result (λ stands. TellsEach (R.told roads.now) asked.now edge.now
-        (λ target used. may_stand target used demand) stands) }
+    requires row { (id : List ℕ) → Has (edges_into (R.network roads.now id) edge.now.target) edge.now }
+    ensures { IfOk result (λ it. TellsEach (R.network roads.now) asked.now edge.now
+        (λ target used. may_stand target used demand) it) }
 {
     if !offers(asked, demand, &edge.facts()) || !roads.usable(edge) {
         return Ok(false);

@@ -1,13 +1,13 @@
 //! One layer more of the least table: labels for the issuers of edges into the last layer.
 //!
-//! It stands on `demand` and `growth`, and on `specs/Growth.antt`. `making` calls `advance` until no label is added.
+//! It uses `demand` and `growth`, and on `specs/Growth.antt`. `making` calls `advance` until no label is added.
 ghost use Rattle.std.specs.Prelude.{◌<◌, ◌+◌, ℕ, List, OnOk};
 ghost use Rattle.wot_edge.specs.Record.{Has, edges_into};
 ghost use Rattle.wot_check.specs.Asked.{Asking, EachAsked};
 ghost use Rattle.wot_check.specs.Growth.{GivesIfNew, GoesOn, GrowsByLayer, GrowsInto};
 
 use crate::asked::Asked;
-use crate::demand::{demanded, stands};
+use crate::demand::{carries, demanded};
 use crate::growth::{Growth, give};
 use std::alloc::Global;
 use std::mem;
@@ -23,16 +23,16 @@ fn consider<R: Roads>(
     edge: &Edge,
     growth: &mut Growth,
 ) -> Result<(), Memory>
-    requires row { (id : List ℕ) → Has (edges_into (R.told roads.now id) edge.now.target) edge.now }
+    requires row { (id : List ℕ) → Has (edges_into (R.network roads.now id) edge.now.target) edge.now }
     requires size { size < 255 }
-    ensures given { OnOk result (EachAsked (R.told roads.now) asked.now edge.now
+    ensures given { OnOk result (EachAsked (R.network roads.now) asked.now edge.now
         (GivesIfNew demand (size + 1) growth.old growth.new)) }
 {
     let issuer = edge.facts().issuer;
     if growth.table.get(&issuer).is_some() {
         return Ok(());
     }
-    if stands(roads, asked, demand, edge)? {
+    if carries(roads, asked, demand, edge)? {
         return give(growth, &issuer, size + 1);
     }
     Ok(())
@@ -48,7 +48,7 @@ fn extend<R: Roads>(
 ) -> Result<(), Memory>
     requires size { size < 255 }
     ensures grown { OnOk result
-        (Asking (R.told roads.now) asked.now (λ q used. GrowsInto q used size at.now growth.old growth.new)) }
+        (Asking (R.network roads.now) asked.now (λ q used. GrowsInto q used size at.now growth.old growth.new)) }
 {
     let demand = demanded(roads, asked, size);
     let mut rest = roads.rows(at);
@@ -69,7 +69,7 @@ fn extend_all<R: Roads>(
 ) -> Result<(), Memory>
     requires size { size < 255 }
     ensures grown { OnOk result
-        (Asking (R.told roads.now) asked.now (λ q used. GrowsByLayer q used size layer.now growth.old growth.new)) }
+        (Asking (R.network roads.now) asked.now (λ q used. GrowsByLayer q used size layer.now growth.old growth.new)) }
 {
     let mut rest = layer;
     'rest: while let Some((at, later)) = rest.split_first() {
@@ -89,7 +89,7 @@ pub fn advance<R: Roads>(
 ) -> Result<(), Memory>
     requires size { size < 255 }
     ensures after { OnOk result
-        (Asking (R.told roads.now) asked.now (λ q used. GoesOn q used size growth.old growth.new)) }
+        (Asking (R.network roads.now) asked.now (λ q used. GoesOn q used size growth.old growth.new)) }
 {
     let layer = mem::replace(&mut growth.layer, Vec::new(alloc));
     extend_all(roads, asked, size, &layer, growth)

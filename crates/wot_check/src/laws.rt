@@ -1,4 +1,4 @@
-//! Laws of proofs of absence. Each function does nothing: its contract is the law. They stand on `specs/Absence.antt`
+//! Laws of proofs of absence. Each function does nothing: its contract is the law. They use `specs/Absence.antt`
 //! and `specs/Leading.antt`. The laws of `wot_laws` call them, and `wot_command` calls `answers_are_few`
 //! before it makes the reply to `absence`.
 ghost use Rattle.std.specs.Prelude.{◌≡◌, ◌≤◌, ◌<◌, ◌^◌, ℕ, List, [], length};
@@ -32,7 +32,7 @@ pub fn least_tables_are_accepted()
 pub fn check_is_one()
     ensures some { (q : Question) (claims : List Claim) (table : Labels) → IsTable table
         → HasAnswer q claims table }
-    ensures one { (q : Question) (claims : List Claim) (table : Labels) (a b : Checked) → IsRecord q.told
+    ensures one { (q : Question) (claims : List Claim) (table : Labels) (a b : Checked) → IsRecord q.network
         → AreOne q claims table a b }
 {}
 
@@ -47,7 +47,7 @@ pub fn answers_are_few()
 
 /// After paths that are accepted with a table, no valid path of positive amount is left.
 pub fn accepted_paths_leave_nothing()
-    ensures spent { (q : Question) (claims : List Claim) (table : Labels) → IsRecord q.told → Accepts q claims table
+    ensures spent { (q : Question) (claims : List Claim) (table : Labels) → IsRecord q.network → Accepts q claims table
         → AreSpent q claims }
 {}
 

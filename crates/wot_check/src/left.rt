@@ -11,7 +11,8 @@ use wot_types::Fpr;
 
 /// The residual amount of a root.
 pub fn left_of_root(asked: &Asked, fpr: &Fpr) -> u8
-    ensures { (told : List ℕ → Record) → result ≡ root_left (question_of told asked.now) (used_in asked.now) fpr.now }
+    ensures { (network : List ℕ → Record) → result ≡ root_left (question_of network asked.now)
+        (used_in asked.now) fpr.now }
 {
     remaining(asked.roots.get(fpr), asked.used.root(fpr))
 }
@@ -31,8 +32,8 @@ fn least(used: &Used, amount: u8, steps: &[Step]) -> u8
 
 /// The amount of a path from this root by these steps.
 pub fn left_of_path(asked: &Asked, root: &Fpr, steps: &[Step]) -> u8
-    ensures { (told : List ℕ → Record) → root.now ≡ start asked.now.target.now steps.now
-        → result ≡ amount_left told asked.now steps.now }
+    ensures { (network : List ℕ → Record) → root.now ≡ start asked.now.target.now steps.now
+        → result ≡ amount_left network asked.now steps.now }
 {
     least(asked.used, left_of_root(asked, root), steps)
 }

@@ -1,6 +1,6 @@
 //! Proofs of absence: why no further path is left for a binding, and a check of such a proof that trusts no search.
 //!
-//! It stands on `wot_edge` only, and shares no code with `wot_search`. `wot_command` answers `absence` and `check` with
+//! It uses `wot_edge` only, and shares no code with `wot_search`. `wot_command` answers `absence` and `check` with
 //! it; `docs/PROFILE.md` says what a proof of absence is.
 #![tactic(auto)]
 

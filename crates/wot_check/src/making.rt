@@ -1,6 +1,6 @@
 //! `absence`: the least table after the paths of an answer.
 //!
-//! It stands on `extend` and `points`, and on `specs/Absence.antt`. Its table is the one that the reply to `absence`
+//! It uses `extend` and `points`, and on `specs/Absence.antt`. Its table is the one that the reply to `absence`
 //! prints.
 ghost use Rattle.std.specs.Prelude.{◌≡◌, ◌↔◌, ◌<◌, ◌^◌, [], ◌∷◌, None, length, IfOk};
 ghost use Rattle.wot_edge.specs.Path.{asks, use_of};
@@ -32,9 +32,9 @@ fn begin(alloc: Global, target: &Fpr) -> Result<Growth, Memory>
 }
 
 /// The labels of the least table: for each fingerprint, the least number of edges from there to the target.
-fn settle<R: Roads>(alloc: Global, roads: &R, asked: &Asked) -> Result<Table, Memory>
+fn table_at_rest<R: Roads>(alloc: Global, roads: &R, asked: &Asked) -> Result<Table, Memory>
     ensures settled { IfOk result
-        (λ table. IsSettled (question_of (R.told roads.now) asked.now) (used_in asked.now) table) }
+        (λ table. IsSettled (question_of (R.network roads.now) asked.now) (used_in asked.now) table) }
 {
     let mut growth = begin(alloc, asked.target)?;
     'layers: for size in 0..255u8 {
@@ -59,13 +59,13 @@ pub fn absence<R: Roads>(
     requires few { length paths.now < 2 ^ 24 }
     // The least table, and no path is left; or none, and a path is left.
     ensures made { IfOk result
-        (λ made. IsMade (asks (R.told roads.now uid.now) roots.now target.now) (use_of paths.now) made) }
+        (λ made. IsMade (asks (R.network roads.now uid.now) roots.now target.now) (use_of paths.now) made) }
     ensures none { IfOk result
-        (λ made. (made ≡ None) ↔ IsLeft (asks (R.told roads.now uid.now) roots.now target.now) (use_of paths.now)) }
+        (λ made. (made ≡ None) ↔ IsLeft (asks (R.network roads.now uid.now) roots.now target.now) (use_of paths.now)) }
 
     // For an answer that misses its wanted amount there is a table, and `check` accepts it.
     ensures accepted { IfOk result
-        (λ made. AcceptsMissed (asks (R.told roads.now uid.now) roots.now target.now) paths.now made) }
+        (λ made. AcceptsMissed (asks (R.network roads.now uid.now) roots.now target.now) paths.now made) }
 {
     let used = used_by(alloc, paths)?;
     if !roads.in_order(target, uid) {
@@ -79,7 +79,7 @@ pub fn absence<R: Roads>(
         target,
         uid,
     };
-    let table = settle(alloc, roads, &asked)?;
+    let table = table_at_rest(alloc, roads, &asked)?;
     let _labels = table.iter();
     if roots_spent(&asked, &table) {
         Ok(Some(table))

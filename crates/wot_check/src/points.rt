@@ -1,6 +1,6 @@
 //! The three points that make a table a proof of absence, tested edge by edge.
 //!
-//! It stands on `demand` and `table`, and on `specs/Absence.antt`. A wrong test here would accept a false proof; the
+//! It uses `demand` and `table`, and on `specs/Absence.antt`. A wrong test here would accept a false proof; the
 //! contract of `excludes` rules that out.
 ghost use Rattle.std.specs.Prelude.{◌≡◌, ◌↔◌, ◌<◌, ◌+◌, ℕ, List, Option, true, IfOk};
 ghost use Rattle.wot_edge.specs.Record.{Has, Record, edges_into};
@@ -10,7 +10,7 @@ ghost use Rattle.wot_check.specs.Demand.{Covers, CoversBelow, is_covered_by, is_
 ghost use Rattle.wot_check.specs.Growth.{AreRootsSpent};
 
 use crate::asked::Asked;
-use crate::demand::{demanded, stands};
+use crate::demand::{carries, demanded};
 use crate::left::left_of_root;
 use crate::table::Table;
 use wot_edge::{Demand, Edge, Roads};
@@ -34,15 +34,15 @@ fn covers_edge<R: Roads>(
     table: &Table,
     edge: &Edge,
 ) -> Result<bool, Memory>
-    requires row { (id : List ℕ) → Has (edges_into (R.told roads.now id) edge.now.target) edge.now }
-    ensures { IfOk result (λ covered. TellsEach (R.told roads.now) asked.now edge.now
+    requires row { (id : List ℕ) → Has (edges_into (R.network roads.now id) edge.now.target) edge.now }
+    ensures { IfOk result (λ covered. TellsEach (R.network roads.now) asked.now edge.now
         (is_covered_by demand most table.now) covered) }
 {
     if within(most, table.get(&edge.facts().issuer)) {
         return Ok(true);
     }
-    let stands = stands(roads, asked, demand, edge)?;
-    Ok(!stands)
+    let carries = carries(roads, asked, demand, edge)?;
+    Ok(!carries)
 }
 
 /// Whether that holds for each edge into a fingerprint that is `size` edges from the target.
@@ -54,8 +54,8 @@ fn covers<R: Roads>(
     at: &Fpr,
 ) -> Result<bool, Memory>
     requires size { size < 255 }
-    ensures { IfOk result (λ covered. (covered ≡ true)
-        ↔ Asking (R.told roads.now) asked.now (λ q used. Covers q used size table.now at.now)) }
+    ensures { IfOk result (λ it. (it ≡ true)
+        ↔ Asking (R.network roads.now) asked.now (λ q used. Covers q used size table.now at.now)) }
 {
     let demand = demanded(roads, asked, size);
     let mut rest = roads.rows(at);
@@ -77,7 +77,7 @@ fn covers_below<R: Roads>(
     at: &Fpr,
 ) -> Result<bool, Memory>
     ensures { IfOk result (λ covered. (covered ≡ true)
-        ↔ Asking (R.told roads.now) asked.now (CoversBelow label table.now at.now)) }
+        ↔ Asking (R.network roads.now) asked.now (CoversBelow label table.now at.now)) }
 {
     if label == 255 {
         return Ok(true);
@@ -88,7 +88,7 @@ fn covers_below<R: Roads>(
 /// Whether it holds for the edges into each labelled fingerprint.
 fn covers_all<R: Roads>(roads: &R, asked: &Asked, table: &Table) -> Result<bool, Memory>
     ensures { IfOk result (λ covered. (covered ≡ true)
-        ↔ Asking (R.told roads.now) asked.now (λ q used. OthersLabelled q used table.now)) }
+        ↔ Asking (R.network roads.now) asked.now (λ q used. OthersLabelled q used table.now)) }
 {
     let mut rest = table.iter();
     'rest: while let Some((fpr, label)) = rest.next() {
@@ -101,7 +101,7 @@ fn covers_all<R: Roads>(roads: &R, asked: &Asked, table: &Table) -> Result<bool,
 
 /// Whether no labelled fingerprint is a root with a residual amount.
 pub fn roots_spent(asked: &Asked, table: &Table) -> bool
-    ensures { (told : List ℕ → Record) → Asking told asked.now (λ q used. AreRootsSpent result q used table.now) }
+    ensures { (network : List ℕ → Record) → Asking network asked.now (λ q used. AreRootsSpent result q used table.now) }
 {
     let mut rest = table.iter();
     'rest: while let Some((fpr, _)) = rest.next() {
@@ -115,7 +115,7 @@ pub fn roots_spent(asked: &Asked, table: &Table) -> bool
 /// Whether a table meets the three points.
 pub fn excludes<R: Roads>(roads: &R, asked: &Asked, table: &Table) -> Result<bool, Memory>
     ensures { IfOk result (λ meets. (meets ≡ true)
-        ↔ Asking (R.told roads.now) asked.now (λ q used. Excludes q used table.now)) }
+        ↔ Asking (R.network roads.now) asked.now (λ q used. Excludes q used table.now)) }
 {
     // The invariant of a table.
     let _labels = table.iter();

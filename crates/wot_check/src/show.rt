@@ -1,6 +1,6 @@
 //! From claims to paths: whether each claimed path is valid and has its residual amount.
 //!
-//! It stands on `trace` for the steps and on `using` for what earlier paths use, and on `specs/Claim.antt`. `check`
+//! It uses `trace` for the steps and on `using` for what earlier paths use, and on `specs/Claim.antt`. `check`
 //! calls it first.
 ghost use Rattle.std.specs.Prelude.{◌≡◌, ◌↔◌, ◌<◌, ◌^◌, ℕ, List, true, length, IfOk};
 ghost use Rattle.wot_edge.specs.Path.{asks, Distinct, issuers};
@@ -48,8 +48,8 @@ fn are_distinct(steps: &[Step]) -> bool
 
 /// The path by these steps, if no issuer occurs twice and this is its residual amount.
 fn path_by(asked: &Asked, amount: u8, steps: Vec<Step>) -> Option<Path>
-    ensures { (told : List ℕ → Record)
-        → IsPathBy (question_of told asked.now) (used_in asked.now) amount steps.items result }
+    ensures { (network : List ℕ → Record)
+        → IsPathBy (question_of network asked.now) (used_in asked.now) amount steps.items result }
 {
     let root = match steps.split_first() {
         Some((step, _)) => step.issuer,
@@ -79,10 +79,10 @@ fn show<R: Roads>(
     asked: &Asked,
     claim: &Claimed,
 ) -> Result<Option<Path>, Memory>
-    requires in_order { is_in_order (question_of (R.told roads.now) asked.now) ≡ true }
-    requires lawful { IsRecord (R.told roads.now asked.now.uid.now) }
+    requires in_order { is_in_order (question_of (R.network roads.now) asked.now) ≡ true }
+    requires lawful { IsRecord (R.network roads.now asked.now.uid.now) }
     ensures shown { IfOk result
-        (λ found. IsShown (question_of (R.told roads.now) asked.now) (used_in asked.now) claim.now found) }
+        (λ found. IsShown (question_of (R.network roads.now) asked.now) (used_in asked.now) claim.now found) }
 {
     if claim.steps().is_empty() || claim.steps().len() > 255 {
         return Ok(None);
@@ -103,10 +103,10 @@ pub fn show_all<R: Roads>(
     uid: &[u8],
 ) -> Result<Option<Used>, Memory>
     requires few { length claims.now < 2 ^ 24 }
-    requires in_order { is_in_order (asks (R.told roads.now uid.now) roots.now target.now) ≡ true }
-    requires lawful { IsRecord (R.told roads.now uid.now) }
+    requires in_order { is_in_order (asks (R.network roads.now uid.now) roots.now target.now) ≡ true }
+    requires lawful { IsRecord (R.network roads.now uid.now) }
     ensures used { IfOk result
-        (λ used. AreUsedBy (asks (R.told roads.now uid.now) roots.now target.now) claims.now used) }
+        (λ used. AreUsedBy (asks (R.network roads.now uid.now) roots.now target.now) claims.now used) }
 {
     let mut used = unused(alloc);
     let mut rest = claims;

@@ -1,6 +1,6 @@
 //! From claimed steps to steps: the edge that each claimed step names, if that edge may come there.
 //!
-//! It stands on `demand` and on `specs/Trace.antt`. `show` makes paths of the steps.
+//! It uses `demand` and on `specs/Trace.antt`. `show` makes paths of the steps.
 ghost use Rattle.std.specs.Prelude.{◌≡◌, ◌≤◌, ◌<◌, length, IfOk, MatchOption};
 ghost use Rattle.wot_edge.specs.Record.{IsRecord};
 ghost use Rattle.wot_check.specs.Asked.{question_of, used_in};
@@ -8,7 +8,7 @@ ghost use Rattle.wot_check.specs.Trace.{IsFollower, IsFound, IsTrace, NoneNamed,
 
 use crate::asked::Asked;
 use crate::claimed::ClaimedStep;
-use crate::demand::{demanded, stands};
+use crate::demand::{carries, demanded};
 use std::alloc::Global;
 use wot_edge::{Edge, Roads, Step, is_same, step_from};
 use wot_types::{Fpr, Memory};
@@ -53,14 +53,14 @@ fn follow<R: Roads>(
 ) -> Result<Option<Step>, Memory>
     requires few { length later.now < 255 }
     ensures found { IfOk result (λ step.
-        IsFollower (question_of (R.told roads.now) asked.now) (used_in asked.now) item.now later.now step) }
+        IsFollower (question_of (R.network roads.now) asked.now) (used_in asked.now) item.now later.now step) }
 {
     let target = begin(asked.target, later);
     match find(roads.rows(&target), item) {
         None => Ok(None),
         Some(edge) => {
             let demand = demanded(roads, asked, later.len() as u8);
-            if stands(roads, asked, demand, edge)? {
+            if carries(roads, asked, demand, edge)? {
                 Ok(Some(step_from(&edge.facts())))
             } else {
                 Ok(None)
@@ -77,9 +77,9 @@ pub fn trace<R: Roads>(
     items: &[ClaimedStep],
 ) -> Result<Option<Vec<Step>>, Memory>
     requires few { length items.now ≤ 255 }
-    requires lawful { IsRecord (R.told roads.now asked.now.uid.now) }
+    requires lawful { IsRecord (R.network roads.now asked.now.uid.now) }
     ensures traced { IfOk result
-        (λ found. IsTrace (question_of (R.told roads.now) asked.now) (used_in asked.now) items.now found) }
+        (λ found. IsTrace (question_of (R.network roads.now) asked.now) (used_in asked.now) items.now found) }
 {
     let mut steps: Vec<Step> = Vec::new(alloc);
     let mut rest = items;

@@ -1,6 +1,6 @@
 //! What earlier paths use, computed from a list of paths.
 //!
-//! It stands on `Used` of `wot_edge`; its laws bound the sums, so that none overflows. `making` and `show` start from
+//! It uses `Used` of `wot_edge`; its laws bound the sums, so that none overflows. `making` and `show` start from
 //! it.
 ghost use Rattle.std.specs.Prelude.{◌≡◌, ◌<◌, ◌+◌, ◌*◌, ◌^◌, ◌∷◌, ◌++◌, ℕ, List, [], length, IfOk, OnOk};
 ghost use Rattle.wot_edge.specs.declared.path.Path.{Path as ThePath};

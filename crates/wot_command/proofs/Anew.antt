@@ -12,7 +12,7 @@ use Rattle.wot_types.specs.declared.limits.Limit.TheVariants as words
 use Rattle.wot_types.specs.Limits.{standard_limits}
 use Rattle.wot_io.specs.Input as inputs
 use Rattle.wot_policy.specs.declared.rows.PolicyRows.{PolicyRows}
-use Rattle.wot_fields.specs.StateLine.{IsHeard, spelling, state_line_of}
+use Rattle.wot_fields.specs.StateLine.{IsNoComment, spelling, state_line_of}
 use Rattle.wot_fields.specs.declared.state_line.StateLine.{StateLine}
 use Rattle.wot_fields.specs.declared.state_line.StateLine.TheVariants as sets
 use Rattle.wot_script.specs.declared.command.Command.{Command}
@@ -129,9 +129,9 @@ accepted rows line s new e = absurd (cc e)
 
 -- ---- lines
 
-heard : (line : List ℕ) → IsHeard line → is_silent line ≡ false
-heard [] h = absurd h
-heard (octet ∷ octets) h = ne_eqb octet 35 h
+command_in_line : (line : List ℕ) → IsNoComment line → is_silent line ≡ false
+command_in_line [] h = absurd h
+command_in_line (octet ∷ octets) h = ne_eqb octet 35 h
 
 cut_lines : (commands : List StateLine) → AreLines commands → inputs.lines_of (lines_of commands) ≡ map spelling commands
 cut_lines [] lines = refl
@@ -154,16 +154,16 @@ leads : (rows : PolicyRows) (old : Session) (class : Class) (reply : Reply) (new
     → StateStep rows old.state class unserved reply new → Leads rows old class reply new
 leads rows old (OfState command) reply new own does =
     let count = counted_some old new.held in
-    let turns = turned_some (OfState command) old.state.views new.views old.turns in
+    let revisions = turned_some (OfState command) old.state.views new.views old.revisions in
     record {
-      whole = record { state = new; changes = count.0; turns = turns.0; cursors = old.cursors; watches = old.watches };
+      whole = record { state = new; changes = count.0; revisions = revisions.0; cursors = old.cursors; watches = old.watches };
       state = refl;
       cursors = refl;
       watches = refl;
       obeys = record {
         does = does;
         counted = count.1;
-        turned = turns.1;
+        turned = revisions.1;
         paces = refl;
         watching = refl;
       };
@@ -183,7 +183,7 @@ stepped : (rows : PolicyRows) (c : StateLine) (s new : Session) (reply : Reply) 
     → Step rows (over s world) (spelling c) (Some reply) [] (over new world)
 stepped rows c s new reply line none obeys unwatched world =
     let Answered : Option Command → Type 0 = λ o. ReadLineStep rows s o unserved reply new in
-    let is_heard : is_silent (spelling c) ≡ false = heard (spelling c) line.heard in
+    let is_heard : is_silent (spelling c) ≡ false = command_in_line (spelling c) line.no_comment in
     let read : command_of (spelling c) ≡ Some (command_for c) = read_as (spelling c) c line.read in
     uncalled_step rows world s new new (spelling c) (Some reply) []
     (ap use_of (heard_read (spelling c) line.short is_heard ∙ read) ∙ none)

@@ -16,7 +16,7 @@ use Rattle.wot_explain.specs.declared.explained.Explained.{Explained}
 use Rattle.wot_explain.specs.Explaining.{explanation}
 use Rattle.wot_explain.specs.Usable.{TellsEdges}
 use Rattle.wot_command.specs.EdgeLines.{EdgesAreTold, LineMarks, MarksEdges, MarksFrom}
-use Rattle.wot_plain.specs.Lines.{heard, is_silent, longest}
+use Rattle.wot_plain.specs.Lines.{command_in_line, is_silent, longest}
 use Rattle.wot_plain.specs.Listing.{Explains, explained, explained_from}
 use Rattle.wot_plain.proofs.StepsByKind.{heard_read}
 
@@ -73,6 +73,6 @@ none_marks engine (Some command) e = absurd cc
 -- the line was read as a command
 pub heard_marks : (engine : Engine) (line : List ℕ) → length line ≤ longest → is_silent line ≡ false
     → LineMarks engine (command_of line)
-    → LineMarks engine (heard line)
+    → LineMarks engine (command_in_line line)
 heard_marks engine line short loud marks = subst (λ (o : Option Command). LineMarks engine o)
     (sym (heard_read line short loud)) marks

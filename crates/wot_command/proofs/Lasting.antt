@@ -13,7 +13,7 @@ use Rattle.wot_cache.specs.State.{Engine, State}
 use Rattle.wot_script.specs.declared.command.Command.{Command}
 use Rattle.wot_script.specs.Grammar.{command_of}
 use Rattle.wot_plain.specs.Entry.{MayPut, Use, entry_for, use_of}
-use Rattle.wot_plain.specs.Lines.{heard, is_silent, longest}
+use Rattle.wot_plain.specs.Lines.{command_in_line, is_silent, longest}
 use Rattle.wot_plain.proofs.StepsByKind.{heard_read}
 use Rattle.wot_plain.proofs.Results.{any_err}
 use Rattle.wot_command.proofs.DirectoryAfterFailure.{puts_still}
@@ -28,7 +28,7 @@ pub changes_held : (old new : Engine) → CanChange old → ChangesKeyring old n
 changes_held old new ready changes = record {
   once = record { counted = changes.counted; standard = changes.limits ∙ ready.standard };
   marks = changes.marks;
-  turns = changes.turns;
+  revisions = changes.revisions;
 }
 
 -- nothing happened
@@ -36,7 +36,7 @@ pub held_still : (engine : Engine) → CanChange engine → ChangesHeld engine e
 held_still engine ready = record {
   once = record { counted = inl refl; standard = ready.standard };
   marks = refl;
-  turns = refl;
+  revisions = refl;
 }
 
 -- the keyring stays
@@ -69,14 +69,14 @@ touches_none r s use_ world faults shelf = record {
 
 read_untouched : {D : Type 0} (line : List ℕ) (s : State) (old new : D) → length line ≤ longest →
     is_silent line ≡ false → (entry_for s (use_of (command_of line)) ≡ None → new ≡ old)
-    → entry_for s (use_of (heard line)) ≡ None → new ≡ old
+    → entry_for s (use_of (command_in_line line)) ≡ None → new ≡ old
 read_untouched line s old new short loud same =
     subst (λ (o : Option Command). entry_for s (use_of o) ≡ None → new ≡ old) (sym (heard_read line short loud)) same
 
 module _ {A B T E D : Type 0} (line : List ℕ) (s : State) (world : D → Option World) (faults : D → ℕ) (old new : D)
     (short : length line ≤ longest) (loud : is_silent line ≡ false) where
   pub touches_ok : (r : Result A B) (done : T) → Touches r s (use_of (command_of line)) world faults old new →
-      Touches {T = T} {E = E} (Ok done) s (use_of (heard line)) world faults old new
+      Touches {T = T} {E = E} (Ok done) s (use_of (command_in_line line)) world faults old new
   touches_ok r done t = record {
     untouched = read_untouched line s old new short loud t.untouched;
     entries = tt;
@@ -85,7 +85,7 @@ module _ {A B T E D : Type 0} (line : List ℕ) (s : State) (world : D → Optio
 
   pub touches_err : (fault : B) (failed : Result T E)
       → Touches {T = A} {E = B} (Err fault) s (use_of (command_of line)) world faults old new →
-      Touches failed s (use_of (heard line)) world faults old new
+      Touches failed s (use_of (command_in_line line)) world faults old new
   touches_err fault failed t = record {
     untouched = read_untouched line s old new short loud t.untouched;
     entries = any_err failed _ (subst (λ (o : Option Command). MayPut s (use_of o) (world old) (world new))

@@ -25,7 +25,7 @@ use Rattle.wot_plain.specs.declared.class.ShelfCall.TheVariants as calls
 use Rattle.wot_plain.specs.Classes.{class_of}
 use Rattle.wot_plain.specs.declared.refusal.Refused.TheVariants.{Keyring as OfKeyring}
 use Rattle.wot_command.specs.Asked.{AsksBy, AsksForNew, CallAsks, ChangeAsks, LineAsks, sound_in}
-use Rattle.wot_plain.specs.Lines.{heard, is_silent, longest}
+use Rattle.wot_plain.specs.Lines.{command_in_line, is_silent, longest}
 use Rattle.wot_plain.specs.Refused.{IsReplyTo}
 use Rattle.wot_plain.proofs.StepsByKind.{heard_read}
 
@@ -139,6 +139,6 @@ module _ {F : Type 0} where
   pub asks_heard : {T E : Type 0} (s : Result T E) (line : List ℕ) (old new : State) (before after : Policy F) →
       length line ≤ longest
       → is_silent line ≡ false → LineAsks s (command_of line) old new before after →
-      LineAsks s (heard line) old new before after
+      LineAsks s (command_in_line line) old new before after
   asks_heard s line old new before after short loud a =
       subst (λ (o : Option Command). LineAsks s o old new before after) (sym (heard_read line short loud)) a

@@ -10,7 +10,7 @@ use Rattle.wot_script.specs.declared.reply.Reply.{Reply}
 use Rattle.wot_cache.specs.declared.view.View.{View}
 use Rattle.wot_cache.specs.Question.{question_in}
 use Rattle.wot_cache.specs.State.{State}
-use Rattle.wot_plain.specs.Answer.{Asks, told}
+use Rattle.wot_plain.specs.Answer.{Asks, amount_reply}
 use Rattle.wot_plain.proofs.Results.{if_ok}
 
 pub each_short : (q : Question) (earlier paths : List Path) → EachNext q earlier paths →
@@ -28,10 +28,10 @@ answer_short (Some v) q wanted paths some answer = each_short (q v) [] paths ans
 pub answer_asks : {E : Type 0} (s now : State) (o : Option View) (target : Fpr) (wanted : ℕ) (uid : List ℕ)
     (paths : List Path) (result : Result Reply E) → is_some o ≡ true
     → IfSome o (λ (v : View). IsAnswer (question_in s v target uid) wanted paths) → now ≡ s
-    → IfOk result (λ (reply : Reply). reply ≡ told now paths)
+    → IfOk result (λ (reply : Reply). reply ≡ amount_reply now paths)
     → IfOk result (λ (reply : Reply). Asks s o target wanted uid reply)
 answer_asks s now None target wanted uid paths result some answer same states = absurd (cc some)
 answer_asks s now (Some v) target wanted uid paths result some answer same states =
-    if_ok result (λ (reply : Reply). reply ≡ told now paths)
+    if_ok result (λ (reply : Reply). reply ≡ amount_reply now paths)
     (λ (reply : Reply). Asks s (Some v) target wanted uid reply)
-    (λ reply is. (paths, answer, is ∙ ap (λ (s : State). told s paths) same)) states
+    (λ reply is. (paths, answer, is ∙ ap (λ (s : State). amount_reply s paths) same)) states

@@ -24,7 +24,7 @@ use Rattle.wot_plain.specs.Listing.{explained_from, reason_line}
 abbrev pub EdgesAreTold : Keyring → ℕ → Fpr → List ℕ → Type 0
 EdgesAreTold keyring t fpr uid =
     IfSome (explanation (certificates_in keyring) keyring.verdicts t fpr uid)
-    (λ (told : Explained). TellsEdges keyring t fpr uid told.certs)
+    (λ (found : Explained). TellsEdges keyring t fpr uid found.certs)
 
 -- The reply has a line for each certification on the user ID. It says `edge` exactly if the certification is a usable
 -- edge, with the issuer, the depth and the amount of that edge.

@@ -25,10 +25,10 @@ removes (kinds.Change (changes.Unjudge number)) = true
 removes (kinds.View view alterings.Close) = true
 removes _ = false
 
--- The counts of changes and of turns can rise.
+-- The counts of changes and of revisions can rise.
 pub record CanCount (engine : Engine) : Type 0 where
   pub changes : engine.keyring.changes < 2 ^ 64 - 1
-  pub turns : engine.turns.count < 2 ^ 64 - 1
+  pub revisions : engine.revisions.count < 2 ^ 64 - 1
 
 -- The engine has the standard limits, and its counts can rise.
 pub record CanRun (engine : Engine) : Type 0 where
@@ -49,7 +49,7 @@ pub record ChangesOnce (old new : Engine) : Type 0 where
 pub record ChangesHeld (old new : Engine) : Type 0 where
   pub once : ChangesOnce old new
   pub marks : new.marks ≡ old.marks
-  pub turns : new.turns ≡ old.turns
+  pub revisions : new.revisions ≡ old.revisions
 
 -- What a call did to the certificate directory: nothing if it reads no entry. If memory ran out, the entries are as
 -- they were, or have what the call writes. The count of faults didn't fall.

@@ -1,4 +1,4 @@
-//! The reply to `absence`: the paths of the answer, and the least table that proves that no path is left. It stands on
+//! The reply to `absence`: the paths of the answer, and the least table that proves that no path is left. It uses
 //! wot_cache for the parts and on wot_check for the table. `checking` has to accept what is printed here.
 ghost use Rattle.std.specs.Prelude.{◌≡◌, ◌≤◌, length, map, IfOk};
 ghost use Rattle.wot_edge.specs.Answer.{amount_of};
@@ -62,15 +62,15 @@ fn absence_from(
     answers_are_few();
     let paths = answer.paths.as_slice();
     match wot_check::absence(alloc, roads, roots, paths, target, uid)? {
-        Some(table) => told(alloc, answer.sum, paths, &table),
+        Some(table) => absence_reply(alloc, answer.sum, paths, &table),
         None => unreachable!(),
     }
 }
 
 /// The sum of the paths, the paths and the table.
-fn told(alloc: Global, sum: u32, paths: &[Path], table: &Table) -> Result<Reply, Memory>
+fn absence_reply(alloc: Global, sum: u32, paths: &[Path], table: &Table) -> Result<Reply, Memory>
     requires sum { sum ≡ amount_of paths.now }
-    ensures told { IfOk result (λ reply. reply ≡ missed paths.now table.now) }
+    ensures reported { IfOk result (λ reply. reply ≡ missed paths.now table.now) }
 {
     let claims = claim_lines(alloc, paths)?;
     let labels = label_lines(alloc, table)?;

@@ -1,4 +1,4 @@
-//! The reply to `ask`: the amount, and each path with its steps. It stands on `Engine::ask`, and prints user IDs from
+//! The reply to `ask`: the amount, and each path with its steps. It uses `Engine::ask`, and prints user IDs from
 //! the keyring.
 ghost use Rattle.std.specs.Prelude.{◌≡◌, ◌≤◌, ◌++◌, length, IfOk, OnOk};
 ghost use Rattle.std.specs.List.{AllByRecursion};
@@ -7,7 +7,7 @@ ghost use Rattle.wot_edge.specs.Answer.{amount_of};
 ghost use Rattle.wot_cache.specs.Marks.{IsRefreshed};
 ghost use Rattle.wot_cache.specs.State.{state_of};
 ghost use Rattle.wot_command.specs.Questions.{AsksFor};
-ghost use Rattle.wot_plain.specs.Answer.{uid_at, step_line, path_lines, told as told_of};
+ghost use Rattle.wot_plain.specs.Answer.{uid_at, step_line, path_lines, amount_reply as amount_reply_of};
 
 use crate::listing::cert_of;
 use std::alloc::Global;
@@ -33,16 +33,16 @@ pub fn ask(
     ensures refreshed { IsRefreshed result asked.now.view.now engine.old engine.new steps.old.made steps.new.made }
 {
     match engine.ask(asked.view, asked.target, asked.wanted, asked.uid, steps) {
-        Ok(answer) => told(alloc, engine, &answer),
+        Ok(answer) => amount_reply(alloc, engine, &answer),
         Err(fault) => reply_to(Refused::from(fault)),
     }
 }
 
 /// The sum of the amounts, the number of paths, and each path with its steps.
-fn told(alloc: Global, engine: &Engine, answer: &Answer) -> Result<Reply, Memory>
+fn amount_reply(alloc: Global, engine: &Engine, answer: &Answer) -> Result<Reply, Memory>
     requires sum { answer.now.sum ≡ amount_of answer.now.paths }
     requires few { AllByRecursion (λ (p : ThePath). length p.steps ≤ 255) answer.now.paths }
-    ensures told { IfOk result (λ reply. reply ≡ told_of (state_of engine.now) answer.now.paths) }
+    ensures reported { IfOk result (λ reply. reply ≡ amount_reply_of (state_of engine.now) answer.now.paths) }
 {
     let paths = answer.paths.as_slice();
     let mut lines = AnswerLines::new(alloc);

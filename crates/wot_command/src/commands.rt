@@ -1,12 +1,12 @@
 //! What each command that changes something does to the engine, and its reply: imports, removals, verdicts and views.
-//! It stands on wot_cache's calls and on `Refused` of wot_plain for their errors.
+//! It uses wot_cache's calls and on `Refused` of wot_plain for their errors.
 ghost use Rattle.std.specs.Prelude.{◌≡◌, ◌<◌, ◌-◌, ◌^◌, [], length, None, true, IfOk, OnErr};
 ghost use Rattle.wot_types.specs.Limits.{standard_limits};
 ghost use Rattle.wot_policy.specs.Kept.{rows_of};
 ghost use Rattle.wot_keyring_spec.specs.Kept.{StaysJudged};
 ghost use Rattle.wot_script.specs.Replies.{is_short};
 ghost use Rattle.wot_cache.specs.State.{marks_at, state_of, OtherMarksStay};
-ghost use Rattle.wot_cache.specs.Turns.{IsOneClosing, IsOneTurn};
+ghost use Rattle.wot_cache.specs.Revisions.{IsOneClosing, IsOneRevision};
 ghost use Rattle.wot_cache.specs.Views.{view_at};
 ghost use Rattle.wot_command.specs.Asked.{AsksForNew};
 ghost use Rattle.wot_command.specs.Lasting.{CanChange, ChangesHeld, IsJudging, StaysJudging};
@@ -100,10 +100,11 @@ pub fn clear_verdict(engine: &mut Engine, number: &SigNumber) -> Reply
 /// limit. After `Memory` the engine is unchanged.
 pub fn time(engine: &mut Engine, view: &ViewName, t: u32) -> Result<Reply, Memory>
     requires standard { engine.old.keyring.limits ≡ standard_limits }
-    requires turnable { engine.old.turns.count < 2 ^ 64 - 1 }
+    requires turnable { engine.old.revisions.count < 2 ^ 64 - 1 }
     ensures gives { IfOk result (λ reply.
         ComesTo (time_of (state_of engine.old) view.now t) reply (state_of engine.new)) }
-    ensures turned { IsOneTurn view.now engine.old.views engine.old.turns engine.new.views engine.new.turns }
+    ensures turned { IsOneRevision view.now engine.old.views engine.old.revisions
+        engine.new.views engine.new.revisions }
     ensures short { IfOk result (λ reply. is_short reply ≡ true) }
     ensures kept { OnErr result (engine.new ≡ engine.old) }
     ensures marks { engine.new.marks ≡ engine.old.marks }
@@ -120,10 +121,11 @@ pub fn time(engine: &mut Engine, view: &ViewName, t: u32) -> Result<Reply, Memor
 /// remove, or if the number of its roots is at its limit. After `Memory` the engine is unchanged.
 pub fn root(engine: &mut Engine, view: &ViewName, fpr: &Fpr, amount: u8) -> Result<Reply, Memory>
     requires standard { engine.old.keyring.limits ≡ standard_limits }
-    requires turnable { engine.old.turns.count < 2 ^ 64 - 1 }
+    requires turnable { engine.old.revisions.count < 2 ^ 64 - 1 }
     ensures gives { IfOk result (λ reply.
         ComesTo (root_of (state_of engine.old) view.now fpr.now amount) reply (state_of engine.new)) }
-    ensures turned { IsOneTurn view.now engine.old.views engine.old.turns engine.new.views engine.new.turns }
+    ensures turned { IsOneRevision view.now engine.old.views engine.old.revisions
+        engine.new.views engine.new.revisions }
     ensures short { IfOk result (λ reply. is_short reply ≡ true) }
     ensures kept { OnErr result (engine.new ≡ engine.old) }
     ensures marks { engine.new.marks ≡ engine.old.marks }
@@ -138,7 +140,7 @@ pub fn root(engine: &mut Engine, view: &ViewName, fpr: &Fpr, amount: u8) -> Resu
 /// `view V close`: closes a view, or replies that it isn't open. Takes no memory.
 pub fn close(engine: &mut Engine, view: &ViewName) -> Reply
     ensures gives { ComesTo (close_of (state_of engine.old) view.now) result (state_of engine.new) }
-    ensures turned { IsOneClosing view.now engine.old.views engine.old.turns engine.new.views engine.new.turns }
+    ensures turned { IsOneClosing view.now engine.old.views engine.old.revisions engine.new.views engine.new.revisions }
     ensures short { is_short result ≡ true }
     ensures others { OtherMarksStay view.now engine.old engine.new }
     ensures keyring { engine.new.keyring ≡ engine.old.keyring }

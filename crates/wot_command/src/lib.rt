@@ -1,6 +1,6 @@
 //! The commands that don't change cursors or watches: each is run on the engine and the certificate directory, and gets
-//! its reply. One file for each family. It stands on wot_plain for what each does, and on the layers below for how.
-//! wot_machine calls `obey` for them.
+//! its reply. One file for each family. It uses wot_plain for what each does, and on the layers below for how.
+//! wot_machine calls `run_state_command` for them.
 #![tactic(auto)]
 
 mod absence;
@@ -17,4 +17,4 @@ mod state;
 mod store;
 
 pub use fresh::dump_makes_the_state_anew;
-pub use state::obey;
+pub use state::run_state_command;

@@ -1,4 +1,4 @@
-//! Replies with one line for each certificate or command: `keys`, `export` and `dump`. It stands on the iterators of
+//! Replies with one line for each certificate or command: `keys`, `export` and `dump`. It uses the iterators of
 //! wot_keyring and on `Engine::dump`.
 ghost use Rattle.std.specs.Prelude.{◌≡◌, ◌≤◌, map, IfOk, OnOk};
 ghost use Rattle.std.specs.List.{AllByRecursion};

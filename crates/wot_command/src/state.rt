@@ -22,7 +22,7 @@ ghost use Rattle.wot_plain.specs.Fresh.{IsMadeAnew, OnDump};
 ghost use Rattle.wot_plain.specs.LineStep.{ComesTo};
 ghost use Rattle.wot_plain.specs.Made.{ChangesMarks, MakesFor};
 ghost use Rattle.wot_command.specs.CommandRun.{StateRunOver, over};
-ghost use Rattle.wot_plain.specs.Session.{AreTurned, IsTurnedBy, turning_in};
+ghost use Rattle.wot_plain.specs.Session.{AreTurned, RevisedBy, turning_in};
 
 use crate::absence::absence;
 use crate::answer::ask;
@@ -44,7 +44,7 @@ use wot_types::{Memory, Steps, ViewName};
 
 /// Runs a command that doesn't change cursors or watches. If the reply isn't short, and after `Memory`, nothing has
 /// changed but marks and the count of edges made. A command that only removes something takes no memory.
-pub fn obey<D: Shelf, F: Fn(Ask) -> bool>(
+pub fn run_state_command<D: Shelf, F: Fn(Ask) -> bool>(
     alloc: Global,
     engine: &mut Engine,
     steps: &mut Steps,
@@ -67,8 +67,8 @@ pub fn obey<D: Shelf, F: Fn(Ask) -> bool>(
     ensures sure { removes command.now ≡ true → is_ok result ≡ true }
     ensures makes { MakesFor result command.now engine.old engine.new steps.old.made steps.new.made }
     ensures changes { ChangesOnce engine.old engine.new }
-    ensures turned { OnOk result (IsTurnedBy (OfState command.now)
-        engine.old.views engine.old.turns engine.new.views engine.new.turns) }
+    ensures turned { OnOk result (RevisedBy (OfState command.now)
+        engine.old.views engine.old.revisions engine.new.views engine.new.revisions) }
     ensures asked { AsksBy result (OfState command.now) (state_of engine.old) (state_of engine.new)
         policy.old policy.new }
     ensures judging { StaysJudging F.Fn policy.old policy.new engine.new.keyring }
@@ -111,11 +111,11 @@ fn change<F: Fn(Ask) -> bool>(
 /// Runs a change of a view. After `Memory` nothing has changed.
 fn change_view(engine: &mut Engine, view: &ViewName, what: &ViewChange) -> Result<Reply, Memory>
     requires standard { engine.old.keyring.limits ≡ standard_limits }
-    requires turnable { engine.old.turns.count < 2 ^ 64 - 1 }
+    requires turnable { engine.old.revisions.count < 2 ^ 64 - 1 }
     ensures gives { IfOk result (λ reply.
         ComesTo (view_change_of (state_of engine.old) view.now what.now) reply (state_of engine.new)) }
     ensures turned { AreTurned (turning_in view.now what.now)
-        engine.old.views engine.old.turns engine.new.views engine.new.turns }
+        engine.old.views engine.old.revisions engine.new.views engine.new.revisions }
     ensures short { IfOk result (λ reply. is_short reply ≡ true) }
     ensures kept { OnErr result (engine.new ≡ engine.old) }
     ensures sure { removes (kinds.View view.now what.now) ≡ true → is_ok result ≡ true }

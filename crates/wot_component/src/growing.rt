@@ -1,6 +1,6 @@
 //! Merging in place: what is new is inserted at its place, and logged, so that it can be undone.
 //!
-//! It stands on `specs/Growing.antt`. `places` calls it for each list; `shrinking` undoes the log. What is already
+//! It uses `specs/Growing.antt`. `places` calls it for each list; `shrinking` undoes the log. What is already
 //! there is neither copied nor walked over.
 ghost use Rattle.std.specs.Prelude.{◌≡◌, ◌≤◌, ◌<◌, ◌+◌, ◌++◌, ◌∷◌, [], vec_len, vec_capacity};
 ghost use Rattle.std.specs.Prelude.{IfOk, OnOk, OnErr};
@@ -56,7 +56,7 @@ fn note<T: Drop>(log: &mut Vec<T>, step: T)
 }
 
 /// Marks a signature and inserts it at a place. There has to be room for it and for its log.
-fn settle<F: Fn(Ask) -> bool>(
+fn insert_judged<F: Fn(Ask) -> bool>(
     sigs: &mut Vec<Sig>,
     log: &mut Vec<usize>,
     at: usize,
@@ -105,7 +105,7 @@ fn put_sig<F: Fn(Ask) -> bool>(
             log.reserve(1)?;
             let copy = sig.marked(alloc, false)?;
             *totals = with(*totals, of_sig(sig));
-            settle(sigs, log, at, copy, policy);
+            insert_judged(sigs, log, at, copy, policy);
             Ok(())
         }
     }

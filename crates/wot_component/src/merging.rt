@@ -1,7 +1,7 @@
 //! Merges two sorted lists into an empty one: lists of signatures, and lists of components. `sig` and `part` say what
 //! one item is: its order, its copy, and what two items of one rank become.
 //!
-//! It stands on `specs/Ranked.antt`.
+//! It uses `specs/Ranked.antt`.
 ghost use Rattle.std.specs.Prelude.{◌≡◌, OnOk, IfOk, [], ◌∷◌, ◌++◌};
 ghost use Rattle.std.specs.Cmp.{IsTotalOrder};
 ghost use Rattle.std.specs.declared.cmp.Ordering.{Ordering as TheOrdering};

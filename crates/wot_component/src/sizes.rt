@@ -1,4 +1,4 @@
-//! How many octets a packet takes in its shortest spelling. It stands on `specs/Sizes.antt`. `measure` and `adds` add
+//! How many octets a packet takes in its shortest spelling. It uses `specs/Sizes.antt`. `measure` and `adds` add
 //! these up.
 ghost use Rattle.std.specs.Prelude.{◌≡◌, ◌<◌, ◌^◌, length};
 ghost use Rattle.std.specs.List.{AllByRecursion};

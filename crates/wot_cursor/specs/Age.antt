@@ -4,7 +4,7 @@ use Rattle.wot_cursor.specs.declared.stamps.Age.{Age}
 use Rattle.wot_cursor.specs.declared.stamps.Age.TheVariants as ages
 use Rattle.wot_cursor.specs.declared.stamps.Stamps.{Stamps}
 
--- The count of changes is compared first, then the view's turn; the result has both numbers.
+-- The count of changes is compared first, then the view's revision; the result has both numbers.
 abbrev pub age_of : Stamps → Stamps → Age
 age_of was now =
     if was.keyring == now.keyring

@@ -1,4 +1,4 @@
-//! All cursors by name, and the limit on their number. It stands on the table that wot_watch keeps watches in too, and
+//! All cursors by name, and the limit on their number. It uses the table that wot_watch keeps watches in too, and
 //! adds what a cursor remembers.
 ghost use Rattle.std.specs.Prelude.{◌≡◌, [], Err, true, is_some, OnOk, OnErr};
 ghost use Rattle.std.specs.Option.{option_copied};

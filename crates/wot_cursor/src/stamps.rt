@@ -1,6 +1,7 @@
-//! The two numbers that say what a listing depends on. wot_cache counts a view's turns; the keyring counts its changes.
+//! The two numbers that say what a listing depends on. wot_cache counts a view's revisions; the keyring counts its
+//! changes.
 
-/// What a listing depends on: the keyring's count of changes, and the turn of its view.
+/// What a listing depends on: the keyring's count of changes, and the revision of its view.
 #[derive(Clone, Copy, PartialEq, Eq)]
 pub struct Stamps {
     pub keyring: u64,

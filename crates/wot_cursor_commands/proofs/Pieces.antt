@@ -16,7 +16,7 @@ use Rattle.wot_answers.specs.declared.parts.Parts.{Parts}
 use Rattle.wot_cache.specs.declared.view.View.{View}
 use Rattle.wot_cache.specs.Parts.{ArePartsOf, present_from}
 use Rattle.wot_cache.specs.State.{Engine}
-use Rattle.wot_cache.specs.Turns.{turn_at}
+use Rattle.wot_cache.specs.Revisions.{revision_at}
 use Rattle.wot_cache.specs.Views.{view_at}
 use Rattle.wot_cursor.specs.Age.{age_of}
 use Rattle.wot_cursor.specs.Cursors.{Cursor, Cursors}
@@ -35,41 +35,41 @@ use Rattle.wot_plain.specs.Session.{Session, session_of}
 use Rattle.wot_plain.proofs.Results.{if_ok}
 
 -- a reply that moves no cursor
-pub left : (s : Session) (told : DraftReply) (reply : Reply) → told.reply ≡ reply → told.moved ≡ None →
-    Leaves reply s.cursors told.reply (settled told.moved s.cursors)
-left s told reply r m = (r, ap (λ (o : Option CursorMove). settled o s.cursors) m)
+pub left : (s : Session) (drafted : DraftReply) (reply : Reply) → drafted.reply ≡ reply → drafted.moved ≡ None →
+    Leaves reply s.cursors drafted.reply (settled drafted.moved s.cursors)
+left s drafted reply r m = (r, ap (λ (o : Option CursorMove). settled o s.cursors) m)
 
 -- the two current numbers
 pub stamps_now : (s : Session) (view : List ℕ) (now : Stamps) → now.keyring ≡ s.changes →
-    Some now.view ≡ turn_at s.turns view → now ≡ stamps_in s view
+    Some now.view ≡ revision_at s.revisions view → now ≡ stamps_in s view
 stamps_now s view now k t =
-    let turn : now.view ≡ unwrap_or (turn_at s.turns view) 0 = ap (λ (o : Option ℕ). unwrap_or o 0) t in
-    λ i. record { keyring = k i; view = turn i }
+    let revision : now.view ≡ unwrap_or (revision_at s.revisions view) 0 = ap (λ (o : Option ℕ). unwrap_or o 0) t in
+    λ i. record { keyring = k i; view = revision i }
 
 -- ---- an existing cursor over an open view
 
 module _ (found : Option Cursor) (cursor : Cursor) (s : Session) (name : List ℕ) (count : ℕ) (is : Some cursor ≡ found)
     (shown : is_some (view_at s.state.views cursor.view) ≡ true) where
-  from_cursor : (told : DraftReply) → GoesFrom (view_at s.state.views cursor.view) s name count cursor told.reply
-      (settled told.moved s.cursors)
-      → Goes found s name count told.reply (settled told.moved s.cursors)
-  from_cursor told goes = subst (λ (o : Option Cursor). Goes o s name count told.reply (settled told.moved s.cursors))
+  from_cursor : (drafted : DraftReply) → GoesFrom (view_at s.state.views cursor.view) s name count cursor drafted.reply
+      (settled drafted.moved s.cursors)
+      → Goes found s name count drafted.reply (settled drafted.moved s.cursors)
+  from_cursor drafted goes = subst (λ (o : Option Cursor). Goes o s name count drafted.reply (settled drafted.moved s.cursors))
       is goes
 
   -- if both numbers are unchanged, the piece is returned
   pub given_by : {E : Type 0} (r : Result DraftReply E) → age_of cursor.stamps (stamps_in s cursor.view) ≡ ages.Same
-      → IfOk r (λ told. IfSome (view_at s.state.views cursor.view)
-      (λ view. GivesPiece s name count cursor view told.reply (settled told.moved s.cursors)))
-      → IfOk r (λ told. Goes found s name count told.reply (settled told.moved s.cursors))
-  given_by r e gives = if_ok r _ _ (λ told g. from_cursor told (by told (view_at s.state.views cursor.view) shown g))
+      → IfOk r (λ drafted. IfSome (view_at s.state.views cursor.view)
+      (λ view. GivesPiece s name count cursor view drafted.reply (settled drafted.moved s.cursors)))
+      → IfOk r (λ drafted. Goes found s name count drafted.reply (settled drafted.moved s.cursors))
+  given_by r e gives = if_ok r _ _ (λ drafted g. from_cursor drafted (by drafted (view_at s.state.views cursor.view) shown g))
       gives
     where
-      by : (told : DraftReply) (o : Option View) → is_some o ≡ true →
-          IfSome o (λ view. GivesPiece s name count cursor view told.reply (settled told.moved s.cursors))
-          → GoesFrom o s name count cursor told.reply (settled told.moved s.cursors)
-      by told None there g = absurd cc
-      by told (Some view) there g =
-          subst (λ (a : Age). GoesBy a s name count cursor view told.reply (settled told.moved s.cursors)) (sym e) g
+      by : (drafted : DraftReply) (o : Option View) → is_some o ≡ true →
+          IfSome o (λ view. GivesPiece s name count cursor view drafted.reply (settled drafted.moved s.cursors))
+          → GoesFrom o s name count cursor drafted.reply (settled drafted.moved s.cursors)
+      by drafted None there g = absurd cc
+      by drafted (Some view) there g =
+          subst (λ (a : Age). GoesBy a s name count cursor view drafted.reply (settled drafted.moved s.cursors)) (sym e) g
 
 -- ---- pieces
 
@@ -92,15 +92,15 @@ pub gives_piece : {E : Type 0} (r : Result DraftReply E) (engine : Engine) (curs
     (cursor : Cursor) (parts : Parts)
     → 1 ≤ cursor.wanted → IsSomeAnd (view_at engine.views cursor.view) (λ v. ArePartsOf engine.keyring v parts) →
     IsOfEachList HasList
-    → IfOk r (λ told. TellsPiece parts name count cursor told)
+    → IfOk r (λ drafted. TellsPiece parts name count cursor drafted)
     → OnTold r cursors (ReturnsPiece (session_of engine cursors) name count cursor)
 gives_piece (Err e) engine cursors name count cursor parts some are has gives = tt
-gives_piece (Ok told) engine cursors name count cursor parts some are has gives =
+gives_piece (Ok drafted) engine cursors name count cursor parts some are has gives =
     by (view_at engine.views cursor.view) are
   where
     by : (o : Option View) → IsSomeAnd o (λ v. ArePartsOf engine.keyring v parts)
-        → IfSome o (λ view. GivesPiece (session_of engine cursors) name count cursor view told.reply
-        (settled told.moved cursors))
+        → IfSome o (λ view. GivesPiece (session_of engine cursors) name count cursor view drafted.reply
+        (settled drafted.moved cursors))
     by None are = absurd are
     by (Some view) are =
         let pairs = pairs_in (certificates_in engine.keyring) in

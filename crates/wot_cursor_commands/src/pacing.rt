@@ -1,5 +1,5 @@
 //! The `cursor` commands: `over`, `next` and `close`. A piece is listed from the cursor's place, and the cursor moves
-//! only once the piece was written. It stands on wot_cursor and wot_explain. wot_laws says that the pieces
+//! only once the piece was written. It uses wot_cursor and wot_explain. wot_laws says that the pieces
 //! join to the list.
 ghost use Rattle.std.specs.Prelude.{◌≡◌, ◌≤◌, None, Some, false, true, length, IfOk, OnErr, is_ok, is_some};
 ghost use Rattle.wot_script.specs.Replies.{is_short};
@@ -25,7 +25,7 @@ use wot_types::{Memory, Place, Steps, UserId, ViewName};
 
 /// Runs a command about the cursor of this name. A cursor moves only once the reply is written. `close` takes no
 /// memory.
-pub fn pace(
+pub fn run_cursor_command(
     alloc: Global,
     engine: &mut Engine,
     steps: &mut Steps,
@@ -38,8 +38,8 @@ pub fn pace(
     ensures stays { StaysButMarks engine.old engine.new }
     ensures makes { CursorMakes result (cursor_at cursors.old name.now) command.now engine.old engine.new
         steps.old.made steps.new.made }
-    ensures quiet { IfOk result (λ told. is_short told.reply ≡ false → cursors.new ≡ cursors.old) }
-    ensures moves { IfOk result (λ told. is_some told.moved ≡ true → cursors.new ≡ cursors.old) }
+    ensures quiet { IfOk result (λ drafted. is_short drafted.reply ≡ false → cursors.new ≡ cursors.old) }
+    ensures moves { IfOk result (λ drafted. is_some drafted.moved ≡ true → cursors.new ≡ cursors.old) }
     ensures kept { OnErr result (cursors.new ≡ cursors.old) }
     ensures sure { command.now ≡ paces.Close → is_ok result ≡ true }
 {
@@ -62,16 +62,16 @@ pub fn over(
 ) -> Result<DraftReply, Memory>
     ensures begins { OnTold result cursors.new
         (PacesCursor (session_of engine.now cursors.old) name.now (paces.Over view.now wanted)) }
-    ensures short { IfOk result (λ told. is_short told.reply ≡ true) }
-    ensures alone { IfOk result (λ told. told.moved ≡ None) }
+    ensures short { IfOk result (λ drafted. is_short drafted.reply ≡ true) }
+    ensures alone { IfOk result (λ drafted. drafted.moved ≡ None) }
     ensures kept { OnErr result (cursors.new ≡ cursors.old) }
 {
-    let Some(turn) = engine.turn(view) else {
+    let Some(revision) = engine.revision(view) else {
         return Ok(alone(reply_to_missing(Missing::View)));
     };
     let stamps = Stamps {
         keyring: engine.keyring().changes(),
-        view: turn,
+        view: revision,
     };
     let name = name.duplicate(alloc)?;
     let view = view.duplicate(alloc)?;
@@ -116,12 +116,12 @@ pub fn next(
     let Some(cursor) = cursors.get(name) else {
         return Ok(alone(reply_to_missing(Missing::Cursor)));
     };
-    let Some(turn) = engine.turn(cursor.view()) else {
+    let Some(revision) = engine.revision(cursor.view()) else {
         return Ok(alone(reply_to_missing(Missing::View)));
     };
     let now = Stamps {
         keyring: engine.keyring().changes(),
-        view: turn,
+        view: revision,
     };
     match age(cursor.stamps(), now) {
         Age::Same => give(alloc, engine, steps, cursor, name, count),
@@ -166,7 +166,7 @@ fn piece(
 ) -> Result<DraftReply, Memory>
     requires wanted { 1 ≤ cursor.now.wanted }
     requires few { length parts.now.roots.now ≤ 64 }
-    ensures piece { IfOk result (λ told. TellsPiece parts.now name.now count cursor.now told) }
+    ensures piece { IfOk result (λ drafted. TellsPiece parts.now name.now count cursor.now drafted) }
 {
     let wanted = cursor.wanted();
     let after = cursor.place();

@@ -85,7 +85,7 @@ module _ (q : Question) where
 
 -- ---- there is one answer
 
-taken_one : (q : Question) → IsRecord q.told → (wanted : ℕ) (earlier a b : List Path) → CompletesAnswer q wanted earlier a
+taken_one : (q : Question) → IsRecord q.network → (wanted : ℕ) (earlier a b : List Path) → CompletesAnswer q wanted earlier a
     → CompletesAnswer q wanted earlier b → a ≡ b
 taken_one q r wanted earlier [] [] m n = refl
 taken_one q r wanted earlier [] (y ∷ b) (inl e) n = absurd (omega (arith, e, n.0))
@@ -99,7 +99,7 @@ taken_one q r wanted earlier (x ∷ a) (y ∷ b) m n =
     ap (λ (z : Path). z ∷ a) first
     ∙ ap (λ (z : List Path). y ∷ z) (taken_one q r (wanted - x.amount) (earlier ++ x ∷ []) a b m.2 n')
 
-pub answer_one : (q : Question) → IsRecord q.told → (wanted : ℕ) (a b : List Path) → IsAnswer q wanted a
+pub answer_one : (q : Question) → IsRecord q.network → (wanted : ℕ) (a b : List Path) → IsAnswer q wanted a
     → IsAnswer q wanted b → a ≡ b
 answer_one q r wanted a b m n = taken_one q r wanted [] a b (answer_taken q wanted a m) (answer_taken q wanted b n)
 

@@ -161,7 +161,7 @@ greatest_none : (q : Question) (used : Use) (rows other : List Step) → AreAtMo
 greatest_none q used rows other le r = let a = r.root in let b = le (start q.target other) in absurd (omega arith)
 
 climbed_next : (q : Question) (used : Use) (n least : ℕ) (rows : List Step) → 0 < least
-    → (entry_at q.told q.target).in_order ≡ true → IsFirst q used least rows
+    → (entry_at q.network q.target).in_order ≡ true → IsFirst q used least rows
     → ((other : List Step) → Rooted q used 1 other → length rows ≤ length other)
     → AreAtMost q.roots (path_amount q used rows + n) → IsNext q used (climbed q used rows n)
 unfolding climbed
@@ -196,9 +196,9 @@ AreNextOrSpent q used (Some steps) = IsNext q used steps
 
 pub next_of_is : (q : Question) (used : Use) (most : ℕ) → AreAtMost q.roots most
     → AreNextOrSpent q used (next_of most q used)
-next_of_is q used most le = by (entry_at q.told q.target).in_order refl (first_of q used 1) (first_of_is q used 1)
+next_of_is q used most le = by (entry_at q.network q.target).in_order refl (first_of q used 1) (first_of_is q used 1)
   where
-    by : (b : Bool) → (entry_at q.told q.target).in_order ≡ b → (o : Option (List Step)) → IsFirstOrNone q used 1 o
+    by : (b : Bool) → (entry_at q.network q.target).in_order ≡ b → (o : Option (List Step)) → IsFirstOrNone q used 1 o
         → AreNextOrSpent q used (cond b (next_from q used most o) None)
     by false e o f = disordered_spent q used e
     by true e None f = none_spent q used f

@@ -25,7 +25,7 @@ true-place : (p : Option ℕ) (uid : ℕ) → p ≡ Some uid → is_place p uid 
 true-place p uid e = subst (λ (x : Option ℕ). is_place x uid ≡ true) (sym e) (eq-eqb uid uid refl)
 
 reaches-true : (q : Question) (row : Row) (rest : List Step) → reaches q row rest ≡ true → Reaches q row rest
-reaches-true q row [] e = place-true (entry_at q.told q.target).place row.edge.uid e
+reaches-true q row [] e = place-true (entry_at q.network q.target).place row.edge.uid e
 reaches-true q row (next ∷ rest) e =
     let a = and_parts (nat_le (length (next ∷ rest)) row.edge.depth)
     (row.scope && not (same_fpr row.edge.issuer q.target)) e in
@@ -38,7 +38,7 @@ reaches-true q row (next ∷ rest) e =
     )
 
 true-reaches : (q : Question) (row : Row) (rest : List Step) → Reaches q row rest → reaches q row rest ≡ true
-true-reaches q row [] r = true-place (entry_at q.told q.target).place row.edge.uid r
+true-reaches q row [] r = true-place (entry_at q.network q.target).place row.edge.uid r
 true-reaches q row (next ∷ rest) r =
     and_from (nat_le (length (next ∷ rest)) row.edge.depth) _ (le-leb (length (next ∷ rest)) row.edge.depth r.0)
     (and_from row.scope _ r.1 (by (same_fpr row.edge.issuer q.target) (same_fpr-true row.edge.issuer q.target)))
@@ -48,7 +48,7 @@ true-reaches q row (next ∷ rest) r =
     by false f = refl
 
 pub serves-true : (q : Question) (used : Use) (least : ℕ) (row : Row) (rest : List Step)
-    → Has (rows_into q.told (start q.target rest)) row → serves q used least row rest ≡ true
+    → Has (rows_into q.network (start q.target rest)) row → serves q used least row rest ≡ true
     → Serves q used least (step_of row.edge) rest
 serves-true q used least row rest h e =
     let a = and_parts row.usable (nat_le least (step_left used (step_of row.edge)) && reaches q row rest) e in
@@ -103,9 +103,9 @@ module _ (q : Question) (used : Use) (least : ℕ) where
 
   -- an edge that serves is found
   with_rows-serves : (rest : List Step) (found : List (List Step)) (step : Step) → Serves q used least step rest
-      → Covers q.target (with_rows q used least rest (rows_into q.told (start q.target rest)) found) (step ∷ rest)
+      → Covers q.target (with_rows q used least rest (rows_into q.network (start q.target rest)) found) (step ∷ rest)
   with_rows-serves rest found step s =
-      let rows = rows_into q.told (start q.target rest) in
+      let rows = rows_into q.network (start q.target rest) in
       subst (λ (x : Step). Covers q.target (with_rows q used least rest rows found) (x ∷ rest)) s.stands.shown
       (with_rows-covers rest rows found s.stands.row s.stands.into (true-serves q used least step rest s))
 
@@ -131,9 +131,9 @@ module _ (q : Question) (used : Use) (least : ℕ) where
       elim (nat_eq (length p) size) as
       (λ b. Covers q.target
       (grown q used least size ps
-      (cond b (with_rows q used least p (rows_into q.told (start q.target p)) found) found)) other) [
-        | true ↦ grown-keeps size ps (with_rows q used least p (rows_into q.told (start q.target p)) found) other
-            (with_rows-keeps p (rows_into q.told (start q.target p)) found other c)
+      (cond b (with_rows q used least p (rows_into q.network (start q.target p)) found) found)) other) [
+        | true ↦ grown-keeps size ps (with_rows q used least p (rows_into q.network (start q.target p)) found) other
+            (with_rows-keeps p (rows_into q.network (start q.target p)) found other c)
         | false ↦ grown-keeps size ps found other c
       ]
 
@@ -144,11 +144,11 @@ module _ (q : Question) (used : Use) (least : ℕ) where
       let t : nat_eq (length p) size ≡ true = eq-eqb (length p) size (ap length (sym f) ∙ e) in
       let s' : Serves q used least row p = subst (Serves q used least row) f s in
       subst (λ (x : List Step). Covers q.target (grown q used least size (p ∷ ps) found) (row ∷ x)) (sym f)
-      (rw t (grown-keeps size ps (with_rows q used least p (rows_into q.told (start q.target p)) found) (row ∷ p)
+      (rw t (grown-keeps size ps (with_rows q used least p (rows_into q.network (start q.target p)) found) (row ∷ p)
       (with_rows-serves p found row s')))
   grown-grows size (p ∷ ps) found rows (inr h) e row s =
       grown-grows size ps
-      (cond (nat_eq (length p) size) (with_rows q used least p (rows_into q.told (start q.target p)) found) found) rows
+      (cond (nat_eq (length p) size) (with_rows q used least p (rows_into q.network (start q.target p)) found) found) rows
       h e row s
 
   grown-all : (size : ℕ) (ps found : List (List Step)) → AllByRecursion (IsFound q used least size) ps
@@ -159,9 +159,9 @@ module _ (q : Question) (used : Use) (least : ℕ) where
       elim (nat_eq (length p) size) as
       (λ t. AllByRecursion (IsFound q used least (suc size))
       (grown q used least size ps
-      (cond t (with_rows q used least p (rows_into q.told (start q.target p)) found) found))) [
-        | true ↦ grown-all size ps (with_rows q used least p (rows_into q.told (start q.target p)) found) a.1
-            (with_rows-all (IsFound q used least (suc size)) p (rows_into q.told (start q.target p)) found
+      (cond t (with_rows q used least p (rows_into q.network (start q.target p)) found) found))) [
+        | true ↦ grown-all size ps (with_rows q used least p (rows_into q.network (start q.target p)) found) a.1
+            (with_rows-all (IsFound q used least (suc size)) p (rows_into q.network (start q.target p)) found
             (λ row h e. record {
               some = omega arith;
               few = let f = a.0.few in
@@ -179,7 +179,7 @@ module _ (q : Question) (used : Use) (least : ℕ) where
 
   pub first_found : AllByRecursion (IsFound q used least 1) (first_layer q used least)
   first_found =
-      with_rows-all (IsFound q used least 1) [] (rows_into q.told q.target) []
+      with_rows-all (IsFound q used least 1) [] (rows_into q.network q.target) []
       (λ row h e. record { some = omega arith; few = omega arith; trail = (serves-true q used least row [] h e, tt) })
       tt
 

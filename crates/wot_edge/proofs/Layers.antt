@@ -25,7 +25,7 @@ is_place None uid = false
 is_place (Some place) uid = nat_eq place uid
 
 abbrev pub reaches : Question → Row → List Step → Bool
-reaches q row [] = is_place (entry_at q.told q.target).place row.edge.uid
+reaches q row [] = is_place (entry_at q.network q.target).place row.edge.uid
 reaches q row (next ∷ rest) =
     nat_le (length (next ∷ rest)) row.edge.depth && (row.scope && not (same_fpr row.edge.issuer q.target))
 
@@ -43,7 +43,7 @@ abbrev pub grown : Question → Use → ℕ → ℕ → List (List Step) → Lis
 grown q used least size [] found = found
 grown q used least size (p ∷ ps) found =
     grown q used least size ps
-    (cond (nat_eq (length p) size) (with_rows q used least p (rows_into q.told (start q.target p)) found) found)
+    (cond (nat_eq (length p) size) (with_rows q used least p (rows_into q.network (start q.target p)) found) found)
 
 abbrev pub better_of : List Step → Option (List Step) → List Step
 better_of p None = p
@@ -67,7 +67,7 @@ first_from q used least (suc n) size found =
     first_or (chosen q used least found) (first_from q used least n (suc size) (grown q used least size found found))
 
 abbrev pub first_layer : Question → Use → ℕ → List (List Step)
-first_layer q used least = with_rows q used least [] (rows_into q.told q.target) []
+first_layer q used least = with_rows q used least [] (rows_into q.network q.target) []
 
 abbrev pub first_of : Question → Use → ℕ → Option (List Step)
 first_of q used least = first_from q used least 254 1 (first_layer q used least)
@@ -93,4 +93,4 @@ next_from q used most (Some steps) = Some (climbed q used steps most)
 
 -- the next path, if no root has more than `most`
 abbrev pub next_of : ℕ → Question → Use → Option (List Step)
-next_of most q used = cond (entry_at q.told q.target).in_order (next_from q used most (first_of q used 1)) None
+next_of most q used = cond (entry_at q.network q.target).in_order (next_from q used most (first_of q used 1)) None

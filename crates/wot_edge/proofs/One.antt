@@ -11,7 +11,7 @@ use Rattle.wot_edge.specs.declared.path.Path.{Path}
 use Rattle.wot_edge.specs.StepLaws.{step_exact, ranked_steps}
 
 -- lists of edges to one target that tie are the same
-pub chain_exact : (q : Question) → IsRecord q.told → (a b : List Step) → Chain q a → Chain q b → steps_cmp a b ≡ Equal
+pub chain_exact : (q : Question) → IsRecord q.network → (a b : List Step) → Chain q a → Chain q b → steps_cmp a b ≡ Equal
     → a ≡ b
 chain_exact q r [] [] c d e = refl
 chain_exact q r [] (y ∷ b) c d e = absurd cc
@@ -20,8 +20,8 @@ chain_exact q r (x ∷ a) (y ∷ b) c d e =
     let t = then-Equal (step_cmp x y) (steps_cmp a b) e in
     let same : a ≡ b = chain_exact q r a b c.1 d.1 t.1 in
     let tied = step_exact x y t.0 in
-    let has : Has (rows_into q.told (start q.target a)) d.0.row =
-    subst (λ (z : List Step). Has (rows_into q.told (start q.target z)) d.0.row) (sym same) d.0.into in
+    let has : Has (rows_into q.network (start q.target a)) d.0.row =
+    subst (λ (z : List Step). Has (rows_into q.network (start q.target z)) d.0.row) (sym same) d.0.into in
     let issuer : c.0.row.edge.issuer ≡ d.0.row.edge.issuer =
     ap (λ (s : Step). s.issuer) c.0.shown ∙ tied.0 ∙ ap (λ (s : Step). s.issuer) (sym d.0.shown) in
     let uid : c.0.row.edge.uid ≡ d.0.row.edge.uid =
@@ -32,7 +32,7 @@ chain_exact q r (x ∷ a) (y ∷ b) c d e =
     ∙ d.0.shown in
     ap (λ (z : Step). z ∷ a) first ∙ ap (λ (z : List Step). y ∷ z) same
 
-pub next_one : (q : Question) (used : Use) → IsRecord q.told → (a b : List Step) → IsNext q used a → IsNext q used b
+pub next_one : (q : Question) (used : Use) → IsRecord q.network → (a b : List Step) → IsNext q used a → IsNext q used b
     → a ≡ b
 next_one q used r a b m n = elim (cases_lt (length a) (length b)) [
   | inl lt ↦ absurd (n.1 a m.0 (inl lt))
@@ -60,7 +60,7 @@ next_one q used r a b m n = elim (cases_lt (length a) (length b)) [
       ]
     ]
 
-pub next_path_one : (q : Question) (used : Use) → IsRecord q.told → (a b : Path) → IsNextPath q used a
+pub next_path_one : (q : Question) (used : Use) → IsRecord q.network → (a b : Path) → IsNextPath q used a
     → IsNextPath q used b → a ≡ b
 next_path_one q used r a b m n =
     let steps : a.steps ≡ b.steps = next_one q used r a.steps b.steps m.steps n.steps in

@@ -16,14 +16,14 @@ use Rattle.wot_edge.specs.declared.edge.EdgeFacts.{EdgeFacts}
 use Rattle.wot_edge.specs.Order.{edge_cmp}
 use Rattle.wot_edge.specs.Record.{Has, Row, Entry, IsRecord, blank, entry_at, rows_into, edges_into}
 use Rattle.wot_edge.specs.Lawful.{AreEntries, AreRows}
-use Rattle.wot_edge.specs.Plain.{Line, Plain, octet_place, row_of, entry_of, told_of, AreLines, MayPrecede}
+use Rattle.wot_edge.specs.Plain.{Line, Plain, octet_place, row_of, entry_of, network_for, AreLines, MayPrecede}
 use Rattle.wot_edge.specs.StepLaws.{is_lt-Less}
 use Rattle.wot_edge.proofs.Recorded.{is_record, no_rows, edge_total}
 
 -- ---- what is known of a fingerprint
 
 told_at : (plain : Plain) (uid : List ℕ) (fpr : Fpr)
-    → entry_at (told_of plain uid) fpr ≡ unwrap_or
+    → entry_at (network_for plain uid) fpr ≡ unwrap_or
     (option_map (entry_of plain.inside (octet_place uid)) (lookup (is_at (fpr_cmp fpr)) plain.lines)) blank
 told_at plain uid fpr =
     ap (λ (found : Option Entry). unwrap_or found blank)
@@ -31,13 +31,13 @@ told_at plain uid fpr =
 
 pub told_line : (plain : Plain) (uid : List ℕ) (fpr : Fpr) (line : Line)
     → lookup (is_at (fpr_cmp fpr)) plain.lines ≡ Some line
-    → entry_at (told_of plain uid) fpr ≡ entry_of plain.inside (octet_place uid) line
+    → entry_at (network_for plain uid) fpr ≡ entry_of plain.inside (octet_place uid) line
 told_line plain uid fpr line e =
     told_at plain uid fpr
     ∙ ap (λ (found : Option Line). unwrap_or (option_map (entry_of plain.inside (octet_place uid)) found) blank) e
 
 pub told_none : (plain : Plain) (uid : List ℕ) (fpr : Fpr) → lookup (is_at (fpr_cmp fpr)) plain.lines ≡ None
-    → entry_at (told_of plain uid) fpr ≡ blank
+    → entry_at (network_for plain uid) fpr ≡ blank
 told_none plain uid fpr e =
     told_at plain uid fpr
     ∙ ap (λ (found : Option Line). unwrap_or (option_map (entry_of plain.inside (octet_place uid)) found) blank) e
@@ -48,13 +48,13 @@ row_edges inside place [] = refl
 row_edges inside place (edge ∷ edges) = ap (λ (rest : List EdgeFacts). edge ∷ rest) (row_edges inside place edges)
 
 pub line_edges : (plain : Plain) (uid : List ℕ) (fpr : Fpr) (line : Line)
-    → lookup (is_at (fpr_cmp fpr)) plain.lines ≡ Some line → edges_into (told_of plain uid) fpr ≡ line.edges
+    → lookup (is_at (fpr_cmp fpr)) plain.lines ≡ Some line → edges_into (network_for plain uid) fpr ≡ line.edges
 line_edges plain uid fpr line e =
     ap (λ (entry : Entry). map (λ row. row.edge) entry.rows) (told_line plain uid fpr line e)
     ∙ row_edges plain.inside (octet_place uid) line.edges
 
 pub no_edges : (plain : Plain) (uid : List ℕ) (fpr : Fpr) → lookup (is_at (fpr_cmp fpr)) plain.lines ≡ None
-    → edges_into (told_of plain uid) fpr ≡ []
+    → edges_into (network_for plain uid) fpr ≡ []
 no_edges plain uid fpr e = ap (λ (entry : Entry). map (λ row. row.edge) entry.rows) (told_none plain uid fpr e)
 
 row_made : (inside : ℕ) (place : Option ℕ) (edges : List EdgeFacts) (row : Row)
@@ -66,7 +66,7 @@ row_made inside place (edge ∷ edges) row (inl e) =
 row_made inside place (edge ∷ edges) row (inr h) = let m = row_made inside place edges row h in (inr m.0, m.1)
 
 -- each row is one that the line makes
-told_row : (plain : Plain) (uid : List ℕ) (fpr : Fpr) (row : Row) → Has (rows_into (told_of plain uid) fpr) row
+told_row : (plain : Plain) (uid : List ℕ) (fpr : Fpr) (row : Row) → Has (rows_into (network_for plain uid) fpr) row
     → (line : Line) × (lookup (is_at (fpr_cmp fpr)) plain.lines ≡ Some line) × Has line.edges row.edge
     × (row ≡ row_of plain.inside (octet_place uid) row.edge)
 told_row plain uid fpr row h = by (lookup (is_at (fpr_cmp fpr)) plain.lines) refl
@@ -79,7 +79,7 @@ told_row plain uid fpr row h = by (lookup (is_at (fpr_cmp fpr)) plain.lines) ref
         let m = row_made plain.inside (octet_place uid) line.edges row
         (subst (λ (entry : Entry). Has entry.rows row) (told_line plain uid fpr line e) h) in (line, e, m.0, m.1)
 
-pub told_made : (plain : Plain) (uid : List ℕ) (fpr : Fpr) (row : Row) → Has (rows_into (told_of plain uid) fpr) row
+pub told_made : (plain : Plain) (uid : List ℕ) (fpr : Fpr) (row : Row) → Has (rows_into (network_for plain uid) fpr) row
     → row ≡ row_of plain.inside (octet_place uid) row.edge
 told_made plain uid fpr row h = (told_row plain uid fpr row h).3
 
@@ -104,8 +104,8 @@ lines_entries inside place [] all = tt
 lines_entries inside place (l ∷ lines) all =
     (subst (AreRows l.0) (sym (row_edges inside place l.1.edges)) all.0, lines_entries inside place lines all.1)
 
-pub told_is_record : (plain : Plain) (uid : List ℕ) → AreLines plain.lines → IsRecord (told_of plain uid)
-told_is_record plain uid all = is_record (told_of plain uid) (lines_entries plain.inside (octet_place uid) plain.lines all)
+pub told_is_record : (plain : Plain) (uid : List ℕ) → AreLines plain.lines → IsRecord (network_for plain uid)
+told_is_record plain uid all = is_record (network_for plain uid) (lines_entries plain.inside (octet_place uid) plain.lines all)
 
 -- ---- rows, checked one by one
 

@@ -63,19 +63,19 @@ pub no_rows : (fpr : Fpr) → AreRows fpr []
 unfolding IsStrictlySortedBy
 no_rows fpr = record { into = λ x h. absurd h; order = tt }
 
-entry_rows : (told : Record) (fpr : Fpr) → AreEntries told → AreRows fpr (edges_into told fpr)
+entry_rows : (network : Record) (fpr : Fpr) → AreEntries network → AreRows fpr (edges_into network fpr)
 entry_rows [] fpr all = no_rows fpr
-entry_rows (t ∷ told) fpr all = by (entry_rows told fpr all.1) (same_fpr fpr t.0) refl
+entry_rows (t ∷ network) fpr all = by (entry_rows network fpr all.1) (same_fpr fpr t.0) refl
   where
-    by : AreRows fpr (edges_into told fpr) → (b : Bool) → same_fpr fpr t.0 ≡ b
+    by : AreRows fpr (edges_into network fpr) → (b : Bool) → same_fpr fpr t.0 ≡ b
         → AreRows fpr
-        (map (λ (r : Row). r.edge) (unwrap_or (cond b (Some t.1) (lookup (is_at (fpr_cmp fpr)) told)) blank).rows)
+        (map (λ (r : Row). r.edge) (unwrap_or (cond b (Some t.1) (lookup (is_at (fpr_cmp fpr)) network)) blank).rows)
     by ih true f =
         subst (λ (x : Fpr). AreRows x (map (λ (r : Row). r.edge) t.1.rows)) (sym (same_fpr-true fpr t.0 f)) all.0
     by ih false f = ih
 
-pub is_record : (told : Record) → AreEntries told → IsRecord told
-is_record told all = record {
-  into = λ fpr row h. (entry_rows told fpr all).into row.edge (has_edge (rows_into told fpr) row h);
-  one = λ fpr x y h k e f. rows_one (rows_into told fpr) (entry_rows told fpr all).order x y h k e f;
+pub is_record : (network : Record) → AreEntries network → IsRecord network
+is_record network all = record {
+  into = λ fpr row h. (entry_rows network fpr all).into row.edge (has_edge (rows_into network fpr) row h);
+  one = λ fpr x y h k e f. rows_one (rows_into network fpr) (entry_rows network fpr all).order x y h k e f;
 }

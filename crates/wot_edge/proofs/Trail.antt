@@ -72,7 +72,7 @@ shorter q row (x ∷ rest) [] a b le e s = absurd (omega arith)
 shorter q row (x ∷ rest) (y ∷ other) a b le e s =
     record {
       row = s.row;
-      into = subst (λ (f : Fpr). Has (rows_into q.told f) s.row) (sym e) s.into;
+      into = subst (λ (f : Fpr). Has (rows_into q.network f) s.row) (sym e) s.into;
       usable = s.usable;
       shown = s.shown;
       reaches = (let d = s.reaches.0 in omega arith, s.reaches.1, s.reaches.2);
@@ -163,7 +163,7 @@ pub record IsFirst (q : Question) (used : Use) (least : ℕ) (rows : List Step) 
   pub first : (other : List Step) → Rooted q used least other → AtMost rows other
 
 pub first_open : (q : Question) (used : Use) (least : ℕ) (rows : List Step) → 0 < least
-    → (entry_at q.told q.target).in_order ≡ true → IsFirst q used least rows → IsOpen q used rows
+    → (entry_at q.network q.target).in_order ≡ true → IsFirst q used least rows → IsOpen q used rows
 first_open q used least rows pos ok f = (
   record {
     some = f.rooted.some;
@@ -191,7 +191,7 @@ first_open q used least rows pos ok f = (
 
 -- The first trail is the next path, if no open path is shorter, and none as short has a greater amount.
 pub first_next : (q : Question) (used : Use) (least : ℕ) (rows : List Step) → 0 < least
-    → (entry_at q.told q.target).in_order ≡ true → IsFirst q used least rows
+    → (entry_at q.network q.target).in_order ≡ true → IsFirst q used least rows
     → ((other : List Step) → Rooted q used 1 other → length rows ≤ length other)
     → ((other : List Step) → Rooted q used (path_amount q used rows + 1) other → length rows < length other)
     → IsNext q used rows
@@ -215,5 +215,5 @@ first_next q used least rows pos ok f fewest greatest = (first_open q used least
 pub none_spent : (q : Question) (used : Use) → ((other : List Step) → Rooted q used 1 other → ⊥) → IsSpent q used
 none_spent q used n rows o = n rows (valid_rooted q used 1 rows o.0 (let p = o.1 in omega arith))
 
-pub disordered_spent : (q : Question) (used : Use) → (entry_at q.told q.target).in_order ≡ false → IsSpent q used
+pub disordered_spent : (q : Question) (used : Use) → (entry_at q.network q.target).in_order ≡ false → IsSpent q used
 disordered_spent q used e rows o = let f = o.0.in_order in cc

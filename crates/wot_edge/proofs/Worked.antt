@@ -63,7 +63,7 @@ asked rows = record { rows = rows; place = Some 0; in_order = true }
 
 -- R is the only root, with full trust
 abbrev ask : Record → Question
-ask told = asks told ((R, 120) ∷ []) T
+ask network = asks network ((R, 120) ∷ []) T
 
 abbrev path : ℕ → List Step → Path
 path amount steps = record { amount = amount; root = start T steps; steps = steps }
@@ -74,31 +74,31 @@ one_root fpr =
     [ true ↦ omega arith | false ↦ omega arith ]
 
 -- what comes next after these paths, as the search by layers finds it
-next_is : (told : Record) (earlier : List Path) (o : Option (List Step)) → next_of 120 (ask told) (use_of earlier) ≡ o
-    → AreNextOrSpent (ask told) (use_of earlier) o
-next_is told earlier o e =
-    subst (AreNextOrSpent (ask told) (use_of earlier)) e (next_of_is (ask told) (use_of earlier) 120 one_root)
+next_is : (network : Record) (earlier : List Path) (o : Option (List Step)) → next_of 120 (ask network) (use_of earlier) ≡ o
+    → AreNextOrSpent (ask network) (use_of earlier) o
+next_is network earlier o e =
+    subst (AreNextOrSpent (ask network) (use_of earlier)) e (next_of_is (ask network) (use_of earlier) 120 one_root)
 
 -- an answer of one path that reaches the wanted amount, or after which no path is left
-reaches_it : (told : Record) (p : Path) → IsNextPath (ask told) (use_of []) p → 120 ≤ p.amount
-    → IsAnswer (ask told) 120 (p ∷ [])
-reaches_it told p n le = taken_answer (ask told) 120 (p ∷ []) (omega arith) (omega arith, n, inl (omega (arith, le)))
+reaches_it : (network : Record) (p : Path) → IsNextPath (ask network) (use_of []) p → 120 ≤ p.amount
+    → IsAnswer (ask network) 120 (p ∷ [])
+reaches_it network p n le = taken_answer (ask network) 120 (p ∷ []) (omega arith) (omega arith, n, inl (omega (arith, le)))
 
-leaves_none : (told : Record) (p : Path) → IsNextPath (ask told) (use_of []) p → IsSpent (ask told) (use_of (p ∷ []))
-    → IsAnswer (ask told) 120 (p ∷ [])
-leaves_none told p n s = taken_answer (ask told) 120 (p ∷ []) (omega arith) (omega arith, n, inr s)
+leaves_none : (network : Record) (p : Path) → IsNextPath (ask network) (use_of []) p → IsSpent (ask network) (use_of (p ∷ []))
+    → IsAnswer (ask network) 120 (p ∷ [])
+leaves_none network p n s = taken_answer (ask network) 120 (p ∷ []) (omega arith) (omega arith, n, inr s)
 
-no_path : (told : Record) → IsSpent (ask told) (use_of []) → IsAnswer (ask told) 120 []
-no_path told s = taken_answer (ask told) 120 [] (omega arith) (inr s)
+no_path : (network : Record) → IsSpent (ask network) (use_of []) → IsAnswer (ask network) 120 []
+no_path network s = taken_answer (ask network) 120 [] (omega arith) (inr s)
 
 -- no answer begins with a path if none is left
-not_any : (told : Record) → IsSpent (ask told) (use_of []) → (p : Path) (paths : List Path)
-    → IsAnswer (ask told) 120 (p ∷ paths) → ⊥
-not_any told s p paths a = s p.steps a.each.0.steps.0
+not_any : (network : Record) → IsSpent (ask network) (use_of []) → (p : Path) (paths : List Path)
+    → IsAnswer (ask network) 120 (p ∷ paths) → ⊥
+not_any network s p paths a = s p.steps a.each.0.steps.0
 
 -- 0 is no answer if there is a path
-not_none : (told : Record) (p : Path) → IsNextPath (ask told) (use_of []) p → IsAnswer (ask told) 120 [] → ⊥
-not_none told p n a = elim a.ends [ inl le ↦ absurd (omega (arith, le)) | inr s ↦ s p.steps n.steps.0 ]
+not_none : (network : Record) (p : Path) → IsNextPath (ask network) (use_of []) p → IsAnswer (ask network) 120 [] → ⊥
+not_none network p n a = elim a.ends [ inl le ↦ absurd (omega (arith, le)) | inr s ↦ s p.steps n.steps.0 ]
 
 -- ---- a root that is the target: it certifies its own user ID, and its amount as a root is 100
 

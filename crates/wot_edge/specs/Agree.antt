@@ -16,9 +16,9 @@ scoped_edge row = (row.edge, row.scope)
 pub record Agree (q other : Question) (set : List Fpr) : Type 0 where
   pub target : q.target ≡ other.target
   pub rows : (fpr : Fpr) → Has set fpr
-      → map scoped_edge (rows_into q.told fpr) ≡ map scoped_edge (rows_into other.told fpr)
-  pub place : (fpr : Fpr) → Has set fpr → (entry_at q.told fpr).place ≡ (entry_at other.told fpr).place
-  pub in_order : (fpr : Fpr) → Has set fpr → (entry_at q.told fpr).in_order ≡ (entry_at other.told fpr).in_order
-  pub usable : (fpr : Fpr) → Has set fpr → (x y : Row) → Has (rows_into q.told fpr) x
-      → Has (rows_into other.told fpr) y → x.edge ≡ y.edge → Has set x.edge.issuer → x.usable ≡ y.usable
+      → map scoped_edge (rows_into q.network fpr) ≡ map scoped_edge (rows_into other.network fpr)
+  pub place : (fpr : Fpr) → Has set fpr → (entry_at q.network fpr).place ≡ (entry_at other.network fpr).place
+  pub in_order : (fpr : Fpr) → Has set fpr → (entry_at q.network fpr).in_order ≡ (entry_at other.network fpr).in_order
+  pub usable : (fpr : Fpr) → Has set fpr → (x y : Row) → Has (rows_into q.network fpr) x
+      → Has (rows_into other.network fpr) y → x.edge ≡ y.edge → Has set x.edge.issuer → x.usable ≡ y.usable
   pub roots : (fpr : Fpr) → Has set fpr → root_amount q.roots fpr ≡ root_amount other.roots fpr

@@ -47,19 +47,19 @@ later_from set step rest from x h = from x (inr h)
 -- a row into the fingerprint that is of an edge
 pub record IsRowOf (q : Question) (at : Fpr) (x : Row) : Type 0 where
   pub row : Row
-  pub into : Has (rows_into q.told at) row
+  pub into : Has (rows_into q.network at) row
   pub edge : x.edge ≡ row.edge
   pub scope : x.scope ≡ row.scope
   pub usable : x.usable ≡ row.usable
 
 module _ (q other : Question) (set : List Fpr) (agree : Agree q other set) where
   -- the row of the same edge into a member, without regard to the issuer
-  pub edge_there : (at : Fpr) (x : Row) → Has set at → Has (rows_into q.told at) x
-      → (y : Row) × Has (rows_into other.told at) y × (x.edge ≡ y.edge) × (x.scope ≡ y.scope)
-  edge_there at x h into = twin (rows_into q.told at) (rows_into other.told at) x (agree.rows at h) into
+  pub edge_there : (at : Fpr) (x : Row) → Has set at → Has (rows_into q.network at) x
+      → (y : Row) × Has (rows_into other.network at) y × (x.edge ≡ y.edge) × (x.scope ≡ y.scope)
+  edge_there at x h into = twin (rows_into q.network at) (rows_into other.network at) x (agree.rows at h) into
 
   -- A row from a member into a member is one there too, with the same scope, and usable in both or in neither.
-  pub row_there : (at : Fpr) (x : Row) → Has set at → Has set x.edge.issuer → Has (rows_into q.told at) x
+  pub row_there : (at : Fpr) (x : Row) → Has set at → Has set x.edge.issuer → Has (rows_into q.network at) x
       → IsRowOf other at x
   row_there at x h from into =
       let y = edge_there at x h into in
@@ -76,11 +76,11 @@ module _ (q other : Question) (set : List Fpr) (agree : Agree q other set) where
   start_same (step ∷ rest) = refl
 
   module _ (here : Has set q.target) where
-    pub place_same : (entry_at q.told q.target).place ≡ (entry_at other.told other.target).place
-    place_same = agree.place q.target here ∙ ap (λ (f : Fpr). (entry_at other.told f).place) agree.target
+    pub place_same : (entry_at q.network q.target).place ≡ (entry_at other.network other.target).place
+    place_same = agree.place q.target here ∙ ap (λ (f : Fpr). (entry_at other.network f).place) agree.target
 
-    pub in_order_same : (entry_at q.told q.target).in_order ≡ (entry_at other.told other.target).in_order
-    in_order_same = agree.in_order q.target here ∙ ap (λ (f : Fpr). (entry_at other.told f).in_order) agree.target
+    pub in_order_same : (entry_at q.network q.target).in_order ≡ (entry_at other.network other.target).in_order
+    in_order_same = agree.in_order q.target here ∙ ap (λ (f : Fpr). (entry_at other.network f).in_order) agree.target
 
     pub start_in : (steps : List Step) → AreFrom set steps → Has set (start q.target steps)
     start_in [] from = here
@@ -102,7 +102,7 @@ module _ (q other : Question) (set : List Fpr) (agree : Agree q other set) where
         let y = row_there (start q.target rest) s.row (start_in rest (later_from set step rest from)) issuer s.into in
         record {
           row = y.row;
-          into = subst (λ (f : Fpr). Has (rows_into other.told f) y.row) (start_same rest) y.into;
+          into = subst (λ (f : Fpr). Has (rows_into other.network f) y.row) (start_same rest) y.into;
           usable = sym y.usable ∙ s.usable;
           shown = ap step_of (sym y.edge) ∙ s.shown;
           reaches = reaches_there s.row y.row rest y.edge y.scope s.reaches;

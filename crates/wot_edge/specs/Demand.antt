@@ -18,7 +18,7 @@ is_met target (Before size) edge = nat_le size edge.depth && not (same_fpr edge.
 
 -- the demand on edges with this many after them
 abbrev pub demand_in : Record → Fpr → ℕ → Demand
-demand_in told target size = cond (nat_eq size 0) (On (entry_at told target).place) (Before size)
+demand_in network target size = cond (nat_eq size 0) (On (entry_at network target).place) (Before size)
 
 abbrev pub demand_of : Question → ℕ → Demand
-demand_of q size = demand_in q.told q.target size
+demand_of q size = demand_in q.network q.target size

@@ -40,4 +40,4 @@ suc-zero n = by (nat_eq (suc n) 0) refl
     by false e = refl
 
 pub demand_some : (q : Question) (n : ℕ) → demand_of q (suc n) ≡ Before (suc n)
-demand_some q n = ap (λ (b : Bool). cond b (On (entry_at q.told q.target).place) (Before (suc n))) (suc-zero n)
+demand_some q n = ap (λ (b : Bool). cond b (On (entry_at q.network q.target).place) (Before (suc n))) (suc-zero n)

@@ -14,4 +14,4 @@ pub record AreRows (fpr : Fpr) (edges : List EdgeFacts) : Type 0 where
 
 -- those into each fingerprint are
 abbrev pub AreEntries : Record → Type 0
-AreEntries told = AllByRecursion (λ (e : Fpr × Entry). AreRows e.0 (map (λ (row : Row). row.edge) e.1.rows)) told
+AreEntries network = AllByRecursion (λ (e : Fpr × Entry). AreRows e.0 (map (λ (row : Row). row.edge) e.1.rows)) network

@@ -11,12 +11,13 @@ beginning target (edge ∷ rest) = edge.issuer
 
 -- a list of rows, usable or not, that ends at the target: each is one of those into where the rest begins
 abbrev pub IsRoute : Record → Fpr → List EdgeFacts → Type 0
-IsRoute told target [] = Unit {0}
-IsRoute told target (edge ∷ rest) = Has (edges_into told (beginning target rest)) edge × IsRoute told target rest
+IsRoute network target [] = Unit {0}
+IsRoute network target (edge ∷ rest) = Has (edges_into network (beginning target rest)) edge
+    × IsRoute network target rest
 
 -- the target, or the first issuer of a list of rows that ends at the target
 abbrev pub Leads : Record → Fpr → Fpr → Type 0
-Leads told target fpr = (route : List EdgeFacts) × IsRoute told target route × (fpr ≡ beginning target route)
+Leads network target fpr = (route : List EdgeFacts) × IsRoute network target route × (fpr ≡ beginning target route)
 
 -- all of the old set is in the new one
 abbrev pub Grows : List Fpr → List Fpr → Type 0
@@ -24,4 +25,4 @@ Grows old new = (fpr : Fpr) → Has old fpr → Has new fpr
 
 -- what the new set gained leads to the target
 abbrev pub GainsLeads : Record → Fpr → List Fpr → List Fpr → Type 0
-GainsLeads told target old new = (fpr : Fpr) → Has new fpr → Has old fpr ⊎ Leads told target fpr
+GainsLeads network target old new = (fpr : Fpr) → Has new fpr → Has old fpr ⊎ Leads network target fpr

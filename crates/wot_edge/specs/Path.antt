@@ -16,12 +16,12 @@ use Rattle.wot_edge.specs.Roots.{root_amount}
 -- The question to which amount U is authenticated as a user ID of the target, given the record of U and the amounts of
 -- the roots.
 pub record Question : Type 0 where
-  pub told : Record
+  pub network : Record
   pub roots : List (Fpr × ℕ)
   pub target : Fpr
 
 abbrev pub asks : Record → List (Fpr × ℕ) → Fpr → Question
-asks told roots target = record { told = told; roots = roots; target = target }
+asks network roots target = record { network = network; roots = roots; target = target }
 
 -- ---- valid paths
 
@@ -38,14 +38,14 @@ step_of edge =
 -- What the steps after an edge demand of it. The last edge is on U. Any other has a depth of at least their number, a
 -- scope that holds for U, and an issuer other than the target.
 abbrev pub Reaches : Question → Row → List Step → Type 0
-Reaches q row [] = (entry_at q.told q.target).place ≡ Some row.edge.uid
+Reaches q row [] = (entry_at q.network q.target).place ≡ Some row.edge.uid
 Reaches q row (next ∷ rest) =
     (length (next ∷ rest) ≤ row.edge.depth) × (row.scope ≡ true) × (row.edge.issuer ≢ q.target)
 
 -- a step that may come before others: a usable edge into where they begin
 pub record Stands (q : Question) (step : Step) (rest : List Step) : Type 0 where
   pub row : Row
-  pub into : Has (rows_into q.told (start q.target rest)) row
+  pub into : Has (rows_into q.network (start q.target rest)) row
   pub usable : row.usable ≡ true
   pub shown : step_of row.edge ≡ step
   pub reaches : Reaches q row rest
@@ -69,7 +69,7 @@ pub record IsValid (q : Question) (steps : List Step) : Type 0 where
   pub chain : Chain q steps
   pub distinct : Distinct (issuers steps)
   pub root : 0 < root_amount q.roots (start q.target steps)
-  pub in_order : (entry_at q.told q.target).in_order ≡ true
+  pub in_order : (entry_at q.network q.target).in_order ≡ true
 
 -- ---- residual amounts
 

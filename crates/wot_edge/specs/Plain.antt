@@ -46,8 +46,8 @@ entry_of inside place line = record {
   in_order = line.in_order && is_place place;
 }
 
-abbrev pub told_of : Plain → List ℕ → Record
-told_of plain uid = map (λ e. (e.0, entry_of plain.inside (octet_place uid) e.1)) plain.lines
+abbrev pub network_for : Plain → List ℕ → Record
+network_for plain uid = map (λ e. (e.0, entry_of plain.inside (octet_place uid) e.1)) plain.lines
 
 abbrev pub AreLines : List (Fpr × Line) → Type 0
 AreLines lines = AllByRecursion (λ e. AreRows e.0 e.1.edges) lines

@@ -34,22 +34,22 @@ Record = List (Fpr × Entry)
 
 -- what a record says about a fingerprint
 abbrev pub entry_at : Record → Fpr → Entry
-entry_at told fpr = unwrap_or (lookup (is_at (fpr_cmp fpr)) told) blank
+entry_at network fpr = unwrap_or (lookup (is_at (fpr_cmp fpr)) network) blank
 
 -- the rows into a fingerprint
 abbrev pub rows_into : Record → Fpr → List Row
-rows_into told fpr = (entry_at told fpr).rows
+rows_into network fpr = (entry_at network fpr).rows
 
 -- the edges of these rows
 abbrev pub edges_into : Record → Fpr → List EdgeFacts
-edges_into told fpr = map (λ row. row.edge) (rows_into told fpr)
+edges_into network fpr = map (λ row. row.edge) (rows_into network fpr)
 
 -- what holds for each row of an edge
 abbrev pub EachRow : Record → EdgeFacts → (Row → Type 0) → Type 0
-EachRow told edge holds = (row : Row) → Has (rows_into told edge.target) row → row.edge ≡ edge → holds row
+EachRow network edge holds = (row : Row) → Has (rows_into network edge.target) row → row.edge ≡ edge → holds row
 
 -- The rows into each fingerprint are of edges into it, at most one for each issuer and user ID.
-pub record IsRecord (told : Record) : Type 0 where
-  pub into : (fpr : Fpr) (row : Row) → Has (rows_into told fpr) row → row.edge.target ≡ fpr
-  pub one : (fpr : Fpr) (x y : Row) → Has (rows_into told fpr) x → Has (rows_into told fpr) y
+pub record IsRecord (network : Record) : Type 0 where
+  pub into : (fpr : Fpr) (row : Row) → Has (rows_into network fpr) row → row.edge.target ≡ fpr
+  pub one : (fpr : Fpr) (x y : Row) → Has (rows_into network fpr) x → Has (rows_into network fpr) y
       → x.edge.issuer ≡ y.edge.issuer → x.edge.uid ≡ y.edge.uid → x ≡ y

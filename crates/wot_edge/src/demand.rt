@@ -1,7 +1,7 @@
 //! What is demanded of an edge by its place on a path: the wanted user ID, or a depth and another issuer than the
 //! target.
 //!
-//! It stands on `roads` and on `specs/Demand.antt`. Usability and scopes are asked for in `wot_search` and `wot_check`,
+//! It uses `roads` and on `specs/Demand.antt`. Usability and scopes are asked for in `wot_search` and `wot_check`,
 //! which both use these tests.
 ghost use Rattle.std.specs.Prelude.{◌≡◌, ◌↔◌, true};
 ghost use Rattle.wot_types.specs.Fpr.{same_fpr};
@@ -20,7 +20,7 @@ pub enum Demand {
 
 /// What is demanded of edges with `size` edges after them.
 pub fn demand_at<R: Roads>(roads: &R, target: &Fpr, uid: &[u8], size: u8) -> Demand
-    ensures { result ≡ demand_in (R.told roads.now uid.now) target.now size }
+    ensures { result ≡ demand_in (R.network roads.now uid.now) target.now size }
 {
     if size == 0 {
         Demand::On(roads.place(target, uid))

@@ -1,5 +1,5 @@
 //! Laws of paths and answers. Each function does nothing: its contract is the law, and the crates above cite it by a
-//! call. They stand on `specs/Path.antt`, `specs/Answer.antt` and `specs/Capacity.antt`.
+//! call. They use `specs/Path.antt`, `specs/Answer.antt` and `specs/Capacity.antt`.
 ghost use Rattle.std.specs.Prelude.{◌≡◌, ◌≤◌, ◌*◌, ◌↔◌, ℕ, List, [], length};
 ghost use Rattle.wot_types.specs.declared.fpr.Fpr.{Fpr};
 ghost use Rattle.wot_edge.specs.declared.path.Path.{Path};
@@ -12,14 +12,14 @@ ghost use Rattle.wot_edge.specs.Capacity.{AllFit};
 
 /// There is at most one next path.
 pub fn next_path_is_one()
-    ensures one { (q : Question) (used : Use) (a b : Path) → IsRecord q.told
+    ensures one { (q : Question) (used : Use) (a b : Path) → IsRecord q.network
         → IsNextPath q used a → IsNextPath q used b → a ≡ b }
 {}
 
 /// Each question has an answer, and only one.
 pub fn answer_is_one()
     ensures some { (q : Question) (wanted : ℕ) → 1 ≤ wanted → (paths : List Path) × IsAnswer q wanted paths }
-    ensures one { (q : Question) (wanted : ℕ) (a b : List Path) → IsRecord q.told
+    ensures one { (q : Question) (wanted : ℕ) (a b : List Path) → IsRecord q.network
         → IsAnswer q wanted a → IsAnswer q wanted b → a ≡ b }
 {}
 
@@ -40,5 +40,5 @@ pub fn paths_fit()
 
 /// Rows into each fingerprint that are in the order of issuer and user ID are a record.
 pub fn entries_are_record()
-    ensures lawful { (told : Record) → AreEntries told → IsRecord told }
+    ensures lawful { (network : Record) → AreEntries network → IsRecord network }
 {}

@@ -1,6 +1,6 @@
 //! Edges, trust roots, paths and what they use: what a valid path is, which path is next, and what an answer is.
 //!
-//! It stands on `wot_types`. `wot_search` finds next paths, `wot_auth` answers and `wot_check` checks by these
+//! It uses `wot_types`. `wot_search` finds next paths, `wot_auth` answers and `wot_check` checks by these
 //! definitions, and `wot_live` makes the edges.
 #![tactic(auto)]
 

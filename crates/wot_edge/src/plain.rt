@@ -8,7 +8,8 @@ ghost use Rattle.std.specs.Option.{option_copied};
 ghost use Rattle.wot_types.specs.Fpr.{fpr_cmp};
 ghost use Rattle.wot_edge.specs.Order.{edge_cmp};
 ghost use Rattle.wot_edge.specs.Lawful.{AreRows};
-ghost use Rattle.wot_edge.specs.Plain.{AreLines, MayPrecede, holds_inside, is_place, told_of, octet_place, with_line};
+ghost use Rattle.wot_edge.specs.Plain.{AreLines, MayPrecede, holds_inside, is_place, network_for, octet_place};
+ghost use Rattle.wot_edge.specs.Plain.{with_line};
 
 use crate::maps::{find, put};
 use crate::{Edge, Roads};
@@ -109,7 +110,7 @@ impl PlainRoads {
 }
 
 impl Roads for PlainRoads {
-    ghost told = { λ plain uid. told_of plain uid };
+    ghost network = { λ plain uid. network_for plain uid };
 
     fn rows(&self, target: &Fpr) -> &[Edge] {
         match self.line_at(target) {

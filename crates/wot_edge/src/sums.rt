@@ -1,6 +1,6 @@
 //! Sums by a key: a key without an entry has the sum 0.
 //!
-//! They stand on std's map. `pairs` and `maps` add to them in two steps, first the room and then the amounts, so that
+//! They use std's map. `pairs` and `maps` add to them in two steps, first the room and then the amounts, so that
 //! out of memory changes no sum.
 ghost use Rattle.std.specs.Prelude.{◌≡◌, ◌+◌, ◌<◌, ◌^◌, OnOk, IsSome, if◌then◌else◌};
 ghost use Rattle.std.specs.BTreeMap.{get};

@@ -12,7 +12,7 @@ use Rattle.wot_cursor.specs.Cursors.{Cursors}
 use Rattle.wot_watch.specs.Watches.{Watches}
 use Rattle.wot_machine.specs.Machine.{Machine, kept}
 use Rattle.wot_plain.specs.Session.{Session, beginning, watched, session_of}
-use Rattle.wot_engine.specs.Turn.{Replies, RepliesBehind}
+use Rattle.wot_engine.specs.LineReply.{Replies, RepliesBehind}
 use Rattle.wot_engine.proofs.Held.{Held, Held-init}
 
 pub answered : (a b : PolicyRows) (line : Line) (text other : List ℕ) (old : Session) (before : Option World)
@@ -58,11 +58,11 @@ pub within : (lines : ReaderState) → lines ≡ fresh → lines.taken ≤ 2 ^ 3
 within lines e = let t : lines.taken ≡ 0 = ap (λ (r : ReaderState). r.taken) e in omega (arith, t)
 
 pub turned : (lines : ReaderState) (machine : Engine) → lines ≡ fresh → machine ≡ empty standard_limits →
-    machine.turns.count + ((2 ^ 30 - lines.taken) + length lines.held) ≤ 2 ^ 30
+    machine.revisions.count + ((2 ^ 30 - lines.taken) + length lines.held) ≤ 2 ^ 30
 turned lines machine e m =
     let t : lines.taken ≡ 0 = ap (λ (r : ReaderState). r.taken) e in
     let h : length lines.held ≡ 0 = ap (λ (r : ReaderState). length r.held) e in
-    let n : machine.turns.count ≡ 0 = ap (λ (x : Engine). x.turns.count) m in
+    let n : machine.revisions.count ≡ 0 = ap (λ (x : Engine). x.revisions.count) m in
     omega (arith, t, h, n)
 
 pub counted : (lines : ReaderState) (machine : Engine) → lines ≡ fresh → machine ≡ empty standard_limits →

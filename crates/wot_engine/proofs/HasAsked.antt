@@ -19,7 +19,7 @@ use Rattle.wot_cache.specs.State.{Engine, State, empty}
 use Rattle.wot_cursor.specs.Cursors.{Cursors}
 use Rattle.wot_watch.specs.Watches.{Watches}
 use Rattle.wot_command.specs.Asked.{LineAsks}
-use Rattle.wot_plain.specs.Lines.{heard}
+use Rattle.wot_plain.specs.Lines.{command_in_line}
 use Rattle.wot_machine.specs.Machine.{Machine, kept}
 use Rattle.wot_plain.specs.Scene.{Scene, opening}
 use Rattle.wot_plain.specs.Transcript.{octets_of}
@@ -31,13 +31,13 @@ use Rattle.wot_plain.proofs.StepsByKind.{heard_long}
 use Rattle.wot_engine.specs.RunAsks.{AsksBy, AsksFirst, AsksFor, AsksInTurn, AsksOnce, MayAsk, MayAskNext, command_by}
 use Rattle.wot_engine.specs.RunAsks.{done, failed}
 use Rattle.wot_engine.specs.Ends.{IsEither}
-use Rattle.wot_engine.specs.Turn.{Replies}
+use Rattle.wot_engine.specs.LineReply.{Replies}
 use Rattle.wot_engine.proofs.Progress.{Stands, begins, comes_next, starts_first, take-prefix}
 use Rattle.wot_engine.proofs.Reached.{done_all, has_taken}
 use Rattle.wot_engine.specs.Contents.{Contents, OnContents}
 use Rattle.wot_engine.proofs.Contents.{is_now, uncalled}
 use Rattle.wot_engine.proofs.Fresh.{fresh}
-use Rattle.wot_engine.proofs.Turns.{turned, wrote}
+use Rattle.wot_engine.proofs.Revisions.{turned, wrote}
 
 -- ---- one line
 
@@ -45,7 +45,7 @@ module _ {F : Type 0} where
   -- a line that was read whole
   pub looked_at : {T E : Type 0} (r : Result T E) (line : Line) (text : List ℕ) (old new : State)
       (before after : Policy F) → line ≡ Text
-      → LineAsks r (heard text) old new before after → LineAsks r (command_by line text) old new before after
+      → LineAsks r (command_in_line text) old new before after → LineAsks r (command_by line text) old new before after
   looked_at r line text old new before after is a =
       subst (λ (l : Line). LineAsks r (command_by l text) old new before after) (sym is) a
 
@@ -70,9 +70,9 @@ module _ {F : Type 0} where
 
   -- the watch lines after it ask nothing
   pub asks_behind : {T E : Type 0} (r : Result T E) (command : Option Command) (old : State) (mid new : Session)
-      (told : List Reply) (before after : Policy F) → ReportsWatches mid told new
+      (reported : List Reply) (before after : Policy F) → ReportsWatches mid reported new
       → LineAsks r command old mid.state before after → LineAsks r command old new.state before after
-  asks_behind r command old mid new told before after t a =
+  asks_behind r command old mid new reported before after t a =
       subst (λ (s : State). LineAsks r command old s before after) (sym (ap (λ (w : Session). w.state) t.left)) a
 
   -- ---- one line after another
@@ -144,7 +144,7 @@ module _ {F : Type 0} (rows : PolicyRows) (start : Policy F) (origin : Option Wo
       a.stands t refl in
       let once : AsksOnce rows t.line (over state a.stands.now) policy (over state' t.next) policy' = record {
         reply = t.reply;
-        told = t.told;
+        reported = t.reported;
         step = t.step;
         asked = subst (λ (c : Option Command). LineAsks done c state.state state'.state policy policy') (sym t.heard_is)
             asks;
@@ -224,7 +224,7 @@ module _ {F : Type 0} (rows : PolicyRows) (start : Policy F) (origin : Option Wo
   next_is : (contents : Contents) (held : List ℕ) (taken : ℕ) (left : Option (List ℕ)) (shelf : Option World)
       (state : Session) (policy after : Policy F) (held' : List ℕ) (taken' : ℕ) (left' : Option (List ℕ))
       (line : List ℕ) (command : Option Command) → (a : IsAsked contents held taken left shelf state policy)
-      → TakesLineOf held a.stands.rest taken held' left' taken' line → heard line ≡ command → MayAsk command policy
+      → TakesLineOf held a.stands.rest taken held' left' taken' line → command_in_line line ≡ command → MayAsk command policy
       after
       → MayAskNext (drop (length a.stands.done) (lines_of contents.input)) policy after
   next_is contents held taken left shelf state policy after held' taken' left' line command a g e may =
@@ -244,7 +244,7 @@ module _ {F : Type 0} (rows : PolicyRows) (start : Policy F) (origin : Option Wo
   next_of contents old left shelf state policy after new left' Text a g some may =
       let g' = rw a.stands.left_is at g in
       next_is contents old.held old.taken left shelf state policy after new.held new.taken left' new.text
-      (heard new.text) a g'.0 refl may
+      (command_in_line new.text) a g'.0 refl may
   next_of contents old left shelf state policy after new left' Long a g some may =
       let g' = rw a.stands.left_is at g in
       next_is contents old.held old.taken left shelf state policy after new.held new.taken left' g'.0 None a g'.2

@@ -21,11 +21,11 @@ use Rattle.wot_engine.specs.RunAsks.{command_by}
 use Rattle.wot_engine.specs.Held.{Moves, MovesOf}
 use Rattle.wot_engine.specs.Contents.{Contents, OnContents}
 use Rattle.wot_engine.specs.Ended.{AnsweredMost, IsBegun, Reached, ReachedWhole}
-use Rattle.wot_engine.specs.Turn.{Replies, use_by}
+use Rattle.wot_engine.specs.LineReply.{Replies, use_by}
 use Rattle.wot_engine.proofs.Contents.{is_now, uncalled}
 use Rattle.wot_engine.proofs.Progress.{Stands, starts, took_on}
 use Rattle.wot_engine.proofs.Reached.{puts_nothing, reaches, takes_more}
-use Rattle.wot_engine.proofs.Turns.{First-here, Stood, cut_by, cut_most, turned, wrote}
+use Rattle.wot_engine.proofs.Revisions.{First-here, Stood, cut_by, cut_most, turned, wrote}
 
 -- ---- the buffer
 

@@ -13,7 +13,7 @@ use Rattle.wot_cache.specs.State.{empty}
 use Rattle.wot_machine.specs.Machine.{Machine, kept}
 use Rattle.wot_plain.specs.Session.{Session, watched, session_of}
 use Rattle.wot_plain.specs.Entry.{use_of}
-use Rattle.wot_plain.specs.Lines.{heard}
+use Rattle.wot_plain.specs.Lines.{command_in_line}
 use Rattle.wot_command.specs.CommandRun.{Seen}
 use Rattle.wot_plain.specs.Scene.{Scene, Step, opening}
 use Rattle.wot_machine.specs.Stepped.{Replied}
@@ -30,31 +30,31 @@ use Rattle.wot_engine.specs.Played.{Adds, AddsReply, AddsTold, IsPlayed}
 pub record AddsUpTo (first now : Tally) (all rest : List Reply) : Type 0 where
   pub done : List Reply
   pub parts : done ++ rest ≡ all
-  pub tells : (told : List Reply) → Tallies first told → Tallies now (told ++ done)
+  pub tells : (reported : List Reply) → Tallies first reported → Tallies now (reported ++ done)
 
 pub adds_first : (tally : Tally) (all : List Reply) → AddsUpTo tally tally all all
 adds_first tally all = record {
   done = [];
   parts = refl;
-  tells = λ told t. subst (Tallies tally) (sym (append-nil told)) t;
+  tells = λ reported t. subst (Tallies tally) (sym (append-nil reported)) t;
 }
 
 pub adds_next : (first old now : Tally) (all rest others : List Reply) (line : Reply) → AddsUpTo first old all rest →
     rest ≡ line ∷ others
-    → ((told : List Reply) → Tallies old told → Tallies now (told ++ line ∷ [])) → AddsUpTo first now all others
+    → ((reported : List Reply) → Tallies old reported → Tallies now (reported ++ line ∷ [])) → AddsUpTo first now all others
 adds_next first old now all rest others line s e add = record {
   done = s.done ++ line ∷ [];
   parts = append_assoc s.done (line ∷ []) others ∙ ap (λ (ls : List Reply). s.done ++ ls) (sym e) ∙ s.parts;
-  tells = λ told t. subst (Tallies now) (append_assoc told s.done (line ∷ [])) (add (told ++ s.done) (s.tells told t));
+  tells = λ reported t. subst (Tallies now) (append_assoc reported s.done (line ∷ [])) (add (reported ++ s.done) (s.tells reported t));
 }
 
 pub adds_last : (first now : Tally) (all rest : List Reply) → AddsUpTo first now all rest → length rest ≡ 0 →
-    (told : List Reply) → Tallies first told
-    → Tallies now (told ++ all)
-adds_last first now all rest s none told t =
+    (reported : List Reply) → Tallies first reported
+    → Tallies now (reported ++ all)
+adds_last first now all rest s none reported t =
     let whole : s.done ≡ all = sym (append-nil s.done) ∙ ap (λ (ls : List Reply). s.done ++ ls)
     (sym (nil_from_length rest none)) ∙ s.parts in
-    subst (λ (ls : List Reply). Tallies now (told ++ ls)) whole (s.tells told t)
+    subst (λ (ls : List Reply). Tallies now (reported ++ ls)) whole (s.tells reported t)
 
 -- a watch line isn't the amount of an answer
 pub nothing_told : (line : Reply) → watching.IsWatchLine line → amount_in line ≡ 0
@@ -67,16 +67,16 @@ module _ (rows : PolicyRows) where
   -- The reply and the watch lines after it, with a directory whose world is known, are the line's step.
   pub step_over : (line : List ℕ) (old mid new : Session) (before after : World) (faults later : ℕ) (reply : Option
       Reply)
-      (told : List Reply)
+      (reported : List Reply)
       → Replied rows line old (record { world = Some before; faults = faults }) reply mid
-      (record { world = Some after; faults = later }) → watching.ReportsWatches mid told new
-      → Step rows (over old before) line reply told (over new after)
-  step_over line old mid new before after faults later reply told r t =
-      let g : Goes rows (Some before) (Some after) before old new line reply told =
-      goes rows (Some before) (Some before) (Some after) before old mid new line (use_of (heard line)) r.given reply
-      told refl tt refl r.served r.step t in
+      (record { world = Some after; faults = later }) → watching.ReportsWatches mid reported new
+      → Step rows (over old before) line reply reported (over new after)
+  step_over line old mid new before after faults later reply reported r t =
+      let g : Goes rows (Some before) (Some after) before old new line reply reported =
+      goes rows (Some before) (Some before) (Some after) before old mid new line (use_of (command_in_line line)) r.given reply
+      reported refl tt refl r.served r.step t in
       let same : g.next ≡ after = some_is g.next after (sym g.is_next) in
-      subst (λ (w : World). Step rows (over old before) line reply told (over new w)) same g.step
+      subst (λ (w : World). Step rows (over old before) line reply reported (over new w)) same g.step
     where
       some_is : (x y : World) → Some x ≡ Some y → x ≡ y
       some_is x y e = cc
@@ -98,9 +98,9 @@ module _ (rows : PolicyRows) where
       → Adds rows line (over old before) had (over new after) total
   adds_both line old mid new before after faults later had has total a t = record {
     reply = a.reply;
-    told = t.told;
-    step = step_over line old mid new before after faults later a.reply t.told a.replied t.told_are;
-    tells = λ replies s. subst (Tallies total) (append_assoc replies (listed a.reply) t.told)
+    reported = t.reported;
+    step = step_over line old mid new before after faults later a.reply t.reported a.replied t.reported_are;
+    tells = λ replies s. subst (Tallies total) (append_assoc replies (listed a.reply) t.reported)
         (t.tells (replies ++ listed a.reply) (a.tells replies s));
   }
 
@@ -129,8 +129,8 @@ module _ (rows : PolicyRows) where
   pub goes_on : (text rest others line : List ℕ) (old new : Scene) (before after : Tally) → Plays text rest old before
       → lines_of rest ≡ line ∷ lines_of others → Adds rows line old before new after → Plays text others new after
   goes_on text rest others line old new before after p first a =
-      let here : List Reply = listed a.reply ++ a.told in
-      let one : Run rows old (line ∷ []) (here ++ []) new = (a.reply, a.told, new, [], a.step, (refl, refl), refl) in
+      let here : List Reply = listed a.reply ++ a.reported in
+      let one : Run rows old (line ∷ []) (here ++ []) new = (a.reply, a.reported, new, [], a.step, (refl, refl), refl) in
       let both = Run-append rows p.done (line ∷ []) (opening no_entries) old new p.replies (here ++ []) p.run one in
       record {
         done = p.done ++ line ∷ [];
@@ -146,7 +146,7 @@ module _ (rows : PolicyRows) where
       IsPlayed rows (lines_of text) tally
   ends text [] scene tally p none = record {
     replies = p.replies;
-    told = record {
+    reported = record {
       last = scene;
       run = subst (λ (x : List (List ℕ)). Run rows (opening no_entries) x p.replies scene)
           (sym (p.lines ∙ append-nil p.done)) p.run;

@@ -70,21 +70,21 @@ module _ (rows : PolicyRows) (origin : Option World) (contents : Contents) where
   unfolding starts
   starts_first left written shelf e f is = (starts left written shelf e f is, refl, refl)
 
-  Run-push : (lines : List (List ℕ)) (line : List ℕ) (replies : List Reply) (reply : Option Reply) (told : List Reply)
+  Run-push : (lines : List (List ℕ)) (line : List ℕ) (replies : List Reply) (reply : Option Reply) (reported : List Reply)
       (old mid new : Scene)
-      → Run rows old lines replies mid → Step rows mid line reply told new →
-      Run rows old (lines ++ line ∷ []) (replies ++ (listed reply ++ told)) new
-  Run-push [] line replies reply told old mid new r s =
-      let s' : Step rows old line reply told new = subst (λ (x : Scene). Step rows x line reply told new) r.1 s in
-      (reply, told, new, [], s', (refl, refl), rw r.0 (sym (append-nil (listed reply ++ told))))
-  Run-push (first ∷ lines) line replies reply told old mid new r s = (
+      → Run rows old lines replies mid → Step rows mid line reply reported new →
+      Run rows old (lines ++ line ∷ []) (replies ++ (listed reply ++ reported)) new
+  Run-push [] line replies reply reported old mid new r s =
+      let s' : Step rows old line reply reported new = subst (λ (x : Scene). Step rows x line reply reported new) r.1 s in
+      (reply, reported, new, [], s', (refl, refl), rw r.0 (sym (append-nil (listed reply ++ reported))))
+  Run-push (first ∷ lines) line replies reply reported old mid new r s = (
     r.0,
     r.1,
     r.2,
-    r.3 ++ (listed reply ++ told),
+    r.3 ++ (listed reply ++ reported),
     r.4,
-    Run-push lines line r.3 reply told r.2 mid new r.5 s,
-    rw r.6 (append_assoc (listed r.0 ++ r.1) r.3 (listed reply ++ told)),
+    Run-push lines line r.3 reply reported r.2 mid new r.5 s,
+    rw r.6 (append_assoc (listed r.0 ++ r.1) r.3 (listed reply ++ reported)),
   )
 
   IsPrefix-push : (gone : List ℕ) (done : List (List ℕ)) (line : List ℕ) → HasNoFeed line → IsPrefix gone done →
@@ -175,13 +175,13 @@ module _ (rows : PolicyRows) (origin : Option World) (contents : Contents) where
   -- one line further
   pub goes_on : (held : List ℕ) (taken : ℕ) (left written : Option (List ℕ)) (shelf : Option World)
       (state : Session) (held' : List ℕ) (taken' : ℕ) (left' written' : Option (List ℕ)) (shelf' : Option World)
-      (state' : Session) (line : List ℕ) (reply : Option Reply) (told : List Reply)
+      (state' : Session) (line : List ℕ) (reply : Option Reply) (reported : List Reply)
       → (s : Stands held taken left written shelf state) →
       TakesLineOf held s.rest taken held' left' taken' line → (next : World) → IsNow origin shelf' next
-      → Step rows (over state s.now) line reply told (over state' next) →
-      written' ≡ Some ((contents.written ++ octets_of s.replies) ++ octets_of (listed reply ++ told))
+      → Step rows (over state s.now) line reply reported (over state' next) →
+      written' ≡ Some ((contents.written ++ octets_of s.replies) ++ octets_of (listed reply ++ reported))
       → StandsOn s.done line next held' taken' left' written' shelf' state'
-  goes_on held taken left written shelf state held' taken' left' written' shelf' state' line reply told s g
+  goes_on held taken left written shelf state held' taken' left' written' shelf' state' line reply reported s g
       next is step w =
       elim s.lines [
         | inl prefix ↦ elim g.cuts.parts [
@@ -190,17 +190,17 @@ module _ (rows : PolicyRows) (origin : Option World) (contents : Contents) where
               gone = s.gone ++ (line ++ 10 ∷ []);
               rest = g.rest;
               done = s.done ++ line ∷ [];
-              replies = s.replies ++ (listed reply ++ told);
+              replies = s.replies ++ (listed reply ++ reported);
               now = next;
               is_now = is;
               left_is = g.left_is;
               count = omega (arith, g.count, s.count);
               parts = s.parts ∙ ap (λ (x : List ℕ). s.gone ++ x) feed ∙ regroup s.gone line (held' ++ g.rest);
-              run = Run-push s.done line s.replies reply told (opening contents.world) (over state s.now) (over state'
+              run = Run-push s.done line s.replies reply reported (opening contents.world) (over state s.now) (over state'
                   next)
                   s.run
                   step;
-              written_is = w ∙ ap (λ (x : List ℕ). Some x) (joined contents.written s.replies (listed reply ++ told));
+              written_is = w ∙ ap (λ (x : List ℕ). Some x) (joined contents.written s.replies (listed reply ++ reported));
               lines = inl (IsPrefix-push s.gone s.done line g.cuts.no_feed prefix);
             },
             refl,
@@ -211,18 +211,18 @@ module _ (rows : PolicyRows) (origin : Option World) (contents : Contents) where
               gone = s.gone ++ line;
               rest = g.rest;
               done = s.done ++ line ∷ [];
-              replies = s.replies ++ (listed reply ++ told);
+              replies = s.replies ++ (listed reply ++ reported);
               now = next;
               is_now = is;
               left_is = g.left_is;
               count = omega (arith, g.count, s.count);
               parts = s.parts ∙ ap (λ (x : List ℕ). s.gone ++ x) last.1
                   ∙ sym (ap (λ (x : List ℕ). (s.gone ++ line) ++ x) last.2 ∙ append-nil (s.gone ++ line));
-              run = Run-push s.done line s.replies reply told (opening contents.world) (over state s.now) (over state'
+              run = Run-push s.done line s.replies reply reported (opening contents.world) (over state s.now) (over state'
                   next)
                   s.run
                   step;
-              written_is = w ∙ ap (λ (x : List ℕ). Some x) (joined contents.written s.replies (listed reply ++ told));
+              written_is = w ∙ ap (λ (x : List ℕ). Some x) (joined contents.written s.replies (listed reply ++ reported));
               lines = inr (
                 last.0,
                 last.2,

@@ -19,7 +19,7 @@ use Rattle.wot_engine.proofs.Statuses.{WritesAlone, any_status, generated_begun,
 use Rattle.wot_engine.proofs.Statuses.{generated_whole, is_done, is_memory, is_much, is_read, is_write, much_or_memory}
 use Rattle.wot_engine.proofs.Statuses.{never_read, not_two, run_complete}
 use Rattle.wot_engine.proofs.TakesAtMost.{takes_nothing}
-use Rattle.wot_engine.proofs.Turns.{Most-untouched}
+use Rattle.wot_engine.proofs.Revisions.{Most-untouched}
 
 -- what isn't changed
 abbrev pub same : {A : Type 0} → A → Ends A
@@ -60,7 +60,7 @@ module _ {T : Type 0} (r : Result T Stop) (status : ℕ) (is : status ≡ status
     taken = λ three. does.taken (is_read r (sym is ∙ three));
     most = λ six. does.most (is_much r (sym is ∙ six));
     most_only =
-        weaker input.old output.old shelf.old _ _ (λ contents told most. much_or_memory r status is (told most))
+        weaker input.old output.old shelf.old _ _ (λ contents reported most. much_or_memory r status is (reported most))
         does.most_only;
     ended = λ form zero. is_done r _ (sym is ∙ zero) takes.ended;
     took = λ six. takes.took (is_much r (sym is ∙ six));

@@ -13,7 +13,7 @@ use Rattle.wot_plain.specs.Session.{Session}
 use Rattle.wot_laws.specs.OneLine.{OneOutcome}
 use Rattle.wot_plain.specs.Scene.{Scene, opening}
 use Rattle.wot_plain.specs.Entry.{MayPut, MayPutIn, Use, use_of}
-use Rattle.wot_plain.specs.Lines.{heard}
+use Rattle.wot_plain.specs.Lines.{command_in_line}
 use Rattle.wot_plain.specs.Transcript.{Run, RepliesTo, IsNow, octets_of}
 use Rattle.wot_engine.specs.Contents.{Contents}
 use Rattle.wot_engine.specs.Ended.{Finished, FinishedMost, FinishedTaken, IsBegun, IsLastTaken, IsLeft, IsTranscribed}
@@ -38,7 +38,7 @@ module _ (rows : PolicyRows) (origin : Option World) (contents : Contents) where
       record {
         count = length s.done;
         replies = s.replies;
-        told = record {
+        reported = record {
           last = over state s.now;
           run = rw (take-prefix rows origin contents (lines_of contents.input)
               s.done m.0 m.1) s.run;
@@ -71,7 +71,7 @@ module _ (rows : PolicyRows) (origin : Option World) (contents : Contents) where
       let all = told_all law (lines_of contents.input) s.done m.0 s.replies (over state s.now) m.1 s.run in
       record {
         replies = s.replies ++ all.0;
-        told = all.1;
+        reported = all.1;
         size = length (octets_of s.replies);
         written = s.written_is ∙ ap (λ (x : List ℕ). Some (contents.written ++ x)) (sym (first s.replies all.0));
       }
@@ -100,7 +100,7 @@ module _ (rows : PolicyRows) (origin : Option World) (contents : Contents) where
       let whole : lines_of contents.input ≡ s.done = done_all held taken left written shelf state s e f in
       record {
         replies = s.replies;
-        told = record { last = over state s.now; run = rw whole s.run };
+        reported = record { last = over state s.now; run = rw whole s.run };
         written = s.written_is;
         ended = none;
       }
@@ -111,7 +111,7 @@ module _ (rows : PolicyRows) (origin : Option World) (contents : Contents) where
       IsLeft rows contents origin shelf
   leaves held taken left written shelf state s e f =
       let whole : lines_of contents.input ≡ s.done = done_all held taken left written shelf state s e f in
-      record { replies = s.replies; told = record { last = over state s.now; run = rw whole s.run }; left = s.is_now }
+      record { replies = s.replies; reported = record { last = over state s.now; run = rw whole s.run }; left = s.is_now }
 
   -- The octets that were taken. The lines read are all whole lines of them. If nothing is left, a last line without a
   -- line feed may count as whole.
@@ -169,7 +169,7 @@ module _ (rows : PolicyRows) (origin : Option World) (contents : Contents) where
       finished : {lines : List (List ℕ)} → lines ≡ s.done → Finished rows contents lines written origin shelf
       finished e = record {
         replies = s.replies;
-        told = record { last = over state s.now; run = rw e s.run };
+        reported = record { last = over state s.now; run = rw e s.run };
         written = s.written_is;
         left = s.is_now;
       }
@@ -190,7 +190,7 @@ module _ (rows : PolicyRows) (origin : Option World) (contents : Contents) where
               size = omega (arith, t.count, s.count, n, ap length input_is, length-append (s.gone ++ t.passed) t.rest);
               finished = record {
                 replies = s.replies;
-                told = record {
+                reported = record {
                   last = over state s.now;
                   run =
                       rw (whole s.gone t.passed s.done prefix t.no_feed) s.run;
@@ -229,7 +229,7 @@ module _ (rows : PolicyRows) (origin : Option World) (contents : Contents) where
       (replies ++ reply) same in
       record {
         replies = s.replies ++ all.0;
-        told = all.1;
+        reported = all.1;
         size = length replies + n;
         written = w ∙ ap (λ (x : List ℕ). Some x) (append_assoc contents.written replies (take n reply)
             ∙ ap (λ (x : List ℕ). contents.written ++ x) (sym (cut replies reply s.replies all.0 n le parts)));
@@ -263,7 +263,7 @@ module _ (rows : PolicyRows) (origin : Option World) (contents : Contents) where
 
   -- memory ran out for the line
   pub puts_next : (shelf shelf' : Option World) (now : World) (state : Session) (line : List ℕ) (lines : List (List ℕ))
-      (use_ : Use) → use_of (heard line) ≡ use_
+      (use_ : Use) → use_of (command_in_line line) ≡ use_
       → IsNow origin shelf now → MayPut state.state use_ shelf shelf' →
       MayPutNext (over state now) (line ∷ lines) origin shelf'
   puts_next shelf shelf' now state line lines use_ e is m = by origin is
@@ -286,7 +286,7 @@ module _ (rows : PolicyRows) (origin : Option World) (contents : Contents) where
       (shelf' : Option World)
       → (s : Stands rows origin contents held taken left written shelf state) →
       TakesLineOf held s.rest taken held' left' taken' line
-      → use_of (heard line) ≡ use_ → MayPut state.state use_ shelf shelf'
+      → use_of (command_in_line line) ≡ use_ → MayPut state.state use_ shelf shelf'
       → IsCutShort (drop (length s.done) (lines_of contents.input)) (over state s.now) held' left' shelf'
   cut_short held taken left written shelf state held' taken' left' line use_ shelf' s g e m =
       let rest : List (List ℕ) = lines_of (held' ++ g.rest) in
@@ -329,7 +329,7 @@ module _ (rows : PolicyRows) (origin : Option World) (contents : Contents) where
       record {
         count = length s.done;
         replies = s.replies;
-        told = record {
+        reported = record {
           last = over state s.now;
           run = rw (take-prefix rows origin contents (lines_of contents.input)
               s.done m.0 m.1) s.run;
@@ -350,7 +350,7 @@ module _ (rows : PolicyRows) (origin : Option World) (contents : Contents) where
   reaches_whole source written shelf' r = record {
     count = r.count;
     replies = r.replies;
-    told = r.told;
+    reported = r.reported;
     size = length (octets_of r.replies);
     written = r.written ∙ ap (λ (x : List ℕ). Some (contents.written ++ x))
         (sym (take_at (octets_of r.replies) [] (length (octets_of r.replies)) refl)

@@ -148,16 +148,16 @@ module _ {T : Type 0} where
       OnOk r (IfSome written (λ before. Summarized rows start count before after))
       → status ≡ 0 → OnGenerated words
       (λ start count. IfSome written (λ before. Summarized rows start count before after))
-  generated_whole r status rows words start count written after is form told zero other more p =
+  generated_whole r status rows words start count written after is form reported zero other more p =
       let same = one_script words start count other more form p in
       let done : IfSome written (λ before. Summarized rows start count before after) =
-      is_done r _ (sym is ∙ zero) told in
+      is_done r _ (sym is ∙ zero) reported in
       rw same.0 (rw same.1 done)
 
 pub generated_begun : (rows : PolicyRows) (words : List (List ℕ)) (start count : ℕ) (written after : Option (List ℕ)) →
     IsGenerated words start count
     → IfSome written (λ before. SummaryBegun rows start count before after)
     → OnGenerated words (λ start count. IfSome written (λ before. SummaryBegun rows start count before after))
-generated_begun rows words start count written after form told other more p =
+generated_begun rows words start count written after form reported other more p =
     let same = one_script words start count other more form p in
-    rw same.0 (rw same.1 told)
+    rw same.0 (rw same.1 reported)

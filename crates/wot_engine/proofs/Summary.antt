@@ -73,7 +73,7 @@ summed rows start count lines amounts digest out script tally summary all script
     lines_are ∙ sym (lines_counted (commands_of start count) all) in
     record {
       replies = played.replies;
-      told = subst (λ (x : List ℕ). RepliesTo rows no_entries (lines_of x) played.replies) script_is played.told;
+      reported = subst (λ (x : List ℕ). RepliesTo rows no_entries (lines_of x) played.replies) script_is played.reported;
       text_is = out_is ∙ ap summary_text (same_summary start count lines amounts digest played.replies number
           (amounts_are ∙ played.tells.0) (digest_is played.replies played.tells) summary summary_is);
     }
@@ -83,7 +83,7 @@ module _ (rows : PolicyRows) (start count : ℕ) where
   some_summary law =
       let all = RepliesTo-some rows law no_entries (script_lines start count) in (
         summary_text (summary_of start count all.0),
-        record { replies = all.0; told = all.1; text_is = refl },
+        record { replies = all.0; reported = all.1; text_is = refl },
       )
 
   -- nothing is written yet

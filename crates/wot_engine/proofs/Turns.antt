@@ -17,7 +17,7 @@ use Rattle.wot_certd.specs.World.{World}
 use Rattle.wot_plain.specs.Session.{Session, beginning}
 use Rattle.wot_plain.specs.Entry.{IsServed, MayPut, Use, unused, use_of}
 use Rattle.wot_laws.specs.OneLine.{OneOutcome}
-use Rattle.wot_plain.specs.Lines.{heard}
+use Rattle.wot_plain.specs.Lines.{command_in_line}
 use Rattle.wot_plain.specs.LineStep.{LineStep}
 use Rattle.wot_plain.specs.Scene.{Step, opening}
 use Rattle.wot_plain.specs.Served.{Served}
@@ -30,7 +30,7 @@ use Rattle.wot_laws.proofs.Runs.{Run-one, Run-prefix}
 use Rattle.wot_plain.proofs.StepsByKind.{heard_long}
 use Rattle.wot_engine.specs.RunAsks.{command_by}
 use Rattle.wot_engine.specs.Contents.{Contents, OnContents}
-use Rattle.wot_engine.specs.Turn.{Replies, use_by}
+use Rattle.wot_engine.specs.LineReply.{Replies, use_by}
 use Rattle.wot_engine.proofs.Contents.{is_now, uncalled}
 use Rattle.wot_engine.proofs.Progress.{Stands, StandsOn, starts, goes_on, comes_next}
 use Rattle.wot_engine.proofs.Reached.{IsCutShort, so_far, cut_short, at_end, leaves, at_first, at_stop, at_most}
@@ -57,33 +57,33 @@ module _ (rows : PolicyRows) where
       (held' : List ℕ) (taken' : ℕ) (left' : Option (List ℕ)) (octets : List ℕ) (shelf' : Option World)
       (state' : Session) : Type 0 where
     pub line : List ℕ
-    pub heard_is : heard line ≡ command
+    pub heard_is : command_in_line line ≡ command
     pub gives : TakesLineOf held stands.rest taken held' left' taken' line
     pub reply : Option Reply
-    pub told : List Reply
+    pub reported : List Reply
     pub next : World
     pub is_next : IsNow origin shelf' next
-    pub step : Step rows (over state stands.now) line reply told (over state' next)
-    pub octets_are : octets ≡ octets_of (listed reply ++ told)
+    pub step : Step rows (over state stands.now) line reply reported (over state' next)
+    pub octets_are : octets ≡ octets_of (listed reply ++ reported)
 
   -- the line that was read, and what it was answered
   turned_by : (origin : Option World) (contents : Contents) (old : ReaderState)
       (left written : Option (List ℕ)) (shelf : Option World) (state : Session) (new : ReaderState)
       (left' : Option (List ℕ)) (shelf' : Option World) (state' : Session) (line : List ℕ) (command : Option Command)
-      (use_ : Use) (what : Served) (reply : Option Reply) (mid : Session) (told : List Reply) (octets : List ℕ)
+      (use_ : Use) (what : Served) (reply : Option Reply) (mid : Session) (reported : List Reply) (octets : List ℕ)
       → IsUncalled origin contents.input →
       (s : Stands rows origin contents old.held old.taken left written shelf state) →
       TakesLineOf old.held s.rest old.taken new.held left' new.taken line
-      → heard line ≡ command → use_of command ≡ use_ → IsServed state.state use_ shelf what shelf' →
-      LineStep rows state line what reply mid → ReportsWatches mid told state'
-      → octets ≡ octets_of (listed reply ++ told)
+      → command_in_line line ≡ command → use_of command ≡ use_ → IsServed state.state use_ shelf what shelf' →
+      LineStep rows state line what reply mid → ReportsWatches mid reported state'
+      → octets ≡ octets_of (listed reply ++ reported)
       → Turned origin contents old.held old.taken left written shelf state s command new.held new.taken left'
       octets shelf' state'
   turned_by origin contents old left written shelf state new left' shelf' state' line command use_ what reply
-      mid told octets uncalled s g is e served does tells same =
+      mid reported octets uncalled s g is e served does tells same =
       let next = comes_next rows origin contents old.held old.taken left written shelf state new.held
       new.taken left' line s g in
-      let went = goes rows origin shelf shelf' s.now state mid state' line use_ what reply told (ap use_of is ∙ e)
+      let went = goes rows origin shelf shelf' s.now state mid state' line use_ what reply reported (ap use_of is ∙ e)
       (may_call origin contents.input s.done line (lines_of (new.held ++ g.rest)) next uncalled) s.is_now served does
       tells in
       record {
@@ -91,7 +91,7 @@ module _ (rows : PolicyRows) where
         heard_is = is;
         gives = g;
         reply = reply;
-        told = told;
+        reported = reported;
         next = went.next;
         is_next = went.is_next;
         step = went.step;
@@ -109,12 +109,12 @@ module _ (rows : PolicyRows) where
   turned origin contents old left written shelf state new left' shelf' state' Text octets uncalled s a r =
       let a' = rw s.left_is at a in
       turned_by origin contents old left written shelf state new left' shelf' state' new.text
-      (heard new.text) (use_of (heard new.text)) r.given r.reply r.mid r.told octets uncalled s a'.0 refl refl r.served
+      (command_in_line new.text) (use_of (command_in_line new.text)) r.given r.reply r.mid r.reported octets uncalled s a'.0 refl refl r.served
       r.does r.tells r.octets_are
   turned origin contents old left written shelf state new left' shelf' state' Long octets uncalled s a r =
       let a' = rw s.left_is at a in
       turned_by origin contents old left written shelf state new left' shelf' state' a'.0 None unused r.given
-      r.reply r.mid r.told octets uncalled s a'.2 (heard_long a'.0 a'.1) refl r.served (r.does a'.0 a'.1)
+      r.reply r.mid r.reported octets uncalled s a'.2 (heard_long a'.0 a'.1) refl r.served (r.does a'.0 a'.1)
       r.tells r.octets_are
   turned origin contents old left written shelf state new left' shelf' state' End octets uncalled s a r =
       absurd r.does
@@ -131,7 +131,7 @@ module _ (rows : PolicyRows) where
   wrote origin contents held taken left written shelf state command held' taken' left' octets shelf' state'
       written' s t w =
       goes_on rows origin contents held taken left written shelf state held' taken' left' written'
-      shelf' state' t.line t.reply t.told s t.gives t.next t.is_next t.step
+      shelf' state' t.line t.reply t.reported s t.gives t.next t.is_next t.step
       (w ∙ ap (λ (x : List ℕ). Some ((contents.written ++ octets_of s.replies) ++ x)) t.octets_are)
 
   pub Begun-here : OneOutcome rows → (left0 written0 : Option (List ℕ)) (origin : Option World) (held : List ℕ)
@@ -155,7 +155,7 @@ module _ (rows : PolicyRows) where
   cut_by origin contents old left written shelf state new left' shelf' Text s a some m =
       let a' = rw s.left_is at a in
       cut_short rows origin contents old.held old.taken left written shelf state new.held new.taken left'
-      new.text (use_of (heard new.text)) shelf' s a'.0 refl m
+      new.text (use_of (command_in_line new.text)) shelf' s a'.0 refl m
   cut_by origin contents old left written shelf state new left' shelf' Long s a some m =
       let a' = rw s.left_is at a in
       cut_short rows origin contents old.held old.taken left written shelf state new.held new.taken left' a'.0
@@ -272,11 +272,11 @@ module _ (rows : PolicyRows) where
             let lines : whole_lines_of a.octets ≡ s.done ++ whole_lines_of held = ap whole_lines_of octets
             ∙ prefix.whole held in
             let run : Run rows (opening contents.world) (s.done ++ whole_lines_of held) a.answered.replies
-            a.answered.told.last =
-            subst (λ (ls : List (List ℕ)). Run rows (opening contents.world) ls a.answered.replies a.answered.told.last)
-            lines a.answered.told.run in
+            a.answered.reported.last =
+            subst (λ (ls : List (List ℕ)). Run rows (opening contents.world) ls a.answered.replies a.answered.reported.last)
+            lines a.answered.reported.run in
             let first = Run-prefix rows s.done (whole_lines_of held) (opening contents.world) a.answered.replies
-            a.answered.told.last run in
+            a.answered.reported.last run in
             let one = Run-one rows law s.done (opening contents.world) tt first.0 s.replies first.1 (over state s.now)
             first.3
             s.run in

@@ -6,7 +6,7 @@ use Rattle.wot_policy.specs.declared.rows.PolicyRows.{PolicyRows}
 use Rattle.wot_script.specs.declared.reply.Reply.{Reply}
 use Rattle.wot_certd.specs.World.{World}
 use Rattle.wot_plain.specs.Entry.{MayPutIn, use_of}
-use Rattle.wot_plain.specs.Lines.{heard}
+use Rattle.wot_plain.specs.Lines.{command_in_line}
 use Rattle.wot_plain.specs.Scene.{Scene}
 use Rattle.wot_plain.specs.Transcript.{IsNow, RepliesTo, octets_of, Transcript}
 use Rattle.wot_engine.specs.Source.{IsTaken}
@@ -17,20 +17,20 @@ use Rattle.wot_engine.specs.Contents.{Contents}
 -- The input was read to its end, and its whole transcript was written.
 pub record IsTranscribed (rows : PolicyRows) (contents : Contents) (left after : Option (List ℕ)) : Type 0 where
   pub replies : List Reply
-  pub told : Transcript rows contents.world contents.input replies
+  pub reported : Transcript rows contents.world contents.input replies
   pub written : after ≡ Some (contents.written ++ octets_of replies)
   pub ended : left ≡ Some []
 
 -- the directory is in the world to which the lines of the input lead
 pub record IsLeft (rows : PolicyRows) (contents : Contents) (origin shelf : Option World) : Type 0 where
   pub replies : List Reply
-  pub told : Transcript rows contents.world contents.input replies
-  pub left : IsNow origin shelf told.last.world
+  pub reported : Transcript rows contents.world contents.input replies
+  pub left : IsNow origin shelf reported.last.world
 
 -- what was written is a prefix of the transcript
 pub record IsBegun (rows : PolicyRows) (contents : Contents) (after : Option (List ℕ)) : Type 0 where
   pub replies : List Reply
-  pub told : Transcript rows contents.world contents.input replies
+  pub reported : Transcript rows contents.world contents.input replies
   pub size : ℕ
   pub written : after ≡ Some (contents.written ++ take size (octets_of replies))
 
@@ -40,16 +40,16 @@ pub record IsBegun (rows : PolicyRows) (contents : Contents) (after : Option (Li
 pub record Answered (rows : PolicyRows) (contents : Contents) (lines : List (List ℕ)) (after : Option (List ℕ))
     : Type 0 where
   pub replies : List Reply
-  pub told : RepliesTo rows contents.world lines replies
+  pub reported : RepliesTo rows contents.world lines replies
   pub written : after ≡ Some (contents.written ++ octets_of replies)
 
 -- They were written, and the directory is in the world to which these lines lead.
 pub record Finished (rows : PolicyRows) (contents : Contents) (lines : List (List ℕ)) (after : Option (List ℕ))
     (origin shelf : Option World) : Type 0 where
   pub replies : List Reply
-  pub told : RepliesTo rows contents.world lines replies
+  pub reported : RepliesTo rows contents.world lines replies
   pub written : after ≡ Some (contents.written ++ octets_of replies)
-  pub left : IsNow origin shelf told.last.world
+  pub left : IsNow origin shelf reported.last.world
 
 -- All complete lines of the octets that were taken are finished. At the end of the source, a last line without a line
 -- feed may count as complete.
@@ -82,7 +82,7 @@ abbrev pub MayPutNext : Scene → List (List ℕ) → Option World → Option Wo
 MayPutNext scene lines None shelf = Unit {0}
 MayPutNext scene [] (Some origin) shelf = shelf ≡ Some scene.world
 MayPutNext scene (line ∷ lines) (Some origin) shelf =
-    (shelf ≡ Some scene.world) ⊎ MayPutIn scene.whole.state (use_of (heard line)) scene.world shelf
+    (shelf ≡ Some scene.world) ⊎ MayPutIn scene.whole.state (use_of (command_in_line line)) scene.world shelf
 
 -- The first lines were answered up to some line, and a prefix of the octets of their replies was written. The next line
 -- wrote at most its own entry: all others are as the answered lines leave them.
@@ -90,10 +90,10 @@ pub record Reached (rows : PolicyRows) (contents : Contents) (after : Option (Li
     : Type 0 where
   pub count : ℕ
   pub replies : List Reply
-  pub told : RepliesTo rows contents.world (take count (lines_of contents.input)) replies
+  pub reported : RepliesTo rows contents.world (take count (lines_of contents.input)) replies
   pub size : ℕ
   pub written : after ≡ Some (contents.written ++ take size (octets_of replies))
-  pub puts : MayPutNext told.last (drop count (lines_of contents.input)) origin shelf
+  pub puts : MayPutNext reported.last (drop count (lines_of contents.input)) origin shelf
 
 -- The first unanswered line was taken, and fewer than 65,536 octets after it.
 pub record IsLastTaken (lines : List (List ℕ)) (left : Option (List ℕ)) : Type 0 where
@@ -110,7 +110,7 @@ pub record ReachedWhole (rows : PolicyRows) (contents : Contents) (left after : 
     (origin shelf : Option World) : Type 0 where
   pub count : ℕ
   pub replies : List Reply
-  pub told : RepliesTo rows contents.world (take count (lines_of contents.input)) replies
+  pub reported : RepliesTo rows contents.world (take count (lines_of contents.input)) replies
   pub written : after ≡ Some (contents.written ++ octets_of replies)
   pub next : (left ≡ Some contents.input) ⊎ IsLastTaken (drop count (lines_of contents.input)) left
-  pub puts : MayPutNext told.last (drop count (lines_of contents.input)) origin shelf
+  pub puts : MayPutNext reported.last (drop count (lines_of contents.input)) origin shelf

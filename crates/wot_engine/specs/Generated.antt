@@ -32,7 +32,7 @@ summary_of start count replies = record {
 -- of its transcript, by the abstract machine with an empty directory.
 pub record IsSummary (rows : PolicyRows) (start count : ℕ) (text : List ℕ) : Type 0 where
   pub replies : List Reply
-  pub told : RepliesTo rows no_entries (script_lines start count) replies
+  pub reported : RepliesTo rows no_entries (script_lines start count) replies
   pub text_is : text ≡ summary_text (summary_of start count replies)
 
 -- the three lines were written

@@ -5,7 +5,7 @@ pub mod RunDoes
 pub mod Generated
 pub mod Ends
 pub mod Ended
-pub mod Turn
+pub mod LineReply
 pub mod RunAsks
 pub mod Held
 pub mod Played

@@ -19,9 +19,9 @@ use Rattle.wot_engine.specs.Generated.{no_entries}
 pub record Adds (rows : PolicyRows) (line : List ℕ) (old : Scene) (before : Tally) (new : Scene) (after : Tally)
     : Type 0 where
   pub reply : Option Reply
-  pub told : List Reply
-  pub step : Step rows old line reply told new
-  pub tells : (replies : List Reply) → Tallies before replies → Tallies after (replies ++ (listed reply ++ told))
+  pub reported : List Reply
+  pub step : Step rows old line reply reported new
+  pub tells : (replies : List Reply) → Tallies before replies → Tallies after (replies ++ (listed reply ++ reported))
 
 -- the world of a directory in memory, and what a line sees of it
 abbrev pub world_in : ShelfMemory → World
@@ -50,12 +50,12 @@ AddsOne rows line machine shelf tally =
 
 -- the watch lines were reported, and added to the tally
 pub record AddsTold (old : Session) (had : Tally) (new : Session) (has : Tally) : Type 0 where
-  pub told : List Reply
-  pub told_are : watching.ReportsWatches old told new
-  pub tells : (replies : List Reply) → Tallies had replies → Tallies has (replies ++ told)
+  pub reported : List Reply
+  pub reported_are : watching.ReportsWatches old reported new
+  pub tells : (replies : List Reply) → Tallies had replies → Tallies has (replies ++ reported)
 
 -- the tally of the replies to these lines, with an empty directory
 pub record IsPlayed (rows : PolicyRows) (lines : List (List ℕ)) (tally : Tally) : Type 0 where
   pub replies : List Reply
-  pub told : RepliesTo rows no_entries lines replies
+  pub reported : RepliesTo rows no_entries lines replies
   pub tells : Tallies tally replies

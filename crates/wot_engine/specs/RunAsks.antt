@@ -12,7 +12,7 @@ use Rattle.wot_certd.specs.World.{World}
 use Rattle.wot_cache.specs.State.{State}
 use Rattle.wot_command.specs.Asked.{LineAsks}
 use Rattle.wot_plain.specs.Both.{Ends}
-use Rattle.wot_plain.specs.Lines.{heard}
+use Rattle.wot_plain.specs.Lines.{command_in_line}
 use Rattle.wot_plain.specs.Scene.{Scene, Step, opening}
 use Rattle.wot_engine.specs.Source.{IsTaken}
 use Rattle.wot_plain.specs.Session.{Session}
@@ -30,9 +30,9 @@ done = Ok tt
 pub record AsksOnce {F : Type 0} (rows : PolicyRows) (line : List ℕ) (old : Scene) (before : Policy F) (new : Scene)
     (after : Policy F) : Type 0 where
   pub reply : Option Reply
-  pub told : List Reply
-  pub step : Step rows old line reply told new
-  pub asked : LineAsks done (heard line) old.whole.state new.whole.state before after
+  pub reported : List Reply
+  pub step : Step rows old line reply reported new
+  pub asked : LineAsks done (command_in_line line) old.whole.state new.whole.state before after
 
 -- The line does so, and Follows holds of the scene and the policy after it.
 pub record AsksBefore {F : Type 0} (rows : PolicyRows) (line : List ℕ) (old : Scene) (before : Policy F)
@@ -67,11 +67,11 @@ MayAsk command before after = (old : State) × (new : State) × LineAsks failed 
 -- the next of these lines may have done so
 abbrev pub MayAskNext : {F : Type 0} → List (List ℕ) → Policy F → Policy F → Type 0
 MayAskNext [] before after = after ≡ before
-MayAskNext (line ∷ lines) before after = (after ≡ before) ⊎ MayAsk (heard line) before after
+MayAskNext (line ∷ lines) before after = (after ≡ before) ⊎ MayAsk (command_in_line line) before after
 
 -- the command of a line that was read; a line that was too long has none
 abbrev pub command_by : Line → List ℕ → Option Command
-command_by Text text = heard text
+command_by Text text = command_in_line text
 command_by Long text = None
 command_by End text = None
 

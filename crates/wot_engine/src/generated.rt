@@ -144,14 +144,14 @@ fn add_line<F: Fn(Ask) -> bool>(
 ) -> Result<(), Memory>
     requires room { tally.old.amounts < 2 ^ 63 - 2 ^ 32 }
     requires countable { machine.old.engine.keyring.changes < 2 ^ 64 - 1 }
-    requires turnable { machine.old.engine.turns.count < 2 ^ 64 - 1 }
+    requires turnable { machine.old.engine.revisions.count < 2 ^ 64 - 1 }
     requires judged { IsJudgedBy (rows_of policy.old) machine.old.engine.keyring }
     requires faithful { IsFaithful F.Fn policy.old }
     ensures added { OnOk result (AddsLine (rows_of policy.old) line.now
         (ends kept machine) (ends world_in shelf) (ends itself tally)) }
     ensures amounts { tally.new.amounts < tally.old.amounts + 2 ^ 32 }
     ensures counted { machine.new.engine.keyring.changes ≤ machine.old.engine.keyring.changes + 1 }
-    ensures turned { machine.new.engine.turns.count ≤ machine.old.engine.turns.count + 1 }
+    ensures turned { machine.new.engine.revisions.count ≤ machine.old.engine.revisions.count + 1 }
     ensures judged { IsJudgedBy (rows_of policy.old) machine.new.engine.keyring }
     ensures faithful { IsFaithful F.Fn policy.new }
     ensures rows { rows_of policy.new ≡ rows_of policy.old }
@@ -170,14 +170,14 @@ fn add_reply<F: Fn(Ask) -> bool>(
 ) -> Result<(), Memory>
     requires room { tally.old.amounts < 2 ^ 63 }
     requires countable { machine.old.engine.keyring.changes < 2 ^ 64 - 1 }
-    requires turnable { machine.old.engine.turns.count < 2 ^ 64 - 1 }
+    requires turnable { machine.old.engine.revisions.count < 2 ^ 64 - 1 }
     requires judged { IsJudgedBy (rows_of policy.old) machine.old.engine.keyring }
     requires faithful { IsFaithful F.Fn policy.old }
     ensures added { OnOk result (AddsOne (rows_of policy.old) line.now
         (ends kept machine) (ends seen_in shelf) (ends itself tally)) }
     ensures amounts { tally.new.amounts < tally.old.amounts + 2 ^ 32 }
     ensures counted { machine.new.engine.keyring.changes ≤ machine.old.engine.keyring.changes + 1 }
-    ensures turned { machine.new.engine.turns.count ≤ machine.old.engine.turns.count + 1 }
+    ensures turned { machine.new.engine.revisions.count ≤ machine.old.engine.revisions.count + 1 }
     ensures judged { IsJudgedBy (rows_of policy.old) machine.new.engine.keyring }
     ensures faithful { IsFaithful F.Fn policy.new }
     ensures rows { rows_of policy.new ≡ rows_of policy.old }
@@ -185,7 +185,7 @@ fn add_reply<F: Fn(Ask) -> bool>(
     match machine.reply(line, shelf, policy)? {
         Some(DraftReply { reply, moved }) => {
             tally.add(&reply)?;
-            machine.settle(moved);
+            machine.move_cursor(moved);
             Ok(())
         }
         None => Ok(()),
@@ -201,7 +201,7 @@ fn add_told(machine: &mut Machine, tally: &mut Tally) -> Result<(), Memory>
 {
     let lines = machine.watch_lines()?;
     add_all(&lines, tally)?;
-    machine.told(&lines);
+    machine.note_reported(&lines);
     Ok(())
 }
 

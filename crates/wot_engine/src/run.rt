@@ -1,6 +1,6 @@
 //! A run: the lines of a source are answered by one machine, and their replies are written to a sink.
 //!
-//! It stands on the reader of lines of `wot_io` and on `Machine::line` and `Machine::tell`. Replies are buffered until
+//! It uses the reader of lines of `wot_io` and on `Machine::line` and `Machine::tell`. Replies are buffered until
 //! more input would be read. `run_words` hands its clauses on (`specs/RunDoes.antt`, `specs/Ended.antt`).
 ghost use Rattle.std.specs.Prelude.{◌≡◌, ◌≢◌, ◌<◌, ◌≤◌, ◌+◌, [], length};
 ghost use Rattle.std.specs.Prelude.{IfSome, OnErr, OnOk, IsErrOf, None, vec_items};
@@ -19,7 +19,7 @@ ghost use Rattle.wot_engine.specs.RunAsks.{MayAsk, ReadAsks, RunAsks, command_by
 ghost use Rattle.wot_engine.specs.Ends.{status_at};
 ghost use Rattle.wot_engine.specs.RunDoes.{Does, Runs, Takes};
 ghost use Rattle.wot_engine.specs.Held.{Moves};
-ghost use Rattle.wot_engine.specs.Turn.{Says, SaysAll, use_by};
+ghost use Rattle.wot_engine.specs.LineReply.{Says, SaysAll, use_by};
 ghost use Rattle.wot_engine.specs.declared.run.Stop.TheVariants as stops;
 ghost use Rattle.wot_engine.specs.declared.run.Stop.TheVariants.{Read, Write};
 
@@ -83,7 +83,7 @@ fn say<D: Shelf, F: Fn(Ask) -> bool>(
         (ends D.world shelf)) }
     ensures kept { OnErr result (out.new.items ≡ out.old.items) }
     ensures counted { machine.new.engine.keyring.changes ≤ machine.old.engine.keyring.changes + 1 }
-    ensures turned { machine.new.engine.turns.count ≤ machine.old.engine.turns.count + 1 }
+    ensures turned { machine.new.engine.revisions.count ≤ machine.old.engine.revisions.count + 1 }
     ensures asked { ReadAsks result line text.now (ends kept machine) (ends itself policy) }
     ensures judged { IsJudgedBy (rows_of policy.old) machine.new.engine.keyring }
     ensures faithful { IsFaithful F.Fn policy.new }
@@ -114,7 +114,7 @@ fn reply_to<D: Shelf, F: Fn(Ask) -> bool>(
         (ends D.world shelf)) }
     ensures kept { OnErr result (out.new.items ≡ out.old.items) }
     ensures counted { machine.new.engine.keyring.changes ≤ machine.old.engine.keyring.changes + 1 }
-    ensures turned { machine.new.engine.turns.count ≤ machine.old.engine.turns.count + 1 }
+    ensures turned { machine.new.engine.revisions.count ≤ machine.old.engine.revisions.count + 1 }
     ensures asked { OnOk result (ReadAsks done line text.now (ends kept machine) (ends itself policy)) }
     ensures may_ask { OnErr result (MayAsk (command_by line text.now) policy.old policy.new) }
     ensures judged { IsJudgedBy (rows_of policy.old) machine.new.engine.keyring }

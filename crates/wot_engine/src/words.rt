@@ -1,6 +1,6 @@
 //! The top call, whose contract is what the program promises.
 //!
-//! It stands on `run` and `generate`. `specs/Promises.antt` has what its clauses say beside the headline. A change here
+//! It uses `run` and `generate`. `specs/Promises.antt` has what its clauses say beside the headline. A change here
 //! or there changes the rows of `docs/PROOF.md` under "The clauses".
 ghost use Rattle.std.specs.Prelude.{◌≡◌};
 ghost use Rattle.wot_policy.specs.Kept.{IsFaithful, rows_of};

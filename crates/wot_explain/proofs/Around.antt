@@ -21,7 +21,7 @@ use Rattle.wot_keyring_spec.specs.Later.{SaysSame}
 use Rattle.wot_live.specs.Edge.{edge_by}
 use Rattle.wot_network.specs.Local.{AgreeAt}
 use Rattle.wot_network.specs.Standings.{DecideStandings, DecideUserIds}
-use Rattle.wot_network.specs.Told.{user_id_place}
+use Rattle.wot_network.specs.Records.{user_id_place}
 use Rattle.wot_standing.specs.Kinds.{is_certification}
 use Rattle.wot_standing.specs.Own.{is_own_revoked}
 use Rattle.wot_standing.specs.Standing.{own, standing_of}

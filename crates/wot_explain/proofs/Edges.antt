@@ -30,7 +30,7 @@ use Rattle.wot_edge.specs.Path.{step_of}
 use Rattle.wot_edge.specs.Record.{Has}
 use Rattle.wot_keyring_spec.specs.Keyring.{Certificates, is_fpr}
 use Rattle.wot_live.specs.Edge.{edge_facts, edge_by, edge_on, edge_of, signature_place}
-use Rattle.wot_network.specs.Told.{is_usable_by}
+use Rattle.wot_network.specs.Records.{is_usable_by}
 use Rattle.wot_standing.specs.declared.status.Standing.{Standing}
 use Rattle.wot_standing.specs.Kinds.{is_certification}
 use Rattle.wot_standing.specs.Standing.{own, newest_certification, standing_of}

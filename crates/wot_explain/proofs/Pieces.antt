@@ -23,7 +23,7 @@ use Rattle.wot_explain.specs.Listing.{Pair, pair_of, pairs_in, pairs_of, pairs_o
 use Rattle.wot_explain.specs.Piece.{AddsPiece, IsThePiece, binds_after, comes_after, fpr_at, is_bind_after, piece_of}
 use Rattle.wot_explain.proofs.Listed.{joined, pairs_named, split, walked, with_bind}
 
-module _ (told : List ℕ → Record) (roots : List (Fpr × ℕ)) (wanted : ℕ) (after : Option Place) (count : ℕ) where
+module _ (network : List ℕ → Record) (roots : List (Fpr × ℕ)) (wanted : ℕ) (after : Option Place) (count : ℕ) where
   after_joined : (xs ys : List Bind) → binds_after after (xs ++ ys) ≡ binds_after after xs ++ binds_after after ys
   after_joined xs ys = filter-append (is_bind_after after) xs ys
 
@@ -38,20 +38,20 @@ module _ (told : List ℕ → Record) (roots : List (Fpr × ℕ)) (wanted : ℕ)
 
   -- a full piece stays
   pub full_piece : (pairs : List Pair) (old : List Bind) → count ≤ length old →
-      AddsPiece told roots wanted after count pairs old old
+      AddsPiece network roots wanted after count pairs old old
   full_piece pairs old le before binds e h =
       e ∙ sym (full before binds (subst (λ (xs : List Bind). count ≤ length xs) e le))
 
-  pub none_piece : (old : List Bind) → AddsPiece told roots wanted after count [] old old
+  pub none_piece : (old : List Bind) → AddsPiece network roots wanted after count [] old old
   none_piece old before binds e h =
-      e ∙ ap (piece_of after count) (sym (ap (λ (bs : List Bind). before ++ bs) (walked told roots wanted [] binds h)
+      e ∙ ap (piece_of after count) (sym (ap (λ (bs : List Bind). before ++ bs) (walked network roots wanted [] binds h)
       ∙ append-nil before))
 
   pub joined_piece : (xs ys : List Pair) (old mid new : List Bind) →
-      AddsPiece told roots wanted after count xs old mid → AddsPiece told roots wanted after count ys mid new →
-      AddsPiece told roots wanted after count (xs ++ ys) old new
+      AddsPiece network roots wanted after count xs old mid → AddsPiece network roots wanted after count ys mid new →
+      AddsPiece network roots wanted after count (xs ++ ys) old new
   joined_piece xs ys old mid new f g before binds e h =
-      let s = split told roots wanted xs ys binds h in
+      let s = split network roots wanted xs ys binds h in
       g (before ++ s.0) s.1 (f before s.0 e s.2) s.3 ∙ ap (piece_of after count) (append_assoc before s.0 s.1
       ∙ ap (λ (bs : List Bind). before ++ bs) (sym s.4))
 
@@ -75,14 +75,14 @@ module _ (told : List ℕ → Record) (roots : List (Fpr × ℕ)) (wanted : ℕ)
   one_few pair sum false = omega arith
 
   -- the list of one pair
-  one_is : (pair : Pair) (binds : List Bind) → IsListed told roots wanted (pair ∷ []) binds →
+  one_is : (pair : Pair) (binds : List Bind) → IsListed network roots wanted (pair ∷ []) binds →
       (sum : ℕ) × (binds ≡ with_bind wanted pair sum [])
   one_is pair binds h =
-      let w = walked told roots wanted (pair ∷ []) binds h in
+      let w = walked network roots wanted (pair ∷ []) binds h in
       (amount_of w.paths, w.whole ∙ ap (with_bind wanted pair (amount_of w.paths)) w.listed)
 
   missed_none : (pair : Pair) (binds : List Bind) → comes_after after pair ≡ false →
-      IsListed told roots wanted (pair ∷ []) binds → binds_after after binds ≡ []
+      IsListed network roots wanted (pair ∷ []) binds → binds_after after binds ≡ []
   missed_none pair binds off h =
       let (sum, is) = one_is pair binds h in
       ap (binds_after after) is ∙ one_missed pair sum off (nat_le wanted sum)
@@ -95,12 +95,12 @@ module _ (told : List ℕ → Record) (roots : List (Fpr × ℕ)) (wanted : ℕ)
 
   -- one that doesn't come after the place
   pub missed_piece : (pair : Pair) (old : List Bind) → comes_after after pair ≡ false →
-      AddsPiece told roots wanted after count (pair ∷ []) old old
+      AddsPiece network roots wanted after count (pair ∷ []) old old
   missed_piece pair old off before binds e h = e ∙ same_piece before binds (missed_none pair binds off h)
 
   -- one that does
   pub taken_piece : (pair : Pair) (old new : List Bind) → comes_after after pair ≡ true → length old < count →
-      AddsListed told roots wanted (pair ∷ []) old new → AddsPiece told roots wanted after count (pair ∷ []) old new
+      AddsListed network roots wanted (pair ∷ []) old new → AddsPiece network roots wanted after count (pair ∷ []) old new
   taken_piece pair old new on lt a before binds e h =
       let (sum_is, is) = one_is pair binds h in
       let b = nat_le wanted sum_is in
@@ -123,23 +123,23 @@ module _ (told : List ℕ → Record) (roots : List (Fpr × ℕ)) (wanted : ℕ)
 
   pub piece_more : (fpr : Fpr) (uid : Component) (others rest : List Component) (body : List ℕ)
       (old mid new : List Bind) → rest ≡ uid ∷ others → body ≡ uid.body
-      → AddsPiece told roots wanted after count ((fpr, body) ∷ []) old mid → AddsPiece told roots wanted after count
-      (map (pair_of fpr) others) mid new → AddsPiece told roots wanted after count (map (pair_of fpr) rest) old new
+      → AddsPiece network roots wanted after count ((fpr, body) ∷ []) old mid → AddsPiece network roots wanted after count
+      (map (pair_of fpr) others) mid new → AddsPiece network roots wanted after count (map (pair_of fpr) rest) old new
   piece_more fpr uid others rest body old mid new e f h g =
-      subst (λ (ps : List Component). AddsPiece told roots wanted after count (map (pair_of fpr) ps) old new) (sym e)
+      subst (λ (ps : List Component). AddsPiece network roots wanted after count (map (pair_of fpr) ps) old new) (sym e)
       (joined_piece ((fpr, uid.body) ∷ []) (map (pair_of fpr) others) old mid new
-      (subst (λ (b : List ℕ). AddsPiece told roots wanted after count ((fpr, b) ∷ []) old mid) f h) g)
+      (subst (λ (b : List ℕ). AddsPiece network roots wanted after count ((fpr, b) ∷ []) old mid) f h) g)
 
   pub piece_end : (fpr : Fpr) (rest : List Component) (out : List Bind) → length rest ≡ 0 →
-      AddsPiece told roots wanted after count (map (pair_of fpr) rest) out out
+      AddsPiece network roots wanted after count (map (pair_of fpr) rest) out out
   piece_end fpr [] out e = none_piece out
   piece_end fpr (uid ∷ uids) out e = absurd (omega arith)
 
   pub cert_piece : (c : Certificate) (others rest : List Certificate) (old mid new : List Bind) → rest ≡ c ∷ others
-      → AddsPiece told roots wanted after count (pairs_of c) old mid → AddsPiece told roots wanted after count
-      (pairs_of_all others) mid new → AddsPiece told roots wanted after count (pairs_of_all rest) old new
+      → AddsPiece network roots wanted after count (pairs_of c) old mid → AddsPiece network roots wanted after count
+      (pairs_of_all others) mid new → AddsPiece network roots wanted after count (pairs_of_all rest) old new
   cert_piece c others rest old mid new e h g =
-      subst (λ (cs : List Certificate). AddsPiece told roots wanted after count (pairs_of_all cs) old new) (sym e)
+      subst (λ (cs : List Certificate). AddsPiece network roots wanted after count (pairs_of_all cs) old new) (sym e)
       (joined_piece (pairs_of c) (pairs_of_all others) old mid new h g)
 
   -- ---- what stands before the place
@@ -158,10 +158,10 @@ module _ (told : List ℕ → Record) (roots : List (Fpr × ℕ)) (wanted : ℕ)
           (sym f) refl
 
   missed_all : (fpr : Fpr) (uids : List Component) (binds : List Bind) → is_from (fpr_at after) fpr ≡ false →
-      IsListed told roots wanted (map (pair_of fpr) uids) binds → binds_after after binds ≡ []
-  missed_all fpr [] binds off h = ap (binds_after after) (walked told roots wanted [] binds h)
+      IsListed network roots wanted (map (pair_of fpr) uids) binds → binds_after after binds ≡ []
+  missed_all fpr [] binds off h = ap (binds_after after) (walked network roots wanted [] binds h)
   missed_all fpr (uid ∷ uids) binds off h =
-      let s = split told roots wanted (pair_of fpr uid ∷ []) (map (pair_of fpr) uids) binds h in
+      let s = split network roots wanted (pair_of fpr uid ∷ []) (map (pair_of fpr) uids) binds h in
       ap (binds_after after) s.4 ∙ after_joined s.0 s.1
       ∙ ap (λ (bs : List Bind). bs ++ binds_after after s.1)
       (missed_none (pair_of fpr uid) s.0 (before_place after fpr uid.body off) s.2)
@@ -169,26 +169,26 @@ module _ (told : List ℕ → Record) (roots : List (Fpr × ℕ)) (wanted : ℕ)
 
   -- What comes after the place in the list of all is what comes after it in the list of those from the place's
   -- fingerprint on.
-  from_there : (entries : Entries) (all : List Bind) → IsListed told roots wanted (pairs_in (stripped entries)) all
-      → (binds : List Bind) × IsListed told roots wanted (pairs_in (stripped (entries_from (fpr_at after) entries)))
+  from_there : (entries : Entries) (all : List Bind) → IsListed network roots wanted (pairs_in (stripped entries)) all
+      → (binds : List Bind) × IsListed network roots wanted (pairs_in (stripped (entries_from (fpr_at after) entries)))
       binds × (binds_after after binds ≡ binds_after after all)
   from_there [] all h = (all, h, refl)
   from_there (x ∷ entries) all h =
-      let s = split told roots wanted (map (pair_of x.0) x.1.cert.user_ids) (pairs_in (stripped entries)) all h in
+      let s = split network roots wanted (map (pair_of x.0) x.1.cert.user_ids) (pairs_in (stripped entries)) all h in
       let r = from_there entries s.1 s.3 in
       by (is_from (fpr_at after) x.0) refl s.0 s.1 s.2 s.4 r
     where
       by : (b : Bool) → is_from (fpr_at after) x.0 ≡ b → (front back : List Bind) →
-          IsListed told roots wanted (map (pair_of x.0) x.1.cert.user_ids) front → all ≡ front ++ back
-          → ((binds : List Bind) × IsListed told roots wanted
+          IsListed network roots wanted (map (pair_of x.0) x.1.cert.user_ids) front → all ≡ front ++ back
+          → ((binds : List Bind) × IsListed network roots wanted
           (pairs_in (stripped (entries_from (fpr_at after) entries))) binds × (binds_after after binds ≡ binds_after
           after back))
-          → (binds : List Bind) × IsListed told roots wanted
+          → (binds : List Bind) × IsListed network roots wanted
           (pairs_in (stripped (cond b (x ∷ entries_from (fpr_at after) entries)
           (entries_from (fpr_at after) entries)))) binds × (binds_after after binds ≡ binds_after after all)
       by true t front back l e r = (
         front ++ r.0,
-        joined told roots wanted (map (pair_of x.0) x.1.cert.user_ids)
+        joined network roots wanted (map (pair_of x.0) x.1.cert.user_ids)
             (pairs_in (stripped (entries_from (fpr_at after) entries))) front r.0 l r.1,
         after_joined front r.0 ∙ ap (λ (bs : List Bind). binds_after after front ++ bs) r.2
             ∙ sym (after_joined front back) ∙ ap (binds_after after) (sym e),
@@ -213,10 +213,10 @@ module _ (told : List ℕ → Record) (roots : List (Fpr × ℕ)) (wanted : ℕ)
   pub the_piece : (entries : Entries) → AreNamed entries → (certs : List Certificate) →
       certs ≡ map (λ (e : Fpr × Kept). e.1.cert) (entries_from (fpr_at after) entries) → (old new : List Bind) →
       old ≡ []
-      → AddsPiece told roots wanted after count (pairs_of_all certs) old new →
-      IsThePiece told roots wanted (pairs_in (stripped entries)) after count new
+      → AddsPiece network roots wanted after count (pairs_of_all certs) old new →
+      IsThePiece network roots wanted (pairs_in (stripped entries)) after count new
   the_piece entries named certs e old new none a all h =
       let r = from_there entries all h in
       let pairs = ap pairs_of_all e ∙ pairs_named (entries_from (fpr_at after) entries) (named_from entries named) in
       a [] r.0 (none ∙ sym (take_all count [] (omega arith)))
-      (subst (λ (ps : List Pair). IsListed told roots wanted ps r.0) (sym pairs) r.1) ∙ ap (take count) r.2
+      (subst (λ (ps : List Pair). IsListed network roots wanted ps r.0) (sym pairs) r.1) ∙ ap (take count) r.2

@@ -12,7 +12,7 @@ use Rattle.wot_edge.specs.Record.{Entry, Record, blank, entry_at}
 use Rattle.wot_keyring_spec.specs.declared.kept.Kept.{Kept}
 use Rattle.wot_keyring_spec.specs.Keyring.{Keyring, Certificates, is_fpr, cert_at, certificates_in}
 use Rattle.wot_live.specs.Found.{HasFew}
-use Rattle.wot_network.specs.Told.{entry_of, user_id_place, record_of}
+use Rattle.wot_network.specs.Records.{entry_of, user_id_place, record_of}
 use Rattle.wot_standing.specs.Standing.{standing_of}
 use Rattle.wot_standing.specs.declared.status.Standing.{Standing}
 use Rattle.wot_explain.specs.Explaining.{explained_on, explained_at, explanation}
@@ -58,14 +58,14 @@ standing_none k t fpr e = ap (λ (o : Option Certificate). option_map (λ (x : C
 
 module _ (k : Keyring) (t : ℕ) (fpr : Fpr) (u : List ℕ) where
   -- the explanation of a certificate that is found
-  abbrev told : Option Certificate → Option Explained
-  told found = option_and_then (λ (c : Certificate). option_and_then (explained_at k.verdicts (certificates_in k) t c)
+  abbrev network : Option Certificate → Option Explained
+  network found = option_and_then (λ (c : Certificate). option_and_then (explained_at k.verdicts (certificates_in k) t c)
       (user_id_place u c.user_ids)) found
 
-  told_here : explanation (certificates_in k) k.verdicts t fpr u ≡ told (cert_at k fpr)
-  told_here = ap told (kept_at k fpr)
+  told_here : explanation (certificates_in k) k.verdicts t fpr u ≡ network (cert_at k fpr)
+  told_here = ap network (kept_at k fpr)
 
-  no_place : (found : Option Certificate) → placed u found ≡ None → told found ≡ None
+  no_place : (found : Option Certificate) → placed u found ≡ None → network found ≡ None
   no_place None e = refl
   no_place (Some c) e = ap (option_and_then (explained_at k.verdicts (certificates_in k) t c)) e
 
@@ -82,13 +82,13 @@ module _ (k : Keyring) (t : ℕ) (fpr : Fpr) (u : List ℕ) where
 
   -- the certificate isn't there
   pub not_kept : None ≡ cert_at k fpr → explanation (certificates_in k) k.verdicts t fpr u ≡ None
-  not_kept e = told_here ∙ ap told (sym e)
+  not_kept e = told_here ∙ ap network (sym e)
 
   told_at : (roads : List ℕ → Record) → AreRoadsOf roads k t → (place : ℕ) (c : Certificate) →
       Some place ≡ (entry_at (roads u) fpr).place → Some c ≡ cert_at k fpr
       → explanation (certificates_in k) k.verdicts t fpr u ≡ explained_at k.verdicts (certificates_in k) t c place
   told_at roads present place c e f =
-      told_here ∙ ap told (sym f)
+      told_here ∙ ap network (sym f)
       ∙ ap (option_and_then (explained_at k.verdicts (certificates_in k) t c)) (ap (placed u) f
       ∙ place_here roads present (Some place) e)
 

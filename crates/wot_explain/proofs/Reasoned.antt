@@ -32,7 +32,7 @@ module _ (verdicts : Entries) (certs : Certificates) (t : ℕ) (c : Certificate)
       → (step : Step) → (if b then step_by verdicts (own c) place uid s else None) ≡ Some step → Usable step
   shown n e true z on step h =
       let usable = is_usable_where verdicts certs t c place uid s on (e ∙ eqb-true n 0 z) in
-      let same : usable.0 ≡ step = let told = sym (step_is verdicts certs t c place uid s on usable.0 usable.1) ∙ h in
+      let same : usable.0 ≡ step = let network = sym (step_is verdicts certs t c place uid s on usable.0 usable.1) ∙ h in
       cc in
       subst Usable same usable.1
   shown n e false z on step h = absurd cc
@@ -104,7 +104,7 @@ pub edges_told : (k : Keyring) (t : ℕ) (fpr : Fpr) (u : List ℕ) (roads : Lis
     IsRising sig_cmp uid.sigs
     → (reasons : List Reason) → reasons ≡ reasons_on k.verdicts (certificates_in k) t (own c) place uid →
     TellsEdges k t fpr u reasons
-edges_told k t fpr u roads present place c e f ids same uid g rises reasons told =
+edges_told k t fpr u roads present place c e f ids same uid g rises reasons network =
     let here : slice_get c.user_ids place ≡ Some uid = ap (λ (ps : List Component). slice_get ps place) (sym same)
     ∙ sym g in
     record {
@@ -115,6 +115,6 @@ edges_told k t fpr u roads present place c e f ids same uid g rises reasons told
       placed = ap (placed u) f ∙ place_here k t fpr u roads present (Some place) e;
       here = here;
       each = subst (AreTold (IsReasonFor k.verdicts (certificates_in k) t c place uid)
-          (filter is_certification uid.sigs)) (sym told)
+          (filter is_certification uid.sigs)) (sym network)
           (are_told k.verdicts (certificates_in k) t c place uid here rises uid.sigs (λ s has. has));
     }

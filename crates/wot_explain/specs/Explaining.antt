@@ -8,7 +8,7 @@ use Rattle.wot_types.specs.declared.fpr.Fpr.{Fpr}
 use Rattle.wot_verdict.specs.Verdicts.{Entries}
 use Rattle.wot_component.specs.Certificate.{Component, Certificate}
 use Rattle.wot_keyring_spec.specs.Keyring.{Certificates, Keyring, certificates_in, is_fpr}
-use Rattle.wot_network.specs.Told.{user_id_place}
+use Rattle.wot_network.specs.Records.{user_id_place}
 use Rattle.wot_standing.specs.Kinds.{is_certification}
 use Rattle.wot_standing.specs.Own.{is_own_revoked}
 use Rattle.wot_standing.specs.Standing.{own, standing_of}
@@ -46,6 +46,6 @@ explanation certs verdicts t fpr u =
 
 -- This is the explanation. `Absent` is returned if and only if there is none. The only other error is "out of memory".
 abbrev pub Explains : Result Explained ExplainFault → Option Explained → Type 0
-Explains (Ok explained) told = told ≡ Some explained
-Explains (Err Absent) told = told ≡ None
-Explains (Err Memory) told = Unit {0}
+Explains (Ok explained) answer = answer ≡ Some explained
+Explains (Err Absent) answer = answer ≡ None
+Explains (Err Memory) answer = Unit {0}

@@ -9,7 +9,7 @@ use Rattle.wot_edge.specs.Path.{asks}
 use Rattle.wot_edge.specs.Record.{IsRecord, Record}
 use Rattle.wot_edge.specs.declared.path.Path.{Path}
 use Rattle.wot_keyring_spec.specs.Keyring.{Certificates, Keyring, certificates_in}
-use Rattle.wot_network.specs.Told.{record_of}
+use Rattle.wot_network.specs.Records.{record_of}
 use Rattle.wot_reach.specs.Reach.{IsReach}
 use Rattle.wot_standing.specs.Standing.{own}
 use Rattle.wot_explain.specs.declared.bind.Bind.{Bind}
@@ -34,41 +34,41 @@ pair_in bind = (bind.fpr, bind.uid)
 
 -- Its sum is that of an answer to the question about its pair.
 abbrev pub IsSummed : (List ℕ → Record) → List (Fpr × ℕ) → ℕ → Bind → Type 0
-IsSummed told roots wanted bind =
-    (paths : List Path) × IsAnswer (asks (told bind.uid) roots bind.fpr) wanted paths × (bind.sum ≡ amount_of paths)
+IsSummed network roots wanted bind =
+    (paths : List Path) × IsAnswer (asks (network bind.uid) roots bind.fpr) wanted paths × (bind.sum ≡ amount_of paths)
 
 -- It is authenticated to the wanted amount: its sum reaches it.
 abbrev pub is_authenticated_to : ℕ → Bind → Bool
 is_authenticated_to wanted bind = nat_le wanted bind.sum
 
 -- Each pair has the sum of its answer, and the list is those, in order, that reach the wanted amount.
-pub record IsListed (told : List ℕ → Record) (roots : List (Fpr × ℕ)) (wanted : ℕ) (pairs : List Pair)
+pub record IsListed (network : List ℕ → Record) (roots : List (Fpr × ℕ)) (wanted : ℕ) (pairs : List Pair)
     (binds : List Bind) : Type 0 where
   pub sums : List Bind
   pub each : map pair_in sums ≡ pairs
-  pub summed : AllByRecursion (IsSummed told roots wanted) sums
+  pub summed : AllByRecursion (IsSummed network roots wanted) sums
   pub chosen : binds ≡ filter (is_authenticated_to wanted) sums
 
 -- That holds for all pairs, records, roots and amounts.
 abbrev pub IsOfEachList : ((List ℕ → Record) → List (Fpr × ℕ) → ℕ → List Pair → Type 0) → Type 0
 IsOfEachList P =
-    (told : List ℕ → Record) (roots : List (Fpr × ℕ)) (wanted : ℕ) (pairs : List Pair) → P told roots wanted pairs
+    (network : List ℕ → Record) (roots : List (Fpr × ℕ)) (wanted : ℕ) (pairs : List Pair) → P network roots wanted pairs
 
 -- There is such a list if the wanted amount isn't 0.
 abbrev pub HasList : (List ℕ → Record) → List (Fpr × ℕ) → ℕ → List Pair → Type 0
-HasList told roots wanted pairs = 1 ≤ wanted → (binds : List Bind) × IsListed told roots wanted pairs binds
+HasList network roots wanted pairs = 1 ≤ wanted → (binds : List Bind) × IsListed network roots wanted pairs binds
 
 -- There is only one if the rows form a record.
 abbrev pub HasOneList : (List ℕ → Record) → List (Fpr × ℕ) → ℕ → List Pair → Type 0
-HasOneList told roots wanted pairs =
-    (a b : List Bind) → ((u : List ℕ) → IsRecord (told u))
-    → IsListed told roots wanted pairs a → IsListed told roots wanted pairs b → a ≡ b
+HasOneList network roots wanted pairs =
+    (a b : List Bind) → ((u : List ℕ) → IsRecord (network u))
+    → IsListed network roots wanted pairs a → IsListed network roots wanted pairs b → a ≡ b
 
 -- Exactly these are listed.
-pub record IsTheList (told : List ℕ → Record) (roots : List (Fpr × ℕ)) (wanted : ℕ) (pairs : List Pair)
+pub record IsTheList (network : List ℕ → Record) (roots : List (Fpr × ℕ)) (wanted : ℕ) (pairs : List Pair)
     (binds : List Bind) : Type 0 where
-  pub listed : IsListed told roots wanted pairs binds
-  pub one : (others : List Bind) → IsListed told roots wanted pairs others → others ≡ binds
+  pub listed : IsListed network roots wanted pairs binds
+  pub one : (others : List Bind) → IsListed network roots wanted pairs others → others ≡ binds
 
 -- The list of all bindings, by what certificates and verdicts make at t.
 abbrev pub IsListOf : Certificates → Entries → ℕ → List (Fpr × ℕ) → ℕ → List Bind → Type 0
@@ -77,29 +77,29 @@ IsListOf certs verdicts t roots wanted binds =
 
 -- If the roads are those of this keyring at some time, it is the list of all bindings then.
 abbrev pub IsListThen : (List ℕ → Record) → Keyring → List (Fpr × ℕ) → ℕ → List Bind → Type 0
-IsListThen told k roots wanted binds =
-    (t : ℕ) → AreRoadsOf told k t → IsListOf (certificates_in k) k.verdicts t roots wanted binds
+IsListThen network k roots wanted binds =
+    (t : ℕ) → AreRoadsOf network k t → IsListOf (certificates_in k) k.verdicts t roots wanted binds
 
 -- the pairs of a keyring
 abbrev pub pairs_kept : Keyring → List Pair
 pairs_kept k = pairs_in (certificates_in k)
 
 -- What may be asked for: an amount of at least 1, from at most 64 roots, within their reach.
-pub record IsSought (told : List ℕ → Record) (sought : Sought) : Type 0 where
+pub record IsSought (network : List ℕ → Record) (sought : Sought) : Type 0 where
   pub wanted : 1 ≤ sought.wanted
   pub few : length sought.roots.now ≤ 64
-  pub reach : IsReach told sought.roots.now sought.reach.now
+  pub reach : IsReach network sought.roots.now sought.reach.now
 
 -- ---- appending
 
 -- The list of these pairs was appended.
 abbrev pub AddsListed : (List ℕ → Record) → List (Fpr × ℕ) → ℕ → List Pair → List Bind → List Bind → Type 0
-AddsListed told roots wanted pairs old new =
-    (binds : List Bind) × IsTheList told roots wanted pairs binds × (new ≡ old ++ binds)
+AddsListed network roots wanted pairs old new =
+    (binds : List Bind) × IsTheList network roots wanted pairs binds × (new ≡ old ++ binds)
 
 -- The list of those of these pairs that were asked for was appended.
 abbrev pub AddsSought : (List ℕ → Record) → Sought → List Pair → List Bind → List Bind → Type 0
-AddsSought told sought pairs old new = AddsListed told sought.roots.now sought.wanted pairs old new
+AddsSought network sought pairs old new = AddsListed network sought.roots.now sought.wanted pairs old new
 
 -- the pairs of a certificate, under its own fingerprint, and those of several
 abbrev pub pairs_of : Certificate → List Pair

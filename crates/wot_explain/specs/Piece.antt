@@ -10,7 +10,7 @@ use Rattle.wot_types.specs.declared.place.Place.{Place}
 use Rattle.wot_verdict.specs.Verdicts.{Entries}
 use Rattle.wot_edge.specs.Record.{Record}
 use Rattle.wot_keyring_spec.specs.Keyring.{Certificates, Keyring, certificates_in}
-use Rattle.wot_network.specs.Told.{record_of}
+use Rattle.wot_network.specs.Records.{record_of}
 use Rattle.wot_explain.specs.declared.bind.Bind.{Bind}
 use Rattle.wot_explain.specs.declared.sought.Page.{Page}
 use Rattle.wot_explain.specs.Listing.{IsListed, Pair, pairs_in}
@@ -35,14 +35,14 @@ piece_of after count binds = take count (binds_after after binds)
 -- The piece of a list `old` became the piece of the list that continues with these pairs' list.
 abbrev pub AddsPiece : (List ℕ → Record) → List (Fpr × ℕ) → ℕ → Option Place → ℕ → List Pair
     → List Bind → List Bind → Type 0
-AddsPiece told roots wanted after count pairs old new =
-    (before binds : List Bind) → old ≡ piece_of after count before → IsListed told roots wanted pairs binds
+AddsPiece network roots wanted after count pairs old new =
+    (before binds : List Bind) → old ≡ piece_of after count before → IsListed network roots wanted pairs binds
     → new ≡ piece_of after count (before ++ binds)
 
 -- The piece that is wanted goes on so with these pairs.
 abbrev pub GoesOn : (List ℕ → Record) → Page → List Pair → Vec Bind Global → Vec Bind Global → Type 0
-GoesOn told page pairs old new =
-    AddsPiece told page.sought.roots.now page.sought.wanted (option_copied page.after) page.count pairs
+GoesOn network page pairs old new =
+    AddsPiece network page.sought.roots.now page.sought.wanted (option_copied page.after) page.count pairs
     old.items new.items
 
 -- the fingerprint of a place
@@ -51,8 +51,8 @@ fpr_at after = option_map (λ (place : Place). place.fpr) after
 
 -- These are the piece of every list of these pairs.
 abbrev pub IsThePiece : (List ℕ → Record) → List (Fpr × ℕ) → ℕ → List Pair → Option Place → ℕ → List Bind → Type 0
-IsThePiece told roots wanted pairs after count binds =
-    (all : List Bind) → IsListed told roots wanted pairs all → binds ≡ piece_of after count all
+IsThePiece network roots wanted pairs after count binds =
+    (all : List Bind) → IsListed network roots wanted pairs all → binds ≡ piece_of after count all
 
 -- The piece of the list of all bindings, by what certificates and verdicts make at t.
 abbrev pub IsPieceOf : Certificates → Entries → ℕ → List (Fpr × ℕ) → ℕ → Option Place → ℕ → List Bind → Type 0
@@ -62,18 +62,18 @@ IsPieceOf certs verdicts t roots wanted after count binds =
 -- The piece of every list of the pairs of a keyring; and the piece of the list of all bindings then, if the roads are
 -- those of this keyring at some time.
 abbrev pub IsPieceHere : (List ℕ → Record) → Keyring → List (Fpr × ℕ) → ℕ → Option Place → ℕ → Vec Bind Global → Type 0
-IsPieceHere told k roots wanted after count binds =
-    IsThePiece told roots wanted (pairs_in (certificates_in k)) after count binds.items
+IsPieceHere network k roots wanted after count binds =
+    IsThePiece network roots wanted (pairs_in (certificates_in k)) after count binds.items
 
 abbrev pub IsPieceThen : (List ℕ → Record) → Keyring → List (Fpr × ℕ) → ℕ → Option Place → ℕ → Vec Bind Global → Type 0
-IsPieceThen told k roots wanted after count binds =
-    (t : ℕ) → AreRoadsOf told k t → IsPieceOf (certificates_in k) k.verdicts t roots wanted after count binds.items
+IsPieceThen network k roots wanted after count binds =
+    (t : ℕ) → AreRoadsOf network k t → IsPieceOf (certificates_in k) k.verdicts t roots wanted after count binds.items
 
 -- They are the page that is wanted, here and then.
 abbrev pub IsPageHere : (List ℕ → Record) → Keyring → Page → Vec Bind Global → Type 0
-IsPageHere told k page binds =
-    IsPieceHere told k page.sought.roots.now page.sought.wanted (option_copied page.after) page.count binds
+IsPageHere network k page binds =
+    IsPieceHere network k page.sought.roots.now page.sought.wanted (option_copied page.after) page.count binds
 
 abbrev pub IsPageThen : (List ℕ → Record) → Keyring → Page → Vec Bind Global → Type 0
-IsPageThen told k page binds =
-    IsPieceThen told k page.sought.roots.now page.sought.wanted (option_copied page.after) page.count binds
+IsPageThen network k page binds =
+    IsPieceThen network k page.sought.roots.now page.sought.wanted (option_copied page.after) page.count binds

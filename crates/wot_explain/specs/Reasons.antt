@@ -144,6 +144,6 @@ reason_of verdicts certs t target place uid s =
 abbrev pub word_of : Certification → ℕ
 word_of on = reason_word on.keyring.now.verdicts (certificates_in on.keyring.now) on.t on.uid.now on.sig.now
 
-abbrev pub told_reason : Certification → Fpr → ℕ → Reason
-told_reason on target place =
+abbrev pub verdict_reason : Certification → Fpr → ℕ → Reason
+verdict_reason on target place =
     reason_of on.keyring.now.verdicts (certificates_in on.keyring.now) on.t target place on.uid.now on.sig.now

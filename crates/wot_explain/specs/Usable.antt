@@ -12,8 +12,8 @@ use Rattle.wot_edge.specs.Path.{step_of}
 use Rattle.wot_edge.specs.Record.{Has, Record}
 use Rattle.wot_keyring_spec.specs.Keyring.{Certificates, Keyring, certificates_in, is_fpr}
 use Rattle.wot_live.specs.Edge.{edge_of, signature_place}
-use Rattle.wot_network.specs.Told.{is_usable_by, record_of}
-use Rattle.wot_network.specs.Told as network
+use Rattle.wot_network.specs.Records.{is_usable_by, record_of}
+use Rattle.wot_network.specs.Records as network
 use Rattle.wot_standing.specs.Kinds.{is_certification}
 use Rattle.wot_standing.specs.Standing.{own}
 use Rattle.wot_explain.specs.Reasons.{Reason, reason_word, step_by}
@@ -32,7 +32,7 @@ pub record IsUsableEdge (verdicts : Entries) (certs : Certificates) (t : ℕ) (c
 -- The record that the roads have for each user ID is the one that the certificates and verdicts of this keyring make at
 -- t.
 abbrev pub AreRoadsOf : (List ℕ → Record) → Keyring → ℕ → Type 0
-AreRoadsOf told k t = (u : List ℕ) → told u ≡ record_of (certificates_in k) k.verdicts t u
+AreRoadsOf network k t = (u : List ℕ) → network u ≡ record_of (certificates_in k) k.verdicts t u
 
 -- A certification on the user ID at this place of a certificate whose signatures are sorted by their bodies.
 pub record IsOnUserId (c : Certificate) (place : ℕ) (uid : Component) (s : Signature) : Type 0 where

@@ -58,7 +58,7 @@ pub fn explain<R: Roads>(
     fpr: &Fpr,
     uid: &[u8],
 ) -> Result<Explained, ExplainFault>
-    requires present { AreRoadsOf (R.told roads.now) keyring.now t }
+    requires present { AreRoadsOf (R.network roads.now) keyring.now t }
     ensures explained { Explains result
         (explanation (certificates_in keyring.now) keyring.now.verdicts t fpr.now uid.now) }
 

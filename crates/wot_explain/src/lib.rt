@@ -1,4 +1,4 @@
-//! Which bindings are authenticated to an amount, and why a certification is or isn't a usable edge. It stands on
+//! Which bindings are authenticated to an amount, and why a certification is or isn't a usable edge. It uses
 //! wot_network and wot_search for the list, and on wot_standing for the reasons. wot_machine prints what it returns as
 //! the replies to `list` and `explain`, and as the pieces of cursors.
 #![tactic(auto)]

@@ -23,8 +23,8 @@ pub(crate) fn list_pair<R: Roads>(
     uid: &[u8],
     out: &mut Vec<Bind>,
 ) -> Result<(), Memory>
-    requires sought { IsSought (R.told roads.now) sought.now }
-    ensures { OnOk result (AddsSought (R.told roads.now) sought.now
+    requires sought { IsSought (R.network roads.now) sought.now }
+    ensures { OnOk result (AddsSought (R.network roads.now) sought.now
         ((fpr.now, uid.now) ∷ []) out.old.items out.new.items) }
 {
     let asked = Asked {
@@ -55,8 +55,8 @@ fn list_user_ids<R: Roads>(
     user_ids: &[Part],
     out: &mut Vec<Bind>,
 ) -> Result<(), Memory>
-    requires sought { IsSought (R.told roads.now) sought.now }
-    ensures { OnOk result (AddsSought (R.told roads.now) sought.now (map (pair_of fpr.now) user_ids.now)
+    requires sought { IsSought (R.network roads.now) sought.now }
+    ensures { OnOk result (AddsSought (R.network roads.now) sought.now (map (pair_of fpr.now) user_ids.now)
         out.old.items out.new.items) }
 {
     let mut rest = user_ids;
@@ -74,8 +74,9 @@ fn list_cert<R: Roads>(
     cert: &Cert,
     out: &mut Vec<Bind>,
 ) -> Result<(), Memory>
-    requires sought { IsSought (R.told roads.now) sought.now }
-    ensures { OnOk result (AddsSought (R.told roads.now) sought.now (pairs_of cert.now) out.old.items out.new.items) }
+    requires sought { IsSought (R.network roads.now) sought.now }
+    ensures { OnOk result (AddsSought (R.network roads.now) sought.now
+        (pairs_of cert.now) out.old.items out.new.items) }
 {
     list_user_ids(alloc, roads, sought, &cert.fpr(), cert.user_ids(), out)
 }
@@ -87,8 +88,8 @@ fn list_certs<R: Roads>(
     certs: CertsIter<'_>,
     out: &mut Vec<Bind>,
 ) -> Result<(), Memory>
-    requires sought { IsSought (R.told roads.now) sought.now }
-    ensures { OnOk result (AddsSought (R.told roads.now) sought.now
+    requires sought { IsSought (R.network roads.now) sought.now }
+    ensures { OnOk result (AddsSought (R.network roads.now) sought.now
         (pairs_of_all certs.entry) out.old.items out.new.items) }
 {
     'certs: for cert in certs {
@@ -117,8 +118,8 @@ pub fn list<R: Roads>(
     requires wanted { 1 ≤ wanted }
     requires few { length roots.now ≤ 64 }
     ensures listed { IfOk result
-        (λ binds. IsTheList (R.told roads.now) roots.now wanted (pairs_kept keyring.now) binds.items) }
-    ensures list { IfOk result (λ binds. IsListThen (R.told roads.now) keyring.now roots.now wanted binds.items) }
+        (λ binds. IsTheList (R.network roads.now) roots.now wanted (pairs_kept keyring.now) binds.items) }
+    ensures list { IfOk result (λ binds. IsListThen (R.network roads.now) keyring.now roots.now wanted binds.items) }
 {
     let fprs = fprs_of(alloc, keyring.certs())?;
     let reach = make_reach(alloc, roads, roots, &fprs)?;

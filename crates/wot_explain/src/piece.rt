@@ -1,5 +1,5 @@
 //! A piece of the list of bindings: the first few after a place. The walk starts at the place's fingerprint and stops
-//! when the piece is full, so a piece costs its own questions. Cursors and paged listings stand on it; the contract
+//! when the piece is full, so a piece costs its own questions. Cursors and paged listings use it; the contract
 //! says that it is a piece of the list that `listing` would return.
 ghost use Rattle.std.specs.Prelude.{◌≡◌, ◌≤◌, ◌∷◌, [], length, map, IfOk, OnOk};
 ghost use Rattle.std.specs.Option.{option_copied};
@@ -49,8 +49,8 @@ fn piece_pair<R: Roads>(
     uid: &[u8],
     out: &mut Vec<Bind>,
 ) -> Result<(), Memory>
-    requires sought { IsSought (R.told roads.now) page.now.sought }
-    ensures { OnOk result (GoesOn (R.told roads.now) page.now
+    requires sought { IsSought (R.network roads.now) page.now.sought }
+    ensures { OnOk result (GoesOn (R.network roads.now) page.now
         ((fpr.now, uid.now) ∷ []) out.old out.new) }
 {
     if out.len() >= page.count as usize {
@@ -71,8 +71,8 @@ fn piece_user_ids<R: Roads>(
     user_ids: &[Part],
     out: &mut Vec<Bind>,
 ) -> Result<(), Memory>
-    requires sought { IsSought (R.told roads.now) page.now.sought }
-    ensures { OnOk result (GoesOn (R.told roads.now) page.now
+    requires sought { IsSought (R.network roads.now) page.now.sought }
+    ensures { OnOk result (GoesOn (R.network roads.now) page.now
         (map (pair_of fpr.now) user_ids.now) out.old out.new) }
 {
     let mut rest = user_ids;
@@ -90,8 +90,8 @@ fn piece_cert<R: Roads>(
     cert: &Cert,
     out: &mut Vec<Bind>,
 ) -> Result<(), Memory>
-    requires sought { IsSought (R.told roads.now) page.now.sought }
-    ensures { OnOk result (GoesOn (R.told roads.now) page.now
+    requires sought { IsSought (R.network roads.now) page.now.sought }
+    ensures { OnOk result (GoesOn (R.network roads.now) page.now
         (pairs_of cert.now) out.old out.new) }
 {
     piece_user_ids(alloc, roads, page, &cert.fpr(), cert.user_ids(), out)
@@ -105,8 +105,8 @@ fn piece_certs<R: Roads>(
     certs: CertsIter<'_>,
     out: &mut Vec<Bind>,
 ) -> Result<(), Memory>
-    requires sought { IsSought (R.told roads.now) page.now.sought }
-    ensures { OnOk result (GoesOn (R.told roads.now) page.now
+    requires sought { IsSought (R.network roads.now) page.now.sought }
+    ensures { OnOk result (GoesOn (R.network roads.now) page.now
         (pairs_of_all certs.entry) out.old out.new) }
 {
     'certs: for cert in certs {
@@ -132,9 +132,9 @@ pub fn list_after<R: Roads>(
     requires wanted { 1 ≤ wanted }
     requires few { length roots.now ≤ 64 }
     ensures piece { IfOk result
-        (IsPieceHere (R.told roads.now) keyring.now roots.now wanted (option_copied after.entry) count) }
+        (IsPieceHere (R.network roads.now) keyring.now roots.now wanted (option_copied after.entry) count) }
     ensures list { IfOk result
-        (IsPieceThen (R.told roads.now) keyring.now roots.now wanted (option_copied after.entry) count) }
+        (IsPieceThen (R.network roads.now) keyring.now roots.now wanted (option_copied after.entry) count) }
 {
     let reach = Reach::everywhere(alloc);
     let sought = Sought {
@@ -157,9 +157,9 @@ pub fn list_page<R: Roads>(
     roads: &R,
     page: &Page<'_>,
 ) -> Result<Vec<Bind>, Memory>
-    requires sought { IsSought (R.told roads.now) page.now.sought }
-    ensures piece { IfOk result (IsPageHere (R.told roads.now) keyring.now page.now) }
-    ensures list { IfOk result (IsPageThen (R.told roads.now) keyring.now page.now) }
+    requires sought { IsSought (R.network roads.now) page.now.sought }
+    ensures piece { IfOk result (IsPageHere (R.network roads.now) keyring.now page.now) }
+    ensures list { IfOk result (IsPageThen (R.network roads.now) keyring.now page.now) }
 {
     let mut binds = Vec::new(alloc);
     let certs = keyring.certs_from(start(page.after));

@@ -6,7 +6,7 @@ ghost use Rattle.wot_component.specs.Certificate.{Signature};
 ghost use Rattle.wot_edge.specs.Path.{step_of as step_of_spec};
 ghost use Rattle.wot_live.specs.Edge.{edge_by, edge_facts};
 ghost use Rattle.wot_explain.specs.Explaining.{reasons_on};
-ghost use Rattle.wot_explain.specs.Reasons.{reason_with, step_by, told_reason};
+ghost use Rattle.wot_explain.specs.Reasons.{reason_with, step_by, verdict_reason};
 ghost use Rattle.wot_keyring_spec.specs.Keyring.{certificates_in};
 ghost use Rattle.wot_live.specs.Found.{HasFew};
 ghost use Rattle.wot_standing.specs.Certifiers.{KeepsNewest, place_for};
@@ -73,7 +73,7 @@ fn reason_told(sig: &Sig, word: u8, step: Option<Step>) -> Reason
 fn reason(on: &Certification<'_>, target: Fpr, place: u32) -> Reason
     requires newest { KeepsNewest on.now.keyring.now.verdicts on.now.t on.now.uid.now
         (place_for on.now.certifiers.now 0) }
-    ensures { result ≡ told_reason on.now target place }
+    ensures { result ≡ verdict_reason on.now target place }
 {
     let word = reason_word(on);
     let step = step(on.sig, on.uid, on.keyring.verdicts(), target, place);

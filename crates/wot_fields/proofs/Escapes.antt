@@ -14,7 +14,7 @@ use Rattle.hex.proofs.HexLemmas.{decode_sized-encode_lower}
 use Rattle.wot_types.specs.Digits.{array_of_digits}
 use Rattle.wot_fields.specs.Fields.{◌>>=◌}
 use Rattle.wot_fields.specs.Turned.{Turned}
-use Rattle.wot_fields.specs.Uid.{ended, escape, escaped, turn, unescaped, unescaped_from}
+use Rattle.wot_fields.specs.Uid.{ended, escape, escaped, unescape_step, unescaped, unescaped_from}
 use Rattle.wot_fields.specs.declared.uid.Place.{Place}
 use Rattle.wot_fields.specs.declared.uid.Place.TheVariants.{Outside, Backslash, High, Low}
 
@@ -42,11 +42,11 @@ drop_first text i h = rw (add-one, drop-cons text i 0) refl
 
 -- what one step of the reading leaves unchanged
 pub turn_kept : (old new text : List ℕ) (i : ℕ) (place next : Place) → i < length text
-    → Turned old new (turn place (get_or text i 0)) (Some next)
+    → Turned old new (unescape_step place (get_or text i 0)) (Some next)
     → option_map (λ others. new ++ others) (unescaped_from (drop (i + 1) text) next)
     ≡ option_map (λ others. old ++ others) (unescaped_from (drop i text) place)
 turn_kept old new text i place next h t =
-    turned old new next (drop (i + 1) text) (turn place (get_or text i 0)) t
+    turned old new next (drop (i + 1) text) (unescape_step place (get_or text i 0)) t
     ∙ ap (λ rest. option_map (λ others. old ++ others) (unescaped_from rest place)) (sym (drop_first text i h))
 
 failed : (old new octets : List ℕ) (t : Option (List ℕ × Place)) → Turned old new t None
@@ -58,11 +58,11 @@ failed old new octets (Some read) h = cc (h.1)
 
 -- after a step that fails, nothing is read
 pub turn_fails : (old new text : List ℕ) (i : ℕ) (place : Place) → i < length text
-    → Turned old new (turn place (get_or text i 0)) None
+    → Turned old new (unescape_step place (get_or text i 0)) None
     → option_map (λ others. old ++ others) (unescaped_from (drop i text) place) ≡ None
 turn_fails old new text i place h t =
     ap (λ rest. option_map (λ others. old ++ others) (unescaped_from rest place)) (drop_first text i h)
-    ∙ failed old new (drop (i + 1) text) (turn place (get_or text i 0)) t
+    ∙ failed old new (drop (i + 1) text) (unescape_step place (get_or text i 0)) t
 
 at_end : (old text : List ℕ) (i : ℕ) (place : Place) → length text ≤ i
     → option_map (λ others. old ++ others) (unescaped_from (drop i text) place)

@@ -149,7 +149,7 @@ pub one_line : (most first : ℕ) (prefix : List ℕ) (texts : List (List ℕ))
     → IsOneLine most (joined ((first ∷ prefix) ∷ texts))
 one_line most first prefix texts fine apart free short = record {
   no_feed = lacks-joined 10 ((first ∷ prefix) ∷ texts) (word (first ∷ prefix) fine, free);
-  heard = apart;
+  no_comment = apart;
   short = omega (arith, length-joined ((first ∷ prefix) ∷ texts), short);
 }
 

@@ -37,14 +37,14 @@ most_octets (Good number fpr) = 142
 most_octets _ = 128
 
 -- it isn't empty, and isn't a comment
-abbrev pub IsHeard : List ℕ → Type 0
-IsHeard [] = ⊥
-IsHeard (octet ∷ octets) = octet ≢ 35
+abbrev pub IsNoComment : List ℕ → Type 0
+IsNoComment [] = ⊥
+IsNoComment (octet ∷ octets) = octet ≢ 35
 
 -- The text is one line, which isn't silent and has at most so many octets.
 pub record IsOneLine (most : ℕ) (text : List ℕ) : Type 0 where
   pub no_feed : AllByRecursion (λ octet. octet ≢ 10) text
-  pub heard : IsHeard text
+  pub no_comment : IsNoComment text
   pub short : length text ≤ most
 
 -- ---- read

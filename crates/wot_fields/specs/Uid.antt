@@ -9,11 +9,12 @@ use Rattle.wot_fields.specs.declared.uid.Place.{Place}
 use Rattle.wot_fields.specs.declared.uid.Place.TheVariants.{Outside, Backslash, High, Low}
 
 -- the octets that are complete after one more octet, and the state of the reading
-abbrev pub turn : Place → ℕ → Option (List ℕ × Place)
-turn Outside octet = if octet == 92 then Some ([], Backslash) else Some (octet ∷ [], Outside)
-turn Backslash octet = if octet == 92 then Some (92 ∷ [], Outside) else if octet == 120 then Some ([], High) else None
-turn High octet = Some ([], Low octet)
-turn (Low high) octet = option_map (λ octets. (octets, Outside)) (array_of_digits 1 (high ∷ octet ∷ []))
+abbrev pub unescape_step : Place → ℕ → Option (List ℕ × Place)
+unescape_step Outside octet = if octet == 92 then Some ([], Backslash) else Some (octet ∷ [], Outside)
+unescape_step Backslash octet =
+    if octet == 92 then Some (92 ∷ [], Outside) else if octet == 120 then Some ([], High) else None
+unescape_step High octet = Some ([], Low octet)
+unescape_step (Low high) octet = option_map (λ octets. (octets, Outside)) (array_of_digits 1 (high ∷ octet ∷ []))
 
 -- a text ends outside of an escape
 abbrev pub ended : Place → Option (List ℕ)
@@ -26,7 +27,7 @@ ended (Low high) = None
 abbrev pub unescaped_from : List ℕ → Place → Option (List ℕ)
 unescaped_from [] place = ended place
 unescaped_from (octet ∷ octets) place =
-    turn place octet >>= (λ next. option_map (λ others. next.0 ++ others) (unescaped_from octets next.1))
+    unescape_step place octet >>= (λ next. option_map (λ others. next.0 ++ others) (unescaped_from octets next.1))
 
 -- the user ID that a text spells
 unfoldable pub unescaped : List ℕ → Option (List ℕ)

@@ -1,4 +1,4 @@
-//! Decimal numbers without leading zeros, up to a bound. It stands on `specs/Decimal.antt`. Times, amounts and counts
+//! Decimal numbers without leading zeros, up to a bound. It uses `specs/Decimal.antt`. Times, amounts and counts
 //! in lines are read through it; `itoa` prints them.
 ghost use Rattle.std.specs.Prelude.{◌≡◌, ◌≤◌, IfSome};
 ghost use Rattle.wot_fields.specs.Decimal.{decimal_up_to, digits_up_to, positive_up_to};

@@ -1,4 +1,4 @@
-//! Lines cut into fields: prefixes, and the field before a separator. It stands on `specs/Fields.antt`. `read` and
+//! Lines cut into fields: prefixes, and the field before a separator. It uses `specs/Fields.antt`. `read` and
 //! `claims` take all lines apart with it.
 ghost use Rattle.std.specs.Prelude.{◌≡◌, Some, None};
 ghost use Rattle.std.specs.Option.{option_map};

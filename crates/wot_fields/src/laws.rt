@@ -1,7 +1,7 @@
 //! Laws: what is printed is read back. Each function does nothing: its contract is the law, and `wot_script` cites it
 //! by a call.
 //!
-//! They stand on `specs/Decimal.antt`, `specs/Fields.antt`, `specs/Uid.antt` and `specs/StateLine.antt`, and a change
+//! They use `specs/Decimal.antt`, `specs/Fields.antt`, `specs/Uid.antt` and `specs/StateLine.antt`, and a change
 //! of a spelling shows here first.
 ghost use Rattle.std.specs.Prelude.{◌≡◌, ◌≤◌, ◌<◌, ◌^◌, true, ℕ, List, Some, length};
 ghost use Rattle.std.specs.Fmt.{decimal};

@@ -1,7 +1,7 @@
 //! The words of lines: numbers, names, octets and user IDs, and the lines that set a part of the state, printed and
 //! read.
 //!
-//! It stands on `wot_types`, `hex` and `itoa`. `wot_script` makes all commands and replies of these words;
+//! It uses `wot_types`, `hex` and `itoa`. `wot_script` makes all commands and replies of these words;
 //! `wot_keyring` and `wot_cache` print a dump with them. What changes here proves all of these again; a further command
 //! doesn't.
 #![tactic(auto)]

@@ -1,6 +1,6 @@
 //! Pieces that lines are printed from: words, numbers, fingerprints, hexadecimal octets, user IDs.
 //!
-//! It stands on `hex`, `itoa` and `specs/Pieces.antt`. All that is printed goes through `put_pieces`, which appends
+//! It uses `hex`, `itoa` and `specs/Pieces.antt`. All that is printed goes through `put_pieces`, which appends
 //! everything or nothing.
 ghost use Rattle.std.specs.Prelude.{◌≡◌, ◌∷◌, []};
 ghost use Rattle.std.specs.Fmt.{decimal};

@@ -1,9 +1,9 @@
-//! User IDs in lines: reading their escapes. It stands on `specs/Uid.antt`, and `piece` prints them. User IDs may hold
+//! User IDs in lines: reading their escapes. It uses `specs/Uid.antt`, and `piece` prints them. User IDs may hold
 //! any octets, so a line feed in one is always escaped.
 ghost use Rattle.std.specs.Prelude.{◌≡◌, ◌∷◌, [], IfOk};
 ghost use Rattle.std.specs.Option.{option_map};
 ghost use Rattle.wot_types.specs.Digits.{array_of_digits};
-ghost use Rattle.wot_fields.specs.Uid.{turn, unescaped};
+ghost use Rattle.wot_fields.specs.Uid.{unescape_step, unescaped};
 ghost use Rattle.wot_fields.specs.Turned.{Turned};
 
 use std::alloc::Global;
@@ -33,7 +33,7 @@ fn read_pair(high: u8, low: u8) -> Option<[u8; 1]>
 }
 
 fn take_pair(high: u8, low: u8, octets: &mut Vec<u8>) -> Result<Option<Place>, Memory>
-    ensures { IfOk result (Turned octets.old.items octets.new.items (turn (Place.Low high) low)) }
+    ensures { IfOk result (Turned octets.old.items octets.new.items (unescape_step (Place.Low high) low)) }
 {
     let Some(octet) = read_pair(high, low) else {
         return Ok(None);
@@ -43,7 +43,7 @@ fn take_pair(high: u8, low: u8, octets: &mut Vec<u8>) -> Result<Option<Place>, M
 }
 
 fn take_turn(place: Place, octet: u8, octets: &mut Vec<u8>) -> Result<Option<Place>, Memory>
-    ensures { IfOk result (Turned octets.old.items octets.new.items (turn place octet)) }
+    ensures { IfOk result (Turned octets.old.items octets.new.items (unescape_step place octet)) }
 {
     match place {
         Place::Outside => {

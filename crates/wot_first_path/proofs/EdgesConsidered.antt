@@ -34,7 +34,7 @@ leads quest row (next ∷ rest) some r far =
 -- each edge into a fingerprint that may matter before this many others is one of these
 abbrev pub HasAllBefore : Quest → ℕ → Fpr → List EdgeFacts → Type 0
 HasAllBefore quest size at edges =
-    (edge : EdgeFacts) → Has (edges_into quest.question.told at) edge → (0 < size → leads_on quest.reach edge ≡ true)
+    (edge : EdgeFacts) → Has (edges_into quest.question.network at) edge → (0 < size → leads_on quest.reach edge ≡ true)
     → Has edges edge
 
 -- the width of the rest
@@ -78,16 +78,16 @@ module _ (quest : Quest) (size : ℕ) where
       → HasAllBefore quest size at edges → length rest ≡ size → start quest.question.target rest ≡ at
       → TakenAll found edges rest → AreTaken quest found rest
   taken_all found edges at rest matter long there all step s =
-      let row = s.stands.row in
-      let h = subst (λ (f : Fpr). Has (rows_into quest.question.told f) row) there s.stands.into in
+      let row = s.usable_edge.row in
+      let h = subst (λ (f : Fpr). Has (rows_into quest.question.network f) row) there s.usable_edge.into in
       let left : quest.least ≤ step_left quest.used (step_of row.edge) =
-      subst (λ (z : Step). quest.least ≤ step_left quest.used z) (sym s.stands.shown) s.left in
+      subst (λ (z : Step). quest.least ≤ step_left quest.used z) (sym s.usable_edge.shown) s.left in
       let far : length rest < quest.reach row.edge.issuer =
-      subst (λ (z : Step). length rest < quest.reach z.issuer) (sym s.stands.shown) s.high in
-      let has = matter row.edge (row_edge quest.question.told at row h)
-      (λ some. leads quest row rest (omega (arith, some, long)) s.stands.reaches far) in
-      subst (λ (z : Step). Covered quest found (z ∷ rest)) s.stands.shown
-      (all row.edge has row s.stands.into refl s.stands.usable s.stands.reaches left far)
+      subst (λ (z : Step). length rest < quest.reach z.issuer) (sym s.usable_edge.shown) s.high in
+      let has = matter row.edge (row_edge quest.question.network at row h)
+      (λ some. leads quest row rest (omega (arith, some, long)) s.usable_edge.reaches far) in
+      subst (λ (z : Step). Covered quest found (z ∷ rest)) s.usable_edge.shown
+      (all row.edge has row s.usable_edge.into refl s.usable_edge.usable s.usable_edge.reaches left far)
 
   pub rest_now : (old now : Reached) (at : Fpr) (wide : ℕ) (edge : EdgeFacts) (rest : List Step)
       → Kept quest (look old.nodes) rest → length rest ≡ size → start quest.question.target rest ≡ at
@@ -142,15 +142,15 @@ module _ (quest : Quest) where
   noted_all size set edges at rest matter long there it all = record {
     it = subst set (sym there) it;
     issuers = λ row h r le far.
-        let h' = subst (λ (f : Fpr). Has (rows_into quest.question.told f) row) there h in
-        let has = matter row.edge (row_edge quest.question.told at row h')
+        let h' = subst (λ (f : Fpr). Has (rows_into quest.question.network f) row) there h in
+        let has = matter row.edge (row_edge quest.question.network at row h')
         (λ some. leads quest row rest (omega (arith, some, long)) r far) in
         all row.edge has row h refl r le far;
   }
 
 -- the issuer of an edge into a fingerprint is near it
-pub near_issuer : (told : Record) (at : Fpr) (edge : EdgeFacts) → Has (edges_into told at) edge
-    → IsNear told at edge.issuer
-near_issuer told at edge h =
-    let r = row_there told at edge h in
+pub near_issuer : (network : Record) (at : Fpr) (edge : EdgeFacts) → Has (edges_into network at) edge
+    → IsNear network at edge.issuer
+near_issuer network at edge h =
+    let r = row_there network at edge h in
     inr (r.0, r.1, ap (λ (x : EdgeFacts). x.issuer) (sym r.2))

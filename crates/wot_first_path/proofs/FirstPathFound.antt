@@ -62,7 +62,7 @@ unrooted_begin quest found steps k some few left = omega (arith, some, few)
 
 -- ---- a turn
 
-pub turn_none : (quest : Quest) (good : IsRecord quest.question.told) (small : IsSmall quest) (found : Found) (size : ℕ)
+pub turn_none : (quest : Quest) (good : IsRecord quest.question.network) (small : IsSmall quest) (found : Found) (size : ℕ)
     (layer : List Fpr)
     → IsLayer quest found size layer → IsUnrooted quest found size → None ≡ chosen quest found None layer
     → IsUnrooted quest found (suc size)
@@ -70,7 +70,7 @@ turn_none quest good small found size layer is u e =
     picked_none quest good small found size layer is u
     (subst (IsPicked quest found layer) (sym e) (picked quest found layer))
 
-pub turn_some : (quest : Quest) (good : IsRecord quest.question.told) (small : IsSmall quest) (found : Found) (size : ℕ)
+pub turn_some : (quest : Quest) (good : IsRecord quest.question.network) (small : IsSmall quest) (found : Found) (size : ℕ)
     (layer : List Fpr)
     → IsLayer quest found size layer → IsComplete quest found size → IsUnrooted quest found size → 1 ≤ size → size ≤ 255
     → (choice : Choice) → Some choice ≡ chosen quest found None layer
@@ -107,7 +107,7 @@ turn_some quest good small found size layer is complete u pos most choice e path
 
 -- what a turn returns after a layer
 pub turned : (quest : Quest) (size : ℕ) (reached : Reached) (set : Fpr → Type 0) (found : Option Path)
-    → IsRecord quest.question.told → IsSmall quest → IsAfter quest (suc size) reached set
+    → IsRecord quest.question.network → IsSmall quest → IsAfter quest (suc size) reached set
     → IsUnrooted quest (look reached.nodes) (suc size) → TurnsTo quest (size + 1) reached found
     → IsTurn quest (look reached.nodes) (size + 1) found
 turned quest size reached set found good small after unrooted turns =

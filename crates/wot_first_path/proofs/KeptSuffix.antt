@@ -18,7 +18,7 @@ use Rattle.wot_first_path.proofs.Order.{not_lt-Less, less_not}
 use Rattle.wot_first_path.proofs.Suffixes.{links}
 use Rattle.wot_first_path.proofs.OneSuffixMore.{entry_is}
 
-module _ (quest : Quest) (good : IsRecord quest.question.told) (found : Found) (step : Step) (rest : List Step)
+module _ (quest : Quest) (good : IsRecord quest.question.network) (found : Found) (step : Step) (rest : List Step)
     (kept : Kept quest found rest) (serves : Serves quest step rest) where
   -- the better one is as good as the other
   better_good : (goal : Goal) (x : Step) (xs : List Step) → Kept quest found (x ∷ xs) → x.issuer ≡ step.issuer

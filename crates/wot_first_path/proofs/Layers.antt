@@ -96,7 +96,7 @@ seen_longer : (quest : Quest) (set : Fpr → Type 0) (rest other : List Step) �
     → IsSeen quest set other → IsSeen quest set rest
 seen_longer quest set rest other a b le e s = record {
   it = subst set e s.it;
-  issuers = λ row h r left far. s.issuers row (subst (λ (f : Fpr). Has (rows_into quest.question.told f) row) (sym e) h)
+  issuers = λ row h r left far. s.issuers row (subst (λ (f : Fpr). Has (rows_into quest.question.network f) row) (sym e) h)
       (reaches_shorter quest.question row rest other a b le r) left (omega (arith, le, far));
 }
 

@@ -43,7 +43,7 @@ module _ (reach : Fpr → ℕ) (all : (fpr : Fpr) → reach fpr ≡ 255) (q othe
   reaches_there : (x y : Row) (rest : List Step) → 0 < n → x.edge ≡ y.edge → x.scope ≡ y.scope → Reaches q x rest
       → Reaches other y rest
   reaches_there x y [] lt e s r =
-      sym (a.place q.target (target_in lt) ∙ ap (λ (f : Fpr). (entry_at other.told f).place) a.target) ∙ r
+      sym (a.place q.target (target_in lt) ∙ ap (λ (f : Fpr). (entry_at other.network f).place) a.target) ∙ r
       ∙ ap (λ (z : EdgeFacts). Some z.uid) e
   reaches_there x y (next ∷ rest) lt e s r = (
     let d = ap (λ (z : EdgeFacts). z.depth) e in let m = r.0 in
@@ -55,7 +55,7 @@ module _ (reach : Fpr → ℕ) (all : (fpr : Fpr) → reach fpr ≡ 255) (q othe
   reaches_here : (x y : Row) (rest : List Step) → 0 < n → x.edge ≡ y.edge → x.scope ≡ y.scope → Reaches other y rest
       → Reaches q x rest
   reaches_here x y [] lt e s r =
-      a.place q.target (target_in lt) ∙ ap (λ (f : Fpr). (entry_at other.told f).place) a.target ∙ r
+      a.place q.target (target_in lt) ∙ ap (λ (f : Fpr). (entry_at other.network f).place) a.target ∙ r
       ∙ ap (λ (z : EdgeFacts). Some z.uid) (sym e)
   reaches_here x y (next ∷ rest) lt e s r = (
     let d = ap (λ (z : EdgeFacts). z.depth) e in let m = r.0 in
@@ -69,8 +69,8 @@ module _ (reach : Fpr → ℕ) (all : (fpr : Fpr) → reach fpr ≡ 255) (q othe
   there [] le t = tt
   there (step ∷ rest) le t =
       let seen = k rest (omega (arith, le)) t.1 in
-      let s = t.0.stands in
-      let y = twin (rows_into other.told (start q.target rest)) (rows_into q.told (start q.target rest)) s.row
+      let s = t.0.usable_edge in
+      let y = twin (rows_into other.network (start q.target rest)) (rows_into q.network (start q.target rest)) s.row
       (sym (a.rows (start q.target rest) seen.it)) s.into in
       let left : 1 ≤ step_left used (step_of s.row.edge) =
       subst (λ (z : Step). 1 ≤ step_left used z) (sym s.shown) t.0.left in
@@ -79,9 +79,9 @@ module _ (reach : Fpr → ℕ) (all : (fpr : Fpr) → reach fpr ≡ 255) (q othe
       let u = a.usable (start q.target rest) seen.it s.row y.0 s.into y.1 (sym y.2)
       (seen.issuers s.row s.into s.reaches left far) in (
         record {
-          stands = record {
+          usable_edge = record {
             row = y.0;
-            into = subst (λ (f : Fpr). Has (rows_into other.told f) y.0) (start_same rest) y.1;
+            into = subst (λ (f : Fpr). Has (rows_into other.network f) y.0) (start_same rest) y.1;
             usable = sym u ∙ s.usable;
             shown = ap step_of y.2 ∙ s.shown;
             reaches = reaches_there s.row y.0 rest (omega (arith, le)) (sym y.2) (sym y.3) s.reaches;
@@ -98,9 +98,9 @@ module _ (reach : Fpr → ℕ) (all : (fpr : Fpr) → reach fpr ≡ 255) (q othe
   here (step ∷ rest) le t =
       let before = here rest (omega (arith, le)) t.1 in
       let seen = k rest (omega (arith, le)) before in
-      let s = t.0.stands in
-      let into' = subst (λ (f : Fpr). Has (rows_into other.told f) s.row) (sym (start_same rest)) s.into in
-      let x = twin (rows_into q.told (start q.target rest)) (rows_into other.told (start q.target rest)) s.row
+      let s = t.0.usable_edge in
+      let into' = subst (λ (f : Fpr). Has (rows_into other.network f) s.row) (sym (start_same rest)) s.into in
+      let x = twin (rows_into q.network (start q.target rest)) (rows_into other.network (start q.target rest)) s.row
       (a.rows (start q.target rest) seen.it) into' in
       let shown : step_of x.0.edge ≡ step = ap step_of x.2 ∙ s.shown in
       let left : 1 ≤ step_left used (step_of x.0.edge) =
@@ -110,7 +110,7 @@ module _ (reach : Fpr → ℕ) (all : (fpr : Fpr) → reach fpr ≡ 255) (q othe
       subst (λ (z : Step). length rest < reach z.issuer) (sym shown) t.0.high in
       let u = a.usable (start q.target rest) seen.it x.0 s.row x.1 into' x.2 (seen.issuers x.0 x.1 reaches left far) in (
         record {
-          stands = record { row = x.0; into = x.1; usable = u ∙ s.usable; shown = shown; reaches = reaches };
+          usable_edge = record { row = x.0; into = x.1; usable = u ∙ s.usable; shown = shown; reaches = reaches };
           left = t.0.left;
           high = t.0.high;
         },
@@ -122,7 +122,7 @@ module _ (reach : Fpr → ℕ) (all : (fpr : Fpr) → reach fpr ≡ 255) (q othe
       → root_amount q.roots (start q.target steps) ≡ root_amount other.roots (start other.target steps)
   root_same [] some le t = absurd (omega arith)
   root_same (step ∷ rest) some le t =
-      let s = t.0.stands in
+      let s = t.0.usable_edge in
       let left : 1 ≤ step_left used (step_of s.row.edge) =
       subst (λ (z : Step). 1 ≤ step_left used z) (sym s.shown) t.0.left in
       let far : length rest < reach s.row.edge.issuer =
@@ -151,7 +151,7 @@ module _ (reach : Fpr → ℕ) (all : (fpr : Fpr) → reach fpr ≡ 255) (q othe
           root = subst (λ (m : ℕ). 0 < m) (root_same steps v.some le t) v.root;
           in_order = sym
               (a.in_order q.target (target_in (let s = v.some in omega (arith, s, le)))
-              ∙ ap (λ (f : Fpr). (entry_at other.told f).in_order) a.target) ∙ v.in_order;
+              ∙ ap (λ (f : Fpr). (entry_at other.network f).in_order) a.target) ∙ v.in_order;
         },
         subst (λ (m : ℕ). 0 < m) (amount_same steps v.some le t) o.1,
       )
@@ -167,7 +167,7 @@ module _ (reach : Fpr → ℕ) (all : (fpr : Fpr) → reach fpr ≡ 255) (q othe
           distinct = v.distinct;
           root = subst (λ (m : ℕ). 0 < m) (sym (root_same steps v.some le t)) v.root;
           in_order = a.in_order q.target (target_in (let s = v.some in omega (arith, s, le)))
-              ∙ ap (λ (f : Fpr). (entry_at other.told f).in_order) a.target ∙ v.in_order;
+              ∙ ap (λ (f : Fpr). (entry_at other.network f).in_order) a.target ∙ v.in_order;
         },
         subst (λ (m : ℕ). 0 < m) (sym (amount_same steps v.some le t)) o.1,
       )
@@ -211,8 +211,8 @@ spent_there reach all q other used set a k s steps o =
     s steps (open_here reach all q other used 255 set a k steps o.0.few o)
 
 pub disordered_there : (q other : Question) (used : Use) (set : List Fpr) → Agree q other set → Has set q.target
-    → (entry_at q.told q.target).in_order ≡ false → IsSpent other used
+    → (entry_at q.network q.target).in_order ≡ false → IsSpent other used
 disordered_there q other used set a h e steps o =
-    let f : (entry_at other.told other.target).in_order ≡ false =
-    sym (a.in_order q.target h ∙ ap (λ (x : Fpr). (entry_at other.told x).in_order) a.target) ∙ e in
+    let f : (entry_at other.network other.target).in_order ≡ false =
+    sym (a.in_order q.target h ∙ ap (λ (x : Fpr). (entry_at other.network x).in_order) a.target) ∙ e in
     let g = o.0.in_order in cc

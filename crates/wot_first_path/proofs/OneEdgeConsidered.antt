@@ -33,7 +33,7 @@ use Rattle.wot_first_path.proofs.Layers.{onward_refl}
 
 reaches_met : (q : Question) (row : Row) (rest : List Step) → Reaches q row rest
     → is_met q.target (demand_of q (length rest)) row.edge ≡ true
-reaches_met q row [] r = true-place (entry_at q.told q.target).place row.edge.uid r
+reaches_met q row [] r = true-place (entry_at q.network q.target).place row.edge.uid r
 reaches_met q row (next ∷ rest) r =
     subst (λ (d : Demand). is_met q.target d row.edge ≡ true) (sym (demand_some q (length rest)))
     (and_from (nat_le (length (next ∷ rest)) row.edge.depth) (not (same_fpr row.edge.issuer q.target))
@@ -42,7 +42,7 @@ reaches_met q row (next ∷ rest) r =
 met_reaches : (q : Question) (row : Row) (rest : List Step)
     → is_met q.target (demand_of q (length rest)) row.edge ≡ true → (nat_eq (length rest) 0 || row.scope) ≡ true
     → Reaches q row rest
-met_reaches q row [] m s = place-true (entry_at q.told q.target).place row.edge.uid m
+met_reaches q row [] m s = place-true (entry_at q.network q.target).place row.edge.uid m
 met_reaches q row (next ∷ rest) m s =
     let a = and_parts (nat_le (length (next ∷ rest)) row.edge.depth) (not (same_fpr row.edge.issuer q.target))
     (subst (λ (d : Demand). is_met q.target d row.edge ≡ true) (demand_some q (length rest)) m) in (
@@ -159,7 +159,7 @@ module _ (quest : Quest) (size wide : ℕ) (edge : EdgeFacts) where
 
   -- ---- nothing is wanted of it
 
-  pub taken_none : IsRecord quest.question.told → (found : Found) (next : List Fpr)
+  pub taken_none : IsRecord quest.question.network → (found : Found) (next : List Fpr)
       → wanted_of quest found (demand_of quest.question size) size wide edge ≡ None
       → (rest : List Step) → IsRest quest found size edge.target wide rest → IsGrowing quest size found next
       → IsTaken quest found edge rest
@@ -171,7 +171,7 @@ module _ (quest : Quest) (size wide : ℕ) (edge : EdgeFacts) where
       subst (λ (x : Node). is_kept quest.goal x (found edge.issuer) ≡ false) (made_is found rest r) n in
       let serves : Serves quest (step_of edge) rest =
       record {
-        stands = record { row = row; into = h; usable = usable; shown = ap step_of e; reaches = reaches };
+        usable_edge = record { row = row; into = h; usable = usable; shown = ap step_of e; reaches = reaches };
         left = le;
         high = far;
       } in
@@ -197,7 +197,7 @@ module _ (quest : Quest) (size wide : ℕ) (edge : EdgeFacts) where
       w in
       ap (λ (n : Node). n.step.issuer) (sym (candidate_met node k.0).3)
 
-  module _ (good : IsRecord quest.question.told) (old new : Reached) (node : Node)
+  module _ (good : IsRecord quest.question.network) (old new : Reached) (node : Node)
       (w : wanted_of quest (look old.nodes) (demand_of quest.question size) size wide edge ≡ Some node) where
     advances_unput : old ≡ new → IsGrowing quest size (look old.nodes) old.layer.items → Advances quest size old new
     advances_unput e growing =
@@ -206,7 +206,7 @@ module _ (quest : Quest) (size wide : ℕ) (edge : EdgeFacts) where
 
     module _ (rest : List Step) (r : IsRest quest (look old.nodes) size edge.target wide rest)
         (growing : IsGrowing quest size (look old.nodes) old.layer.items) (row : Row)
-        (h : Has (rows_into quest.question.told edge.target) row) (e : row.edge ≡ edge)
+        (h : Has (rows_into quest.question.network edge.target) row) (e : row.edge ≡ edge)
         (stands : may_stand_of size row ≡ true) (put : IsPut old new node) where
       abbrev parts : (candidate_of quest (demand_of quest.question size) size wide edge ≡ Some node)
           × (is_kept quest.goal node (look old.nodes node.step.issuer) ≡ true)
@@ -227,9 +227,9 @@ module _ (quest : Quest) (size wide : ℕ) (edge : EdgeFacts) where
           let s : (nat_eq (length rest) 0 || row.scope) ≡ true =
           subst (λ (n : ℕ). (nat_eq n 0 || row.scope) ≡ true) (sym r.long) a.1 in
           record {
-            stands = record {
+            usable_edge = record {
               row = row;
-              into = subst (λ (f : Fpr). Has (rows_into quest.question.told f) row) (sym r.there) h;
+              into = subst (λ (f : Fpr). Has (rows_into quest.question.network f) row) (sym r.there) h;
               usable = a.0;
               shown = ap step_of e;
               reaches = met_reaches quest.question row rest met s;
@@ -323,25 +323,25 @@ module _ (quest : Quest) (size wide : ℕ) (edge : EdgeFacts) where
           growing r.kept r.long serves free worse at others
 
     -- what may have been put
-    pub advances_if : ((row : Row) → Has (rows_into quest.question.told edge.target) row → row.edge ≡ edge
-        → IsPutIf (may_stand_of size row) old new node) → Has (edges_into quest.question.told edge.target) edge
+    pub advances_if : ((row : Row) → Has (rows_into quest.question.network edge.target) row → row.edge ≡ edge
+        → IsPutIf (may_stand_of size row) old new node) → Has (edges_into quest.question.network edge.target) edge
         → (rest : List Step) → IsRest quest (look old.nodes) size edge.target wide rest
         → IsGrowing quest size (look old.nodes) old.layer.items → Advances quest size old new
     advances_if if has rest r growing =
-        let t = row_there quest.question.told edge.target edge has in
+        let t = row_there quest.question.network edge.target edge has in
         by t.0 t.1 t.2 (may_stand_of size t.0) refl (if t.0 t.1 t.2)
       where
-        by : (row : Row) → Has (rows_into quest.question.told edge.target) row → row.edge ≡ edge → (b : Bool)
+        by : (row : Row) → Has (rows_into quest.question.network edge.target) row → row.edge ≡ edge → (b : Bool)
             → may_stand_of size row ≡ b → IsPutIf (may_stand_of size row) old new node → Advances quest size old new
         by row h e true s p = advances_put rest r growing row h e s (subst (λ (b : Bool). IsPutIf b old new node) s p)
         by row h e false s p = advances_unput (subst (λ (b : Bool). IsPutIf b old new node) s p) growing
 
-    pub taken_if : ((row : Row) → Has (rows_into quest.question.told edge.target) row → row.edge ≡ edge
+    pub taken_if : ((row : Row) → Has (rows_into quest.question.network edge.target) row → row.edge ≡ edge
         → IsPutIf (may_stand_of size row) old new node)
         → (rest : List Step) → IsRest quest (look old.nodes) size edge.target wide rest
         → IsGrowing quest size (look old.nodes) old.layer.items → IsTaken quest (look new.nodes) edge rest
     taken_if if rest r growing row h e usable reaches le far =
-        let h' = subst (λ (f : Fpr). Has (rows_into quest.question.told f) row) r.there h in
+        let h' = subst (λ (f : Fpr). Has (rows_into quest.question.network f) row) r.there h in
         let s : may_stand_of size row ≡ true =
         and_from row.usable (nat_eq size 0 || row.scope) usable
         (subst (λ (n : ℕ). (nat_eq n 0 || row.scope) ≡ true) r.long
@@ -349,11 +349,11 @@ module _ (quest : Quest) (size wide : ℕ) (edge : EdgeFacts) where
         covered_put rest r growing row h' e s (subst (λ (b : Bool). IsPutIf b old new node) s (if row h' e))
 
     -- what was found is noted
-    pub noted_if : ((row : Row) → Has (rows_into quest.question.told edge.target) row → row.edge ≡ edge
-        → IsPutIf (may_stand_of size row) old new node) → Has (edges_into quest.question.told edge.target) edge
+    pub noted_if : ((row : Row) → Has (rows_into quest.question.network edge.target) row → row.edge ≡ edge
+        → IsPutIf (may_stand_of size row) old new node) → Has (edges_into quest.question.network edge.target) edge
         → (set : Fpr → Type 0) → AreNoted (look old.nodes) set → set edge.issuer → AreNoted (look new.nodes) set
     noted_if if has set noted it =
-        let t = row_there quest.question.told edge.target edge has in
+        let t = row_there quest.question.network edge.target edge has in
         by t.0 (may_stand_of size t.0) (if t.0 t.1 t.2)
       where
         at : (put : IsPut old new node) (fpr : Fpr) (x : Node) → look new.nodes fpr ≡ Some x → (b : Bool)

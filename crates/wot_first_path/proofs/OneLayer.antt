@@ -158,25 +158,25 @@ module _ (quest : Quest) (size : ℕ) where
 -- ---- what was looked at leads to the target
 
 suffix_route : (quest : Quest) (steps : List Step) → Suffix quest steps
-    → (route : List EdgeFacts) × IsRoute quest.question.told quest.question.target route
+    → (route : List EdgeFacts) × IsRoute quest.question.network quest.question.target route
     × (beginning quest.question.target route ≡ start quest.question.target steps)
 suffix_route quest [] s = ([], tt, refl)
 suffix_route quest (step ∷ rest) s =
     let r = suffix_route quest rest s.1 in
-    let row = s.0.stands.row in (
+    let row = s.0.usable_edge.row in (
       row.edge ∷ r.0,
       (
-        subst (λ (f : Fpr). Has (edges_into quest.question.told f) row.edge) (sym r.2)
-            (row_edge quest.question.told (start quest.question.target rest) row s.0.stands.into),
+        subst (λ (f : Fpr). Has (edges_into quest.question.network f) row.edge) (sym r.2)
+            (row_edge quest.question.network (start quest.question.target rest) row s.0.usable_edge.into),
         r.1,
       ),
       ap
-          (λ (x : Step). x.issuer) s.0.stands.shown,
+          (λ (x : Step). x.issuer) s.0.usable_edge.shown,
     )
 
 pub near_leads : (quest : Quest) (found : Found) (size : ℕ) (layer : List Fpr) (fpr : Fpr)
-    → IsLayer quest found size layer → IsNearOne quest.question.told layer fpr
-    → Leads quest.question.told quest.question.target fpr
+    → IsLayer quest found size layer → IsNearOne quest.question.network layer fpr
+    → Leads quest.question.network quest.question.target fpr
 near_leads quest found size layer fpr is n =
     let b = is.each n.0 n.1 in
     let r = suffix_route quest b.steps (kept_suffix quest found b.steps b.kept) in
@@ -185,8 +185,8 @@ near_leads quest found size layer fpr is n =
       | inr m ↦ (
         m.0.edge ∷ r.0,
         (
-          subst (λ (f : Fpr). Has (edges_into quest.question.told f) m.0.edge) (sym (r.2 ∙ b.there))
-              (row_edge quest.question.told n.0 m.0 m.1),
+          subst (λ (f : Fpr). Has (edges_into quest.question.network f) m.0.edge) (sym (r.2 ∙ b.there))
+              (row_edge quest.question.network n.0 m.0 m.1),
           r.1,
         ),
         m.2,

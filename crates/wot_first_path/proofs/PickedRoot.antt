@@ -165,7 +165,7 @@ as_good : (used : Use) (goal : Goal) (a b : List Step) → AtMost used goal a b 
 as_good used goal a b (inl lt) e = absurd (omega (arith, lt, e))
 as_good used goal a b (inr m) e = m.1
 
-module _ (quest : Quest) (good : IsRecord quest.question.told) (small : IsSmall quest) (found : Found) (size : ℕ)
+module _ (quest : Quest) (good : IsRecord quest.question.network) (small : IsSmall quest) (found : Found) (size : ℕ)
     (layer : List Fpr) where
   -- the choice that is ahead has the better path
   behind_good : (goal' : Goal) (x : Step) (a : List Step) (y : Step) (b : List Step) → Kept quest found (x ∷ a)

@@ -63,7 +63,7 @@ shortest_distinct quest (step ∷ next ∷ rest) t s = (
 
 pub suffix_chain : (quest : Quest) (steps : List Step) → Suffix quest steps → Chain quest.question steps
 suffix_chain quest [] t = tt
-suffix_chain quest (step ∷ rest) t = (t.0.stands, suffix_chain quest rest t.1)
+suffix_chain quest (step ∷ rest) t = (t.0.usable_edge, suffix_chain quest rest t.1)
 
 suffix_least : (quest : Quest) (most : ℕ) (steps : List Step) → Suffix quest steps → quest.least ≤ most
     → quest.least ≤ least_left quest.used most steps
@@ -80,7 +80,7 @@ chain_suffix : (quest : Quest) (most : ℕ) (steps : List Step) → Chain quest.
 chain_suffix quest most [] c w le = (tt, le)
 chain_suffix quest most (step ∷ rest) c w le =
     let o = chain_suffix quest most rest c.1 w.1 (omega (arith, le)) in
-    ((record { stands = c.0; left = omega (arith, le); high = w.0 }, o.0), o.1)
+    ((record { usable_edge = c.0; left = omega (arith, le); high = w.0 }, o.0), o.1)
 
 pub valid_suffix : (reach : Fpr → ℕ) (q : Question) (used : Use) → Holds reach q used → (steps : List Step)
     → IsOpen q used steps → Suffix (widest_quest reach q used) steps
@@ -117,7 +117,7 @@ suffix_fewer : (reach : Fpr → ℕ) (q : Question) (used : Use) (amount : ℕ) 
     → Suffix (least_quest reach q used amount) steps → Suffix (widest_quest reach q used) steps
 suffix_fewer reach q used amount [] le t = tt
 suffix_fewer reach q used amount (step ∷ rest) le t = (
-  record { stands = t.0.stands; left = let a = t.0.left in omega (arith, le, a); high = t.0.high },
+  record { usable_edge = t.0.usable_edge; left = let a = t.0.left in omega (arith, le, a); high = t.0.high },
   suffix_fewer reach q used amount rest le t.1,
 )
 
@@ -173,7 +173,7 @@ first_le quest steps other f r = by (f.first other r)
     by (inr m) = let e = m.0 in omega (arith, e)
 
 pub first_open : (quest : Quest) (steps : List Step) → 0 < quest.least
-    → (entry_at quest.question.told quest.question.target).in_order ≡ true → IsFirst quest steps
+    → (entry_at quest.question.network quest.question.target).in_order ≡ true → IsFirst quest steps
     → IsOpen quest.question quest.used steps
 first_open quest steps pos ok f = (
   record {
@@ -201,7 +201,7 @@ first_open quest steps pos ok f = (
 
 -- The next path: the least of those with the residual amount of the widest one.
 pub first_next : (reach : Fpr → ℕ) (q : Question) (used : Use) → Holds reach q used → (wide steps : List Step)
-    → (entry_at q.told q.target).in_order ≡ true → IsFirst (widest_quest reach q used) wide
+    → (entry_at q.network q.target).in_order ≡ true → IsFirst (widest_quest reach q used) wide
     → IsFirst (least_quest reach q used (path_amount q used wide)) steps → IsNext q used steps
 first_next reach q used holds wide steps ok f g =
     (first_open (least_quest reach q used (path_amount q used wide)) steps (omega (arith, pos)) ok g, no)
@@ -247,5 +247,5 @@ pub none_spent : (reach : Fpr → ℕ) (q : Question) (used : Use) → Holds rea
 none_spent reach q used holds n steps o =
     n steps (valid_rooted (widest_quest reach q used) steps o.0 (holds steps o) (let p = o.1 in omega (arith, p)))
 
-pub disordered_spent : (q : Question) (used : Use) → (entry_at q.told q.target).in_order ≡ false → IsSpent q used
+pub disordered_spent : (q : Question) (used : Use) → (entry_at q.network q.target).in_order ≡ false → IsSpent q used
 disordered_spent q used e steps o = let f = o.0.in_order in cc

@@ -20,7 +20,7 @@ pub record IsLeft (quest : Quest) (found : Found) (made : List Step) (at : Fpr) 
     pub there : start quest.question.target rest ≡ at
     pub long : length rest + i ≡ length steps
 
-module _ (quest : Quest) (good : IsRecord quest.question.told) (found : Found) where
+module _ (quest : Quest) (good : IsRecord quest.question.network) (found : Found) where
   pub left_more : (made made' : List Step) (at : Fpr) (i : ℕ) (steps : List Step) (node : Node)
       → IsLeft quest found made at i steps → i < length steps → found at ≡ Some node → made' ≡ made ++ node.step ∷ []
       → IsLeft quest found made' node.step.target (i + 1) steps

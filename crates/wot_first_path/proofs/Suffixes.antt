@@ -28,23 +28,23 @@ pub serves_shorter : (quest : Quest) (step : Step) (rest other : List Step) → 
     → length other ≤ length rest → start quest.question.target other ≡ start quest.question.target rest
     → Serves quest step rest → Serves quest step other
 serves_shorter quest step rest other a b le e s = record {
-  stands = record {
-    row = s.stands.row;
-    into = subst (λ (f : Fpr). Has (rows_into quest.question.told f) s.stands.row) (sym e) s.stands.into;
-    usable = s.stands.usable;
-    shown = s.stands.shown;
-    reaches = reaches_shorter quest.question s.stands.row rest other a b le s.stands.reaches;
+  usable_edge = record {
+    row = s.usable_edge.row;
+    into = subst (λ (f : Fpr). Has (rows_into quest.question.network f) s.usable_edge.row) (sym e) s.usable_edge.into;
+    usable = s.usable_edge.usable;
+    shown = s.usable_edge.shown;
+    reaches = reaches_shorter quest.question s.usable_edge.row rest other a b le s.usable_edge.reaches;
   };
   left = s.left;
   high = let h = s.high in omega (arith, h, le);
 }
 
 -- an edge that may come before others leads to where they begin
-pub serves_into : (quest : Quest) → IsRecord quest.question.told → (step : Step) (rest : List Step)
+pub serves_into : (quest : Quest) → IsRecord quest.question.network → (step : Step) (rest : List Step)
     → Serves quest step rest → step.target ≡ start quest.question.target rest
 serves_into quest good step rest s =
-    ap (λ (x : Step). x.target) (sym s.stands.shown)
-    ∙ good.into (start quest.question.target rest) s.stands.row s.stands.into
+    ap (λ (x : Step). x.target) (sym s.usable_edge.shown)
+    ∙ good.into (start quest.question.target rest) s.usable_edge.row s.usable_edge.into
 
 pub kept_suffix : (quest : Quest) (found : Found) (steps : List Step) → Kept quest found steps → Suffix quest steps
 kept_suffix quest found [] k = tt
@@ -54,7 +54,7 @@ some_is : (a b : Node) → Some a ≡ Some b → a ≡ b
 some_is a b e = cc
 
 -- Of as many edges one suffix was found that begins there.
-pub kept_one : (quest : Quest) → IsRecord quest.question.told → (found : Found) (a b : List Step) → length a ≡ length b
+pub kept_one : (quest : Quest) → IsRecord quest.question.network → (found : Found) (a b : List Step) → length a ≡ length b
     → start quest.question.target a ≡ start quest.question.target b → Kept quest found a → Kept quest found b → a ≡ b
 kept_one quest good found [] [] l e j k = refl
 kept_one quest good found [] (y ∷ b) l e j k = absurd (omega arith)
@@ -79,7 +79,7 @@ then_then Equal p r e = refl
 then_then Greater p r e = absurd cc
 
 -- Two suffixes of one issuer, and of as many edges, compare as their first edges do.
-pub links : (quest : Quest) → IsRecord quest.question.told
+pub links : (quest : Quest) → IsRecord quest.question.network
     → (found : Found) (x : Step) (a : List Step) (y : Step) (b : List Step) → x.issuer ≡ y.issuer → length a ≡ length b
     → Serves quest x a → Serves quest y b → Kept quest found a → Kept quest found b
     → steps_cmp (x ∷ a) (y ∷ b) ≡ link_cmp x y

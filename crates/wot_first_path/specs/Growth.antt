@@ -71,14 +71,14 @@ pub record Advances (quest : Quest) (size : ℕ) (old new : Reached) : Type 0 wh
 -- if this edge may come before the rest, it is covered there
 abbrev pub IsTaken : Quest → Found → EdgeFacts → List Step → Type 0
 IsTaken quest found edge rest =
-    (row : Row) → Has (rows_into quest.question.told (start quest.question.target rest)) row → row.edge ≡ edge
+    (row : Row) → Has (rows_into quest.question.network (start quest.question.target rest)) row → row.edge ≡ edge
     → row.usable ≡ true → Reaches quest.question row rest → quest.least ≤ step_left quest.used (step_of edge)
     → length rest < quest.reach edge.issuer → Covered quest found (step_of edge ∷ rest)
 
 -- if it may come there, usable or not, its issuer was looked at
 abbrev pub IsNoted : Quest → (Fpr → Type 0) → EdgeFacts → List Step → Type 0
 IsNoted quest set edge rest =
-    (row : Row) → Has (rows_into quest.question.told (start quest.question.target rest)) row → row.edge ≡ edge
+    (row : Row) → Has (rows_into quest.question.network (start quest.question.target rest)) row → row.edge ≡ edge
     → Reaches quest.question row rest → quest.least ≤ step_left quest.used (step_of edge)
     → length rest < quest.reach edge.issuer → set edge.issuer
 
@@ -88,7 +88,7 @@ AreNoted found set = (fpr : Fpr) (node : Node) → found fpr ≡ Some node → s
 
 -- it is kept if it may come there by each row of the edge
 abbrev pub PutsIfStands : Record → ℕ → EdgeFacts → Reached → Reached → Node → Type 0
-PutsIfStands told size edge old new node = EachRow told edge (λ row. IsPutIf (may_stand_of size row) old new node)
+PutsIfStands network size edge old new node = EachRow network edge (λ row. IsPutIf (may_stand_of size row) old new node)
 
 -- An edge was considered in front of the suffixes of this many edges and this width that begin at its target.
 pub record ConsidersEdge (quest : Quest) (size wide : ℕ) (edge : EdgeFacts) (old new : Reached)
@@ -144,19 +144,19 @@ pub record Considers (quest : Quest) (size : ℕ) (from : Fpr → Type 0) (old n
 abbrev pub TriesEdge :
     {R S : Type 0} → (S → Fpr → Type 0) → (R → List ℕ → Record) → Search R → ℕ → EdgeFacts → Reached → Reached → S → S
     → Type 0
-TriesEdge noted told search wide edge old new before after =
-    ConsidersEdge (quest_in told search) search.size wide edge old new (noted before) (noted after)
+TriesEdge noted network search wide edge old new before after =
+    ConsidersEdge (quest_in network search) search.size wide edge old new (noted before) (noted after)
 
 abbrev pub ConsidersInto :
     {R S : Type 0} → (S → Fpr → Type 0) → (R → List ℕ → Record) → Search R → Fpr → Reached → Reached → S → S → Type 0
-ConsidersInto noted told search at old new before after =
-    Considers (quest_in told search) search.size (Only at) old new (noted before) (noted after)
+ConsidersInto noted network search at old new before after =
+    Considers (quest_in network search) search.size (Only at) old new (noted before) (noted after)
 
 abbrev pub ConsidersLayer :
     {R S : Type 0} → (S → Fpr → Type 0) → (R → List ℕ → Record) → Search R → List Fpr → Reached → Reached → S → S
     → Type 0
-ConsidersLayer noted told search layer old new before after =
-    Considers (quest_in told search) search.size (Has layer) old new (noted before) (noted after)
+ConsidersLayer noted network search layer old new before after =
+    Considers (quest_in network search) search.size (Has layer) old new (noted before) (noted after)
 
 -- ---- one layer
 
@@ -177,18 +177,18 @@ IsUnrooted quest found size =
 
 -- One more layer: what was known is known for one edge more.
 abbrev pub GoesOn : (List ℕ → Record) → Told → ℕ → Reached → Reached → (Fpr → Type 0) → (Fpr → Type 0) → Type 0
-GoesOn told quest size old new before after =
-    IsAfter (quest_of told quest) size old before → IsAfter (quest_of told quest) (suc size) new after
+GoesOn network quest size old new before after =
+    IsAfter (quest_of network quest) size old before → IsAfter (quest_of network quest) (suc size) new after
 
 abbrev pub StaysUnrooted : (List ℕ → Record) → Told → ℕ → Reached → Reached → (Fpr → Type 0) → Type 0
-StaysUnrooted told quest size old new before =
-    IsAfter (quest_of told quest) size old before → IsUnrooted (quest_of told quest) (look old.nodes) (suc size)
-    → IsUnrooted (quest_of told quest) (look new.nodes) (suc size)
+StaysUnrooted network quest size old new before =
+    IsAfter (quest_of network quest) size old before → IsUnrooted (quest_of network quest) (look old.nodes) (suc size)
+    → IsUnrooted (quest_of network quest) (look new.nodes) (suc size)
 
 abbrev pub GainsAfter : (List ℕ → Record) → Told → ℕ → Reached → (Fpr → Type 0) → (Fpr → Type 0) → Type 0
-GainsAfter told quest size old before after =
-    IsAfter (quest_of told quest) size old before
-    → Gains (Leads (told quest.uid.now) quest.target.now) before after
+GainsAfter network quest size old before after =
+    IsAfter (quest_of network quest) size old before
+    → Gains (Leads (network quest.uid.now) quest.target.now) before after
 
 -- ---- what a search returns
 
@@ -199,7 +199,8 @@ IsSmall quest = (fpr : Fpr) → root_left quest.question quest.used fpr ≤ 255
 -- this is the suffix of this many edges that was found from there, in any quest
 abbrev pub IsFoundFrom : Found → Fpr → ℕ → List Step → Type 0
 IsFoundFrom found from size made =
-    (quest : Quest) → IsRecord quest.question.told → (steps : List Step) → Kept quest found steps → length steps ≡ size
+    (quest : Quest) → IsRecord quest.question.network → (steps : List Step) → Kept quest found steps
+    → length steps ≡ size
     → start quest.question.target steps ≡ from → made ≡ steps
 
 -- a path that is the first with this many edges, with its root and its amount
@@ -217,7 +218,7 @@ IsTurn quest found size (Some path) = IsFirstPath quest size path
 -- this holds if all that was found is known, and no root is in an earlier layer
 abbrev pub TurnsTo : Quest → ℕ → Reached → Option Path → Type 0
 TurnsTo quest size reached found =
-    IsRecord quest.question.told → IsSmall quest → IsLayer quest (look reached.nodes) size reached.layer.items
+    IsRecord quest.question.network → IsSmall quest → IsLayer quest (look reached.nodes) size reached.layer.items
     → IsComplete quest (look reached.nodes) size → IsUnrooted quest (look reached.nodes) size
     → IsTurn quest (look reached.nodes) size found
 

@@ -19,7 +19,7 @@ Gains only before after = (fpr : Fpr) → after fpr → before fpr ⊎ only fpr
 -- it, usable or not, that may come before them, has the wanted residual amount, and whose issuer is within its reach.
 pub record IsSeen (quest : Quest) (set : Fpr → Type 0) (rest : List Step) : Type 0 where
   pub it : set (start quest.question.target rest)
-  pub issuers : (row : Row) → Has (rows_into quest.question.told (start quest.question.target rest)) row
+  pub issuers : (row : Row) → Has (rows_into quest.question.network (start quest.question.target rest)) row
       → Reaches quest.question row rest → quest.least ≤ step_left quest.used (step_of row.edge)
       → length rest < quest.reach row.edge.issuer → set row.edge.issuer
 
@@ -29,8 +29,8 @@ IsLooked quest size set = (rest : List Step) → length rest < size → Suffix q
 
 -- a fingerprint, or the issuer of an edge into it
 abbrev pub IsNear : Record → Fpr → Fpr → Type 0
-IsNear told at fpr = (fpr ≡ at) ⊎ ((row : Row) × Has (rows_into told at) row × (fpr ≡ row.edge.issuer))
+IsNear network at fpr = (fpr ≡ at) ⊎ ((row : Row) × Has (rows_into network at) row × (fpr ≡ row.edge.issuer))
 
 -- one of these, or the issuer of an edge into one of them
 abbrev pub IsNearOne : Record → List Fpr → Fpr → Type 0
-IsNearOne told layer fpr = (at : Fpr) × Has layer at × IsNear told at fpr
+IsNearOne network layer fpr = (at : Fpr) × Has layer at × IsNear network at fpr

@@ -20,8 +20,8 @@ pub record Quest : Type 0 where
 
 -- the program's quest, given what the network says
 abbrev pub quest_of : (List ℕ → Record) → Told → Quest
-quest_of told quest = record {
-  question = asks (told quest.uid.now) quest.roots.now quest.target.now;
+quest_of network quest = record {
+  question = asks (network quest.uid.now) quest.roots.now quest.target.now;
   used = use_in quest.used.now;
   reach = number_at quest.reach.now;
   least = quest.least;
@@ -30,8 +30,8 @@ quest_of told quest = record {
 
 -- the places of the quest's table are those of all edges that lead on
 abbrev pub LeadsOn : (List ℕ → Record) → Told → Type 0
-LeadsOn told quest = AreOnward told (number_at quest.reach.now) quest.reach.now.onward
+LeadsOn network quest = AreOnward network (number_at quest.reach.now) quest.reach.now.onward
 
 -- what holds for the quest whatever the network says
 abbrev pub WhateverTold : Told → (Quest → Type 0) → Type 0
-WhateverTold quest holds = (told : List ℕ → Record) → holds (quest_of told quest)
+WhateverTold quest holds = (network : List ℕ → Record) → holds (quest_of network quest)

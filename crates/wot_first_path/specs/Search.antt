@@ -6,8 +6,8 @@ use Rattle.wot_first_path.specs.Quest.{Quest, quest_of}
 
 -- its quest
 abbrev pub quest_in : {R : Type 0} → (R → List ℕ → Record) → Search R → Quest
-quest_in told search = quest_of (told search.roads.now) search.quest.now
+quest_in network search = quest_of (network search.roads.now) search.quest.now
 
 -- what the network says if asked for its user ID
 abbrev pub record_in : {R : Type 0} → (R → List ℕ → Record) → Search R → Record
-record_in told search = told search.roads.now search.quest.now.uid.now
+record_in network search = network search.roads.now search.quest.now.uid.now

@@ -8,7 +8,7 @@ use Rattle.wot_first_path.specs.Quest.{Quest}
 
 -- a step that may come before others, has the wanted residual amount, and whose issuer is within its reach
 pub record Serves (quest : Quest) (step : Step) (rest : List Step) : Type 0 where
-  pub stands : Stands quest.question step rest
+  pub usable_edge : Stands quest.question step rest
   pub left : quest.least ≤ step_left quest.used step
   pub high : length rest < quest.reach step.issuer
 

@@ -1,6 +1,6 @@
 //! Which root of the last layer a path is taken from.
 //!
-//! It stands on `reached` and on `specs/Choice.antt`. `turn` makes the path from the chosen root.
+//! It uses `reached` and on `specs/Choice.antt`. `turn` makes the path from the chosen root.
 ghost use Rattle.std.specs.Prelude.{◌≡◌, ℕ, List, None, Option};
 ghost use Rattle.wot_edge.specs.Record.{Record};
 ghost use Rattle.wot_first_path.specs.Quest.{quest_of};
@@ -38,7 +38,7 @@ fn take(
     best: Option<Choice>,
     fpr: &Fpr,
 ) -> Option<Choice>
-    ensures { (told : List ℕ → Record) → result ≡ taken (quest_of told quest.now) (look nodes.now) best fpr.now }
+    ensures { (network : List ℕ → Record) → result ≡ taken (quest_of network quest.now) (look nodes.now) best fpr.now }
 {
     let left = left_of_root(quest, fpr);
     if left < quest.least {
@@ -53,8 +53,8 @@ fn take(
 
 /// The root of the last layer to take; `None` if none has the wanted residual amount.
 pub fn choose(quest: &Quest, reached: &Reached) -> Option<Choice>
-    ensures { (told : List ℕ → Record)
-        → result ≡ chosen (quest_of told quest.now) (look reached.now.nodes) None reached.now.layer.items }
+    ensures { (network : List ℕ → Record)
+        → result ≡ chosen (quest_of network quest.now) (look reached.now.nodes) None reached.now.layer.items }
 {
     let mut best: Option<Choice> = None;
     'layer: for fpr in &reached.layer {

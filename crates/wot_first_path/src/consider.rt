@@ -1,6 +1,6 @@
 //! One edge in the search: whether it may come before a suffix, and whether it is kept for its issuer.
 //!
-//! It stands on `demand` and `reached`, and on `specs/Growth.antt`. `extend` calls it for each edge, so most of a
+//! It uses `demand` and `reached`, and on `specs/Growth.antt`. `extend` calls it for each edge, so most of a
 //! search's time is spent here.
 ghost use Rattle.std.specs.Prelude.{◌≡◌, ◌<◌, ℕ, List, true, IfOk, OnOk};
 ghost use Rattle.wot_edge.specs.Demand.{demand_of};
@@ -55,9 +55,9 @@ fn wanted<R: Roads>(
 
 /// Whether an edge is usable. The network isn't asked if that is known.
 fn is_usable<R: Roads>(roads: &R, known: bool, edge: &Edge) -> bool
-    requires row { (id : List ℕ) → Has (edges_into (R.told roads.now id) edge.now.target) edge.now }
-    requires known { known ≡ true → IsUsable (R.told roads.now) edge.now }
-    ensures usable { (id : List ℕ) → EachRow (R.told roads.now id) edge.now (λ row. row.usable ≡ result) }
+    requires row { (id : List ℕ) → Has (edges_into (R.network roads.now id) edge.now.target) edge.now }
+    requires known { known ≡ true → IsUsable (R.network roads.now) edge.now }
+    ensures usable { (id : List ℕ) → EachRow (R.network roads.now id) edge.now (λ row. row.usable ≡ result) }
 {
     if known {
         return true;
@@ -73,10 +73,10 @@ fn may_stand<R: Roads>(
     known: bool,
     edge: &Edge,
 ) -> Result<bool, Memory>
-    requires row { (id : List ℕ) → Has (edges_into (R.told roads.now id) edge.now.target) edge.now }
-    requires known { known ≡ true → IsUsable (R.told roads.now) edge.now }
-    ensures { IfOk result (λ stands. EachRow (R.told roads.now quest.now.uid.now) edge.now
-        (λ row. may_stand_of size row ≡ stands)) }
+    requires row { (id : List ℕ) → Has (edges_into (R.network roads.now id) edge.now.target) edge.now }
+    requires known { known ≡ true → IsUsable (R.network roads.now) edge.now }
+    ensures { IfOk result (λ may. EachRow (R.network roads.now quest.now.uid.now) edge.now
+        (λ row. may_stand_of size row ≡ may)) }
 {
     if !is_usable(roads, known, edge) {
         return Ok(false);
@@ -96,9 +96,9 @@ fn keep<R: Roads, N: Notes>(
     reached: &mut Reached,
     notes: &mut N,
 ) -> Result<(), Memory>
-    requires row { (id : List ℕ) → Has (edges_into (R.told search.now.roads.now id) edge.now.target) edge.now }
-    requires known { hint.usable ≡ true → IsUsable (R.told search.now.roads.now) edge.now }
-    ensures put { OnOk result (PutsIfStands (record_in R.told search.now) search.now.size edge.now
+    requires row { (id : List ℕ) → Has (edges_into (R.network search.now.roads.now id) edge.now.target) edge.now }
+    requires known { hint.usable ≡ true → IsUsable (R.network search.now.roads.now) edge.now }
+    ensures put { OnOk result (PutsIfStands (record_in R.network search.now) search.now.size edge.now
         reached.old reached.new node) }
     ensures has { OnOk result (N.noted notes.new node.step.issuer) }
     ensures grows { Widens (N.noted notes.old) (N.noted notes.new) }
@@ -121,12 +121,12 @@ pub fn consider<R: Roads, N: Notes>(
     reached: &mut Reached,
     notes: &mut N,
 ) -> Result<(), Memory>
-    requires row { (id : List ℕ) → Has (edges_into (R.told search.now.roads.now id) edge.now.target) edge.now }
-    requires known { hint.usable ≡ true → IsUsable (R.told search.now.roads.now) edge.now }
-    requires lawful { (id : List ℕ) → IsRecord (R.told search.now.roads.now id) }
-    requires demand { rest.demand ≡ demand_of (quest_in R.told search.now).question search.now.size }
+    requires row { (id : List ℕ) → Has (edges_into (R.network search.now.roads.now id) edge.now.target) edge.now }
+    requires known { hint.usable ≡ true → IsUsable (R.network search.now.roads.now) edge.now }
+    requires lawful { (id : List ℕ) → IsRecord (R.network search.now.roads.now id) }
+    requires demand { rest.demand ≡ demand_of (quest_in R.network search.now).question search.now.size }
     requires size { search.now.size < 255 }
-    ensures all { OnOk result (TriesEdge N.noted R.told search.now rest.width edge.now
+    ensures all { OnOk result (TriesEdge N.noted R.network search.now rest.width edge.now
         reached.old reached.new notes.old notes.new) }
     ensures grows { Widens (N.noted notes.old) (N.noted notes.new) }
     ensures gains { Gains (λ fpr. fpr ≡ edge.now.issuer) (N.noted notes.old) (N.noted notes.new) }

@@ -1,6 +1,6 @@
 //! The set of fingerprints that a search looked at.
 //!
-//! It stands on std's map. An answer depends on nothing else, so `wot_cache` keeps an answer for as long as none of
+//! It uses std's map. An answer depends on nothing else, so `wot_cache` keeps an answer for as long as none of
 //! these changed.
 ghost use Rattle.std.specs.Prelude.{◌≡◌, ◌⊎◌, ◌↔◌, [], IsTrue, OnOk, OnErr};
 ghost use Rattle.std.specs.Iterator.{YieldsFirst, item_count};

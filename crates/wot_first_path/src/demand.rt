@@ -1,6 +1,6 @@
 //! What the search demands of an edge, and which of two suffixes it keeps.
 //!
-//! It stands on `wot_edge`, where the rules of depth and user ID are, on `wot_reach`, and on `specs/Demand.antt`.
+//! It uses `wot_edge`, where the rules of depth and user ID are, on `wot_reach`, and on `specs/Demand.antt`.
 //! Usability and scopes are in `consider`.
 ghost use Rattle.std.specs.Prelude.{◌≡◌, ◌<◌, ℕ, List, nat_le, nat_lt};
 ghost use Rattle.wot_edge.specs.Demand.{demand_of};
@@ -17,14 +17,14 @@ use wot_types::compare_fprs;
 
 /// What the search demands of edges with `size` edges after them.
 pub fn demand<R: Roads>(roads: &R, quest: &Quest, size: u8) -> Demand
-    ensures { result ≡ demand_of (quest_of (R.told roads.now) quest.now).question size }
+    ensures { result ≡ demand_of (quest_of (R.network roads.now) quest.now).question size }
 {
     demand_at(roads, quest.target, quest.uid, size)
 }
 
 /// Whether the issuer of an edge may come this far before the target.
 fn reaches(quest: &Quest, size: u8, place: usize, edge: &EdgeFacts) -> bool
-    ensures { (told : List ℕ → Record) → result ≡ nat_lt size ((quest_of told quest.now).reach edge.now.issuer) }
+    ensures { (network : List ℕ → Record) → result ≡ nat_lt size ((quest_of network quest.now).reach edge.now.issuer) }
 {
     size < quest.reach.get_near(place, &edge.issuer)
 }
@@ -48,7 +48,8 @@ pub fn candidate(
     edge: &EdgeFacts,
 ) -> Option<Node>
     requires { size < 255 }
-    ensures { (told : List ℕ → Record) → result ≡ candidate_of (quest_of told quest.now) demand size width edge.now }
+    ensures { (network : List ℕ → Record)
+        → result ≡ candidate_of (quest_of network quest.now) demand size width edge.now }
 {
     // Few edges meet the demand, and the test looks at the edge only.
     if !meets(quest.target, demand, edge) {

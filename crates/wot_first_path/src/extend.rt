@@ -1,6 +1,6 @@
 //! The edges into one fingerprint of a layer, considered one after another.
 //!
-//! It stands on `consider`, and on `wot_reach` for the edges that lead on. `grow` calls it for each fingerprint.
+//! It uses `consider`, and on `wot_reach` for the edges that lead on. `grow` calls it for each fingerprint.
 ghost use Rattle.std.specs.Prelude.{◌≡◌, ◌<◌, ℕ, List, OnOk};
 ghost use Rattle.wot_edge.specs.Record.{IsRecord};
 ghost use Rattle.wot_reach.specs.Onward.{AreAllUsableIf, AreUsableIf, LeadsOnInto, MatterBefore};
@@ -52,12 +52,12 @@ pub fn extend<R: Roads, N: Notes>(
     notes: &mut N,
 ) -> Result<(), Memory>
     requires size { search.now.size < 255 }
-    requires lawful { (id : List ℕ) → IsRecord (R.told search.now.roads.now id) }
-    requires onward { LeadsOn (R.told search.now.roads.now) search.now.quest.now }
-    ensures all { OnOk result (ConsidersInto N.noted R.told search.now at.now
+    requires lawful { (id : List ℕ) → IsRecord (R.network search.now.roads.now id) }
+    requires onward { LeadsOn (R.network search.now.roads.now) search.now.quest.now }
+    ensures all { OnOk result (ConsidersInto N.noted R.network search.now at.now
         reached.old reached.new notes.old notes.new) }
     ensures grows { Widens (N.noted notes.old) (N.noted notes.new) }
-    ensures gains { Gains (IsNear (record_in R.told search.now) at.now) (N.noted notes.old) (N.noted notes.new) }
+    ensures gains { Gains (IsNear (record_in R.network search.now) at.now) (N.noted notes.old) (N.noted notes.new) }
 {
     let place = search.quest.reach.place_known(known, at);
     let start = search.quest.reach.start(place);
@@ -84,13 +84,13 @@ fn extend_onward<R: Roads, N: Notes>(
 ) -> Result<(), Memory>
     requires some { 0 < search.now.size }
     requires size { search.now.size < 255 }
-    requires lawful { (id : List ℕ) → IsRecord (R.told search.now.roads.now id) }
-    requires leads { LeadsOnInto (R.told search.now.roads.now) (number_at search.now.quest.now.reach.now) at.now
+    requires lawful { (id : List ℕ) → IsRecord (R.network search.now.roads.now id) }
+    requires leads { LeadsOnInto (R.network search.now.roads.now) (number_at search.now.quest.now.reach.now) at.now
         onward.now }
-    ensures all { OnOk result (ConsidersInto N.noted R.told search.now at.now
+    ensures all { OnOk result (ConsidersInto N.noted R.network search.now at.now
         reached.old reached.new notes.old notes.new) }
     ensures grows { Widens (N.noted notes.old) (N.noted notes.new) }
-    ensures gains { Gains (IsNear (record_in R.told search.now) at.now) (N.noted notes.old) (N.noted notes.new) }
+    ensures gains { Gains (IsNear (record_in R.network search.now) at.now) (N.noted notes.old) (N.noted notes.new) }
 {
     let edges = onward.edges.as_slice();
     let places = onward.places.as_slice();
@@ -113,11 +113,11 @@ fn extend_all<R: Roads, N: Notes>(
     notes: &mut N,
 ) -> Result<(), Memory>
     requires size { search.now.size < 255 }
-    requires usable { AreAllUsableIf (R.told search.now.roads.now) usable at.now }
-    ensures all { OnOk result (ConsidersInto N.noted R.told search.now at.now
+    requires usable { AreAllUsableIf (R.network search.now.roads.now) usable at.now }
+    ensures all { OnOk result (ConsidersInto N.noted R.network search.now at.now
         reached.old reached.new notes.old notes.new) }
     ensures grows { Widens (N.noted notes.old) (N.noted notes.new) }
-    ensures gains { Gains (IsNear (record_in R.told search.now) at.now) (N.noted notes.old) (N.noted notes.new) }
+    ensures gains { Gains (IsNear (record_in R.network search.now) at.now) (N.noted notes.old) (N.noted notes.new) }
 {
     let edges = search.roads.rows(at);
     let hints = Hints {
@@ -138,14 +138,14 @@ fn extend_by<R: Roads, N: Notes>(
     notes: &mut N,
 ) -> Result<(), Memory>
     requires size { search.now.size < 255 }
-    requires lawful { (id : List ℕ) → IsRecord (R.told search.now.roads.now id) }
-    requires matter { MatterBefore (R.told search.now.roads.now) (number_at search.now.quest.now.reach.now)
+    requires lawful { (id : List ℕ) → IsRecord (R.network search.now.roads.now id) }
+    requires needs { MatterBefore (R.network search.now.roads.now) (number_at search.now.quest.now.reach.now)
         search.now.size at.now edges.now }
-    requires usable { AreUsableIf (R.told search.now.roads.now) hints.usable edges.now }
-    ensures all { OnOk result (ConsidersInto N.noted R.told search.now at.now
+    requires usable { AreUsableIf (R.network search.now.roads.now) hints.usable edges.now }
+    ensures all { OnOk result (ConsidersInto N.noted R.network search.now at.now
         reached.old reached.new notes.old notes.new) }
     ensures grows { Widens (N.noted notes.old) (N.noted notes.new) }
-    ensures gains { Gains (IsNear (record_in R.told search.now) at.now) (N.noted notes.old) (N.noted notes.new) }
+    ensures gains { Gains (IsNear (record_in R.network search.now) at.now) (N.noted notes.old) (N.noted notes.new) }
 {
     let demand = demand(search.roads, search.quest, search.size);
     let width = width_at(reached, search.size, at);

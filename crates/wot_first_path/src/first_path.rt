@@ -1,6 +1,6 @@
 //! The first path: layer after layer from the target, up to the first layer with a root.
 //!
-//! It stands on `grow` and `turn`, and on `specs/Growth.antt`. `wot_search` runs it twice, first for the greatest
+//! It uses `grow` and `turn`, and on `specs/Growth.antt`. `wot_search` runs it twice, first for the greatest
 //! amount and then for the least list.
 ghost use Rattle.std.specs.Prelude.{◌≡◌, ℕ, List, [], ◌∷◌, IfOk};
 ghost use Rattle.wot_edge.specs.Leads.{Leads};
@@ -9,11 +9,11 @@ ghost use Rattle.wot_first_path.specs.Growth.{IsAfterPath, IsSmall, IsResult, Is
 ghost use Rattle.wot_first_path.specs.Looked.{Gains, Widens};
 ghost use Rattle.wot_first_path.specs.Quest.{LeadsOn, quest_of};
 
+use crate::first_of_layer::first_of_layer;
 use crate::grow::advance;
 use crate::notes::Notes;
 use crate::quest::Quest;
 use crate::reached::Reached;
-use crate::turn::turn;
 use std::alloc::Global;
 use std::collections::BTreeMap;
 use wot_edge::{Path, Roads};
@@ -41,13 +41,13 @@ pub fn first<R: Roads, N: Notes>(
     quest: &Quest,
     notes: &mut N,
 ) -> Result<Option<Path>, Memory>
-    requires lawful { (id : List ℕ) → IsRecord (R.told roads.now id) }
-    requires onward { LeadsOn (R.told roads.now) quest.now }
-    requires small { IsSmall (quest_of (R.told roads.now) quest.now) }
-    ensures first { IfOk result (λ found. IsResult (quest_of (R.told roads.now) quest.now) found) }
-    ensures looked { IfOk result (IsLookedBy (quest_of (R.told roads.now) quest.now) (N.noted notes.new)) }
+    requires lawful { (id : List ℕ) → IsRecord (R.network roads.now id) }
+    requires onward { LeadsOn (R.network roads.now) quest.now }
+    requires small { IsSmall (quest_of (R.network roads.now) quest.now) }
+    ensures first { IfOk result (λ found. IsResult (quest_of (R.network roads.now) quest.now) found) }
+    ensures looked { IfOk result (IsLookedBy (quest_of (R.network roads.now) quest.now) (N.noted notes.new)) }
     ensures grows { Widens (N.noted notes.old) (N.noted notes.new) }
-    ensures leads { Gains (Leads (R.told roads.now quest.now.uid.now) quest.now.target.now)
+    ensures leads { Gains (Leads (R.network roads.now quest.now.uid.now) quest.now.target.now)
         (N.noted notes.old) (N.noted notes.new) }
 {
     let mut reached = begin(alloc, quest.target)?;
@@ -63,16 +63,17 @@ pub fn first_from<R: Roads, N: Notes>(
     reached: &mut Reached,
     notes: &mut N,
 ) -> Result<Option<Path>, Memory>
-    requires lawful { (id : List ℕ) → IsRecord (R.told roads.now id) }
-    requires onward { LeadsOn (R.told roads.now) quest.now }
-    requires small { IsSmall (quest_of (R.told roads.now) quest.now) }
+    requires lawful { (id : List ℕ) → IsRecord (R.network roads.now id) }
+    requires onward { LeadsOn (R.network roads.now) quest.now }
+    requires small { IsSmall (quest_of (R.network roads.now) quest.now) }
     requires nodes { reached.old.nodes.entries ≡ [] }
     requires layer { reached.old.layer.items ≡ quest.now.target.now ∷ [] }
-    ensures first { IfOk result (λ found. IsResult (quest_of (R.told roads.now) quest.now) found) }
-    ensures after { IfOk result (IsAfterPath (quest_of (R.told roads.now) quest.now) reached.new (N.noted notes.new)) }
-    ensures looked { IfOk result (IsLookedBy (quest_of (R.told roads.now) quest.now) (N.noted notes.new)) }
+    ensures first { IfOk result (λ found. IsResult (quest_of (R.network roads.now) quest.now) found) }
+    ensures after { IfOk result (IsAfterPath (quest_of (R.network roads.now) quest.now) reached.new
+        (N.noted notes.new)) }
+    ensures looked { IfOk result (IsLookedBy (quest_of (R.network roads.now) quest.now) (N.noted notes.new)) }
     ensures grows { Widens (N.noted notes.old) (N.noted notes.new) }
-    ensures leads { Gains (Leads (R.told roads.now quest.now.uid.now) quest.now.target.now)
+    ensures leads { Gains (Leads (R.network roads.now quest.now.uid.now) quest.now.target.now)
         (N.noted notes.old) (N.noted notes.new) }
 {
     'layers: for size in 0..255u8 {
@@ -80,7 +81,7 @@ pub fn first_from<R: Roads, N: Notes>(
         if reached.layer.is_empty() {
             return Ok(None);
         }
-        match turn(alloc, quest, reached, size + 1)? {
+        match first_of_layer(alloc, quest, reached, size + 1)? {
             None => {}
             Some(path) => return Ok(Some(path)),
         }

@@ -1,6 +1,6 @@
 //! One layer more: the edges into every fingerprint of the last layer.
 //!
-//! It stands on `extend` and on `specs/Growth.antt`. `first_path` calls it until it finds a root,
+//! It uses `extend` and on `specs/Growth.antt`. `first_path` calls it until it finds a root,
 //! and `wot_search` for a number of layers.
 ghost use Rattle.std.specs.Prelude.{◌<◌, ℕ, List, OnOk};
 ghost use Rattle.wot_edge.specs.Record.{IsRecord};
@@ -28,12 +28,13 @@ fn grow<R: Roads, N: Notes>(
     notes: &mut N,
 ) -> Result<(), Memory>
     requires size { search.now.size < 255 }
-    requires lawful { (id : List ℕ) → IsRecord (R.told search.now.roads.now id) }
-    requires onward { LeadsOn (R.told search.now.roads.now) search.now.quest.now }
-    ensures all { OnOk result (ConsidersLayer N.noted R.told search.now layer.now
+    requires lawful { (id : List ℕ) → IsRecord (R.network search.now.roads.now id) }
+    requires onward { LeadsOn (R.network search.now.roads.now) search.now.quest.now }
+    ensures all { OnOk result (ConsidersLayer N.noted R.network search.now layer.now
         reached.old reached.new notes.old notes.new) }
     ensures grows { Widens (N.noted notes.old) (N.noted notes.new) }
-    ensures gains { Gains (IsNearOne (record_in R.told search.now) layer.now) (N.noted notes.old) (N.noted notes.new) }
+    ensures gains { Gains (IsNearOne (record_in R.network search.now) layer.now) (N.noted notes.old)
+        (N.noted notes.new) }
 {
     let mut index: usize = 0;
     'layer: for at in layer {
@@ -54,14 +55,15 @@ pub fn advance<R: Roads, N: Notes>(
     notes: &mut N,
 ) -> Result<(), Memory>
     requires size { size < 255 }
-    requires lawful { (id : List ℕ) → IsRecord (R.told roads.now id) }
-    requires onward { LeadsOn (R.told roads.now) quest.now }
-    ensures after { OnOk result (GoesOn (R.told roads.now) quest.now size reached.old reached.new
+    requires lawful { (id : List ℕ) → IsRecord (R.network roads.now id) }
+    requires onward { LeadsOn (R.network roads.now) quest.now }
+    ensures after { OnOk result (GoesOn (R.network roads.now) quest.now size reached.old reached.new
         (N.noted notes.old) (N.noted notes.new)) }
-    ensures unrooted { OnOk result (StaysUnrooted (R.told roads.now) quest.now size reached.old reached.new
+    ensures unrooted { OnOk result (StaysUnrooted (R.network roads.now) quest.now size reached.old reached.new
         (N.noted notes.old)) }
     ensures grows { Widens (N.noted notes.old) (N.noted notes.new) }
-    ensures leads { GainsAfter (R.told roads.now) quest.now size reached.old (N.noted notes.old) (N.noted notes.new) }
+    ensures leads { GainsAfter (R.network roads.now) quest.now size reached.old (N.noted notes.old)
+        (N.noted notes.new) }
 {
     let layer = mem::replace(&mut reached.layer, Vec::new(alloc));
     let places = mem::replace(&mut reached.places, Vec::new(alloc));

@@ -12,8 +12,8 @@ use wot_types::Fpr;
 
 /// The residual amount of a root.
 pub fn left_of_root(quest: &Quest, fpr: &Fpr) -> u8
-    ensures { (told : List ℕ → Record)
-        → result ≡ root_left (quest_of told quest.now).question (use_in quest.now.used.now) fpr.now }
+    ensures { (network : List ℕ → Record)
+        → result ≡ root_left (quest_of network quest.now).question (use_in quest.now.used.now) fpr.now }
 {
     remaining(quest.roots.get(fpr), quest.used.root(fpr))
 }

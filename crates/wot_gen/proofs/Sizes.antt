@@ -74,9 +74,9 @@ questions_fit start index small =
     let uid = user_id_fits index small in
     omega (arith, uid)
 
-changes_fit : (start count turn : ℕ) → 10 * (turn + 1) < 2 ^ 32 → room (changes start count turn) ≤ 900
-changes_fit start count turn small =
-    let uid = user_id_fits (10 * (turn + 1)) small in
+changes_fit : (start count round : ℕ) → 10 * (round + 1) < 2 ^ 32 → room (changes start count round) ≤ 900
+changes_fit start count round small =
+    let uid = user_id_fits (10 * (round + 1)) small in
     omega (arith, uid)
 
 all_fit : (a b c d : List Command) (count m : ℕ) → count ≤ 2000 → m ≤ 200

@@ -34,8 +34,8 @@ views start count = (tt, (tt, (tt, (tt, (tt, tt)))))
 asked : (start index : ℕ) → AreSpelled (questions start index)
 asked start index = (omega arith, (omega arith, tt))
 
-changed : (start count turn : ℕ) → AreSpelled (changes start count turn)
-changed start count turn = (tt, (omega arith, (tt, (omega arith, tt))))
+changed : (start count round : ℕ) → AreSpelled (changes start count round)
+changed start count round = (tt, (omega arith, (tt, (omega arith, tt))))
 
 pub commands-spelled : (start count : ℕ) → AreSpelled (commands_of start count)
 unfolding commands_of

@@ -66,12 +66,12 @@ questions start index = whole_question start index ∷ Ask (codes "b") (fpr_at s
 abbrev pub drawn_before_changes : ℕ → ℕ
 drawn_before_changes count = drawn_before count count
 
--- the key whose verdict a turn of changes sets
+-- the key whose verdict a round of changes sets
 abbrev pub changed_at : ℕ → ℕ → ℕ → ℕ
-changed_at start count turn = word start (drawn_before_changes count + turn) % count
+changed_at start count round = word start (drawn_before_changes count + round) % count
 
--- a turn of changes: the verdict on a key's direct key signature is set to bad and back to good, and the question on
--- the turn's index follows each time
+-- a round of changes: the verdict on a key's direct key signature is set to bad and back to good, and the question on
+-- the round's index follows each time
 abbrev pub change_commands : ℕ → ℕ → ℕ → List Command
 change_commands start changed index =
     Bad (direct_number_at start changed)
@@ -80,11 +80,11 @@ change_commands start changed index =
     ∷ whole_question start index
     ∷ []
 
--- the turn of this number takes the index 10, 20, and so on
+-- the round of this number takes the index 10, 20, and so on
 abbrev pub changes : ℕ → ℕ → ℕ → List Command
-changes start count turn = change_commands start (changed_at start count turn) (10 * (turn + 1))
+changes start count round = change_commands start (changed_at start count round) (10 * (round + 1))
 
--- those of all certificates, all questions, and all turns of changes
+-- those of all certificates, all questions, and all rounds of changes
 abbrev pub all_certificates : ℕ → ℕ → List Command
 all_certificates start count =
     below count (λ index. certificate_commands start index (certifications_at start count index))
@@ -95,8 +95,8 @@ all_questions start count = below count (questions start)
 abbrev pub all_changes : ℕ → ℕ → List Command
 all_changes start count = below ((count - 1) / 10) (changes start count)
 
--- The commands: the certificates with their verdicts; the views; the questions; and a turn of changes for each multiple
--- of 10 from 10 to below the count.
+-- The commands: the certificates with their verdicts; the views; the questions; and a round of changes for each
+-- multiple of 10 from 10 to below the count.
 unfoldable pub commands_of : ℕ → ℕ → List Command
 commands_of start count =
     all_certificates start count
@@ -105,8 +105,8 @@ commands_of start count =
     ++ all_changes start count
 
 -- How many commands these are: an import of each key and a verdict on its direct key signature; a verdict on three
--- certifications of each key but the first; five lines of views; two questions on each key; four lines for each turn of
--- changes.
+-- certifications of each key but the first; five lines of views; two questions on each key; four lines for each round
+-- of changes.
 abbrev pub line_count : ℕ → ℕ
 line_count count = 2 * count + 3 * (count - 1) + 5 + 2 * count + 4 * ((count - 1) / 10)
 

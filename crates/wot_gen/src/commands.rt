@@ -177,7 +177,7 @@ fn put_questions(
     Ok(())
 }
 
-/// Appends a turn of changes: a verdict that is set to bad and back, with a question after each.
+/// Appends a round of changes: a verdict that is set to bad and back, with a question after each.
 fn put_change(
     alloc: Global,
     changed: &Identity,
@@ -193,7 +193,7 @@ fn put_change(
     Ok(())
 }
 
-/// Appends all turns of changes.
+/// Appends all rounds of changes.
 fn put_changes(
     alloc: Global,
     words: &mut Words,
@@ -208,12 +208,12 @@ fn put_changes(
         (commands.new.items ≡ commands.old.items ++ all_changes words.old.start (length identities.now)) }
 {
     let count = identities.len();
-    for turn in 0..(count - 1) / 10 {
+    for round in 0..(count - 1) / 10 {
         let changed = (words.draw() % count as u64) as usize;
         put_change(
             alloc,
             &identities[changed],
-            &identities[10 * (turn + 1)],
+            &identities[10 * (round + 1)],
             commands,
         )?;
     }

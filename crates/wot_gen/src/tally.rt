@@ -58,7 +58,7 @@ impl Tally {
 
 /// The amount in the reply to a question. Other replies have none.
 fn amount_in(reply: &Reply) -> u64
-    ensures told { result ≡ amount_of reply.now }
+    ensures reported { result ≡ amount_of reply.now }
     ensures small { result < 2 ^ 32 }
 {
     match reply {

@@ -1,4 +1,4 @@
-//! Removes the signatures of a certificate from the index, before the certificate itself is removed. It stands on
+//! Removes the signatures of a certificate from the index, before the certificate itself is removed. It uses
 //! wot_verdict, and visits the places that `noting` visits: change both together. The verdicts stay. Nothing here
 //! allocates.
 ghost use Rattle.wot_index.specs.Index.{Forgets, SaysSame};

@@ -1,5 +1,5 @@
 //! Notes in the index on which certificates signatures are, and undoes it if memory runs out halfway. An import calls
-//! it before it merges. It stands on `index`, and visits the places that `forgetting` visits: change both together.
+//! it before it merges. It uses `index`, and visits the places that `forgetting` visits: change both together.
 ghost use Rattle.std.specs.Prelude.{◌&&◌, OnOk, OnErr};
 ghost use Rattle.wot_types.specs.declared.fpr.Fpr.{Fpr as TheFpr};
 ghost use Rattle.wot_types.specs.declared.number.SigNumber.{SigNumber as TheNumber};

@@ -1,5 +1,5 @@
 //! Stamps the certificate that a changed verdict belongs to. The index says which one it is; if the index isn't exact,
-//! all certificates are searched and the log of changes restarts. `Keyring::set_verdict` and `clear_verdict` stand on
+//! all certificates are searched and the log of changes restarts. `Keyring::set_verdict` and `clear_verdict` use
 //! it.
 ghost use Rattle.std.specs.Prelude.{◌≡◌, ◌≤◌};
 ghost use Rattle.wot_index.specs.Index.{IsIndexOf, RestampsAt, stands_at};

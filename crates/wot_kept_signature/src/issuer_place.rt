@@ -1,6 +1,6 @@
 //! Where an issuer stands in the body of a signature: the octet of its version, and its fingerprint.
 //!
-//! It stands on `specs/KeptFacts.antt`. `kept_facts` keeps this place instead of the fingerprint, and reads it there.
+//! It uses `specs/KeptFacts.antt`. `kept_facts` keeps this place instead of the fingerprint, and reads it there.
 ghost use Rattle.std.specs.Prelude.{◌≡◌, ◌≤◌, ◌^◌, slice_index, IfSome};
 ghost use Rattle.std.specs.Option.{option_map};
 ghost use Rattle.wot_kept_signature.specs.KeptFacts.{octets_from, issuer_at as issuer_at_spec};

@@ -1,6 +1,6 @@
 //! The shapes in which the facts of a signature are kept, and the octet that stands for each.
 //!
-//! It stands on `specs/KeptOctets.antt`. `new_octets` chooses the shape, and `kept_facts` has the facts of each.
+//! It uses `specs/KeptOctets.antt`. `new_octets` chooses the shape, and `kept_facts` has the facts of each.
 ghost use Rattle.std.specs.Prelude.{◌≡◌};
 ghost use Rattle.wot_kept_signature.specs.KeptOctets.{shape_octet, shape_of, head_size};
 

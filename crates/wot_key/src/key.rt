@@ -1,6 +1,6 @@
 //! What the body of a public key packet says: version, creation time and algorithm.
 //!
-//! It stands on `specs/Key.antt`, which says which bodies can be parsed. Imports skip keys that it can't parse, and
+//! It uses `specs/Key.antt`, which says which bodies can be parsed. Imports skip keys that it can't parse, and
 //! count them.
 ghost use Rattle.std.specs.Prelude.{◌≡◌};
 ghost use Rattle.wot_key.specs.Key.{is_readable, is_v4, is_v6, key_of};

@@ -1,4 +1,4 @@
-//! Laws of key bodies. Each function does nothing: its contract is the law. They stand on the definitions alone; a new
+//! Laws of key bodies. Each function does nothing: its contract is the law. They use the definitions alone; a new
 //! version of keys has to keep them.
 ghost use Rattle.std.specs.Prelude.{◌≡◌, ℕ, List};
 ghost use Rattle.wot_key.specs.Key.{fingerprint_of, key_of, version_in};

@@ -20,7 +20,7 @@ use Rattle.wot_keyring.specs.Dump.{text_import}
 pub is_line : (line : StateLine) → IsPrinted line → most_octets line ≤ 16777216 → IsLine line
 is_line line printed short = record {
   no_feed = printed.one_line.no_feed;
-  heard = printed.one_line.heard;
+  no_comment = printed.one_line.no_comment;
   short = omega (arith, printed.one_line.short, short);
   fits = printed.one_line.short;
   read = printed.read;

@@ -6,7 +6,7 @@ use Rattle.wot_types.specs.declared.fpr.Fpr.{Fpr}
 use Rattle.wot_types.specs.declared.limits.Limits.{Limits}
 use Rattle.wot_types.specs.declared.number.SigNumber.{SigNumber}
 use Rattle.wot_policy.specs.declared.rows.PolicyRows.{PolicyRows}
-use Rattle.wot_fields.specs.StateLine.{IsHeard, most_octets, spelling, state_line_of}
+use Rattle.wot_fields.specs.StateLine.{IsNoComment, most_octets, spelling, state_line_of}
 use Rattle.wot_fields.specs.declared.state_line.StateLine.{StateLine}
 use Rattle.wot_fields.specs.declared.state_line.StateLine.TheVariants as lines
 use Rattle.wot_verdict.specs.declared.verdict.Verdict.{Verdict}
@@ -49,7 +49,7 @@ lines_of commands = flat_map command_line_of commands
 -- The text is one line, isn't skipped, isn't too long, is no longer than such a line can be, and is read back.
 pub record IsLine (c : StateLine) : Type 0 where
   pub no_feed : AllByRecursion (λ octet. octet ≢ 10) (spelling c)
-  pub heard : IsHeard (spelling c)
+  pub no_comment : IsNoComment (spelling c)
   pub short : length (spelling c) ≤ 16777216
   pub fits : length (spelling c) ≤ most_octets c
   pub read : state_line_of (spelling c) ≡ Some c

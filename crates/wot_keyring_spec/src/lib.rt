@@ -1,6 +1,6 @@
 //! What is held: the definitions of a keyring and of each change, certificates as they are kept, their iterators, the
-//! errors of the keyring's calls, and the certificates in octets. It stands on wot_cert and wot_verdict. All rooms of
-//! the keyring stand on it, and the crates above name its definitions: a changed one is proved anew up to the engine.
+//! errors of the keyring's calls, and the certificates in octets. It uses wot_cert and wot_verdict. All rooms of
+//! the keyring use it, and the crates above name its definitions: a changed one is proved anew up to the engine.
 #![tactic(auto)]
 
 mod certs;

@@ -1,11 +1,11 @@
 //! The well-formed signatures without a verdict: what an outside verifier has to check. It walks over all certificates,
-//! and stands on what wot_signature reads from a signature. A change of `Pending` reaches the reply to `pending` in
+//! and uses what wot_signature reads from a signature. A change of `Pending` reaches the reply to `pending` in
 //! wot_machine, and the verifier.
 ghost use Rattle.std.specs.Prelude.{◌≡◌, ◌++◌, ◌∷◌, [], IfOk, OnOk};
 ghost use Rattle.std.specs.List.{flat_map};
 ghost use Rattle.wot_component.specs.Counts.{sigs_on};
 ghost use Rattle.wot_keyring_spec.specs.Keyring.{stripped};
-ghost use Rattle.wot_keyring_spec.specs.Pending.{is_pending, pending_among, pending_on, told_of};
+ghost use Rattle.wot_keyring_spec.specs.Pending.{is_pending, pending_among, pending_on, pending_in};
 
 use crate::kept::Kept;
 use std::alloc::Global;
@@ -39,8 +39,8 @@ fn waits(sig: &Sig, verdicts: &Verdicts) -> bool
 }
 
 /// The entry of a signature on the certificate of this fingerprint.
-fn told(sig: &Sig, fpr: Fpr) -> Pending
-    ensures { result ≡ told_of fpr sig.now }
+fn pending_from(sig: &Sig, fpr: Fpr) -> Pending
+    ensures { result ≡ pending_in fpr sig.now }
 {
     let issuer = match sig.facts() {
         Some(facts) => facts.issuer,
@@ -59,7 +59,7 @@ fn push_sig(out: &mut Vec<Pending>, sig: &Sig, fpr: Fpr, verdicts: &Verdicts) ->
     ensures { OnOk result (out.new.items ≡ out.old.items ++ pending_among verdicts.now.entries fpr (sig.now ∷ [])) }
 {
     if waits(sig, verdicts) {
-        out.push(told(sig, fpr))?;
+        out.push(pending_from(sig, fpr))?;
     }
     Ok(())
 }

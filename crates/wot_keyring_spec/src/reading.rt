@@ -1,5 +1,5 @@
 //! From octets to certificates: the packets are read and assembled, and a directory entry has to be the one certificate
-//! that its name demands. It stands on wot_packet and wot_cert. `import`, `load` and the shelf of wot_machine read with
+//! that its name demands. It uses wot_packet and wot_cert. `import`, `load` and the shelf of wot_machine read with
 //! it, so a further refusal here is a further reply.
 ghost use Rattle.std.specs.Prelude.{◌≡◌, ◌<◌, ◌^◌, length};
 ghost use Rattle.wot_keyring_spec.specs.Import.{is_entry, stands_under};

@@ -32,7 +32,7 @@ use Rattle.wot_plain.specs.Listing.{Lists, explained_from}
 use Rattle.wot_plain.specs.LineStep.{LineStep, HasReply, ReadLineStep, StateStep, CommandStep, Stays}
 use Rattle.wot_plain.specs.Pacing.{Paces}
 use Rattle.wot_plain.specs.Watching.{Watching}
-use Rattle.wot_plain.specs.Session.{IsTurnedBy, Session}
+use Rattle.wot_plain.specs.Session.{RevisedBy, Session}
 use Rattle.wot_laws.proofs.Named.{AreNamed}
 use Rattle.wot_plain.specs.Served.{Served}
 
@@ -103,7 +103,7 @@ does_alike rows one other name class given told reply new c v w a does = absurd 
 
 -- a question changes no turns, cursors or watches
 asking : (name : List ℕ) (class : Class) (s : Session) (reply : Reply) → AsksFrom name class
-    → IsTurnedBy class s.state.views s.turns s.state.views s.turns × Paces s class reply s.cursors × Watching s
+    → RevisedBy class s.state.views s.revisions s.state.views s.revisions × Paces s class reply s.cursors × Watching s
     class reply s.watches
 asking name (OfState (kinds.Question view question)) s reply a = (refl, refl, refl)
 asking name class s reply a = absurd a

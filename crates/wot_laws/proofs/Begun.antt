@@ -13,7 +13,7 @@ use Rattle.wot_verdict.specs.Verdicts.{Entries}
 use Rattle.wot_component.specs.Certificate.{Certificate}
 use Rattle.wot_edge.specs.Record.{IsRecord}
 use Rattle.wot_keyring_spec.specs.Keyring.{Certificates}
-use Rattle.wot_network.specs.Told.{record_of}
+use Rattle.wot_network.specs.Records.{record_of}
 use Rattle.wot_script.specs.Grammar.{command_of}
 use Rattle.wot_script.specs.Spelling.{HasSpelling}
 use Rattle.wot_script.specs.declared.command.Command.{Command}
@@ -31,7 +31,7 @@ use Rattle.wot_plain.specs.Classes.{class_of}
 use Rattle.wot_plain.specs.Entry.{use_of}
 use Rattle.wot_laws.specs.Joined.{AreOfList, IsNext, Since, pieces_in}
 use Rattle.wot_laws.specs.Exchanges.{Exchange}
-use Rattle.wot_plain.specs.Lines.{heard}
+use Rattle.wot_plain.specs.Lines.{command_in_line}
 use Rattle.wot_plain.specs.LineStep.{CommandStep}
 use Rattle.wot_plain.specs.Listing.{Lists, bind_line}
 use Rattle.wot_plain.specs.Pacing.{Begins, Leaves, stamps_in}
@@ -52,11 +52,11 @@ use Rattle.wot_plain.specs.Session.{turning_of}
 
 reached_sound : (rows : PolicyRows) (lines : List (List ℕ)) (old : Scene) (told : List Reply) (s : Scene)
     → Run rows old lines told s
-    → AreSound old.whole.state.views old.whole.turns → AreSound s.whole.state.views s.whole.turns
+    → AreSound old.whole.state.views old.whole.revisions → AreSound s.whole.state.views s.whole.revisions
 reached_sound rows =
-    run_keeps rows (λ (w : Session). AreSound w.state.views w.turns)
+    run_keeps rows (λ (w : Session). AreSound w.state.views w.revisions)
     (λ old command answer reply new o s.
-    sound_by (turning_of command) old.state.views old.turns new.state.views new.turns
+    sound_by (turning_of command) old.state.views old.revisions new.state.views new.revisions
     (does_views rows old.state command answer reply new.state o.does) o.turned s)
     (λ s watches sound. sound)
 
@@ -105,12 +105,12 @@ module _
       stands : Stands name view wanted was.whole shown all began rows last.whole (pieces_in name exchanges)
 
     answer : Served
-    answer = served_in was (use_of (heard since.line))
+    answer = served_in was (use_of (command_in_line since.line))
 
     obeys : CommandStep rows was.whole (class_of (CursorOver name view wanted)) answer replies.Done since.begins.mid
     unfolding answer
     obeys =
-        heard_obeys rows was.whole (heard since.line) (CursorOver name view wanted) answer replies.Done since.begins.mid
+        heard_obeys rows was.whole (command_in_line since.line) (CursorOver name view wanted) answer replies.Done since.begins.mid
         since.over
         (hears rows was.whole since.line answer (Some replies.Done) since.begins.mid since.begins.does)
 
@@ -123,19 +123,19 @@ module _
         let w = was.whole in
         let from = began_from w name view wanted since.begins.mid.cursors (view_at w.state.views view) refl
         obeys.paces in
-        let told = record_of w.state.held.certs w.state.held.verdicts from.shown.time in
+        let network = record_of w.state.held.certs w.state.held.verdicts from.shown.time in
         let pairs = pairs_in w.state.held.certs in
         let list = some told from.shown.roots wanted pairs wants in
-        let can = reached_can_be rows since.world since.lines since.told was since.reached in
-        let sound = reached_sound rows since.lines (opening since.world) since.told was since.reached
+        let can = reached_can_be rows since.world since.lines since.reported was since.reached in
+        let sound = reached_sound rows since.lines (opening since.world) since.reported was since.reached
         (record { order = tt; few = tt }) in
         let began : Began name view wanted w from.shown list.0 = record {
-          few = turn_few w.state.views w.turns view sound;
+          few = turn_few w.state.views w.revisions view sound;
           wants = wants;
           seen = from.seen;
           list = list.1;
           rising = ordered_binds told from.shown.roots wanted w.state.held.certs list.0
-              (reached_ordered rows since.world since.lines since.told was since.reached) list.1;
+              (reached_ordered rows since.world since.lines since.reported was since.reached) list.1;
           one = λ others l.
               one told from.shown.roots wanted pairs others list.0 (λ u. lawful w.state.held.certs w.state.held.verdicts
               from.shown.time u can) l list.1;
@@ -184,11 +184,11 @@ module _
         }
 
     pub next : (line : List ℕ) (count : ℕ) (reply : Reply) (told : List Reply) (new : Scene)
-        → heard line ≡ Some (CursorNext name count) → Step rows last line (Some reply) told new
+        → command_in_line line ≡ Some (CursorNext name count) → Step rows last line (Some reply) told new
         → IsNext was.whole last.whole view count reply
     next line count reply told new e step =
-        let served = served_in last (use_of (heard line)) in
-        let o = heard_obeys rows last.whole (heard line) (CursorNext name count) served reply step.mid e
+        let served = served_in last (use_of (command_in_line line)) in
+        let o = heard_obeys rows last.whole (command_in_line line) (CursorNext name count) served reply step.mid e
         (hears rows last.whole line served (Some reply) step.mid step.does) in
         (goes_own name view wanted was.whole found.shown found.all found.began last.whole count reply step.mid.cursors
         (pieces_in name exchanges)

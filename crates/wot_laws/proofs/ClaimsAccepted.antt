@@ -112,9 +112,9 @@ told_accepted law q wanted sum claims labels paths answer tells = by (nat_le wan
 
 -- ---- accepted claims
 
-pub yes_spent : ((q : Question) (claims : List Claim) (table : Labels) → IsRecord q.told → Accepts q claims table →
+pub yes_spent : ((q : Question) (claims : List Claim) (table : Labels) → IsRecord q.network → Accepts q claims table →
     AreSpent q claims)
-    → (q : Question) (sum : ℕ) (claims : List ClaimLine) (labels : List LabelLine) → IsRecord q.told →
+    → (q : Question) (sum : ℕ) (claims : List ClaimLine) (labels : List LabelLine) → IsRecord q.network →
     IsAccepted q sum claims labels → AreSpent q (map claim_in claims)
 yes_spent law q sum claims labels good a = by a.0 a.1 a.2
   where

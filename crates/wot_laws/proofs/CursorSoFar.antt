@@ -20,7 +20,7 @@ use Rattle.wot_script.specs.declared.command.Command.{Command}
 use Rattle.wot_script.specs.declared.reply.Reply.{Reply}
 use Rattle.wot_script.specs.declared.reply.Reply.TheVariants as replies
 use Rattle.wot_cache.specs.declared.view.View.{View}
-use Rattle.wot_cache.specs.Turns.{turn_at}
+use Rattle.wot_cache.specs.Revisions.{revision_at}
 use Rattle.wot_cache.specs.Views.{view_at}
 use Rattle.wot_cursor.specs.Age.{age_of}
 use Rattle.wot_table.specs.Table.{is_name}
@@ -31,7 +31,7 @@ use Rattle.wot_cursor.specs.declared.stamps.Age.TheVariants as ages
 use Rattle.wot_explain.specs.declared.bind.Bind.{Bind}
 use Rattle.wot_explain.specs.Piece.{binds_after, piece_of}
 use Rattle.wot_keyring_spec.specs.Held.{Held}
-use Rattle.wot_network.specs.Told.{record_of}
+use Rattle.wot_network.specs.Records.{record_of}
 use Rattle.wot_watch.specs.Watches.{Watches}
 use Rattle.wot_explain.specs.Listing.{IsListed, pairs_in}
 use Rattle.wot_plain.specs.declared.class.Class.{Class}
@@ -42,7 +42,7 @@ use Rattle.wot_laws.specs.Exchanges.{Exchange, Passes}
 use Rattle.wot_laws.specs.Joined.{Given, IsNext, given_by, given_in, has_restart, is_done}
 use Rattle.wot_laws.specs.Joined.{given_to, is_restart, is_restart_by, pieces_in}
 use Rattle.wot_plain.specs.Entry.{use_of}
-use Rattle.wot_plain.specs.Lines.{heard}
+use Rattle.wot_plain.specs.Lines.{command_in_line}
 use Rattle.wot_plain.specs.LineStep.{LineStep, CommandStep}
 use Rattle.wot_plain.specs.Listing.{AreBindings, bind_line}
 use Rattle.wot_plain.specs.Pacing.{Begins, Ends, GivesPiece, Goes, GoesBy, GoesFrom, Leaves, Paces, behind, is_pacing}
@@ -73,14 +73,14 @@ held_by was old new (inr c) (inr more) = inr (omega (arith, c.1, more))
 
 pub record IsLater (view : List ℕ) (was now : Session) : Type 0 where
   pub order : AreViewsInOrder now.state.views
-  pub turns : was.turns.count ≤ now.turns.count
+  pub revisions : was.revisions.count ≤ now.revisions.count
   pub held : IsHeld was now
-  pub shown : IsShown view was.state.views was.turns now.state.views now.turns
+  pub shown : IsShown view was.state.views was.revisions now.state.views now.revisions
 
 pub later_itself : (view : List ℕ) (was : Session) → AreViewsInOrder was.state.views → IsLater view was was
 later_itself view was order = record {
   order = order;
-  turns = omega arith;
+  revisions = omega arith;
   held = inl (refl, refl);
   shown =
       inl (refl, refl);
@@ -89,30 +89,30 @@ later_itself view was order = record {
 -- watches don't matter to it
 later_watched : (view : List ℕ) (was now : Session) (watches : Watches) → IsLater view was now
     → IsLater view was (watched now watches)
-later_watched view was now watches l = record { order = l.order; turns = l.turns; held = l.held; shown = l.shown }
+later_watched view was now watches l = record { order = l.order; revisions = l.revisions; held = l.held; shown = l.shown }
 
 pub later_obeys : (rows : PolicyRows) (view : List ℕ) (was old : Session) (class : Class) (answer : Served)
     (reply : Reply) (new : Session)
     → CommandStep rows old class answer reply new → IsLater view was old → IsLater view was new
 later_obeys rows view was old class answer reply new o l =
     let views = does_views rows old.state class answer reply new.state o.does in
-    let more = turns_more (turning_of class) old.state.views old.turns new.state.views new.turns o.turned in
+    let more = turns_more (turning_of class) old.state.views old.revisions new.state.views new.revisions o.turned in
     record {
       order = order_by (turning_of class) old.state.views new.state.views views l.order;
-      turns = omega (arith, more, l.turns);
+      revisions = omega (arith, more, l.revisions);
       held = held_by was old new o.counted l.held;
       shown =
-          shown_by view was.state.views was.turns (turning_of class) old.state.views old.turns new.state.views
-          new.turns l.order l.turns views o.turned l.shown;
+          shown_by view was.state.views was.revisions (turning_of class) old.state.views old.revisions new.state.views
+          new.revisions l.order l.revisions views o.turned l.shown;
     }
 
 held_same : (was now : Session) → IsHeld was now → was.changes ≡ now.changes → now.state.held ≡ was.state.held
 held_same was now (inl h) e = h.0
 held_same was now (inr more) e = absurd (omega (arith, more, e))
 
-view_same : (view : List ℕ) (was now : Session) (shown : View) → unwrap_or (turn_at was.turns view) 0 ≤ was.turns.count
-    → IsShown view was.state.views was.turns now.state.views now.turns
-    → unwrap_or (turn_at was.turns view) 0 ≡ unwrap_or (turn_at now.turns view) 0
+view_same : (view : List ℕ) (was now : Session) (shown : View) → unwrap_or (revision_at was.revisions view) 0 ≤ was.revisions.count
+    → IsShown view was.state.views was.revisions now.state.views now.revisions
+    → unwrap_or (revision_at was.revisions view) 0 ≡ unwrap_or (revision_at now.revisions view) 0
     → view_at now.state.views view ≡ Some shown → view_at was.state.views view ≡ Some shown
 view_same view was now shown few (inl p) e seen = sym p.0 ∙ seen
 view_same view was now shown few (inr (inl none)) e seen = let never : None ≡ Some shown = sym none ∙ seen in
@@ -203,7 +203,7 @@ plain_given name (OfCursor cursor command) reply e = absurd (cc e)
 
 -- A cursor began in a state from an open view; this is the list there.
 pub record Began (name view : List ℕ) (wanted : ℕ) (was : Session) (shown : View) (all : List Bind) : Type 0 where
-  pub few : unwrap_or (turn_at was.turns view) 0 ≤ was.turns.count
+  pub few : unwrap_or (revision_at was.revisions view) 0 ≤ was.revisions.count
   pub wants : 1 ≤ wanted
   pub seen : view_at was.state.views view ≡ Some shown
   pub list : AreBindings was.state shown wanted all
@@ -279,18 +279,18 @@ module _ (name view : List ℕ) (wanted : ℕ) (was : Session) (shown : View) (a
         )
 
     gives_own : (v : View) → view_at now.state.views view ≡ Some v → was.changes ≡ now.changes
-        → unwrap_or (turn_at was.turns view) 0 ≡ unwrap_or (turn_at now.turns view) 0
+        → unwrap_or (revision_at was.revisions view) 0 ≡ unwrap_or (revision_at now.revisions view) 0
         → GivesPiece now name count (at_place h.place) v reply cursors → Goal
-    gives_own v seen same turn = by (wanted == 0) refl
+    gives_own v seen same revision = by (wanted == 0) refl
       where
         held : now.state.held ≡ was.state.held
         held = held_same was now later.held same
 
         here : v ≡ shown
-        here = same_Some v shown (sym (view_same view was now v began.few later.shown turn seen) ∙ began.seen)
+        here = same_Some v shown (sym (view_same view was now v began.few later.shown revision seen) ∙ began.seen)
 
         stamps : stamps_in now view ≡ stamps_in was view
-        stamps = λ i. record { keyring = sym same i; view = sym turn i }
+        stamps = λ i. record { keyring = sym same i; view = sym revision i }
 
         listed : (others : List Bind) → AreBindings now.state v wanted others
             → AreBindings was.state shown wanted others
@@ -411,10 +411,10 @@ module _ (name view : List ℕ) (wanted : ℕ) (was : Session) (shown : View) (a
 
     step_comes : (old : Session) (line : List ℕ) (answer : Served) (reply : Option Reply) (new : Session)
         (given : List Given) → LineStep rows old line answer reply new
-        → is_restart name (heard line) reply ≡ false → IsLater view was old → HasCursor old.cursors given
-        → HasCursor new.cursors (given ++ given_in name (heard line) reply)
+        → is_restart name (command_in_line line) reply ≡ false → IsLater view was old → HasCursor old.cursors given
+        → HasCursor new.cursors (given ++ given_in name (command_in_line line) reply)
     step_comes old line answer reply new given step fresh later h =
-        by (heard line) reply fresh (hears rows old line answer reply new step)
+        by (command_in_line line) reply fresh (hears rows old line answer reply new step)
       where
         by : (o : Option Command) (r : Option Reply) → is_restart name o r ≡ false → Hears rows old o answer r new
             → HasCursor new.cursors (given ++ given_in name o r)
@@ -442,14 +442,14 @@ module _ (name view : List ℕ) (wanted : ℕ) (was : Session) (shown : View) (a
         subst (λ (scene : Scene). Stands scene.whole (given ++ [])) (sym e)
         (subst (Stands old.whole) (sym (append-nil given)) s)
     passes_on (x ∷ exchanges) old new given p fresh s =
-        let parts = or_parts (is_restart name (heard x.line) x.reply) (has_restart name exchanges) fresh in
-        let answer = served_in old (use_of (heard x.line)) in
-        let more = given_in name (heard x.line) x.reply in
+        let parts = or_parts (is_restart name (command_in_line x.line) x.reply) (has_restart name exchanges) fresh in
+        let answer = served_in old (use_of (command_in_line x.line)) in
+        let more = given_in name (command_in_line x.line) x.reply in
         let mid : Stands p.1.mid (given ++ more) = record {
           later = step_later old.whole x.line answer x.reply p.1.mid p.1.does s.later;
           cursor = step_comes old.whole x.line answer x.reply p.1.mid given p.1.does parts.0 s.later s.cursor;
         } in
-        let after : Stands p.0.whole (given ++ more) = stands_told p.1.mid x.told p.0.whole (given ++ more) p.1.tells
+        let after : Stands p.0.whole (given ++ more) = stands_told p.1.mid x.reported p.0.whole (given ++ more) p.1.tells
         mid in
         subst (Stands new.whole) (append_assoc given more (pieces_in name exchanges))
         (passes_on exchanges p.0 new (given ++ more) p.2 parts.1 after)

@@ -13,7 +13,7 @@ module _ (rows : PolicyRows) where
   run_told (line ∷ lines) old told new r =
       let rest = run_told lines r.2 r.3 new r.5 in
       record {
-        exchanges = record { line = line; reply = r.0; told = r.1 } ∷ rest.exchanges;
+        exchanges = record { line = line; reply = r.0; reported = r.1 } ∷ rest.exchanges;
         lines_are = ap (λ (ls : List (List ℕ)). line ∷ ls) rest.lines_are;
         replies_are = ap (λ (rs : List Reply). (listed r.0 ++ r.1) ++ rs) rest.replies_are ∙ sym r.6;
         passes = (r.2, r.4, rest.passes);
@@ -24,7 +24,7 @@ module _ (rows : PolicyRows) where
   run_of [] old new p = (refl, p)
   run_of (x ∷ exchanges) old new p = (
     x.reply,
-    x.told,
+    x.reported,
     p.0,
     replies_in exchanges,
     p.1,
@@ -34,6 +34,6 @@ module _ (rows : PolicyRows) where
 
   pub runs_told : RunsAreExchanges rows
   runs_told = record {
-    told = λ old lines told new r. run_told lines old told new r;
+    reported = λ old lines told new r. run_told lines old told new r;
     run = λ old exchanges new p. run_of exchanges old new p;
   }

@@ -10,7 +10,7 @@ use Rattle.wot_component.specs.Counts.{all_sigs}
 use Rattle.wot_component.specs.Judged.{judged}
 use Rattle.wot_keyring.specs.Dump.{judged_by}
 use Rattle.wot_network.specs.Local.{AgreeAt}
-use Rattle.wot_network.specs.Told.{AreOwn}
+use Rattle.wot_network.specs.Records.{AreOwn}
 use Rattle.wot_explain.specs.Around.{AgreeAround, AgreeAtIssuer, AreExplainedAlike}
 use Rattle.wot_cache.specs.declared.view.View.{View}
 use Rattle.wot_cache.specs.State.{State}

@@ -20,7 +20,7 @@ use Rattle.wot_laws.specs.GoesOn.{HaveSameReplies, is_of_state}
 use Rattle.wot_plain.specs.Classes.{is_own}
 use Rattle.wot_laws.specs.Exchanges.{Exchange, Passes, lines_in}
 use Rattle.wot_laws.specs.OneLine.{LeadToStates}
-use Rattle.wot_plain.specs.Lines.{heard, is_silent, longest}
+use Rattle.wot_plain.specs.Lines.{command_in_line, is_silent, longest}
 use Rattle.wot_plain.specs.LineStep.{ReadLineStep, DoesTo, HasReply, LineStep, CommandStep, Stays}
 use Rattle.wot_plain.specs.Scene.{Scene, Step, opening, served_in, world_behind}
 use Rattle.wot_plain.specs.Served.{Served}
@@ -80,19 +80,19 @@ module _
 
     same_line : (a b : Session) (line : List ℕ) (given : Served) (r s : Option Reply) (m n : Session) → IsState a.state →
         b.state ≡ a.state
-        → LineStep rows a line given r m → LineStep rows b line given s n → AreSame (heard line) r s m.state n.state
+        → LineStep rows a line given r m → LineStep rows b line given s n → AreSame (command_in_line line) r s m.state n.state
     same_line a b line given r s m n can e p q = long (nat_lt longest (length line)) refl p q
       where
         silent : nat_lt longest (length line) ≡ false → (c : Bool) → is_silent line ≡ c
             → MatchBool c ((r ≡ None) × (m ≡ a)) (HasReply (ReadLineStep rows a (command_of line) given) r m)
             → MatchBool c ((s ≡ None) × (n ≡ b)) (HasReply (ReadLineStep rows b (command_of line) given) s n)
-            → AreSame (heard line) r s m.state n.state
+            → AreSame (command_in_line line) r s m.state n.state
         silent f true g p q = (
           λ own. p.0 ∙ sym q.0,
           ap (λ (x : Session). x.state) p.1 ∙ sym e ∙ sym (ap (λ (x : Session). x.state) q.1),
         )
         silent f false g p q =
-            let is : heard line ≡ command_of line = rw f (rw g refl) in
+            let is : command_in_line line ≡ command_of line = rw f (rw g refl) in
             subst (λ (c : Option Command). AreSame c r s m.state n.state) (sym is)
             (same_answers a b (command_of line) given r s m n can e p q)
 
@@ -101,8 +101,8 @@ module _
             (HasReply (ReadLineStep rows a (command_of line) given) r m))
             → MatchBool c (HasReply (Stays b replies.Long) s n) (MatchBool (is_silent line) ((s ≡ None) × (n ≡ b))
             (HasReply (ReadLineStep rows b (command_of line) given) s n))
-            → AreSame (heard line) r s m.state n.state
-        long true f p q = same_refused a b replies.Long (heard line) r s m n e p q
+            → AreSame (command_in_line line) r s m.state n.state
+        long true f p q = same_refused a b replies.Long (command_in_line line) r s m n e p q
         long false f p q = silent f (is_silent line) refl p q
 
     -- ---- with the certificate directory
@@ -110,10 +110,10 @@ module _
     same_step : (a b : Scene) (line : List ℕ) (r s : Option Reply) (told others : List Reply) (m n : Scene) →
         IsState a.whole.state
         → b.whole.state ≡ a.whole.state → b.world ≡ a.world → Step rows a line r told m → Step rows b line s others n
-        → (is_of_state (heard line) ≡ true → r ≡ s) × (n.whole.state ≡ m.whole.state) × (n.world ≡ m.world) × IsState
+        → (is_of_state (command_in_line line) ≡ true → r ≡ s) × (n.whole.state ≡ m.whole.state) × (n.world ≡ m.world) × IsState
         m.whole.state
     same_step a b line r s told others m n can e w p q =
-        let use_ : Use = use_of (heard line) in
+        let use_ : Use = use_of (command_in_line line) in
         let given : served_in b use_ ≡ served_in a use_ = λ i. given_by (w i) (entry_for (e i) use_) in
         let does : LineStep rows b.whole line (served_in a use_) s q.mid =
         subst (λ (x : Served). LineStep rows b.whole line x s q.mid) given q.does in
@@ -139,9 +139,9 @@ module _
     goes_on (x ∷ xs) [] a b m n can e w p q lines = absurd (cc lines)
     goes_on (x ∷ xs) (f ∷ fs) a b m n can e w p q lines =
         let parts = first_line x.line f.line (lines_in xs) (lines_in fs) lines in
-        let step : Step rows b x.line f.reply f.told q.0 = subst (λ (l : List ℕ). Step rows b l f.reply f.told q.0)
+        let step : Step rows b x.line f.reply f.reported q.0 = subst (λ (l : List ℕ). Step rows b l f.reply f.reported q.0)
         (sym parts.0) q.1 in
-        let one = same_step a b x.line x.reply f.reply x.told f.told p.0 q.0 can e w p.1 step in
+        let one = same_step a b x.line x.reply f.reply x.reported f.reported p.0 q.0 can e w p.1 step in
         (one.0, goes_on xs fs p.0 q.0 m n one.3 one.1 one.2 p.2 q.2 parts.1)
 
     -- ---- after a dump

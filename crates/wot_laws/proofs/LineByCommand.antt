@@ -10,7 +10,7 @@ use Rattle.wot_watch.specs.Watches.{Watches}
 use Rattle.wot_plain.specs.declared.class.Class.{Class}
 use Rattle.wot_plain.specs.Classes.{class_of}
 use Rattle.wot_plain.specs.Entry.{use_of}
-use Rattle.wot_plain.specs.Lines.{heard, is_silent, longest}
+use Rattle.wot_plain.specs.Lines.{command_in_line, is_silent, longest}
 use Rattle.wot_plain.specs.LineStep.{ReadLineStep, HasReply, LineStep, CommandStep, Stays}
 use Rattle.wot_plain.specs.Scene.{Scene, served_in}
 use Rattle.wot_plain.specs.Served.{Served}
@@ -25,7 +25,7 @@ Hears rows old (Some command) given reply new = HasReply (CommandStep rows old (
 
 pub hears : (rows : PolicyRows) (old : Session) (line : List ℕ) (given : Served) (reply : Option Reply) (new : Session)
     → LineStep rows old line given reply new
-    → Hears rows old (heard line) given reply new
+    → Hears rows old (command_in_line line) given reply new
 hears rows old line given reply new = long (nat_lt longest (length line))
   where
     stays : (r : Option Reply) → HasReply (Stays old replies.Long) r new → new ≡ old
@@ -52,7 +52,7 @@ hears rows old line given reply new = long (nat_lt longest (length line))
     long true g = stays reply g
     long false g = silent (is_silent line) g
 
-pub heard_reads : (line : List ℕ) (command : Command) → heard line ≡ Some command → command_of line ≡ Some command
+pub heard_reads : (line : List ℕ) (command : Command) → command_in_line line ≡ Some command → command_of line ≡ Some command
 heard_reads line command = long (nat_lt longest (length line))
   where
     silent : (b : Bool) → (if b then None else command_of line) ≡ Some command → command_of line ≡ Some command
@@ -72,7 +72,7 @@ module _
   where
     pub step_keeps : (old : Session) (line : List ℕ) (given : Served) (reply : Option Reply) (new : Session)
         → LineStep rows old line given reply new → P old → P new
-    step_keeps old line given reply new step p = by (heard line) reply (hears rows old line given reply new step)
+    step_keeps old line given reply new step p = by (command_in_line line) reply (hears rows old line given reply new step)
       where
         by : (o : Option Command) (r : Option Reply) → Hears rows old o given r new → P new
         by None r e = subst P (sym e) p
@@ -85,7 +85,7 @@ module _
         (told : List Reply) (new : Scene) → Run rows old lines told new → P old.whole → P new.whole
     run_keeps still [] old told new r p = subst (λ (s : Scene). P s.whole) (sym r.1) p
     run_keeps still (line ∷ lines) old told new r p =
-        let mid : P r.4.mid = step_keeps old.whole line (served_in old (use_of (heard line))) r.0 r.4.mid r.4.does p in
+        let mid : P r.4.mid = step_keeps old.whole line (served_in old (use_of (command_in_line line))) r.0 r.4.mid r.4.does p in
         run_keeps still lines r.2 r.3 new r.5
         (subst P (sym r.4.tells.left) (still r.4.mid (told_all r.4.mid.watches r.1) mid))
 

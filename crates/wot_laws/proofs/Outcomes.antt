@@ -25,7 +25,7 @@ use Rattle.wot_script.specs.declared.reply.Reply.{Reply}
 use Rattle.wot_script.specs.declared.reply.Reply.TheVariants as replies
 use Rattle.wot_script.specs.Grammar.{command_of}
 use Rattle.wot_script.specs.Spelling.{HasSpelling}
-use Rattle.wot_network.specs.Told.{record_of}
+use Rattle.wot_network.specs.Records.{record_of}
 use Rattle.wot_cache.specs.declared.view.View.{View}
 use Rattle.wot_explain.specs.declared.bind.Bind.{Bind}
 use Rattle.wot_explain.specs.Listing.{IsListed, Pair, pairs_in}
@@ -107,7 +107,7 @@ LineStep-stays rows = step_stays rows AreNamed (named_all rows) named_without
 
 module _
     (answer_some : (q : Question) (wanted : ℕ) → 1 ≤ wanted → (paths : List Path) × IsAnswer q wanted paths)
-    (answer_one : (q : Question) (wanted : ℕ) (a b : List Path) → IsRecord q.told → IsAnswer q wanted a →
+    (answer_one : (q : Question) (wanted : ℕ) (a b : List Path) → IsRecord q.network → IsAnswer q wanted a →
     IsAnswer q wanted b → a ≡ b)
     (lawful : (certs : Certificates) (entries : Entries) (t : ℕ) (u : List ℕ) →
     AllByRecursion (λ (e : Fpr × Certificate). e.0 ≡ fpr_of e.1.key) certs → IsRecord (record_of certs entries t u))
@@ -121,7 +121,7 @@ module _
     IsLeastTable q used b → a ≡ b)
     (check_some : (q : Question) (claims : List Claim) (table : Labels) → IsTable table →
     (checked : Checked) × IsChecked q claims table checked)
-    (check_one : (q : Question) (claims : List Claim) (table : Labels) (a b : Checked) → IsRecord q.told →
+    (check_one : (q : Question) (claims : List Claim) (table : Labels) (a b : Checked) → IsRecord q.network →
     IsChecked q claims table a → IsChecked q claims table b → a ≡ b)
     (wants : (line : List ℕ) (command : Command) → command_of line ≡ Some command → HasSpelling command)
     (rows : PolicyRows)
@@ -251,9 +251,9 @@ module _
         → (r ≡ s) × (m.state ≡ n.state) × (m.cursors ≡ n.cursors) × (m.watches ≡ n.watches) → (r ≡ s) × (m ≡ n)
     whole_one old class given r s m n p q same =
         let held = counted_one old m n (ap (λ (x : State). x.held) same.1) p.counted q.counted in
-        let turns = turned_one class old.state.views m.state.views n.state.views old.turns m.turns n.turns
+        let revisions = turned_one class old.state.views m.state.views n.state.views old.revisions m.revisions n.revisions
         (ap (λ (x : State). x.views) same.1) p.turned q.turned in
-        (same.0, whole_same m n same.1 held turns same.2 same.3)
+        (same.0, whole_same m n same.1 held revisions same.2 same.3)
 
     Obeys-one : (old : Session) (class : Class) (given : Served) → IsState old.state →
         IsOne Reply Session (CommandStep rows old class given)
@@ -277,19 +277,19 @@ module _
     Obeys-some old (OfState command) given h =
         let there = Does-some old.state command given h in
         let count = counted_some old there.1.held in
-        let turns = turned_some (OfState command) old.state.views there.1.views old.turns in (
+        let revisions = turned_some (OfState command) old.state.views there.1.views old.revisions in (
           there.0,
           record {
             state = there.1;
             changes = count.0;
-            turns = turns.0;
+            revisions = revisions.0;
             cursors = old.cursors;
             watches = old.watches;
           },
           record {
             does = there.2;
             counted = count.1;
-            turned = turns.1;
+            turned = revisions.1;
             paces = refl;
             watching = refl;
           },

@@ -1,4 +1,4 @@
--- A proof of absence and a check have the same reply in states that hold the same at what these rest on.
+-- A proof of absence and a check have the same reply in states that hold the same at what these depend on.
 use Rattle.std.proofs.Common.{◌≡◌, inl, inr, ℕ, Bool, true, false, List, [], ◌∷◌, map, Option, Some, None, refl}
 use Rattle.std.proofs.Common.{cond, sym, subst}
 use Rattle.std.specs.Prelude.{nat_le}
@@ -32,7 +32,7 @@ use Rattle.wot_keyring.specs.Dump.{judged_by}
 use Rattle.wot_keyring_spec.specs.Keyring.{Certificates}
 use Rattle.wot_network.specs.Certified.{HasCertifiers, HasIntroducers, LeadsTo, RestsOnCertifications, RestsOnTrust}
 use Rattle.wot_network.specs.Local.{IsLocal}
-use Rattle.wot_network.specs.Told.{AreOwn, record_of}
+use Rattle.wot_network.specs.Records.{AreOwn, record_of}
 use Rattle.wot_auth.specs.Slices.{AnswerAlike, DoPathsAnswer}
 use Rattle.wot_cache.specs.declared.view.View.{View}
 use Rattle.wot_cache.specs.Question.{question_in}

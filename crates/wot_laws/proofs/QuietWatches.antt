@@ -20,7 +20,7 @@ use Rattle.wot_watch.specs.Watches.{Watch, Watches, is_full, watch_at, with_watc
 use Rattle.wot_plain.specs.declared.class.Class.{Class}
 use Rattle.wot_plain.specs.Classes.{IsFit, class_of}
 use Rattle.wot_plain.specs.Entry.{use_of}
-use Rattle.wot_plain.specs.Lines.{heard, is_silent, longest}
+use Rattle.wot_plain.specs.Lines.{command_in_line, is_silent, longest}
 use Rattle.wot_plain.specs.LineStep.{CommandStep, HasReply, LineStep, ReadLineStep, Stays}
 use Rattle.wot_plain.specs.Scene.{served_in}
 use Rattle.wot_plain.specs.Served.{Served}
@@ -179,7 +179,7 @@ module _ (rows : PolicyRows)
     pub lines_quiet : QuietLinesTellNothing rows
     lines_quiet world lines told old line reply behind new r step same =
         let t : IsTold told old.whole = reached_told rows spelled world lines told old r in
-        let given : Served = served_in old (use_of (heard line)) in
+        let given : Served = served_in old (use_of (command_in_line line)) in
         let are : AreTold (told ++ listed reply) step.mid.watches =
         step_told told rows old.whole given step.mid t.are spelled line reply step.does in
         let now : AreNow step.mid.state step.mid.watches =

@@ -28,7 +28,7 @@ use Rattle.wot_plain.specs.declared.class.StateCommand.TheVariants as kinds
 use Rattle.wot_plain.specs.declared.class.Change.{Change}
 use Rattle.wot_plain.specs.declared.class.Change.TheVariants as changes
 use Rattle.wot_plain.specs.declared.class.ViewChange.{ViewChange}
-use Rattle.wot_plain.specs.declared.class.ViewChange.TheVariants as turns
+use Rattle.wot_plain.specs.declared.class.ViewChange.TheVariants as revisions
 use Rattle.wot_plain.specs.declared.class.ShelfCall.{ShelfCall}
 use Rattle.wot_plain.specs.declared.class.ShelfCall.TheVariants as calls
 use Rattle.wot_plain.specs.Classes.{call_of, change_of, class_of, reading, view_change_of}
@@ -103,10 +103,10 @@ change_leaves rows s (changes.Unjudge number) =
     (only s replies.Absent) (done_leaves s (with_held s (verdict_cleared number s.held))) (λ _. refl)
 
 view_leaves : (s : State) (view : List ℕ) (change : ViewChange) → Leaves s (view_change_of s view change)
-view_leaves s view (turns.Time t) = unless_leaves s (timing view t s) (time_fault standard_limits s.views view)
-view_leaves s view (turns.Root fpr amount) =
+view_leaves s view (revisions.Time t) = unless_leaves s (timing view t s) (time_fault standard_limits s.views view)
+view_leaves s view (revisions.Root fpr amount) =
     unless_leaves s (rooting view fpr amount s) (root_fault standard_limits (view_at s.views view) fpr amount)
-view_leaves s view turns.Close =
+view_leaves s view revisions.Close =
     either (is_some (view_at s.views view)) s (done (closing view s)) (only s replies.View)
     (done_leaves s (closing view s)) (λ _. refl)
 
@@ -205,7 +205,7 @@ obeys : (rows : PolicyRows) (s : Session) (class : Class) (answer : Served) (r :
 obeys rows s class answer r m o e =
     let same = does rows s.state class answer r m.state o.does e in
     whole_same m s same (uncounted s m same o.counted)
-    (turned_still class s.state.views m.state.views s.turns m.turns (ap (λ (x : State). x.views) same) o.turned)
+    (turned_still class s.state.views m.state.views s.revisions m.revisions (ap (λ (x : State). x.views) same) o.turned)
     (by (is_pacing class) refl)
     (watched (is_watching class) refl)
   where

@@ -6,7 +6,7 @@ use Rattle.wot_certd.specs.World.{World}
 use Rattle.wot_cache.specs.State.{IsState}
 use Rattle.wot_plain.specs.Entry.{use_of}
 use Rattle.wot_laws.specs.OneLine.{OneOutcome}
-use Rattle.wot_plain.specs.Lines.{heard}
+use Rattle.wot_plain.specs.Lines.{command_in_line}
 use Rattle.wot_plain.specs.Scene.{Scene, Step, opening, served_in, world_behind}
 use Rattle.wot_plain.specs.Served.{Served}
 use Rattle.wot_plain.specs.Transcript.{Run, RepliesTo, listed}
@@ -23,14 +23,14 @@ module _ (rows : PolicyRows) (law : OneOutcome rows) where
       → IsState new.whole.state
   Step-can old line can reply told new p =
       subst IsState (sym (told_state p.mid told new.whole p.tells))
-      (law.stays old.whole line (served_in old (use_of (heard line))) reply p.mid can p.does)
+      (law.stays old.whole line (served_in old (use_of (command_in_line line))) reply p.mid can p.does)
 
   Step-one : (old : Scene) (line : List ℕ) → IsState old.whole.state →
       (reply other : Option Reply) (told others : List Reply) (new third : Scene)
       → Step rows old line reply told new → Step rows old line other others third →
       (reply ≡ other) × (told ≡ others) × (new ≡ third)
   Step-one old line can reply other told others new third p q =
-      let given : Served = served_in old (use_of (heard line)) in
+      let given : Served = served_in old (use_of (command_in_line line)) in
       let both = law.one old.whole line given reply other p.mid q.mid can p.does q.does in
       let q' : ReportsWatches p.mid others third.whole = subst (λ (m : Session). ReportsWatches m others third.whole) (sym both.1)
       q.tells in
@@ -42,11 +42,11 @@ module _ (rows : PolicyRows) (law : OneOutcome rows) where
   Step-some : (old : Scene) (line : List ℕ) → (reply : Option Reply) × (told : List Reply) × (new : Scene) × Step rows
       old line reply told new
   Step-some old line =
-      let some = law.some old.whole line (served_in old (use_of (heard line))) in
+      let some = law.some old.whole line (served_in old (use_of (command_in_line line))) in
       let said = law.tells some.1 in (
         some.0,
         said.0,
-        record { whole = said.1; world = world_behind old (use_of (heard line)) },
+        record { whole = said.1; world = world_behind old (use_of (command_in_line line)) },
         record { mid = some.1; does = some.2; tells = said.2; world = refl },
       )
 

@@ -34,7 +34,7 @@ use Rattle.wot_cache.specs.declared.view.View.{View}
 use Rattle.wot_plain.specs.Absent.{AreClaimsAccepted, Checks, Misses, TellsAbsence, claim_in, claim_line, claim_step}
 use Rattle.wot_plain.specs.Absent.{label_line, table_in, verdict_on}
 use Rattle.wot_plain.specs.Classes.{class_of}
-use Rattle.wot_plain.specs.Lines.{heard}
+use Rattle.wot_plain.specs.Lines.{command_in_line}
 use Rattle.wot_plain.specs.LineStep.{CommandStep, HasReply}
 use Rattle.wot_plain.specs.Served.{Served}
 use Rattle.wot_plain.specs.Session.{Session}
@@ -99,7 +99,7 @@ module _
     (accepted : AreClaimsAccepted)
     (lawful : (s : State) (view : View) (uid : List ℕ) (target : Fpr) → IsState s
     → IsRecord (question_in s view target uid).told)
-    (one : (q : Question) (claims : List Claim) (table : Labels) (a b : Checked) → IsRecord q.told
+    (one : (q : Question) (claims : List Claim) (table : Labels) (a b : Checked) → IsRecord q.network
     → AreOne q claims table a b)
   where
     -- the one reply to the check of a claim that missed
@@ -139,7 +139,7 @@ module _
         (Some (replies.Missed sum claims labels)) mid =
         subst (λ (o : Option Command). Hears rows old o given (Some (replies.Missed sum claims labels)) mid) hears_it
         (hears rows old asked given (Some (replies.Missed sum claims labels)) mid step) in
-        let hears_check : heard line ≡ Some (Check view target claims labels uid) = heard_read line fits refl ∙ read in
+        let hears_check : command_in_line line ≡ Some (Check view target claims labels uid) = heard_read line fits refl ∙ read in
         let has : HasReply (CommandStep rows later (class_of (Check view target claims labels uid)) served) reply new =
         subst (λ (o : Option Command). Hears rows later o served reply new) hears_check
         (hears rows later line served reply new checked) in

@@ -24,7 +24,7 @@ use Rattle.wot_keyring_spec.specs.Held.{Held, cert_in}
 use Rattle.wot_keyring_spec.specs.Keyring.{Certificates, is_fpr}
 use Rattle.wot_network.specs.Certified.{IsSlice, RestsOnTrust}
 use Rattle.wot_network.specs.Local.{IsLocal}
-use Rattle.wot_network.specs.Told.{AreOwn, record_of}
+use Rattle.wot_network.specs.Records.{AreOwn, record_of}
 use Rattle.wot_auth.specs.Slices.{AnswerAlike, AreWithinSlices, DoSlicesAnswer, IsSliceOf, ShareSlice}
 use Rattle.wot_cache.specs.declared.view.View.{View}
 use Rattle.wot_cache.specs.Question.{question_in}
@@ -107,7 +107,7 @@ module _ (laws : Laws) (view : View) (target : Fpr) (one other : State) (both : 
   uid_same : (fpr : Fpr) (place : ℕ) → Has (target ∷ both.set) fpr → uid_at one fpr place ≡ uid_at other fpr place
   uid_same fpr place h = ap (λ (found : Option Certificate). option_map_or (uid_in place) found []) (both.same fpr h)
 
-  module _ (own : IsRecord q.told) where
+  module _ (own : IsRecord q.network) where
     -- a step leads to where the rest begins
     leads : (step : Step) (rest : List Step) → Stands q step rest → step.target ≡ start target rest
     leads step rest stands = sym (ap (λ (z : Step). z.target) stands.shown) ∙ own.into (start target rest) stands.row

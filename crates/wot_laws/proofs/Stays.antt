@@ -33,11 +33,11 @@ use Rattle.wot_plain.specs.declared.class.StateCommand.TheVariants as kinds
 use Rattle.wot_plain.specs.declared.class.Change.{Change}
 use Rattle.wot_plain.specs.declared.class.Change.TheVariants as changes
 use Rattle.wot_plain.specs.declared.class.ViewChange.{ViewChange}
-use Rattle.wot_plain.specs.declared.class.ViewChange.TheVariants as turns
+use Rattle.wot_plain.specs.declared.class.ViewChange.TheVariants as revisions
 use Rattle.wot_plain.specs.declared.class.ShelfCall.{ShelfCall}
 use Rattle.wot_plain.specs.declared.class.ShelfCall.TheVariants as calls
 use Rattle.wot_plain.specs.Classes.{call_of, change_of, class_of, reading, view_change_of}
-use Rattle.wot_plain.specs.Lines.{heard, is_silent, longest}
+use Rattle.wot_plain.specs.Lines.{command_in_line, is_silent, longest}
 use Rattle.wot_plain.specs.Outcome.{Outcome, only, done, imports, load, unless}
 use Rattle.wot_plain.specs.Entry.{use_of}
 use Rattle.wot_plain.specs.LineStep.{LineStep, HasReply, ReadLineStep, StateStep, ComesTo, Stays}
@@ -111,10 +111,10 @@ module _
 
     view_stays : (s : State) (view : List ℕ) (change : ViewChange) → Holds s →
         Holds (view_change_of s view change).state
-    view_stays s view (turns.Time t) p = unless_stays s (timing view t s) (time_fault standard_limits s.views view) p p
-    view_stays s view (turns.Root fpr amount) p =
+    view_stays s view (revisions.Time t) p = unless_stays s (timing view t s) (time_fault standard_limits s.views view) p p
+    view_stays s view (revisions.Root fpr amount) p =
         unless_stays s (rooting view fpr amount s) (root_fault standard_limits (view_at s.views view) fpr amount) p p
-    view_stays s view turns.Close p =
+    view_stays s view revisions.Close p =
         either (is_some (view_at s.views view)) (done (closing view s)) (only s replies.View) p p
 
     call_stays : (s : State) (call : ShelfCall) (answer : Served) → Holds s → Holds (call_of rows s call answer).state
@@ -170,4 +170,4 @@ module _
     run_stays (line ∷ lines) old replies new p r =
         run_stays lines r.2 r.3 new
         (subst (λ (x : State). P x.held.certs) (sym (ap (λ (w : Session). w.state) r.4.tells.left))
-        (step_stays old.whole line (served_in old (use_of (heard line))) r.0 r.4.mid p r.4.does)) r.5
+        (step_stays old.whole line (served_in old (use_of (command_in_line line))) r.0 r.4.mid p r.4.does)) r.5

@@ -31,7 +31,7 @@ use Rattle.wot_plain.specs.declared.class.Class.{Class}
 use Rattle.wot_plain.specs.Classes.{IsFit, class_of}
 use Rattle.wot_laws.proofs.Fit.{fit_of}
 use Rattle.wot_plain.specs.Entry.{use_of}
-use Rattle.wot_plain.specs.Lines.{heard, is_silent, longest}
+use Rattle.wot_plain.specs.Lines.{command_in_line, is_silent, longest}
 use Rattle.wot_plain.specs.LineStep.{ReadLineStep, HasReply, LineStep, CommandStep, Stays}
 use Rattle.wot_plain.specs.Scene.{Scene, Step, opening, served_in}
 use Rattle.wot_plain.specs.Served.{Served}
@@ -425,7 +425,7 @@ module _ (rows : PolicyRows)
         let step : Step rows old line r.0 r.1 r.2 = r.4 in
         let replied : AreTold (before ++ listed r.0) step.mid.watches =
         step_told before rows old.whole
-        (served_in old (use_of (heard line))) step.mid t.are spelled line r.0 step.does in
+        (served_in old (use_of (command_in_line line))) step.mid t.are spelled line r.0 step.does in
         let one : IsTold ((before ++ listed r.0) ++ r.1) r.2.whole =
         tells_told (before ++ listed r.0) r.1 step.mid r.2.whole step.tells replied in
         let rest : IsTold (((before ++ listed r.0) ++ r.1) ++ r.3) new.whole =
@@ -452,7 +452,7 @@ module _ (rows : PolicyRows)
     lines_news world lines told old line reply behind new r step =
         let t = reached_told world lines told old r in
         let a = step_told told rows old.whole
-        (served_in old (use_of (heard line))) step.mid t.are spelled line reply step.does in
+        (served_in old (use_of (command_in_line line))) step.mid t.are spelled line reply step.does in
         record {
           each =
               news_of (told ++ listed reply) step.mid.state step.mid.watches behind

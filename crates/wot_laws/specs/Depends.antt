@@ -54,8 +54,8 @@ pub record IsAsk (name line : List ℕ) : Type 0 where
 -- the replies to this line are equal, whatever the certificate directory returns
 abbrev pub AreRepliesAlike : PolicyRows → Session → Session → List ℕ → Type 0
 AreRepliesAlike rows one other line =
-    (given told : Served) (reply second : Option Reply) (new third : Session)
-    → LineStep rows one line given reply new → LineStep rows other line told second third → reply ≡ second
+    (given reported : Served) (reply second : Option Reply) (new third : Session)
+    → LineStep rows one line given reply new → LineStep rows other line reported second third → reply ≡ second
 
 -- An answer depends only on the current certificates and verdicts and on the roots and the time of the asking view:
 -- whatever histories lead to two states that are alike for a view, each question from it gets the same reply in both.

@@ -16,7 +16,7 @@ use Rattle.wot_plain.specs.declared.class.Class.{Class}
 use Rattle.wot_plain.specs.declared.class.Class.TheVariants.{Cursor as OfCursor}
 use Rattle.wot_plain.specs.declared.class.CursorCommand.TheVariants as paces
 use Rattle.wot_plain.specs.Classes.{class_of}
-use Rattle.wot_plain.specs.Lines.{heard}
+use Rattle.wot_plain.specs.Lines.{command_in_line}
 use Rattle.wot_plain.specs.LineStep.{LineStep}
 use Rattle.wot_plain.specs.Listing.{Lists}
 use Rattle.wot_plain.specs.Pacing.{stamps_in}
@@ -48,7 +48,7 @@ given_in name None reply = []
 given_in name (Some command) reply = given_to name (class_of command) reply
 
 abbrev pub pieces_in : List ℕ → List Exchange → List Given
-pieces_in name exchanges = flat_map (λ (e : Exchange). given_in name (heard e.line) e.reply) exchanges
+pieces_in name exchanges = flat_map (λ (e : Exchange). given_in name (command_in_line e.line) e.reply) exchanges
 
 abbrev pub is_done : Option Reply → Bool
 is_done (Some replies.Done) = true
@@ -65,7 +65,7 @@ is_restart name None reply = false
 is_restart name (Some command) reply = is_restart_by name (class_of command) reply
 
 abbrev pub has_restart : List ℕ → List Exchange → Bool
-has_restart name exchanges = list_any (λ (e : Exchange). is_restart name (heard e.line) e.reply) exchanges
+has_restart name exchanges = list_any (λ (e : Exchange). is_restart name (command_in_line e.line) e.reply) exchanges
 
 -- ---- the law
 
@@ -76,10 +76,10 @@ pub record Since
     : Type 0 where
   pub world : World
   pub lines : List (List ℕ)
-  pub told : List Reply
-  pub reached : Run rows (opening world) lines told begun
+  pub reported : List Reply
+  pub reached : Run rows (opening world) lines reported begun
   pub line : List ℕ
-  pub over : heard line ≡ Some (CursorOver name view wanted)
+  pub over : command_in_line line ≡ Some (CursorOver name view wanted)
   pub mid : Scene
   pub behind : List Reply
   pub begins : Step rows begun line (Some replies.Done) behind mid
@@ -133,8 +133,9 @@ IsNext begun now view count _ = ⊥
 abbrev pub NextsAreTold : PolicyRows → Type 0
 NextsAreTold rows =
     (name view : List ℕ) (wanted : ℕ) (begun : Scene) (exchanges : List Exchange) (last : Scene)
-    → Since rows name view wanted begun exchanges last → (line : List ℕ) (count : ℕ) (reply : Reply) (told : List Reply)
-    (new : Scene) → heard line ≡ Some (CursorNext name count) → Step rows last line (Some reply) told new
+    → Since rows name view wanted begun exchanges last
+    → (line : List ℕ) (count : ℕ) (reply : Reply) (reported : List Reply)
+    (new : Scene) → command_in_line line ≡ Some (CursorNext name count) → Step rows last line (Some reply) reported new
     → IsNext begun.whole last.whole view count reply
 
 -- this holds of every reply in every state

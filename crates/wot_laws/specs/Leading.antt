@@ -1,6 +1,6 @@
 -- The parts of a state that determine the replies to `absence` and `check`. A service that keeps its certificates in a
--- database loads only such a part into an engine, and gets the replies of an engine that holds everything. They stand
--- on what leads to a certificate in wot_network (certificates and verdicts) and in wot_check (edges).
+-- database loads only such a part into an engine, and gets the replies of an engine that holds everything. They use
+-- what leads to a certificate in wot_network (certificates and verdicts) and in wot_check (edges).
 use Rattle.std.specs.Prelude.{◌≡◌, ℕ, List, ◌∷◌, Some}
 use Rattle.wot_types.specs.declared.fpr.Fpr.{Fpr}
 use Rattle.wot_policy.specs.declared.rows.PolicyRows.{PolicyRows}

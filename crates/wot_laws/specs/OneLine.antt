@@ -30,12 +30,12 @@ LeadToStates rows =
 
 -- a state has watch lines, and a well-formed state has only one list of them
 abbrev pub HaveWatchLines : Type 0
-HaveWatchLines = (old : Session) → (told : List Reply) × (new : Session) × ReportsWatches old told new
+HaveWatchLines = (old : Session) → (reported : List Reply) × (new : Session) × ReportsWatches old reported new
 
 abbrev pub HaveOnlyWatchLines : Type 0
 HaveOnlyWatchLines =
-    (old : Session) (told others : List Reply) (new third : Session) → IsState old.state
-    → ReportsWatches old told new → ReportsWatches old others third → (told ≡ others) × (new ≡ third)
+    (old : Session) (reported others : List Reply) (new third : Session) → IsState old.state
+    → ReportsWatches old reported new → ReportsWatches old others third → (reported ≡ others) × (new ≡ third)
 
 -- all of these laws
 pub record OneOutcome (rows : PolicyRows) : Type 0 where

@@ -14,7 +14,7 @@ use Rattle.wot_script.specs.Spelling.{HasSpelling}
 use Rattle.wot_cache.specs.State.{State, IsState}
 use Rattle.wot_cache.specs.declared.view.View.{View}
 use Rattle.wot_plain.specs.Absent.{Misses}
-use Rattle.wot_plain.specs.Lines.{heard, longest}
+use Rattle.wot_plain.specs.Lines.{command_in_line, longest}
 use Rattle.wot_plain.specs.LineStep.{LineStep}
 use Rattle.wot_plain.specs.Served.{Served}
 use Rattle.wot_plain.specs.Session.{Session}
@@ -33,7 +33,7 @@ abbrev pub IsAcceptedAgain : List ℕ → Fpr → List ClaimLine → List LabelL
 IsAcceptedAgain view target claims labels uid =
     (rows : PolicyRows) (old mid : Session) (asked : List ℕ) (given : Served) (wanted sum : ℕ)
     → IsState old.state
-    → heard asked ≡ Some (Absence view target wanted uid)
+    → command_in_line asked ≡ Some (Absence view target wanted uid)
     → LineStep rows old asked given (Some (Missed sum claims labels)) mid
     → length (check_with view target (claimed claims labels) uid) ≤ longest
     → (later new : Session) (served : Served) (reply : Option Reply)

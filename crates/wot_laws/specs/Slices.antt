@@ -1,5 +1,5 @@
 -- The part of a state that determines the answers about one target. A service that keeps its certificates in a database
--- loads only this part into an engine, and gets the replies of an engine that holds everything. It stands on the slices
+-- loads only this part into an engine, and gets the replies of an engine that holds everything. It uses the slices
 -- of wot_network (certificates and verdicts) and of wot_auth (edges).
 use Rattle.std.specs.Prelude.{◌≡◌, ◌↔◌, ℕ, List, ◌∷◌, Some}
 use Rattle.std.specs.List.{AllByRecursion}

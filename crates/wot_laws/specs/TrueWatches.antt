@@ -23,7 +23,7 @@ use Rattle.wot_laws.specs.Numbers.{amount_in}
 
 -- all amounts that were reported for it, in order
 abbrev pub amounts_in : List ℕ → List Reply → List ℕ
-amounts_in name told = flat_map (amount_in name) told
+amounts_in name told = flat_map (amount_in name) reported
 
 -- the last of these amounts
 abbrev pub IsLast : List ℕ → ℕ → Type 0
@@ -39,17 +39,17 @@ IsAmountOf s (Some view) watch amount =
     × (amount ≡ amount_of paths)
 
 -- the last amount reported for the watch is the current one
-pub record IsTrue (s : State) (told : List Reply) (name : List ℕ) (watch : Watch) : Type 0 where
+pub record IsTrue (s : State) (reported : List Reply) (name : List ℕ) (watch : Watch) : Type 0 where
   pub amount : ℕ
-  pub last : IsLast (amounts_in name told) amount
+  pub last : IsLast (amounts_in name reported) amount
   pub now : IsAmountOf s (view_at s.views watch.view) watch amount
 
 -- Whatever lines there were, from any client: the last amount reported for each watch is the current one.
 abbrev pub WatchesAreTrue : PolicyRows → Type 0
 WatchesAreTrue rows =
-    (world : World) (lines : List (List ℕ)) (told : List Reply) (last : Scene) (name : List ℕ) (watch : Watch)
-    → Run rows (opening world) lines told last → watch_at last.whole.watches name ≡ Some watch
-    → IsTrue last.whole.state told name watch
+    (world : World) (lines : List (List ℕ)) (reported : List Reply) (last : Scene) (name : List ℕ) (watch : Watch)
+    → Run rows (opening world) lines reported last → watch_at last.whole.watches name ≡ Some watch
+    → IsTrue last.whole.state reported name watch
 
 -- ---- the watch lines after a line
 
@@ -64,23 +64,23 @@ line_cmp a b = view_name_cmp (name_in a) (name_in b)
 
 -- The line reports that a watch is gone, or an amount that differs from the last one reported.
 abbrev pub IsNews : List Reply → Reply → Type 0
-IsNews told (replies.WatchAmount name amount) = (was : ℕ) × IsLast (amounts_in name told) was × (was ≢ amount)
-IsNews told (replies.WatchGone name) = Unit {0}
-IsNews told reply = ⊥
+IsNews reported (replies.WatchAmount name amount) = (was : ℕ) × IsLast (amounts_in name reported) was × (was ≢ amount)
+IsNews reported (replies.WatchGone name) = Unit {0}
+IsNews reported reply = ⊥
 
 -- Each of these lines is news, given everything reported before them, including the reply to their line; and they are
 -- in the order of the names.
-pub record AreNews (told lines : List Reply) : Type 0 where
-  pub each : AllByRecursion (IsNews told) lines
+pub record AreNews (reported lines : List Reply) : Type 0 where
+  pub each : AllByRecursion (IsNews reported) lines
   pub order : IsRising line_cmp lines
 
 -- the watch lines after each line are news
 abbrev pub WatchLinesAreNews : PolicyRows → Type 0
 WatchLinesAreNews rows =
-    (world : World) (lines : List (List ℕ)) (told : List Reply) (old : Scene) (line : List ℕ) (reply : Option Reply)
+    (world : World) (lines : List (List ℕ)) (reported : List Reply) (old : Scene) (line : List ℕ) (reply : Option Reply)
     (behind : List Reply) (new : Scene)
-    → Run rows (opening world) lines told old → Step rows old line reply behind new
-    → AreNews (told ++ listed reply) behind
+    → Run rows (opening world) lines reported old → Step rows old line reply behind new
+    → AreNews (reported ++ listed reply) behind
 
 -- ---- lines that leave the state
 
@@ -88,7 +88,7 @@ WatchLinesAreNews rows =
 -- command, that asks or lists, or that is about cursors or watches.
 abbrev pub QuietLinesTellNothing : PolicyRows → Type 0
 QuietLinesTellNothing rows =
-    (world : World) (lines : List (List ℕ)) (told : List Reply) (old : Scene) (line : List ℕ) (reply : Option Reply)
+    (world : World) (lines : List (List ℕ)) (reported : List Reply) (old : Scene) (line : List ℕ) (reply : Option Reply)
     (behind : List Reply) (new : Scene)
-    → Run rows (opening world) lines told old → (step : Step rows old line reply behind new)
+    → Run rows (opening world) lines reported old → (step : Step rows old line reply behind new)
     → step.mid.state ≡ old.whole.state → behind ≡ []

@@ -1,6 +1,6 @@
 //! The laws of the machine, proved beside it. Each is a function that does nothing: its contract is the law. A file for
 //! each subject says which definitions and which lemmas its laws have: `lines`, on which the others stand, `cursors`,
-//! `watches`, `dumps` and `questions`. They stand on wot_plain. wot_engine cites the first in its top call, and hands
+//! `watches`, `dumps` and `questions`. They use wot_plain. wot_engine cites the first in its top call, and hands
 //! all of them on.
 #![tactic(auto)]
 

@@ -1,5 +1,5 @@
-//! The fingerprints that an answer rests on, and whether they are as they were. It stands on wot_keyring for stamps.
-//! Kept answers (wot_answers) and what watches rest on (wot_cache) are compared here.
+//! The fingerprints that an answer depends on, and whether they are as they were. It uses wot_keyring for stamps.
+//! Kept answers (wot_answers) and what watches depend on (wot_cache) are compared here.
 #![tactic(auto)]
 
 mod looked;

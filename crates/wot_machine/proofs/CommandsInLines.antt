@@ -22,9 +22,9 @@ use Rattle.wot_cursor.specs.Cursors.{Cursors}
 use Rattle.wot_watch.specs.Watches.{Watches}
 use Rattle.wot_keyring_spec.specs.Import.{IsOneChange}
 use Rattle.wot_plain.specs.Watching.{AreLines, ReportsWatches, Watching, is_watching, told_all}
-use Rattle.wot_plain.specs.Session.{IsTurnedBy, Session, watched, session_of}
+use Rattle.wot_plain.specs.Session.{RevisedBy, Session, watched, session_of}
 use Rattle.wot_plain.specs.Entry.{IsServed, Use, has_failed, put_for, unused, use_by, use_of}
-use Rattle.wot_plain.specs.Lines.{heard, is_silent, longest}
+use Rattle.wot_plain.specs.Lines.{command_in_line, is_silent, longest}
 use Rattle.wot_plain.specs.LineStep.{ReadLineStep, StateStep, LineStep, CommandStep}
 use Rattle.wot_command.specs.CommandRun.{StateRun, CommandRun, ClassRun, Seen}
 use Rattle.wot_plain.specs.Served.{Served, unserved}
@@ -78,7 +78,7 @@ paced_ran (Ok told) rows class old new before after watches seen pacing stays pa
       does = subst (λ (s : State). StateStep rows (state_of old) class unserved told.reply s) (sym same)
           (state_paced rows (state_of old) class unserved told.reply pacing);
       counted = inl (ap (λ (s : State). s.held) same, ap (λ (k : Keyring). k.changes) stays.keyring);
-      turned = turns_paced class old.views new.views old.turns new.turns pacing stays.turns;
+      turned = turns_paced class old.views new.views old.revisions new.revisions pacing stays.revisions;
       paces = paces_watched (session_of old before) watches class told.reply (settled told.moved after) pacing paces;
       watching = watching_plain (watched (session_of old before) watches) class told.reply
           (paced_unwatched class pacing);
@@ -97,7 +97,7 @@ watched_ran rows class old new cursors before after seen reply watching stays pu
       does = subst (λ (s : State). StateStep rows (state_of old) class unserved reply s) (sym same)
           (state_watched rows (state_of old) class unserved reply watching);
       counted = inl (ap (λ (s : State). s.held) same, ap (λ (k : Keyring). k.changes) stays.keyring);
-      turned = turns_watched class old.views new.views old.turns new.turns watching stays.turns;
+      turned = turns_watched class old.views new.views old.revisions new.revisions watching stays.revisions;
       paces = paces_plain (watched (session_of old cursors) before) class reply (watched_unpaced class watching);
       watching = puts;
     })
@@ -123,7 +123,7 @@ watched_told (Ok reply) t rows class old new cursors before after seen is ok wat
 pub ran_plain : {E : Type 0} (r : Result Reply E) (rows : PolicyRows) (command : StateCommand) (old new : Engine)
     (before after : Seen) (cursors : Cursors) (watches : Watches)
     → IsOneChange old.keyring new.keyring →
-    OnOk r (IsTurnedBy (OfState command) old.views old.turns new.views new.turns)
+    OnOk r (RevisedBy (OfState command) old.views old.revisions new.views new.revisions)
     → IfOk r (λ reply. StateRun rows command (state_of old) before reply (state_of new) after)
     → IfOk r (λ reply. ClassRun rows (OfState command) (watched (session_of old cursors) watches) before reply
     (watched (session_of new cursors) watches) after)
@@ -145,7 +145,7 @@ module _ {E : Type 0} where
   pub ran_told : (r : Result Reply E) (t : Result DraftReply E) (rows : PolicyRows) (command : StateCommand) (old new : Engine)
       (before after : Seen) (cursors : Cursors) (watches : Watches)
       → IfOk r (λ reply. t ≡ Ok (record { reply = reply; moved = None })) → is_ok t ≡ is_ok r
-      → IsOneChange old.keyring new.keyring → OnOk r (IsTurnedBy (OfState command) old.views old.turns new.views new.turns)
+      → IsOneChange old.keyring new.keyring → OnOk r (RevisedBy (OfState command) old.views old.revisions new.views new.revisions)
       → IfOk r (λ reply. StateRun rows command (state_of old) before reply (state_of new) after)
       → IfOk t (λ (told : DraftReply). ClassRun rows (OfState command) (watched (session_of old cursors) watches) before told.reply
       (watched (session_of new (settled told.moved cursors)) watches) after)
@@ -207,26 +207,26 @@ ran_told_line told rows command old cursors watches seen r m e =
     (watched (session_of old (settled o cursors)) watches) seen) (sym m)
     (subst (λ (x : Reply). CommandRun rows command whole seen x whole seen) (sym r) (ran_line rows command whole seen e))
 
--- ---- turns
+-- ---- revisions
 
 pub few_turns : {T E : Type 0} (r : Result T E) (class : Class) (old new : Engine) →
-    OnOk r (IsTurnedBy class old.views old.turns new.views new.turns)
-    → OnErr r (StaysButMarks old new) → new.turns.count ≤ old.turns.count + 1
-few_turns (Ok a) class old new turned kept = turned_few class old.views new.views old.turns new.turns turned
-few_turns (Err e) class old new turned kept = same_few old.turns new.turns kept.turns
+    OnOk r (RevisedBy class old.views old.revisions new.views new.revisions)
+    → OnErr r (StaysButMarks old new) → new.revisions.count ≤ old.revisions.count + 1
+few_turns (Ok a) class old new turned kept = turned_few class old.views new.views old.revisions new.revisions turned
+few_turns (Err e) class old new turned kept = same_few old.revisions new.revisions kept.revisions
 
 pub still_turns : {T E : Type 0} (r : Result T E) (class : Class) (old new : Engine) →
-    OnOk r (IsTurnedBy class old.views old.turns new.views new.turns)
-    → OnErr r (StaysButMarks old new) → state_of new ≡ state_of old → new.turns ≡ old.turns
-still_turns (Ok a) class old new turned kept same = turned_still class old.views new.views old.turns new.turns
+    OnOk r (RevisedBy class old.views old.revisions new.views new.revisions)
+    → OnErr r (StaysButMarks old new) → state_of new ≡ state_of old → new.revisions ≡ old.revisions
+still_turns (Ok a) class old new turned kept same = turned_still class old.views new.views old.revisions new.revisions
     (ap (λ (s : State). s.views) same) turned
-still_turns (Err e) class old new turned kept same = kept.turns
+still_turns (Err e) class old new turned kept same = kept.revisions
 
 -- ---- lines
 
 pub replied : (rows : PolicyRows) (line : List ℕ) (old : Session) (before : Seen) (new : Session) (after : Seen)
     (reply : Option Reply) (given : Served) (use_ : Use)
-    → use_of (heard line) ≡ use_ → LineStep rows old line given reply new →
+    → use_of (command_in_line line) ≡ use_ → LineStep rows old line given reply new →
     IsServed old.state use_ before.world given after.world
     → (has_failed (put_for old.state use_ given.read) given ≡ true → Rose before.faults after.faults) →
     Replied rows line old before reply new after
@@ -242,7 +242,7 @@ replied rows line old before new after reply given use_ e step served cause =
 
 -- a line that doesn't use the directory
 pub replied_alone : (rows : PolicyRows) (line : List ℕ) (old : Session) (seen : Seen) (new : Session)
-    (reply : Option Reply) → use_of (heard line) ≡ unused
+    (reply : Option Reply) → use_of (command_in_line line) ≡ unused
     → LineStep rows old line unserved reply new → Replied rows line old seen reply new seen
 replied_alone rows line old seen new reply e step =
     replied rows line old seen new seen reply unserved unused e step (idle old.state seen.world)
@@ -333,24 +333,24 @@ told_settled rows line old before mid at watches new cursors left after told rep
 -- the watch lines were reported
 pub tells_of : (engine new : Engine) (cursors after : Cursors) (watches left : Watches) (lines : List Reply) →
     state_of new ≡ state_of engine
-    → new.keyring.changes ≡ engine.keyring.changes → new.turns ≡ engine.turns → after ≡ cursors →
+    → new.keyring.changes ≡ engine.keyring.changes → new.revisions ≡ engine.revisions → after ≡ cursors →
     AreLines (state_of engine) watches lines → left ≡ told_all watches lines
     → ReportsWatches (watched (session_of engine cursors) watches) lines (watched (session_of new after) left)
-tells_of engine new cursors after watches left lines state changes turns same are told = record {
+tells_of engine new cursors after watches left lines state changes revisions same are told = record {
   lines_are = are;
-  left = λ i. record { state = state i; changes = changes i; turns = turns i; cursors = same i; watches = told i };
+  left = λ i. record { state = state i; changes = changes i; revisions = revisions i; cursors = same i; watches = told i };
 }
 
 -- the watch lines were appended and reported, unless memory ran out
 pub tells_behind : {T E : Type 0} (r : Result T E) (engine new : Engine) (cursors after : Cursors)
     (watches left : Watches) (lines : List Reply) (had has : List ℕ)
-    → state_of new ≡ state_of engine → new.keyring.changes ≡ engine.keyring.changes → new.turns ≡ engine.turns →
+    → state_of new ≡ state_of engine → new.keyring.changes ≡ engine.keyring.changes → new.revisions ≡ engine.revisions →
     after ≡ cursors
     → AreLines (state_of engine) watches lines → left ≡ told_all watches lines → OnOk r (has ≡ had ++ octets_of lines)
     → OnOk r (TellsBehind (watched (session_of engine cursors) watches) had (watched (session_of new after) left) has)
-tells_behind (Err e) engine new cursors after watches left lines had has state changes turns same are told f = tt
-tells_behind (Ok a) engine new cursors after watches left lines had has state changes turns same are told f = record {
+tells_behind (Err e) engine new cursors after watches left lines had has state changes revisions same are told f = tt
+tells_behind (Ok a) engine new cursors after watches left lines had has state changes revisions same are told f = record {
   lines = lines;
-  tells = tells_of engine new cursors after watches left lines state changes turns same are told;
+  tells = tells_of engine new cursors after watches left lines state changes revisions same are told;
   octets = f;
 }

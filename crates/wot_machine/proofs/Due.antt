@@ -5,7 +5,7 @@ use Rattle.std.proofs.lemmas.Bool.{true≢false}
 use Rattle.wot_script.specs.declared.reply.Reply.{Reply}
 use Rattle.wot_keyring_spec.specs.Keyring.{Keyring}
 use Rattle.wot_cache.specs.State.{Engine, State, StaysButMarks, state_of}
-use Rattle.wot_cache.specs.Turns.{Turns}
+use Rattle.wot_cache.specs.Revisions.{Revisions}
 use Rattle.wot_cursor.specs.Cursors.{Cursors}
 use Rattle.wot_watch.specs.Watches.{Watches}
 use Rattle.wot_plain.specs.declared.class.Class.{Class}
@@ -39,39 +39,39 @@ due_moved class old new before after watches made reply (Some moved) pacing stay
     let inState : Paces (record {
       state = state_of new;
       changes = old.keyring.changes;
-      turns = old.turns;
+      revisions = old.revisions;
       cursors = after;
       watches = [];
     }) class reply left =
     subst (λ (s : State). Paces (record {
       state = s;
       changes = old.keyring.changes;
-      turns = old.turns;
+      revisions = old.revisions;
       cursors = after;
       watches = [];
     }) class reply left) (sym (same_state old new stays)) here in
     let counted : Paces (record {
       state = state_of new;
       changes = new.keyring.changes;
-      turns = old.turns;
+      revisions = old.revisions;
       cursors = after;
       watches = [];
     }) class reply left =
     subst (λ (n : ℕ). Paces (record {
       state = state_of new;
       changes = n;
-      turns = old.turns;
+      revisions = old.revisions;
       cursors = after;
       watches = [];
     }) class reply left) (sym (ap (λ (k : Keyring). k.changes) stays.keyring)) inState in
     let turned : Paces (session_of new after) class reply left =
-    subst (λ (t : Turns). Paces (record {
+    subst (λ (t : Revisions). Paces (record {
       state = state_of new;
       changes = new.keyring.changes;
-      turns = t;
+      revisions = t;
       cursors = after;
       watches = [];
-    }) class reply left) (sym stays.turns) counted in
+    }) class reply left) (sym stays.revisions) counted in
     (class, reply, paces_watched (session_of new after) watches class reply left pacing turned)
 
 -- the move of a command of a cursor

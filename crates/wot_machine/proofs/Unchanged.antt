@@ -8,8 +8,8 @@ use Rattle.wot_machine.specs.Machine.{RunsOnce}
 use Rattle.wot_plain.proofs.Sessions.{same_few}
 
 pub unchanged : (old new : Engine) → IsOneChange old.keyring new.keyring →
-    (state_of new ≡ state_of old → new.turns ≡ old.turns) → state_of new ≡ state_of old → StaysButMarks old new
-unchanged old new (inl same) still e = record { keyring = same; views = ap (λ (s : State). s.views) e; turns = still e }
+    (state_of new ≡ state_of old → new.revisions ≡ old.revisions) → state_of new ≡ state_of old → StaysButMarks old new
+unchanged old new (inl same) still e = record { keyring = same; views = ap (λ (s : State). s.views) e; revisions = still e }
 unchanged old new (inr changed) still e = absurd (changed.altered (ap (λ (s : State). s.held) e))
 
 -- what leaves all but marks
@@ -17,6 +17,6 @@ pub runs_none : (old new : Engine) → CanRun old → StaysButMarks old new → 
 runs_none old new ready stays = record {
   standard = ap (λ (k : Keyring). k.limits) stays.keyring ∙ ready.standard;
   counted = inl stays.keyring;
-  turned = same_few old.turns new.turns stays.turns;
-  still = λ same. stays.turns;
+  turned = same_few old.revisions new.revisions stays.revisions;
+  still = λ same. stays.revisions;
 }

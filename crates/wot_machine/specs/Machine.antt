@@ -50,9 +50,9 @@ is_removal (OfWatch name commands.Off) = true
 is_removal _ = false
 
 -- What a line did to the engine's limits and counts: what is held, and the views, changed at most once. If the state is
--- unchanged, so are the turns of the views.
+-- unchanged, so are the revisions of the views.
 pub record RunsOnce (old new : Engine) : Type 0 where
   pub standard : new.keyring.limits ≡ standard_limits
   pub counted : IsOneChange old.keyring new.keyring
-  pub turned : new.turns.count ≤ old.turns.count + 1
-  pub still : state_of new ≡ state_of old → new.turns ≡ old.turns
+  pub turned : new.revisions.count ≤ old.revisions.count + 1
+  pub still : state_of new ≡ state_of old → new.revisions ≡ old.revisions

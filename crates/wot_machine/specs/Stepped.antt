@@ -8,7 +8,7 @@ use Rattle.wot_plain.specs.declared.class.Class.{Class}
 use Rattle.wot_plain.specs.declared.draft.DraftReply.{DraftReply}
 use Rattle.wot_plain.specs.Both.{Ends}
 use Rattle.wot_plain.specs.Entry.{IsServed, has_failed, put_for, use_of}
-use Rattle.wot_plain.specs.Lines.{heard}
+use Rattle.wot_plain.specs.Lines.{command_in_line}
 use Rattle.wot_plain.specs.LineStep.{LineStep}
 use Rattle.wot_plain.specs.Made.{LineMakes}
 use Rattle.wot_machine.specs.Machine.{Machine, kept}
@@ -25,27 +25,27 @@ pub record Replied (rows : PolicyRows) (line : List ℕ) (old : Session) (before
     (new : Session) (after : Seen) : Type 0 where
   pub given : Served
   pub step : LineStep rows old line given reply new
-  pub served : IsServed old.state (use_of (heard line)) before.world given after.world
-  pub cause : has_failed (put_for old.state (use_of (heard line)) given.read) given ≡ true
+  pub served : IsServed old.state (use_of (command_in_line line)) before.world given after.world
+  pub cause : has_failed (put_for old.state (use_of (command_in_line line)) given.read) given ≡ true
       → Rose before.faults after.faults
 
 -- A machine's reply to a line. A cursor moves once the reply is written.
 abbrev pub Replies : PolicyRows → List ℕ → Ends Machine → Ends Seen → Option DraftReply → Type 0
-Replies rows line machine shelf told =
-    Replied rows line (kept machine.old) shelf.old (reply_in told)
-    (watched (session_of machine.new.engine (left_by told machine.new.cursors)) machine.new.watches) shelf.new
+Replies rows line machine shelf drafted =
+    Replied rows line (kept machine.old) shelf.old (reply_in drafted)
+    (watched (session_of machine.new.engine (left_by drafted machine.new.cursors)) machine.new.watches) shelf.new
 
 -- what a machine's parts do with a command, or with a line that isn't one
 abbrev pub RunsIn : PolicyRows → Option Command → Ends Machine → Ends Seen → DraftReply → Type 0
-RunsIn rows command machine shelf told =
-    CommandRun rows command (kept machine.old) shelf.old told.reply
-    (watched (session_of machine.new.engine (settled told.moved machine.new.cursors)) machine.new.watches) shelf.new
+RunsIn rows command machine shelf drafted =
+    CommandRun rows command (kept machine.old) shelf.old drafted.reply
+    (watched (session_of machine.new.engine (settled drafted.moved machine.new.cursors)) machine.new.watches) shelf.new
 
 -- what a command does, by its class, in terms of a machine's parts
 abbrev pub ClassRunsIn : PolicyRows → Class → Ends Machine → Ends Seen → DraftReply → Type 0
-ClassRunsIn rows class machine shelf told =
-    ClassRun rows class (kept machine.old) shelf.old told.reply
-    (watched (session_of machine.new.engine (settled told.moved machine.new.cursors)) machine.new.watches) shelf.new
+ClassRunsIn rows class machine shelf drafted =
+    ClassRun rows class (kept machine.old) shelf.old drafted.reply
+    (watched (session_of machine.new.engine (settled drafted.moved machine.new.cursors)) machine.new.watches) shelf.new
 
 -- how many edges a machine's parts make for a command, or for a line that isn't one
 abbrev pub PartsMake : {T E : Type 0} → Result T E → Option Command → Ends Machine → Type 0
@@ -59,8 +59,8 @@ pub record Stepped (rows : PolicyRows) (line : List ℕ) (old : Session) (before
   pub given : Served
   pub reply : Option Reply
   pub step : LineStep rows old line given reply new
-  pub served : IsServed old.state (use_of (heard line)) before.world given after.world
-  pub cause : has_failed (put_for old.state (use_of (heard line)) given.read) given ≡ true
+  pub served : IsServed old.state (use_of (command_in_line line)) before.world given after.world
+  pub cause : has_failed (put_for old.state (use_of (command_in_line line)) given.read) given ≡ true
       → Rose before.faults after.faults
   pub octets : has ≡ had ++ octets_of (listed reply)
 

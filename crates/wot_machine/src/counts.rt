@@ -12,24 +12,24 @@ use wot_script::Reply;
 pub(crate) struct Counts {
     pub(crate) certificates: usize,
     pub(crate) changes: u64,
-    pub(crate) turns: u64,
+    pub(crate) revisions: u64,
 }
 
 impl Counts {
     pub(crate) fn of(engine: &Engine) -> Counts
         ensures certificates { result.certificates ≡ length engine.now.keyring.certs }
         ensures changes { result.changes ≡ engine.now.keyring.changes }
-        ensures turns { result.turns ≡ engine.now.turns.count }
+        ensures revisions { result.revisions ≡ engine.now.revisions.count }
     {
         Counts {
             certificates: engine.keyring().len(),
             changes: engine.keyring().changes(),
-            turns: engine.turns(),
+            revisions: engine.revisions(),
         }
     }
 }
 
-/// The basis, if what was settled before a line still is.
+/// The basis, if what was up to date before a line still is.
 pub(crate) fn kept_on(
     basis: Option<Basis>,
     engine: &Engine,
@@ -40,7 +40,7 @@ pub(crate) fn kept_on(
     ensures more { IfSome result (λ _. before.certificates ≤ length engine.now.keyring.certs) }
     ensures none { IfSome result (λ _. IsNoAmount reply.now) }
     ensures counted { IfSome result (λ _. reply.now ≡ replies.Done →
-        CountsDiffer engine.now before.changes before.turns) }
+        CountsDiffer engine.now before.changes before.revisions) }
 {
     if goes_on(engine, before, reply) {
         return basis;
@@ -48,13 +48,13 @@ pub(crate) fn kept_on(
     None
 }
 
-/// Whether what was settled before a line still is, by its reply: no certificate was removed, no watch began, and no
+/// Whether what was up to date before a line still is, by its reply: no certificate was removed, no watch began, and no
 /// view was closed. A line that closes a view has the reply `ok` and raises no count.
 fn goes_on(engine: &Engine, before: Counts, reply: &Reply) -> bool
     ensures more { result ≡ true → before.certificates ≤ length engine.now.keyring.certs }
     ensures none { result ≡ true → IsNoAmount reply.now }
     ensures counted { result ≡ true → reply.now ≡ replies.Done →
-        CountsDiffer engine.now before.changes before.turns }
+        CountsDiffer engine.now before.changes before.revisions }
 {
     let now = Counts::of(engine);
     if now.certificates < before.certificates {
@@ -62,7 +62,7 @@ fn goes_on(engine: &Engine, before: Counts, reply: &Reply) -> bool
     }
     match reply {
         Reply::WatchAmount(_, _) => false,
-        Reply::Done => now.changes != before.changes || now.turns != before.turns,
+        Reply::Done => now.changes != before.changes || now.revisions != before.revisions,
         _ => true,
     }
 }

@@ -22,10 +22,10 @@ ghost use Rattle.wot_plain.specs.Made.{Makes};
 use std::alloc::Global;
 use wot_cache::Engine;
 use wot_certd::Shelf;
-use wot_command::obey;
+use wot_command::run_state_command;
 use wot_cursor::Cursors;
-use wot_cursor_commands::pace;
-use wot_plain::{Class, DraftReply, alone, plain, sort};
+use wot_cursor_commands::run_cursor_command;
+use wot_plain::{Class, DraftReply, alone, classify, without_move};
 use wot_policy::{Ask, Policy};
 use wot_script::{LineFault, Reply, read_line};
 use wot_types::{Memory, Steps};
@@ -58,13 +58,13 @@ impl Parts {
             (ends machine_of self) (over D.world D.faults shelf)) }
         ensures directory { Touches result (state_of self.old.engine) (use_of (command_of line.now))
             D.world D.faults shelf.old shelf.new }
-        ensures words { IfOk result (λ told. HasWords told.reply) }
+        ensures words { IfOk result (λ drafted. HasWords drafted.reply) }
         ensures anew { OnOk result
             (IsDump line.now → (rows : PolicyRows) → IsMadeAnew rows (state_of self.old.engine)) }
         ensures edges { OnOk result (LineMarks self.old.engine (command_of line.now)) }
-        ensures quiet { IfOk result (λ told.
-            is_short told.reply ≡ false → StaysKept (machine_of self.old) (machine_of self.new)) }
-        ensures due { IfOk result (λ told. IsDue (machine_of self.new) told.moved) }
+        ensures quiet { IfOk result (λ drafted.
+            is_short drafted.reply ≡ false → StaysKept (machine_of self.old) (machine_of self.new)) }
+        ensures due { IfOk result (λ drafted. IsDue (machine_of self.new) drafted.moved) }
         ensures kept { OnErr result (StaysKept (machine_of self.old) (machine_of self.new)) }
         ensures makes { PartsMake result (command_of line.now) (ends machine_of self) }
         ensures once { RunsOnce self.old.engine self.new.engine }
@@ -73,14 +73,14 @@ impl Parts {
         ensures judging { StaysJudging F.Fn policy.old policy.new self.new.engine.keyring }
     {
         match read_line(self.alloc, line) {
-            Ok(command) => self.act(sort(command), shelf, policy),
+            Ok(command) => self.run_class(classify(command), shelf, policy),
             Err(LineFault::Line) => Ok(alone(Reply::Line)),
             Err(LineFault::Memory) => Err(Memory),
         }
     }
 
     /// Runs a command, by its class. A command that only removes something takes no memory.
-    fn act<D: Shelf, F: Fn(Ask) -> bool>(
+    fn run_class<D: Shelf, F: Fn(Ask) -> bool>(
         &mut self,
         class: Class,
         shelf: &mut D,
@@ -95,9 +95,9 @@ impl Parts {
             D.world D.faults shelf.old shelf.new }
         ensures anew { OnOk result (OnDump class ((rows : PolicyRows) → IsMadeAnew rows (state_of self.old.engine))) }
         ensures edges { OnOk result (CommandMarks self.old.engine class) }
-        ensures quiet { IfOk result (λ told.
-            is_short told.reply ≡ false → StaysKept (machine_of self.old) (machine_of self.new)) }
-        ensures due { IfOk result (λ told. IsDue (machine_of self.new) told.moved) }
+        ensures quiet { IfOk result (λ drafted.
+            is_short drafted.reply ≡ false → StaysKept (machine_of self.old) (machine_of self.new)) }
+        ensures due { IfOk result (λ drafted. IsDue (machine_of self.new) drafted.moved) }
         ensures kept { OnErr result (StaysKept (machine_of self.old) (machine_of self.new)) }
         ensures sure { is_removal class ≡ true → is_ok result ≡ true }
         ensures makes { Makes result class self.old.cursors self.old.engine self.new.engine
@@ -108,7 +108,7 @@ impl Parts {
         ensures judging { StaysJudging F.Fn policy.old policy.new self.new.engine.keyring }
     {
         match class {
-            Class::State(command) => plain(obey(
+            Class::State(command) => without_move(run_state_command(
                 self.alloc,
                 &mut self.engine,
                 &mut self.steps,
@@ -116,7 +116,7 @@ impl Parts {
                 shelf,
                 policy,
             )),
-            Class::Cursor(name, command) => pace(
+            Class::Cursor(name, command) => run_cursor_command(
                 self.alloc,
                 &mut self.engine,
                 &mut self.steps,
@@ -124,7 +124,7 @@ impl Parts {
                 &name,
                 &command,
             ),
-            Class::Watch(name, command) => plain(watch(
+            Class::Watch(name, command) => without_move(watch(
                 self.alloc,
                 &mut self.engine,
                 &mut self.steps,

@@ -17,7 +17,7 @@ ghost use Rattle.wot_cache.specs.State.{empty, state_of, StaysButMarks};
 ghost use Rattle.wot_command.specs.Asked.{LineAsks};
 ghost use Rattle.wot_command.specs.EdgeLines.{LineMarks};
 ghost use Rattle.wot_command.specs.Lasting.{CanCount, IsJudging, StaysJudging, Touches};
-ghost use Rattle.wot_plain.specs.Lines.{heard, is_silent};
+ghost use Rattle.wot_plain.specs.Lines.{command_in_line, is_silent};
 ghost use Rattle.wot_plain.specs.Entry.{use_of};
 ghost use Rattle.wot_plain.specs.Both.{ends, itself};
 ghost use Rattle.wot_command.specs.CommandRun.{over};
@@ -37,7 +37,7 @@ use wot_cache::laws::{change_goes_on, rests_on, views_go_on};
 use wot_cache::{Basis, Engine};
 use wot_certd::Shelf;
 use wot_cursor::Cursors;
-use wot_plain::{CursorMove, DraftReply, alone, settle};
+use wot_plain::{CursorMove, DraftReply, alone, move_cursor};
 use wot_policy::{Ask, Policy};
 use wot_script::{Reply, print_reply};
 use wot_types::{Limits, Memory, Steps};
@@ -114,13 +114,13 @@ impl Machine {
         requires judging { IsJudging F.Fn policy.old self.old.engine.keyring }
         ensures step { OnOk result (LineRun (rows_of policy.old) line.now
             (ends kept self) (over D.world D.faults shelf) (ends vec_items out)) }
-        ensures directory { Touches result (state_of self.old.engine) (use_of (heard line.now))
+        ensures directory { Touches result (state_of self.old.engine) (use_of (command_in_line line.now))
             D.world D.faults shelf.old shelf.new }
         // The lines of a reply to `dump` restore the state in a fresh machine, whatever its policy rows are.
         ensures anew { OnOk result
             (IsDump line.now → (rows : PolicyRows) → IsMadeAnew rows (state_of self.old.engine)) }
         // A line of a reply to `explain` says `edge` exactly for each usable edge, by the definition of edges alone.
-        ensures edges { OnOk result (LineMarks self.old.engine (heard line.now)) }
+        ensures edges { OnOk result (LineMarks self.old.engine (command_in_line line.now)) }
         ensures kept { OnErr result (StaysKept self.old self.new × (out.new.items ≡ out.old.items)) }
         ensures room { OnOk result (is_silent line.now ≡ false → vec_len out.old + 128 ≤ vec_capacity out.new) }
         // A line that doesn't change the state (it is silent or refused, or it asks or lists) doesn't change stamps and
@@ -128,25 +128,25 @@ impl Machine {
         ensures unchanged { state_of self.new.engine ≡ state_of self.old.engine →
             StaysButMarks self.old.engine self.new.engine }
         // A question makes edges for the certificates that are stale in its view. Any other line makes none.
-        ensures makes { LineMakes result (heard line.now) self.old.cursors self.old.engine self.new.engine
+        ensures makes { LineMakes result (command_in_line line.now) self.old.cursors self.old.engine self.new.engine
             self.old.made self.new.made }
         ensures counted { IsOneChange self.old.engine.keyring self.new.engine.keyring }
-        ensures turned { self.new.engine.turns.count ≤ self.old.engine.turns.count + 1 }
+        ensures turned { self.new.engine.revisions.count ≤ self.old.engine.revisions.count + 1 }
         // The policy is asked once for each well-formed signature that an import or a load adds, and in no other line.
-        ensures asked { LineAsks result (heard line.now) (state_of self.old.engine) (state_of self.new.engine)
+        ensures asked { LineAsks result (command_in_line line.now) (state_of self.old.engine) (state_of self.new.engine)
             policy.old policy.new }
         ensures judging { StaysJudging F.Fn policy.old policy.new self.new.engine.keyring }
     {
         out.reserve(ROOM)?;
         match self.reply(line, shelf, policy)? {
-            Some(told) => self.put(told, out),
+            Some(drafted) => self.put(drafted, out),
             None => Ok(()),
         }
     }
 
     /// The reply to a line, without its line feed; None if the line is silent. After `Memory` the machine is unchanged
     /// except for marks and the count of made edges. A cursor moves only once its piece is written
-    /// ([`Machine::settle`]).
+    /// ([`Machine::move_cursor`]).
     #[tactic(auto, using(crate::proofs::Unchanged::unchanged))]
     pub fn reply<D: Shelf, F: Fn(Ask) -> bool>(
         &mut self,
@@ -158,22 +158,22 @@ impl Machine {
         requires judging { IsJudging F.Fn policy.old self.old.engine.keyring }
         ensures replied { IfOk result (Replies (rows_of policy.old) line.now
             (ends itself self) (over D.world D.faults shelf)) }
-        ensures directory { Touches result (state_of self.old.engine) (use_of (heard line.now))
+        ensures directory { Touches result (state_of self.old.engine) (use_of (command_in_line line.now))
             D.world D.faults shelf.old shelf.new }
         ensures anew { OnOk result
             (IsDump line.now → (rows : PolicyRows) → IsMadeAnew rows (state_of self.old.engine)) }
-        ensures edges { OnOk result (LineMarks self.old.engine (heard line.now)) }
-        ensures quiet { IfOk result (λ told.
-            IfSome told (λ told. is_short told.reply ≡ false → StaysKept self.old self.new)) }
-        ensures draft { IfOk result (λ told.
-            IfSome told (λ told. HasWords told.reply × IsDue self.new told.moved)) }
+        ensures edges { OnOk result (LineMarks self.old.engine (command_in_line line.now)) }
+        ensures quiet { IfOk result (λ drafted.
+            IfSome drafted (λ drafted. is_short drafted.reply ≡ false → StaysKept self.old self.new)) }
+        ensures draft { IfOk result (λ drafted.
+            IfSome drafted (λ drafted. HasWords drafted.reply × IsDue self.new drafted.moved)) }
         ensures kept { OnErr result (StaysKept self.old self.new) }
         ensures unchanged { state_of self.new.engine ≡ state_of self.old.engine →
             StaysButMarks self.old.engine self.new.engine }
-        ensures makes { PartsMake result (heard line.now) (ends itself self) }
+        ensures makes { PartsMake result (command_in_line line.now) (ends itself self) }
         ensures counted { IsOneChange self.old.engine.keyring self.new.engine.keyring }
-        ensures turned { self.new.engine.turns.count ≤ self.old.engine.turns.count + 1 }
-        ensures asked { LineAsks result (heard line.now) (state_of self.old.engine) (state_of self.new.engine)
+        ensures turned { self.new.engine.revisions.count ≤ self.old.engine.revisions.count + 1 }
+        ensures asked { LineAsks result (command_in_line line.now) (state_of self.old.engine) (state_of self.new.engine)
             policy.old policy.new }
         ensures judging { StaysJudging F.Fn policy.old policy.new self.new.engine.keyring }
     {
@@ -188,40 +188,40 @@ impl Machine {
         rests_on();
         let basis = self.basis.take();
         let before = Counts::of(&self.parts.engine);
-        let told = self.parts.answer(line, shelf, policy)?;
-        self.basis = kept_on(basis, &self.parts.engine, before, &told.reply);
-        Ok(Some(told))
+        let drafted = self.parts.answer(line, shelf, policy)?;
+        self.basis = kept_on(basis, &self.parts.engine, before, &drafted.reply);
+        Ok(Some(drafted))
     }
 
     /// Appends a reply, and moves the cursor if the reply is its piece. After `Memory` nothing changed.
-    fn put(&mut self, told: DraftReply, out: &mut Vec<u8>) -> Result<(), Memory>
-        requires words { HasWords told.reply }
-        requires due { IsDue self.old told.moved }
-        ensures appended { OnOk result (out.new.items ≡ out.old.items ++ reply_text told.reply) }
-        ensures settled { OnOk result (self.new.cursors ≡ settled told.moved self.old.cursors) }
+    fn put(&mut self, drafted: DraftReply, out: &mut Vec<u8>) -> Result<(), Memory>
+        requires words { HasWords drafted.reply }
+        requires due { IsDue self.old drafted.moved }
+        ensures appended { OnOk result (out.new.items ≡ out.old.items ++ reply_text drafted.reply) }
+        ensures settled { OnOk result (self.new.cursors ≡ settled drafted.moved self.old.cursors) }
         ensures kept { OnErr result ((self.new.cursors ≡ self.old.cursors) × (out.new.items ≡ out.old.items)) }
-        ensures sure { is_short told.reply ≡ true → vec_len out.old + 128 ≤ vec_capacity out.old → IsOk result }
+        ensures sure { is_short drafted.reply ≡ true → vec_len out.old + 128 ≤ vec_capacity out.old → IsOk result }
         ensures room { vec_capacity out.old ≤ vec_capacity out.new }
         ensures engine { self.new.engine ≡ self.old.engine }
         ensures watches { self.new.watches ≡ self.old.watches }
         ensures made { self.new.made ≡ self.old.made }
     {
-        let DraftReply { reply, moved } = told;
+        let DraftReply { reply, moved } = drafted;
         print_reply(&reply, out)?;
-        self.settle(moved);
+        self.move_cursor(moved);
         Ok(())
     }
 
     /// Moves the cursor whose piece was written. The move is the one that came with the piece, and no line was run
     /// since.
-    pub fn settle(&mut self, moved: Option<CursorMove>)
+    pub fn move_cursor(&mut self, moved: Option<CursorMove>)
         requires due { IsDue self.old moved }
         ensures settled { self.new.cursors ≡ settled moved self.old.cursors }
         ensures engine { self.new.engine ≡ self.old.engine }
         ensures watches { self.new.watches ≡ self.old.watches }
         ensures made { self.new.made ≡ self.old.made }
     {
-        settle(moved, &mut self.parts.cursors);
+        move_cursor(moved, &mut self.parts.cursors);
     }
 
     /// Appends the watch lines, by name of watch: one for each watch whose amount isn't the last one reported, and one
@@ -242,7 +242,7 @@ impl Machine {
         let lines = self.watch_lines()?;
         let text = text_of(self.parts.alloc, &lines)?;
         out.extend_from_slice(&text)?;
-        self.told(&lines);
+        self.note_reported(&lines);
         Ok(())
     }
 
@@ -282,9 +282,9 @@ impl Machine {
     }
 
     /// Marks these watch lines as reported. They are all that there are to report.
-    pub fn told(&mut self, lines: &[Reply])
+    pub fn note_reported(&mut self, lines: &[Reply])
         requires due { AreLines (state_of self.old.engine) self.old.watches lines.now }
-        ensures told { self.new.watches ≡ told_all self.old.watches lines.now }
+        ensures reported { self.new.watches ≡ told_all self.old.watches lines.now }
         ensures engine { self.new.engine ≡ self.old.engine }
         ensures cursors { self.new.cursors ≡ self.old.cursors }
         ensures made { self.new.made ≡ self.old.made }

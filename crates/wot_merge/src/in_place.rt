@@ -1,5 +1,5 @@
 //! Merges a small certificate into a kept one in place, so that an import costs what it brings, however large the kept
-//! certificate is. `staging` calls it and undoes it through the log. It stands on wot_cert's `grow` and `shrink`; its
+//! certificate is. `staging` calls it and undoes it through the log. It uses wot_cert's `grow` and `shrink`; its
 //! contracts are those of the merge by a copy, so callers see no difference.
 ghost use Rattle.std.specs.Prelude.{◌≡◌, ◌<◌, vec_len, vec_capacity, is_some, true, IfOk, OnErr, Some};
 ghost use Rattle.wot_policy.specs.Kept.{IsFaithful, rows_of};

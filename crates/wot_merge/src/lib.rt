@@ -1,6 +1,6 @@
 //! Merging certificates into the kept ones: all or none. The certificates of one import are gathered by key, tried, and
 //! merged one after another with a log that undoes each step; the totals that limits are compared with follow. A
-//! certificate that is the only one of an import, and of a new key, is kept itself. It stands on wot_keyring_spec
+//! certificate that is the only one of an import, and of a new key, is kept itself. It uses wot_keyring_spec
 //! alone, beside wot_index. wot_keyring calls it for an import.
 #![tactic(auto)]
 

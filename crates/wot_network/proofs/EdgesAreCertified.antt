@@ -25,7 +25,7 @@ use Rattle.wot_live.specs.Rows.{edges_of, edges_by, issuers_of, user_id_places}
 use Rattle.wot_standing.specs.Kinds.{is_certification}
 use Rattle.wot_standing.specs.Standing.{newest_certification, own}
 use Rattle.wot_network.specs.Certified.{IsCertified, IsTrusted, RestsOnCertifications, RestsOnTrust}
-use Rattle.wot_network.specs.Told.{record_of, row_of}
+use Rattle.wot_network.specs.Records.{record_of, row_of}
 use Rattle.wot_network.proofs.LookupsAgree.{entry_some, row_told}
 
 -- ---- members of lists
@@ -216,7 +216,7 @@ module _ (certs : Certificates) (verdicts : Entries) (t : ℕ) (u : List ℕ) wh
   row_made : (fpr : Fpr) (row : Row) → Has (rows_into (record_of certs verdicts t u) fpr) row →
       (c : Certificate) × (lookup (is_fpr fpr) certs ≡ Some c) × IsMadeBy verdicts c row.edge
   row_made fpr row h =
-      let (c, found, told) = row_told certs verdicts t u fpr row h in
+      let (c, found, network) = row_told certs verdicts t u fpr row h in
       let among = row_has verdicts certs t u c (edges_of verdicts c t) row
       (subst (λ (entry : Entry). Has entry.rows row) (entry_some certs verdicts t u fpr c found) h) in
       (c, found, edge_made verdicts c t row.edge among)

@@ -10,7 +10,7 @@ use Rattle.wot_keyring_spec.specs.Keyring.{Certificates}
 use Rattle.wot_live.specs.Rows.{edges_of, AreInto}
 use Rattle.wot_live.specs.Rows as live
 use Rattle.wot_standing.specs.Standing.{own}
-use Rattle.wot_network.specs.Told.{entry_of, record_of}
+use Rattle.wot_network.specs.Records.{entry_of, record_of}
 use Rattle.wot_network.proofs.LookupsAgree.{edges_kept}
 
 module _

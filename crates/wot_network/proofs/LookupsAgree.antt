@@ -21,8 +21,8 @@ use Rattle.wot_standing.specs.declared.status.Standing.{Standing}
 use Rattle.wot_standing.specs.Usable.{is_usable}
 use Rattle.wot_scope.specs.Deciding.{scope_holds}
 use Rattle.wot_signature.specs.Signature.{scopes_of}
-use Rattle.wot_network.specs.Told.{row_of, entry_of, record_of, is_usable_by, is_in_scope, body_at}
-use Rattle.wot_network.specs.Net.{Line, DescribesAt, line_at, Net, IsRight, Present, told_of}
+use Rattle.wot_network.specs.Records.{row_of, entry_of, record_of, is_usable_by, is_in_scope, body_at}
+use Rattle.wot_network.specs.Net.{Line, DescribesAt, line_at, Net, IsRight, Present, network_for}
 
 -- ---- the keyring
 
@@ -122,21 +122,21 @@ module _ (n : Net) (k : Keyring) (right : IsRight n k n.time) where
       by (Some x) f = absurd (there (right.present fpr x f) e)
 
   pub rows_some : (u : List ℕ) (fpr : Fpr) (line : Line) → line_at n.lines fpr ≡ Some line →
-      line.edges ≡ edges_into (told_of here u) fpr
+      line.edges ≡ edges_into (network_for here u) fpr
   rows_some u fpr line e =
       let (c, f, s) = found_line fpr line e in
       sym s.edges ∙ sym (edges_some (certificates_in k) k.verdicts n.time u fpr c f)
 
   pub rows_none : (u : List ℕ) (fpr : Fpr) → line_at n.lines fpr ≡ None →
-      ◌≡◌ {A = List EdgeFacts} [] (edges_into (told_of here u) fpr)
+      ◌≡◌ {A = List EdgeFacts} [] (edges_into (network_for here u) fpr)
   rows_none u fpr e = sym (edges_none (certificates_in k) k.verdicts n.time u fpr (no_line fpr e))
 
-  row_here : (u : List ℕ) (fpr : Fpr) (row : Row) → Has (rows_into (told_of here u) fpr) row
+  row_here : (u : List ℕ) (fpr : Fpr) (row : Row) → Has (rows_into (network_for here u) fpr) row
       → (c : Certificate) × (lookup (is_fpr fpr) (certificates_in k) ≡ Some c) × (row ≡ row_of k.verdicts
       (certificates_in k) n.time u c row.edge)
   row_here u fpr row h = row_told (certificates_in k) k.verdicts n.time u fpr row h
 
-  usable_here : (u : List ℕ) (fpr : Fpr) (row : Row) (f : EdgeFacts) → Has (rows_into (told_of here u) fpr) row →
+  usable_here : (u : List ℕ) (fpr : Fpr) (row : Row) (f : EdgeFacts) → Has (rows_into (network_for here u) fpr) row →
       row.edge ≡ f → row.usable ≡ is_usable_by k.verdicts (certificates_in k) n.time f.issuer f.made
   usable_here u fpr row f h e =
       let (c, g, s) = row_here u fpr row h in
@@ -145,7 +145,7 @@ module _ (n : Net) (k : Keyring) (right : IsRight n k n.time) where
 
   pub usable_some : (u : List ℕ) (fpr : Fpr) (row : Row) (f : EdgeFacts) (line : Line) →
       line_at n.lines f.issuer ≡ Some line
-      → Has (rows_into (told_of here u) fpr) row → row.edge ≡ f → row.usable ≡ is_usable line.standing f.made
+      → Has (rows_into (network_for here u) fpr) row → row.edge ≡ f → row.usable ≡ is_usable line.standing f.made
   usable_some u fpr row f line l h e =
       let (c, g, s) = found_line f.issuer line l in
       usable_here u fpr row f h e
@@ -154,13 +154,13 @@ module _ (n : Net) (k : Keyring) (right : IsRight n k n.time) where
       ∙ ap (λ (x : Standing). is_usable x f.made) s.standing
 
   pub usable_none : (u : List ℕ) (fpr : Fpr) (row : Row) (f : EdgeFacts) → line_at n.lines f.issuer ≡ None →
-      Has (rows_into (told_of here u) fpr) row → row.edge ≡ f → row.usable ≡ false
+      Has (rows_into (network_for here u) fpr) row → row.edge ≡ f → row.usable ≡ false
   usable_none u fpr row f l h e =
       usable_here u fpr row f h e
       ∙ ap (λ (o : Option Certificate). option_map_or (λ (x : Certificate). is_usable (standing_of k.verdicts x n.time)
       f.made) o false) (no_line f.issuer l)
 
-  scope_here : (u : List ℕ) (fpr : Fpr) (row : Row) (f : EdgeFacts) → Has (rows_into (told_of here u) fpr) row →
+  scope_here : (u : List ℕ) (fpr : Fpr) (row : Row) (f : EdgeFacts) → Has (rows_into (network_for here u) fpr) row →
       row.edge ≡ f
       → (c : Certificate) × (lookup (is_fpr fpr) (certificates_in k) ≡ Some c) × (row.scope ≡ is_in_scope c.user_ids u
       f)
@@ -170,36 +170,36 @@ module _ (n : Net) (k : Keyring) (right : IsRight n k n.time) where
 
   -- an edge without a scope
   pub scope_open : (u : List ℕ) (row : Row) (f : EdgeFacts) → f.scoped ≡ false →
-      Has (rows_into (told_of here u) f.target) row → row.edge ≡ f → row.scope ≡ true
+      Has (rows_into (network_for here u) f.target) row → row.edge ≡ f → row.scope ≡ true
   scope_open u row f plain h e =
       let (c, g, r) = scope_here u f.target row f h e in
       r ∙ ap (λ (b : Bool). not b || scope_holds (scopes_of (body_at c.user_ids f.uid f.sig)) u) plain
 
   pub scope_some : (u : List ℕ) (row : Row) (f : EdgeFacts) (c : Certificate) → cert_at k f.target ≡ Some c →
-      Has (rows_into (told_of here u) f.target) row → row.edge ≡ f → row.scope ≡ is_in_scope c.user_ids u f
+      Has (rows_into (network_for here u) f.target) row → row.edge ≡ f → row.scope ≡ is_in_scope c.user_ids u f
   scope_some u row f c at h e =
       let (d, g, r) = scope_here u f.target row f h e in
       let same : d ≡ c = (let q : Some d ≡ Some c = sym g ∙ kept_at k f.target ∙ at in cc) in
       r ∙ ap (λ (x : Certificate). is_in_scope x.user_ids u f) same
 
   pub scope_none : (u : List ℕ) (row : Row) (f : EdgeFacts) → cert_at k f.target ≡ None →
-      Has (rows_into (told_of here u) f.target) row → ⊥
+      Has (rows_into (network_for here u) f.target) row → ⊥
   scope_none u row f at h =
       let (d, g, r) = row_here u f.target row h in
       let q : Some d ≡ None = sym g ∙ kept_at k f.target ∙ at in cc
 
   pub absent : (u : List ℕ) (fpr : Fpr) → lookup (is_fpr fpr) (certificates_in k) ≡ None →
-      blank ≡ entry_at (told_of here u) fpr
+      blank ≡ entry_at (network_for here u) fpr
   absent u fpr e = sym (entry_none (certificates_in k) k.verdicts n.time u fpr e)
 
-  pub absent_line : (u : List ℕ) (fpr : Fpr) → line_at n.lines fpr ≡ None → blank ≡ entry_at (told_of here u) fpr
+  pub absent_line : (u : List ℕ) (fpr : Fpr) → line_at n.lines fpr ≡ None → blank ≡ entry_at (network_for here u) fpr
   absent_line u fpr e = absent u fpr (no_line fpr e)
 
-  pub absent_cert : (u : List ℕ) (fpr : Fpr) → cert_at k fpr ≡ None → blank ≡ entry_at (told_of here u) fpr
+  pub absent_cert : (u : List ℕ) (fpr : Fpr) → cert_at k fpr ≡ None → blank ≡ entry_at (network_for here u) fpr
   absent_cert u fpr e = absent u fpr (kept_at k fpr ∙ e)
 
   pub present : (u : List ℕ) (fpr : Fpr) (c : Certificate) → cert_at k fpr ≡ Some c →
-      entry_of k.verdicts (certificates_in k) n.time u c ≡ entry_at (told_of here u) fpr
+      entry_of k.verdicts (certificates_in k) n.time u c ≡ entry_at (network_for here u) fpr
   present u fpr c e = sym (entry_some (certificates_in k) k.verdicts n.time u fpr c (kept_at k fpr ∙ e))
 
   told_here : (fpr : Fpr) (line : Line) (c : Certificate) → line_at n.lines fpr ≡ Some line → cert_at k fpr ≡ Some c →

@@ -6,7 +6,7 @@ use Rattle.std.proofs.lemmas.Bool.Decides.{nat_tests}
 use Rattle.wot_component.specs.Certificate.{Component}
 use Rattle.wot_live.specs.Rows.{places_where}
 use Rattle.wot_network.specs.Places.{is_first, behind_first, is_unrevoked}
-use Rattle.wot_network.specs.Told.{is_user_id}
+use Rattle.wot_network.specs.Records.{is_user_id}
 
 other : (m n : ℕ) → n < m → (m == n) ≡ false
 other m n h = grind (arith, nat_tests)

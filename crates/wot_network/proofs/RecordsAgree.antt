@@ -17,7 +17,7 @@ use Rattle.wot_live.specs.Rows.{edges_of}
 use Rattle.wot_standing.specs.Standing.{standing_of}
 use Rattle.wot_standing.specs.Usable.{is_usable}
 use Rattle.wot_network.specs.Local.{AgreeAt, AgreeOn, SameAmounts}
-use Rattle.wot_network.specs.Told.{row_of, entry_of, record_of, is_usable_by, is_in_scope, is_user_id}
+use Rattle.wot_network.specs.Records.{row_of, entry_of, record_of, is_usable_by, is_in_scope, is_user_id}
 use Rattle.wot_network.proofs.LookupsAgree.{entry_some, entry_none, row_told}
 use Rattle.wot_network.proofs.Verdicts.{standing_same, edges_same, in_order_same}
 

@@ -10,7 +10,7 @@ use Rattle.wot_edge.specs.Record.{Has, Row, rows_into}
 use Rattle.wot_edge.specs.Roots.{root_amount}
 use Rattle.wot_keyring_spec.specs.Keyring.{Certificates, is_fpr}
 use Rattle.wot_standing.specs.Kinds.{is_certification}
-use Rattle.wot_network.specs.Told.{record_of}
+use Rattle.wot_network.specs.Records.{record_of}
 
 -- A certification (RFC 9580, section 5.2.1) on a user ID of the certificate, verified as good by the issuer, whose
 -- trust subpacket has a depth of at least 1.

@@ -1,4 +1,4 @@
-pub mod Told
+pub mod Records
 pub mod Places
 pub mod Net
 pub mod Refreshing

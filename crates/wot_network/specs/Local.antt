@@ -12,7 +12,7 @@ use Rattle.wot_edge.specs.Record.{Has, Record}
 use Rattle.wot_edge.specs.Roots.{root_amount}
 use Rattle.wot_keyring_spec.specs.Keyring.{Certificates, is_fpr}
 use Rattle.wot_keyring_spec.specs.Later.{SaysSame}
-use Rattle.wot_network.specs.Told.{record_of}
+use Rattle.wot_network.specs.Records.{record_of}
 
 -- Both hold the same certificate under a fingerprint, with the same marks, or none; and the verdicts on the numbers of
 -- its signatures are the same.
@@ -33,8 +33,8 @@ SameAmounts roots amounts set = (fpr : Fpr) → Has set fpr → root_amount root
 -- What is known of each user ID depends only on these certificates and verdicts locally: if others agree with them on a
 -- set of fingerprints, these make the same of the set at this time.
 abbrev pub IsLocal : Certificates → Entries → ℕ → (List ℕ → Record) → Type 0
-IsLocal certs verdicts t told =
+IsLocal certs verdicts t network =
     (others : Certificates) (other : Entries) (u : List ℕ) (roots amounts : List (Fpr × ℕ)) (target : Fpr)
     (set : List Fpr)
     → AgreeOn certs verdicts others other set → SameAmounts roots amounts set
-    → Agree (asks (told u) roots target) (asks (record_of others other t u) amounts target) set
+    → Agree (asks (network u) roots target) (asks (record_of others other t u) amounts target) set

@@ -19,7 +19,7 @@ use Rattle.wot_keyring_spec.specs.Import.{weigh}
 use Rattle.wot_standing.specs.Standing.{standing_of}
 use Rattle.wot_standing.specs.declared.status.Standing.{Standing}
 use Rattle.wot_live.specs.Rows.{edges_of, revoked_of}
-use Rattle.wot_network.specs.Told.{record_of}
+use Rattle.wot_network.specs.Records.{record_of}
 
 -- ---- lines
 
@@ -164,5 +164,5 @@ pub record Present : Type 0 where
   pub time : ℕ
 
 -- what they make of a user ID
-abbrev pub told_of : Present → List ℕ → Record
-told_of p u = record_of (certificates_in p.keyring) p.keyring.verdicts p.time u
+abbrev pub network_for : Present → List ℕ → Record
+network_for p u = record_of (certificates_in p.keyring) p.keyring.verdicts p.time u

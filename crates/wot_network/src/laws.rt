@@ -12,7 +12,7 @@ ghost use Rattle.wot_network.specs.Certified.{RestsOnCertifications, RestsOnTrus
 ghost use Rattle.wot_network.specs.Local.{IsLocal};
 ghost use Rattle.wot_network.specs.Net.{Marks, Net, Fits, signatures_in, stale_signatures};
 ghost use Rattle.wot_network.specs.Standings.{DecideStandings, DecideUserIds};
-ghost use Rattle.wot_network.specs.Told.{AreOwn, IsInScope, TellsRows, is_in_scope, record_of};
+ghost use Rattle.wot_network.specs.Records.{AreOwn, IsInScope, TellsRows, is_in_scope, record_of};
 
 use wot_edge::laws::entries_are_record;
 use wot_live::laws::edges_are_rows;

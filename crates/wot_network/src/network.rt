@@ -1,5 +1,5 @@
 //! The network and its refresh. The contract of `refresh` says both that the result is the certification network of the
-//! keyring at `t` and that only stale certificates cost anything. wot_cache stands on these two facts.
+//! keyring at `t` and that only stale certificates cost anything. wot_cache uses these two facts.
 ghost use Rattle.std.specs.Prelude.{◌≡◌, ◌≤◌, ◌+◌, ℕ, List, min, [], OnOk, OnErr};
 ghost use Rattle.std.specs.Option.{option_copied};
 ghost use Rattle.wot_keyring_spec.specs.Keyring.{Keyring as KeyringOf, certificates_in};
@@ -7,11 +7,11 @@ ghost use Rattle.wot_network.specs.Local.{IsLocal};
 ghost use Rattle.wot_edge.specs.Lawful.{AreEntries};
 ghost use Rattle.wot_edge.specs.Record.{IsRecord};
 ghost use Rattle.wot_network.specs.Net.{Net, AreLawful, AreMarksOf, Fits, IsRight, StayCurrent};
-ghost use Rattle.wot_network.specs.Net.{line_at, marks_of, stale_edges, stale_signatures, told_of};
+ghost use Rattle.wot_network.specs.Net.{line_at, marks_of, stale_edges, stale_signatures, network_for};
 
 use crate::laws::{record_is_lawful, records_agree};
 use crate::line::NetLine;
-use crate::refreshing::{Moment, look_at_stale, ordered, settle};
+use crate::refreshing::{Moment, drop_absent, look_at_stale, ordered};
 use crate::roads::NetRoads;
 use crate::table::{Table, find};
 use std::alloc::Global;
@@ -100,7 +100,7 @@ impl Network {
             &Moment { keyring, t },
             steps,
         )?;
-        settle(&mut self.lines, keyring, t);
+        drop_absent(&mut self.lines, keyring, t);
         self.time = t;
         self.count = keyring.changes();
         Ok(())
@@ -111,10 +111,10 @@ impl Network {
         requires right { IsRight self.now keyring.now self.now.time }
         ensures keyring { (present_of result).keyring ≡ keyring.now }
         ensures time { (present_of result).time ≡ self.now.time }
-        ensures entries { (u : List ℕ) → AreEntries (told_of (present_of result) u) }
-        ensures lawful { (u : List ℕ) → IsRecord (told_of (present_of result) u) }
+        ensures entries { (u : List ℕ) → AreEntries (network_for (present_of result) u) }
+        ensures lawful { (u : List ℕ) → IsRecord (network_for (present_of result) u) }
         ensures local { IsLocal (certificates_in keyring.now) keyring.now.verdicts self.now.time
-            (told_of (present_of result)) }
+            (network_for (present_of result)) }
     {
         record_is_lawful();
         records_agree();

@@ -1,6 +1,6 @@
 //! The steps of a refresh: each certificate that may be stale is looked at, and its line is made if it is. The
 //! keyring's log of changes says which ones these are; without it all certificates are looked at. `Network::refresh`
-//! stands on it.
+//! uses it.
 ghost use Rattle.std.specs.Prelude.{◌<◌, OnOk, IfSome};
 ghost use Rattle.wot_types.specs.declared.fpr.Fpr.{Fpr as TheFpr};
 ghost use Rattle.wot_cert.specs.Span.{InSpan};
@@ -165,7 +165,7 @@ pub(crate) fn look_at_stale(
 }
 
 /// Removes the lines of certificates that aren't kept. If there are as many lines as certificates, there are none.
-pub(crate) fn settle(lines: &mut Table, keyring: &Keyring, t: u32)
+pub(crate) fn drop_absent(lines: &mut Table, keyring: &Keyring, t: u32)
     requires sorted { AreSortedByFpr keyring.now.certs }
     requires done { AreDone keyring.now t lines.old.entries }
     ensures present { KeepsPresent keyring.now lines.old.entries lines.new.entries }

@@ -21,10 +21,10 @@ pub struct NetRoads<'a> {
 }
 
 impl<'a> Roads for NetRoads<'a> {
-    ghost use Rattle.wot_network.specs.Net.{told_of};
+    ghost use Rattle.wot_network.specs.Net.{network_for};
     ghost use Rattle.wot_network.specs.Roads.{present_of};
 
-    ghost told = { λ roads uid. told_of (present_of roads) uid };
+    ghost network = { λ roads uid. network_for (present_of roads) uid };
 
     fn rows(&self, target: &Fpr) -> &[Edge] {
         record_is_lawful();

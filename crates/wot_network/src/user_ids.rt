@@ -1,10 +1,10 @@
 //! Finds user IDs in a certificate: the place of one, whether one is there unrevoked, and whether an edge's scope
-//! covers it. `roads` stands on it; scopes are matched by wot_scope.
+//! covers it. `roads` uses it; scopes are matched by wot_scope.
 ghost use Rattle.std.specs.Prelude.{◌≡◌, ◌<◌, ◌^◌, length, IfOk};
 ghost use Rattle.wot_network.specs.Places.{TellsInOrder, TellsUnrevoked};
 ghost use Rattle.wot_network.specs.Places.{is_first as is_first_spec, behind_first as behind_first_spec};
-ghost use Rattle.wot_network.specs.Told.{body_in as body_in_spec, body_at as body_at_spec, is_in_scope};
-ghost use Rattle.wot_network.specs.Told.{is_user_id as is_user_id_spec, user_id_place as place_of_spec};
+ghost use Rattle.wot_network.specs.Records.{body_in as body_in_spec, body_at as body_at_spec, is_in_scope};
+ghost use Rattle.wot_network.specs.Records.{is_user_id as is_user_id_spec, user_id_place as place_of_spec};
 
 use std::alloc::Global;
 use wot_cert::Part;

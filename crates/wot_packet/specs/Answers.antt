@@ -32,5 +32,5 @@ AnswersList seen (Err Memory) packets = Unit {0}
 -- The result is that fault, unless memory ran out.
 abbrev pub AnswersFault : {T : Type 0} → Result T ReadFault → PacketFault → Type 0
 AnswersFault (Ok found) fault = ⊥
-AnswersFault (Err (Packet told)) fault = told ≡ fault
+AnswersFault (Err (Packet found)) fault = found ≡ fault
 AnswersFault (Err Memory) fault = Unit {0}

@@ -1,6 +1,6 @@
 //! The header of one packet, in the OpenPGP and in the legacy format.
 //!
-//! It stands on the plain reader in `specs/Reading.antt`. `read` reads each packet through it; a change changes which
+//! It uses the plain reader in `specs/Reading.antt`. `read` reads each packet through it; a change changes which
 //! texts are packets, and where the first fault of others is.
 ghost use Rattle.std.specs.Prelude.{◌<◌};
 ghost use Rattle.wot_packet.specs.Answers.{Finds};

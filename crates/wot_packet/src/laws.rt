@@ -1,5 +1,5 @@
 //! Laws of the framing. Each function does nothing: its contract is the law, and the crates above cite it by a call.
-//! They stand on `specs/Spelling.antt`, `specs/Reading.antt` and `specs/Writing.antt`.
+//! They use `specs/Spelling.antt`, `specs/Reading.antt` and `specs/Writing.antt`.
 ghost use Rattle.std.specs.Prelude.{◌≡◌, ◌<◌, ◌^◌, ◌⊎◌, ◌↔◌, ℕ, List, Ok, Err};
 ghost use Rattle.wot_packet.specs.Header.{IsOpenpgpHeader};
 ghost use Rattle.wot_packet.specs.Reading.{packets_of};

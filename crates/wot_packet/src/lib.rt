@@ -1,6 +1,6 @@
 //! OpenPGP packets: their framing, read and written (RFC 9580, section 4.2).
 //!
-//! It stands on `wot_types` for the error of a failed allocation. `wot_cert` assembles certificates from what
+//! It uses `wot_types` for the error of a failed allocation. `wot_cert` assembles certificates from what
 //! `read_packets` returns, and exports them by `write_packet`.
 #![tactic(auto)]
 

@@ -1,6 +1,6 @@
 //! `write_packet`: a packet in the OpenPGP format, with the shortest length.
 //!
-//! It stands on `specs/Writing.antt`. Exports, dumps and the directory's entries are written by it.
+//! It uses `specs/Writing.antt`. Exports, dumps and the directory's entries are written by it.
 ghost use Rattle.std.specs.Prelude.{◌≡◌, ◌<◌, ◌≤◌, ◌^◌, ◌++◌, length, OnOk, OnErr};
 ghost use Rattle.wot_packet.specs.Writing.{shortest_header, written};
 

@@ -7,20 +7,20 @@ use Rattle.wot_pattern.specs.declared.item.Item.{Item}
 use Rattle.wot_pattern.specs.declared.flow.Flow.{Flow}
 use Rattle.wot_pattern.specs.Reading.{Atom, exactly, any, start, end, range, Reading, nothing, single, sequence, either}
 use Rattle.wot_pattern.specs.Reading.{star, plus, optional}
-use Rattle.wot_pattern.specs.Meaning.{Turns, InItems, Takes, OneTaken, AtomHolds, Holds}
+use Rattle.wot_pattern.specs.Meaning.{Repeats, InItems, Takes, OneTaken, AtomHolds, Holds}
 use Rattle.wot_pattern.specs.MeaningTest.{in_items, takes}
 use Rattle.wot_pattern.specs.Passes.{flow, holds_empty}
 use Rattle.wot_pattern.proofs.Tests.{IsTestOf, tells_or, tells_and, tells_as, tells_always, tells_never}
 
-pub Turns-le :
-    (R : ℕ → ℕ → Type 0) → ((i j : ℕ) → R i j → i ≤ j) → (n i j : ℕ) → Turns R n i j → i ≤ j
-Turns-le R f zero i j e = omega arith
-Turns-le R f (suc n) i j (k, r, more) =
-    let a : i ≤ k = f i k r in let b : k ≤ j = Turns-le R f n k j more in omega arith
+pub Repeats-le :
+    (R : ℕ → ℕ → Type 0) → ((i j : ℕ) → R i j → i ≤ j) → (n i j : ℕ) → Repeats R n i j → i ≤ j
+Repeats-le R f zero i j e = omega arith
+Repeats-le R f (suc n) i j (k, r, more) =
+    let a : i ≤ k = f i k r in let b : k ≤ j = Repeats-le R f n k j more in omega arith
 
-Turns-snoc : (R : ℕ → ℕ → Type 0) (n i k j : ℕ) → Turns R n i k → R k j → Turns R (suc n) i j
-Turns-snoc R zero i k j e r = (j, subst (λ x. R x j) (sym e) r, refl)
-Turns-snoc R (suc n) i k j (m, a, more) r = (m, a, Turns-snoc R n m k j more r)
+Repeats-snoc : (R : ℕ → ℕ → Type 0) (n i k j : ℕ) → Repeats R n i k → R k j → Repeats R (suc n) i j
+Repeats-snoc R zero i k j e r = (j, subst (λ x. R x j) (sym e) r, refl)
+Repeats-snoc R (suc n) i k j (m, a, more) r = (m, a, Repeats-snoc R n m k j more r)
 
 le_tells : (a b : ℕ) → IsTestOf (nat_le a b) (a ≤ b)
 le_tells a b = record { says = λ e. leb-true a b e; said = λ l. le-leb a b l }
@@ -61,8 +61,8 @@ module _ (text : List ℕ) where
   Holds-le (sequence p q) i j (k, h, h') =
       let a : i ≤ k = Holds-le p i k h in let b : k ≤ j = Holds-le q k j h' in omega arith
   Holds-le (either p q) i j h = elim h [ inl x ↦ Holds-le p i j x | inr y ↦ Holds-le q i j y ]
-  Holds-le (star p) i j (n, h) = Turns-le (Holds text p) (λ i j. Holds-le p i j) n i j h
-  Holds-le (plus p) i j (n, h) = Turns-le (Holds text p) (λ i j. Holds-le p i j) (suc n) i j h
+  Holds-le (star p) i j (n, h) = Repeats-le (Holds text p) (λ i j. Holds-le p i j) n i j h
+  Holds-le (plus p) i j (n, h) = Repeats-le (Holds text p) (λ i j. Holds-le p i j) (suc n) i j h
   Holds-le (optional p) i j h = elim h [ inl x ↦ omega arith | inr y ↦ Holds-le p i j y ]
 
   -- it may begin at some position before this one, and ends here
@@ -79,28 +79,28 @@ module _ (text : List ℕ) where
 
   last_turn :
       (p : Reading) (S : ℕ → Type 0) → ((j k : ℕ) → S j → Holds text p j k → S k)
-      → (n j i : ℕ) → S j → Turns (Holds text p) n j i → j < i → Ended p S i
+      → (n j i : ℕ) → S j → Repeats (Holds text p) n j i → j < i → Ended p S i
   last_turn p S f zero j i s e l = absurd (omega arith)
   last_turn p S f (suc n) j i s (k, h, more) l =
       elim (cases_lt k i) [
         | inl k<i ↦ last_turn p S f n k i (f j k s h) more k<i
         | inr i≤k ↦
-            let m : k ≤ i = Turns-le (Holds text p) (λ i j. Holds-le p i j) n k i more in
+            let m : k ≤ i = Repeats-le (Holds text p) (λ i j. Holds-le p i j) n k i more in
             let e : k ≡ i = omega arith in (j, l, s, subst (λ x. Holds text p j x) e h)
       ]
 
   module _ (B : ℕ → Type 0) (p : Reading) where
     star_closed : (j k : ℕ) → After B (star p) j → Holds text p j k → After B (star p) k
-    star_closed j k (m, b, (n, t)) h = (m, b, (suc n, Turns-snoc (Holds text p) n m j k t h))
+    star_closed j k (m, b, (n, t)) h = (m, b, (suc n, Repeats-snoc (Holds text p) n m j k t h))
 
     -- a turn from where one may begin, in the loop
     loops : (i : ℕ) → Ended p (After B (star p)) i
-        → (j : ℕ) × (j < i) × B j × ((n : ℕ) × Turns (Holds text p) (suc n) j i)
+        → (j : ℕ) × (j < i) × B j × ((n : ℕ) × Repeats (Holds text p) (suc n) j i)
     loops i (m, l, (j, b, (n, t)), h) =
-        let a : j ≤ m = Turns-le (Holds text p) (λ i j. Holds-le p i j) n j m t in
-        (j, omega arith, b, (n, Turns-snoc (Holds text p) n j m i t h))
+        let a : j ≤ m = Repeats-le (Holds text p) (λ i j. Holds-le p i j) n j m t in
+        (j, omega arith, b, (n, Repeats-snoc (Holds text p) n j m i t h))
 
-    turns_end : (i j n : ℕ) → j < i → B j → Turns (Holds text p) n j i → Ended p (After B (star p)) i
+    turns_end : (i j n : ℕ) → j < i → B j → Repeats (Holds text p) n j i → Ended p (After B (star p)) i
     turns_end i j n l b t = last_turn p (After B (star p)) star_closed n j i (j, b, (0, refl)) t l
 
     pub star_ended : (i : ℕ) (b : Bool) → IsTestOf b (Ended p (After B (star p)) i) → IsTestOf b (Ended (star p) B i)
@@ -118,7 +118,7 @@ module _ (text : List ℕ) where
         (λ x. (0, (i, x, refl)))
         (λ (n, (k, x, t)).
         let l : i ≤ k = Holds-le p i k x in
-        let m : k ≤ i = Turns-le (Holds text p) (λ i j. Holds-le p i j) n k i t in
+        let m : k ≤ i = Repeats-le (Holds text p) (λ i j. Holds-le p i j) n k i t in
         let e : k ≡ i = omega arith in subst (λ y. Holds text p i y) e x)
 
     -- where a turn may begin
@@ -131,7 +131,7 @@ module _ (text : List ℕ) where
         (λ (j, c, (n, t)). elim (cases_lt j i) [
           | inl l ↦ inr (turns_end i j n l c t)
           | inr l ↦
-              let m : j ≤ i = Turns-le (Holds text p) (λ i j. Holds-le p i j) n j i t in
+              let m : j ≤ i = Repeats-le (Holds text p) (λ i j. Holds-le p i j) n j i t in
               let e : j ≡ i = omega arith in inl (subst B e c)
         ])
 

@@ -7,10 +7,10 @@ use Rattle.std.proofs.Common.{refl, subst, inl, inr, arith}
 use Rattle.std.proofs.lemmas.Bool.{cases_lt, eqb-true, eq-eqb}
 use Rattle.wot_pattern.specs.Reading.{Atom, exactly, any, start, end, range, Reading, nothing, single, sequence, either}
 use Rattle.wot_pattern.specs.Reading.{star, plus, optional}
-use Rattle.wot_pattern.specs.Meaning.{Turns, Takes, OneTaken, AtomHolds, Holds, Matches}
-use Rattle.wot_pattern.specs.MeaningTest.{at_some_position, at_most_turns, some_turns, takes, one_taken, atom_holds, holds}
+use Rattle.wot_pattern.specs.Meaning.{Repeats, Takes, OneTaken, AtomHolds, Holds, Matches}
+use Rattle.wot_pattern.specs.MeaningTest.{at_some_position, at_most_repeats, some_repeats, takes, one_taken, atom_holds, holds}
 use Rattle.wot_pattern.specs.MeaningTest.{matches_in}
-use Rattle.wot_pattern.proofs.Flows.{Holds-le, Turns-le, takes_tells}
+use Rattle.wot_pattern.proofs.Flows.{Holds-le, Repeats-le, takes_tells}
 use Rattle.wot_pattern.proofs.Tests.{IsTestOf, tells_and, tells_as, tells_never, tells_or}
 
 equal_tells : (a b : ℕ) → IsTestOf (a == b) (a ≡ b)
@@ -54,33 +54,33 @@ module _ (text : List ℕ) where
       (λ (k, l, m, p). (k, omega (arith, m), p))
       (λ (k, l, p). (k, omega arith, omega (arith, l), p))
 
-  -- ---- turns
+  -- ---- repetitions
 
-  module _ (turn : ℕ → ℕ → Bool) (T : ℕ → ℕ → Type 0) (le : (i j : ℕ) → T i j → i ≤ j)
-      (tells : (i j : ℕ) → i ≤ length text → j ≤ length text → IsTestOf (turn i j) (T i j)) where
-    -- at most n turns
+  module _ (repeat : ℕ → ℕ → Bool) (T : ℕ → ℕ → Type 0) (le : (i j : ℕ) → T i j → i ≤ j)
+      (tells : (i j : ℕ) → i ≤ length text → j ≤ length text → IsTestOf (repeat i j) (T i j)) where
+    -- at most n repetitions
     abbrev AtMost : ℕ → ℕ → ℕ → Type 0
-    AtMost n i j = (m : ℕ) × (m ≤ n) × Turns T m i j
+    AtMost n i j = (m : ℕ) × (m ≤ n) × Repeats T m i j
 
     abbrev Next : ℕ → ℕ → ℕ → ℕ → Type 0
     Next n i j k = T i k × AtMost n k j
 
     at_most_tells : (n i j : ℕ) → i ≤ length text → j ≤ length text
-        → IsTestOf (at_most_turns text turn n i j) (AtMost n i j)
+        → IsTestOf (at_most_repeats text repeat n i j) (AtMost n i j)
     at_most_tells zero i j a b =
         tells_as (i == j) (i ≡ j) (AtMost zero i j) (equal_tells i j) (λ e. (0, omega arith, e))
         (λ h. none h.0 h.1 h.2)
       where
-        none : (m : ℕ) → m ≤ 0 → Turns T m i j → i ≡ j
+        none : (m : ℕ) → m ≤ 0 → Repeats T m i j → i ≡ j
         none zero l e = e
         none (suc m) l t = absurd (omega (arith, l))
     at_most_tells (suc n) i j a b =
-        tells_as ((i == j) || at_some_position text (λ mid. turn i mid && at_most_turns text turn n mid j))
+        tells_as ((i == j) || at_some_position text (λ mid. repeat i mid && at_most_repeats text repeat n mid j))
         ((i ≡ j) ⊎ AtSome (Next n i j)) (AtMost (suc n) i j)
-        (tells_or (i == j) (at_some_position text (λ mid. turn i mid && at_most_turns text turn n mid j)) (i ≡ j)
+        (tells_or (i == j) (at_some_position text (λ mid. repeat i mid && at_most_repeats text repeat n mid j)) (i ≡ j)
         (AtSome (Next n i j)) (equal_tells i j)
-        (some_tells (λ mid. turn i mid && at_most_turns text turn n mid j) (Next n i j)
-        (λ k l. tells_and (turn i k) (at_most_turns text turn n k j) (T i k) (AtMost n k j) (tells i k a l)
+        (some_tells (λ mid. repeat i mid && at_most_repeats text repeat n mid j) (Next n i j)
+        (λ k l. tells_and (repeat i k) (at_most_repeats text repeat n k j) (T i k) (AtMost n k j) (tells i k a l)
         (at_most_tells n k j l b))))
         (elim [
           | inl e ↦ (0, omega arith, e)
@@ -88,14 +88,14 @@ module _ (text : List ℕ) where
         ])
         (λ h. parts h.0 h.1 h.2)
       where
-        parts : (m : ℕ) → m ≤ suc n → Turns T m i j → (i ≡ j) ⊎ AtSome (Next n i j)
+        parts : (m : ℕ) → m ≤ suc n → Repeats T m i j → (i ≡ j) ⊎ AtSome (Next n i j)
         parts zero l e = inl e
         parts (suc m) l (k, t, ts) =
-            let before : k ≤ j = Turns-le T le m k j ts in
+            let before : k ≤ j = Repeats-le T le m k j ts in
             inr (k, omega (arith, before, b), (t, (m, omega (arith, l), ts)))
 
-    -- turns that stand still can be left out
-    moving : (n i j : ℕ) → Turns T n i j → (m : ℕ) × (m + i ≤ j) × Turns T m i j
+    -- repetitions that stand still can be left out
+    moving : (n i j : ℕ) → Repeats T n i j → (m : ℕ) × (m + i ≤ j) × Repeats T m i j
     moving zero i j e = (0, omega (arith, e), e)
     moving (suc n) i j (k, t, ts) =
         let (m, few, us) = moving n k j ts in
@@ -104,13 +104,13 @@ module _ (text : List ℕ) where
           | inl on ↦ (suc m, omega (arith, few, on), (k, t, us))
           | inr still ↦
               let e : k ≡ i = omega (arith, step, still) in
-              (m, omega (arith, few, step), subst (λ x. Turns T m x j) e us)
+              (m, omega (arith, few, step), subst (λ x. Repeats T m x j) e us)
         ]
 
     turns_tell : (i j : ℕ) → i ≤ length text → j ≤ length text
-        → IsTestOf (some_turns text turn i j) ((n : ℕ) × Turns T n i j)
+        → IsTestOf (some_repeats text repeat i j) ((n : ℕ) × Repeats T n i j)
     turns_tell i j a b =
-        tells_as (some_turns text turn i j) (AtMost (length text) i j) ((n : ℕ) × Turns T n i j)
+        tells_as (some_repeats text repeat i j) (AtMost (length text) i j) ((n : ℕ) × Repeats T n i j)
         (at_most_tells (length text) i j a b) (λ (m, few, ts). (m, ts))
         (λ (n, ts). let (m, few, us) = moving n i j ts in (m, omega (arith, few, b), us))
 
@@ -158,17 +158,17 @@ module _ (text : List ℕ) where
       turns_tell (holds text p) (Holds text p) (λ k l h. Holds-le text p k l h) (λ k l c d. holds_tells p k l c d) i j
       a b
   holds_tells (plus p) i j a b =
-      tells_as (at_some_position text (λ mid. holds text p i mid && some_turns text (holds text p) mid j))
-      (AtSome (λ k. Holds text p i k × ((n : ℕ) × Turns (Holds text p) n k j))) (Holds text (plus p) i j)
-      (some_tells (λ mid. holds text p i mid && some_turns text (holds text p) mid j)
-      (λ k. Holds text p i k × ((n : ℕ) × Turns (Holds text p) n k j))
-      (λ k l. tells_and (holds text p i k) (some_turns text (holds text p) k j) (Holds text p i k)
-      ((n : ℕ) × Turns (Holds text p) n k j) (holds_tells p i k a l)
+      tells_as (at_some_position text (λ mid. holds text p i mid && some_repeats text (holds text p) mid j))
+      (AtSome (λ k. Holds text p i k × ((n : ℕ) × Repeats (Holds text p) n k j))) (Holds text (plus p) i j)
+      (some_tells (λ mid. holds text p i mid && some_repeats text (holds text p) mid j)
+      (λ k. Holds text p i k × ((n : ℕ) × Repeats (Holds text p) n k j))
+      (λ k l. tells_and (holds text p i k) (some_repeats text (holds text p) k j) (Holds text p i k)
+      ((n : ℕ) × Repeats (Holds text p) n k j) (holds_tells p i k a l)
       (turns_tell (holds text p) (Holds text p) (λ x y h. Holds-le text p x y h) (λ x y c d. holds_tells p x y c d) k j
       l b)))
       (λ (k, l, (h, (n, ts))). (n, (k, h, ts)))
       (λ (n, (k, h, ts)).
-      let before : k ≤ j = Turns-le (Holds text p) (λ x y g. Holds-le text p x y g) n k j ts in
+      let before : k ≤ j = Repeats-le (Holds text p) (λ x y g. Holds-le text p x y g) n k j ts in
       (k, omega (arith, before, b), (h, (n, ts))))
   holds_tells (optional p) i j a b =
       tells_or (i == j) (holds text p i j) (i ≡ j) (Holds text p i j) (equal_tells i j) (holds_tells p i j a b)

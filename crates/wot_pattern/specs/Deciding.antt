@@ -1,5 +1,5 @@
 -- What a text says as a regular expression, as a function. By the law `reading_is_told` it agrees with the relation
--- `Says`, so that code can decide what rests on it.
+-- `Says`, so that code can decide what depends on it.
 use Rattle.std.specs.Prelude.{ℕ, zero, suc, Bool, true, false, ◌==◌, nat_le, List, [], ◌∷◌, length, Option, Some, None}
 use Rattle.std.specs.Prelude.{if◌then◌else◌}
 use Rattle.std.specs.Option.{option_map, option_and_then}

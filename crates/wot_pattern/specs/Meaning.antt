@@ -5,10 +5,10 @@ use Rattle.wot_pattern.specs.declared.item.Item.{Item}
 use Rattle.wot_pattern.specs.Reading.{Atom, exactly, any, start, end, range, Reading, nothing, single, sequence, either}
 use Rattle.wot_pattern.specs.Reading.{star, plus, optional}
 
--- n turns, one after another
-abbrev pub Turns : (ℕ → ℕ → Type 0) → ℕ → ℕ → ℕ → Type 0
-Turns turn zero from to = from ≡ to
-Turns turn (suc n) from to = (mid : ℕ) × turn from mid × Turns turn n mid to
+-- n repetitions, one after another
+abbrev pub Repeats : (ℕ → ℕ → Type 0) → ℕ → ℕ → ℕ → Type 0
+Repeats repeat zero from to = from ≡ to
+Repeats repeat (suc n) from to = (mid : ℕ) × repeat from mid × Repeats repeat n mid to
 
 -- the character is in one of the items
 abbrev pub InItems : ℕ → List Item → Type 0
@@ -38,8 +38,8 @@ Holds text nothing from to = from ≡ to
 Holds text (single a) from to = AtomHolds text a from to
 Holds text (sequence p q) from to = (mid : ℕ) × Holds text p from mid × Holds text q mid to
 Holds text (either p q) from to = Holds text p from to ⊎ Holds text q from to
-Holds text (star p) from to = (n : ℕ) × Turns (Holds text p) n from to
-Holds text (plus p) from to = (n : ℕ) × Turns (Holds text p) (suc n) from to
+Holds text (star p) from to = (n : ℕ) × Repeats (Holds text p) n from to
+Holds text (plus p) from to = (n : ℕ) × Repeats (Holds text p) (suc n) from to
 Holds text (optional p) from to = (from ≡ to) ⊎ Holds text p from to
 
 -- the expression matches between some two positions of the text

@@ -1,5 +1,6 @@
 -- Whether a regular expression matches a text, as a function. It is the meaning (`Meaning.antt`) word by word, with
--- every position and every number of turns within its bound. By the law `matching_is_told` it agrees with `Matches`.
+-- every position and every number of repetitions within its bound. By the law `matching_is_told` it agrees with
+-- `Matches`.
 use Rattle.std.specs.Prelude.{ℕ, zero, suc, ◌+◌, Bool, true, false, ◌&&◌, ◌||◌, not, ◌==◌, nat_le, List, [], ◌∷◌}
 use Rattle.std.specs.Prelude.{length, slice_get}
 use Rattle.std.specs.List.{list_any, range_with_len}
@@ -12,15 +13,15 @@ use Rattle.wot_pattern.specs.Reading.{star, plus, optional}
 abbrev pub at_some_position : List ℕ → (ℕ → Bool) → Bool
 at_some_position text test = list_any test (range_with_len 0 (length text + 1))
 
--- at most n turns, one after another
-abbrev pub at_most_turns : List ℕ → (ℕ → ℕ → Bool) → ℕ → ℕ → ℕ → Bool
-at_most_turns text turn zero from to = from == to
-at_most_turns text turn (suc n) from to =
-    (from == to) || at_some_position text (λ mid. turn from mid && at_most_turns text turn n mid to)
+-- at most n repetitions, one after another
+abbrev pub at_most_repeats : List ℕ → (ℕ → ℕ → Bool) → ℕ → ℕ → ℕ → Bool
+at_most_repeats text repeat zero from to = from == to
+at_most_repeats text repeat (suc n) from to =
+    (from == to) || at_some_position text (λ mid. repeat from mid && at_most_repeats text repeat n mid to)
 
--- any number of turns: more of them than the text has characters would stand still
-abbrev pub some_turns : List ℕ → (ℕ → ℕ → Bool) → ℕ → ℕ → Bool
-some_turns text turn from to = at_most_turns text turn (length text) from to
+-- any number of repetitions: more of them than the text has characters would stand still
+abbrev pub some_repeats : List ℕ → (ℕ → ℕ → Bool) → ℕ → ℕ → Bool
+some_repeats text repeat from to = at_most_repeats text repeat (length text) from to
 
 -- the character is in one of the items
 abbrev pub in_items : ℕ → List Item → Bool
@@ -50,9 +51,9 @@ holds text nothing from to = from == to
 holds text (single a) from to = atom_holds text a from to
 holds text (sequence p q) from to = at_some_position text (λ mid. holds text p from mid && holds text q mid to)
 holds text (either p q) from to = holds text p from to || holds text q from to
-holds text (star p) from to = some_turns text (holds text p) from to
+holds text (star p) from to = some_repeats text (holds text p) from to
 holds text (plus p) from to =
-    at_some_position text (λ mid. holds text p from mid && some_turns text (holds text p) mid to)
+    at_some_position text (λ mid. holds text p from mid && some_repeats text (holds text p) mid to)
 holds text (optional p) from to = (from == to) || holds text p from to
 
 -- whether a regular expression matches between some two positions of the text

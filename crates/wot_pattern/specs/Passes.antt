@@ -1,5 +1,5 @@
 -- The matcher's two passes over the nodes at one position of the text. Contracts of its private functions name this,
--- and no definition rests on it: a reader has to believe the meaning alone.
+-- and no definition depends on it: a reader has to believe the meaning alone.
 use Rattle.std.specs.Prelude.{ℕ, Bool, true, false, ◌&&◌, ◌||◌, List, [], ◌∷◌, ◌++◌}
 use Rattle.wot_pattern.specs.declared.flow.Flow.{Flow}
 use Rattle.wot_pattern.specs.MeaningTest.{takes}

@@ -1,5 +1,5 @@
 -- How far a regular expression was read, level by level. Contracts of the parser's private functions name this, and
--- `Deciding` rests on it. The public laws relate it to the grammar, so a reader has to believe only the grammar.
+-- `Deciding` depends on it. The public laws relate it to the grammar, so a reader has to believe only the grammar.
 use Rattle.std.specs.Prelude.{◌≡◌, ℕ, suc, ◌+◌, Bool, List, [], ◌∷◌, ◌++◌, length, drop, slice_index, Option, Some}
 use Rattle.std.specs.Prelude.{None, is_some}
 use Rattle.wot_pattern.specs.declared.mark.Mark.{Mark}

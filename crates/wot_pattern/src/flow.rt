@@ -1,4 +1,4 @@
-//! What the matcher keeps for each part of an expression at the current position. `settle` computes it, `advance` uses
+//! What the matcher keeps for each part of an expression at the current position. `closure` computes it, `advance` uses
 //! it.
 /// Which matches of a tree end at one position of the text.
 #[derive(Clone, Copy)]

@@ -10,10 +10,10 @@ ghost use Rattle.wot_pattern.specs.MeaningTest.{matches_in};
 
 /// What a text says as a regular expression is a function of the text.
 pub fn reading_is_told()
-    ensures told { (text : List ℕ) (reading : Reading) → (pattern_of text ≡ Some reading) ↔ Says text reading }
+    ensures reported { (text : List ℕ) (reading : Reading) → (pattern_of text ≡ Some reading) ↔ Says text reading }
 {}
 
 /// Whether a regular expression matches a text is a function of both.
 pub fn matching_is_told()
-    ensures told { (text : List ℕ) (reading : Reading) → IsTrue (matches_in reading text) ↔ Matches text reading }
+    ensures reported { (text : List ℕ) (reading : Reading) → IsTrue (matches_in reading text) ↔ Matches text reading }
 {}

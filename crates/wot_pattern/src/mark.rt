@@ -1,6 +1,6 @@
 //! What each character of an expression means outside of brackets.
 //!
-//! It stands on `specs/Marks.antt`. `parser` takes one step by each mark.
+//! It uses `specs/Marks.antt`. `parser` takes one step by each mark.
 ghost use Rattle.std.specs.Prelude.{◌≡◌};
 ghost use Rattle.wot_pattern.specs.Marks.{mark_of};
 

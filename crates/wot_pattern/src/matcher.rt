@@ -1,6 +1,6 @@
 //! `Matcher`: whether an expression matches a text, in one walk along the text without backtracking.
 //!
-//! It stands on `settle` and `advance`, and on `specs/Meaning.antt`. `wot_scope` makes one for each regular expression
+//! It uses `closure` and `advance`, and on `specs/Meaning.antt`. `wot_scope` makes one for each regular expression
 //! and user ID.
 ghost use Rattle.std.specs.Prelude.{◌≡◌, ◌+◌, ◌≤◌, ◌↔◌, IsTrue, IfOk, length, vec_capacity};
 ghost use Rattle.std.specs.Str.{chars};
@@ -10,10 +10,10 @@ ghost use Rattle.wot_pattern.specs.Tokens.{tokens};
 ghost use Rattle.wot_pattern.specs.Nodes.{tokens_of};
 
 use crate::advance::advance;
+use crate::closure::closure;
 use crate::flow::Flow;
 use crate::node::Node;
 use crate::pattern::Pattern;
-use crate::settle::settle;
 use std::alloc::Global;
 use std::marker::Model;
 use wot_types::Memory;
@@ -98,7 +98,7 @@ fn finds(
     let mut first = true;
     'places: loop {
         let next = rest.next();
-        let through = settle(nodes, slots, ready, first, next.is_none());
+        let through = closure(nodes, slots, ready, first, next.is_none());
         if through.empty || through.ended {
             return true;
         }

@@ -1,5 +1,5 @@
 //! Two functions over a vector that serves as a stack with reserved room: one pops a value or a default, the other
-//! pushes a value. Both passes of the matcher, `advance` and `settle`, keep what they computed for parts on such a
+//! pushes a value. Both passes of the matcher, `advance` and `closure`, keep what they computed for parts on such a
 //! stack, and `specs/Passes.antt` says what they find there.
 ghost use Rattle.std.specs.Prelude.{◌≡◌, ◌+◌, ◌<◌, ◌≤◌, ◌∷◌, reverse, vec_len, vec_capacity};
 ghost use Rattle.wot_pattern.specs.Passes.{top_or, below};

@@ -8,7 +8,7 @@ use Rattle.wot_certd.specs.World.{World}
 use Rattle.wot_plain.specs.Session.{Session}
 use Rattle.wot_plain.specs.Entry.{CallNothing, IsServed, IsWorldAfter, Use, WasGiven, entry_for, given_by, put_for}
 use Rattle.wot_plain.specs.Entry.{unused, use_of, world_after}
-use Rattle.wot_plain.specs.Lines.{heard}
+use Rattle.wot_plain.specs.Lines.{command_in_line}
 use Rattle.wot_plain.specs.LineStep.{LineStep}
 use Rattle.wot_plain.specs.Scene.{Scene, Step, served_in, world_behind}
 use Rattle.wot_plain.specs.Served.{Served, unserved}
@@ -26,11 +26,11 @@ IsUncalled (Some origin) input = Unit {0}
 
 -- if the directory's world is unknown, this line doesn't use the directory
 abbrev pub MayCall : Option World → List ℕ → Type 0
-MayCall None line = use_of (heard line) ≡ unused
+MayCall None line = use_of (command_in_line line) ≡ unused
 MayCall (Some origin) line = Unit {0}
 
 calls_nothing : (done : List (List ℕ)) (line : List ℕ) (more : List (List ℕ)) → CallNothing (done ++ line ∷ more) →
-    use_of (heard line) ≡ unused
+    use_of (command_in_line line) ≡ unused
 calls_nothing [] line more all = all.0
 calls_nothing (other ∷ done) line more all = calls_nothing done line more all.1
 
@@ -44,7 +44,7 @@ may_call (Some origin) input done line more e uncalled = tt
 
 step_by : (rows : PolicyRows) (now : World) (old mid new : Session) (line : List ℕ) (reply : Option Reply)
     (told : List Reply) (use_ : Use) (given : Served)
-    → use_of (heard line) ≡ use_ → given ≡ served_in (over old now) use_ → LineStep rows old line given reply mid →
+    → use_of (command_in_line line) ≡ use_ → given ≡ served_in (over old now) use_ → LineStep rows old line given reply mid →
     ReportsWatches mid told new
     → Step rows (over old now) line reply told (over new (world_behind (over old now) use_))
 step_by rows now old mid new line reply told use_ given e g does tells =
@@ -52,12 +52,12 @@ step_by rows now old mid new line reply told use_ given e g does tells =
     subst (λ (x : Served). LineStep rows old line x reply mid) g does in
     let Both : Use → Type 0 = λ u. LineStep rows old line (served_in (over old now) u) reply
     mid × (world_behind (over old now) use_ ≡ world_behind (over old now) u) in
-    let both : Both (use_of (heard line)) = subst Both (sym e) (there, refl) in
+    let both : Both (use_of (command_in_line line)) = subst Both (sym e) (there, refl) in
     record { mid = mid; does = both.0; tells = tells; world = both.1 }
 
 -- a line that doesn't use the directory
 pub uncalled_step : (rows : PolicyRows) (now : World) (old mid new : Session) (line : List ℕ) (reply : Option Reply)
-    (told : List Reply) → use_of (heard line) ≡ unused
+    (told : List Reply) → use_of (command_in_line line) ≡ unused
     → LineStep rows old line unserved reply mid → ReportsWatches mid told new → Step rows (over old now) line reply told
     (over new now)
 uncalled_step rows now old mid new line reply told e does tells = step_by rows now old mid new line reply told unused
@@ -83,7 +83,7 @@ after_so (Some name) put now after world = world
 
 pub goes : (rows : PolicyRows) (origin before after : Option World) (now : World) (old mid new : Session) (line : List ℕ)
     (use_ : Use) (given : Served) (reply : Option Reply) (told : List Reply)
-    → use_of (heard line) ≡ use_ → MayCall origin line → IsNow origin before now →
+    → use_of (command_in_line line) ≡ use_ → MayCall origin line → IsNow origin before now →
     IsServed old.state use_ before given after
     → LineStep rows old line given reply mid → ReportsWatches mid told new → Goes rows origin after now old new line reply told
 goes rows None before after now old mid new line use_ given reply told e may is served does tells =

@@ -15,13 +15,13 @@ use Rattle.wot_plain.specs.declared.class.Class.TheVariants.{State as OfState, C
 use Rattle.wot_plain.specs.declared.class.StateCommand.{StateCommand}
 use Rattle.wot_plain.specs.declared.class.StateCommand.TheVariants as kinds
 use Rattle.wot_plain.specs.declared.class.ViewChange.{ViewChange}
-use Rattle.wot_plain.specs.declared.class.ViewChange.TheVariants as turns
+use Rattle.wot_plain.specs.declared.class.ViewChange.TheVariants as revisions
 use Rattle.wot_plain.specs.declared.class.CursorCommand.{CursorCommand}
 use Rattle.wot_plain.specs.declared.class.CursorCommand.TheVariants as paces
 use Rattle.wot_plain.specs.declared.class.WatchCommand.{WatchCommand}
 use Rattle.wot_plain.specs.declared.class.WatchCommand.TheVariants as commands
 use Rattle.wot_plain.specs.Classes.{class_of}
-use Rattle.wot_plain.specs.Lines.{heard, is_silent, longest}
+use Rattle.wot_plain.specs.Lines.{command_in_line, is_silent, longest}
 use Rattle.wot_cursor.specs.Cursors.{Cursor, Cursors, cursor_at}
 use Rattle.wot_plain.specs.Made.{ChangesMarks, CursorMakes, LineMakes, Makes, MakesFor, PieceMakes, WatchMakesMarks}
 use Rattle.wot_plain.proofs.StepsByKind.{heard_read}
@@ -33,7 +33,7 @@ pub stays : (old new : Engine) → new ≡ old → StaysButMarks old new
 stays old new same = record {
   keyring = ap (λ (e : Engine). e.keyring) same;
   views = ap (λ (e : Engine). e.views) same;
-  turns = ap (λ (e : Engine). e.turns) same;
+  revisions = ap (λ (e : Engine). e.revisions) same;
 }
 
 -- ---- bounds for one result hold for another that is Ok only if the first one is
@@ -68,9 +68,9 @@ module _ {A B T E : Type 0} (r : Result A B) (s : Result T E) (less : is_ok s �
 
   change_marks_as : (view : List ℕ) (change : ViewChange) (old new : Engine) (before after : ℕ) →
       ChangesMarks r view change old new before after → ChangesMarks s view change old new before after
-  change_marks_as view (turns.Time t) old new before after m = (m.0, on_less _ m.1)
-  change_marks_as view (turns.Root fpr amount) old new before after m = m
-  change_marks_as view turns.Close old new before after m = m
+  change_marks_as view (revisions.Time t) old new before after m = (m.0, on_less _ m.1)
+  change_marks_as view (revisions.Root fpr amount) old new before after m = m
+  change_marks_as view revisions.Close old new before after m = m
 
   pub makes_for_as : (command : StateCommand) (old new : Engine) (before after : ℕ) →
       MakesFor r command old new before after → MakesFor s command old new before after
@@ -134,6 +134,6 @@ module _ {T E : Type 0} (s : Result T E) (line : List ℕ) where
   pub makes_heard : (cursors : Cursors) (old new : Engine) (before after : ℕ) → length line ≤ longest →
       is_silent line ≡ false
       → LineMakes s (command_of line) cursors old new before after →
-      LineMakes s (heard line) cursors old new before after
+      LineMakes s (command_in_line line) cursors old new before after
   makes_heard cursors old new before after short loud m =
       subst (λ (o : Option Command). LineMakes s o cursors old new before after) (sym (heard_read line short loud)) m

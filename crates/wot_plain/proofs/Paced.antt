@@ -11,10 +11,10 @@ use Rattle.wot_script.specs.declared.reply.Reply.{Reply}
 use Rattle.wot_script.specs.declared.reply.Reply.TheVariants as replies
 use Rattle.wot_script.specs.Replies.{HasWords}
 use Rattle.wot_edge.specs.Record.{IsRecord, Record}
-use Rattle.wot_network.specs.Told.{record_of}
+use Rattle.wot_network.specs.Records.{record_of}
 use Rattle.wot_cache.specs.declared.view.View.{View}
 use Rattle.wot_cache.specs.State.{IsState, State}
-use Rattle.wot_cache.specs.Turns.{Turns}
+use Rattle.wot_cache.specs.Revisions.{Revisions}
 use Rattle.wot_cache.specs.Views.{Views, view_at}
 use Rattle.wot_cursor.specs.Age.{age_of}
 use Rattle.wot_cursor.specs.Cursors.{Cursor, Cursors, begun, cursor_at, is_full, with_cursor, with_place}
@@ -35,7 +35,7 @@ use Rattle.wot_plain.specs.Pacing.{Begins, Ends, GivesPiece, Goes, GoesBy, GoesF
 use Rattle.wot_plain.specs.Pacing.{last_place, piece, bind_place, stamps_in}
 use Rattle.wot_plain.specs.Entry.{unused, use_by}
 use Rattle.wot_plain.specs.Served.{Served}
-use Rattle.wot_plain.specs.Session.{IsTurnedBy, Session, watched}
+use Rattle.wot_plain.specs.Session.{RevisedBy, Session, watched}
 
 -- ---- other commands
 
@@ -112,10 +112,10 @@ state_paced rows old class given reply e =
     paced_cases (λ (c : Class). StateStep rows old c given reply old) (λ name view wanted. refl) (λ name count. refl)
     (λ name. refl) class e
 
-pub turns_paced : (class : Class) (old new : Views) (before after : Turns) → is_pacing class ≡ true →
-    after ≡ before → IsTurnedBy class old before new after
+pub turns_paced : (class : Class) (old new : Views) (before after : Revisions) → is_pacing class ≡ true →
+    after ≡ before → RevisedBy class old before new after
 turns_paced class old new before after e same =
-    paced_cases (λ (c : Class). IsTurnedBy c old before new after) (λ name view wanted. same) (λ name count. same)
+    paced_cases (λ (c : Class). RevisedBy c old before new after) (λ name view wanted. same) (λ name count. same)
     (λ name. same) class e
 
 pub uncalled_paced : (class : Class) → is_pacing class ≡ true → use_by class ≡ unused

@@ -5,11 +5,11 @@ use Rattle.wot_keyring_spec.specs.Held.{Held}
 use Rattle.wot_keyring_spec.specs.Import.{IsOneChange}
 use Rattle.wot_keyring_spec.specs.Keyring.{Keyring}
 use Rattle.wot_cache.specs.State.{Engine, state_of}
-use Rattle.wot_cache.specs.Turns.{AreTurnsBy, Turns, turned, without_turn}
+use Rattle.wot_cache.specs.Revisions.{AreRevisionsBy, Revisions, turned, without_revision}
 use Rattle.wot_cache.specs.Views.{Views, view_at}
 use Rattle.wot_cursor.specs.Cursors.{Cursors}
 use Rattle.wot_plain.specs.declared.class.Class.{Class}
-use Rattle.wot_plain.specs.Session.{AreTurned, IsCounted, IsTurnedBy, Turning, Session, turning_of, session_of}
+use Rattle.wot_plain.specs.Session.{AreTurned, IsCounted, RevisedBy, Turning, Session, turning_of, session_of}
 use Rattle.wot_plain.proofs.Known.{Known, held, views}
 
 -- ---- changes
@@ -42,8 +42,8 @@ counted_by old new cursors after (inr changed) = inr (changed.altered, changed.c
 
 -- ---- turns
 
-by_one : (altered : Turns) (name : List ℕ) (old m n : Views) (before a b : Turns) → m ≡ n →
-    AreTurnsBy altered name old before m a → AreTurnsBy altered name old before n b → a ≡ b
+by_one : (altered : Revisions) (name : List ℕ) (old m n : Views) (before a b : Revisions) → m ≡ n →
+    AreRevisionsBy altered name old before m a → AreRevisionsBy altered name old before n b → a ≡ b
 by_one altered name old m n before a b same (inl p) (inl q) = p.1 ∙ sym q.1
 by_one altered name old m n before a b same (inr p) (inr q) = p.1 ∙ sym q.1
 by_one altered name old m n before a b same (inl p) (inr q) =
@@ -51,79 +51,79 @@ by_one altered name old m n before a b same (inl p) (inr q) =
 by_one altered name old m n before a b same (inr p) (inl q) =
     absurd (p.0 (ap (λ (vs : Views). view_at vs name) same ∙ q.0))
 
-by_some : (altered : Turns) (name : List ℕ) (old new : Views) (before : Turns) →
-    (after : Turns) × AreTurnsBy altered name old before new after
+by_some : (altered : Revisions) (name : List ℕ) (old new : Views) (before : Revisions) →
+    (after : Revisions) × AreRevisionsBy altered name old before new after
 by_some altered name old new before = by (views (view_at new name) (view_at old name))
   where
-    by : Known (view_at new name ≡ view_at old name) → (after : Turns) × AreTurnsBy altered name old before new after
+    by : Known (view_at new name ≡ view_at old name) → (after : Revisions) × AreRevisionsBy altered name old before new after
     by (inl same) = (before, inl (same, refl))
     by (inr other) = (altered, inr (other, refl))
 
-by_still : (altered : Turns) (name : List ℕ) (old new : Views) (before after : Turns) → new ≡ old →
-    AreTurnsBy altered name old before new after → after ≡ before
+by_still : (altered : Revisions) (name : List ℕ) (old new : Views) (before after : Revisions) → new ≡ old →
+    AreRevisionsBy altered name old before new after → after ≡ before
 by_still altered name old new before after same (inl p) = p.1
 by_still altered name old new before after same (inr p) = absurd (p.0 (ap (λ (vs : Views). view_at vs name) same))
 
-turns_one : (turning : Turning) (old m n : Views) (before a b : Turns) → m ≡ n → AreTurned turning old before m a →
+turns_one : (turning : Turning) (old m n : Views) (before a b : Revisions) → m ≡ n → AreTurned turning old before m a →
     AreTurned turning old before n b → a ≡ b
 turns_one (Turning.turning view) old m n before a b same p q = by_one (turned view before) view old m n before a b same
     p q
-turns_one (Turning.closing view) old m n before a b same p q = by_one (without_turn view before) view old m n before a b
+turns_one (Turning.closing view) old m n before a b same p q = by_one (without_revision view before) view old m n before a b
     same p q
 turns_one Turning.leaving old m n before a b same p q = p ∙ sym q
 
-pub turned_one : (class : Class) (old m n : Views) (before a b : Turns) → m ≡ n →
-    IsTurnedBy class old before m a → IsTurnedBy class old before n b → a ≡ b
+pub turned_one : (class : Class) (old m n : Views) (before a b : Revisions) → m ≡ n →
+    RevisedBy class old before m a → RevisedBy class old before n b → a ≡ b
 turned_one class old m n before a b same p q = turns_one (turning_of class) old m n before a b same p q
 
-turns_some : (turning : Turning) (old new : Views) (before : Turns) →
-    (after : Turns) × AreTurned turning old before new after
+turns_some : (turning : Turning) (old new : Views) (before : Revisions) →
+    (after : Revisions) × AreTurned turning old before new after
 turns_some (Turning.turning view) old new before = by_some (turned view before) view old new before
-turns_some (Turning.closing view) old new before = by_some (without_turn view before) view old new before
+turns_some (Turning.closing view) old new before = by_some (without_revision view before) view old new before
 turns_some Turning.leaving old new before = (before, refl)
 
-pub turned_some : (class : Class) (old new : Views) (before : Turns) →
-    (after : Turns) × IsTurnedBy class old before new after
+pub turned_some : (class : Class) (old new : Views) (before : Revisions) →
+    (after : Revisions) × RevisedBy class old before new after
 turned_some class old new before = turns_some (turning_of class) old new before
 
-turns_still : (turning : Turning) (old new : Views) (before after : Turns) → new ≡ old →
+turns_still : (turning : Turning) (old new : Views) (before after : Revisions) → new ≡ old →
     AreTurned turning old before new after → after ≡ before
 turns_still (Turning.turning view) old new before after same p = by_still (turned view before) view old new before after
     same p
-turns_still (Turning.closing view) old new before after same p = by_still (without_turn view before) view old new before
+turns_still (Turning.closing view) old new before after same p = by_still (without_revision view before) view old new before
     after same p
 turns_still Turning.leaving old new before after same p = p
 
 -- if the views don't change, the turns don't
-pub turned_still : (class : Class) (old new : Views) (before after : Turns) → new ≡ old →
-    IsTurnedBy class old before new after → after ≡ before
+pub turned_still : (class : Class) (old new : Views) (before after : Revisions) → new ≡ old →
+    RevisedBy class old before new after → after ≡ before
 turned_still class old new before after same p = turns_still (turning_of class) old new before after same p
 
 -- at most one more turn
-by_few : (altered : Turns) (name : List ℕ) (old new : Views) (before after : Turns) → altered.count ≤ before.count + 1 →
-    AreTurnsBy altered name old before new after
+by_few : (altered : Revisions) (name : List ℕ) (old new : Views) (before after : Revisions) → altered.count ≤ before.count + 1 →
+    AreRevisionsBy altered name old before new after
     → after.count ≤ before.count + 1
-by_few altered name old new before after few (inl p) = let same = ap (λ (t : Turns). t.count) p.1 in omega (arith, same)
-by_few altered name old new before after few (inr p) = let same = ap (λ (t : Turns). t.count) p.1 in
+by_few altered name old new before after few (inl p) = let same = ap (λ (t : Revisions). t.count) p.1 in omega (arith, same)
+by_few altered name old new before after few (inr p) = let same = ap (λ (t : Revisions). t.count) p.1 in
     omega (arith, same, few)
 
-pub same_few : (before after : Turns) → after ≡ before → after.count ≤ before.count + 1
-same_few before after same = let count = ap (λ (t : Turns). t.count) same in omega (arith, count)
+pub same_few : (before after : Revisions) → after ≡ before → after.count ≤ before.count + 1
+same_few before after same = let count = ap (λ (t : Revisions). t.count) same in omega (arith, count)
 
-turns_few : (turning : Turning) (old new : Views) (before after : Turns) → AreTurned turning old before new after →
+turns_few : (turning : Turning) (old new : Views) (before after : Revisions) → AreTurned turning old before new after →
     after.count ≤ before.count + 1
 turns_few (Turning.turning view) old new before after p = by_few (turned view before) view old new before after
     (omega arith) p
-turns_few (Turning.closing view) old new before after p = by_few (without_turn view before) view old new before after
+turns_few (Turning.closing view) old new before after p = by_few (without_revision view before) view old new before after
     (omega arith) p
 turns_few Turning.leaving old new before after p = same_few before after p
 
-pub turned_few : (class : Class) (old new : Views) (before after : Turns) →
-    IsTurnedBy class old before new after → after.count ≤ before.count + 1
+pub turned_few : (class : Class) (old new : Views) (before after : Revisions) →
+    RevisedBy class old before new after → after.count ≤ before.count + 1
 turned_few class old new before after p = turns_few (turning_of class) old new before after p
 
 -- ---- everything that is kept
 
-pub whole_same : (m n : Session) → m.state ≡ n.state → m.changes ≡ n.changes → m.turns ≡ n.turns → m.cursors ≡ n.cursors →
+pub whole_same : (m n : Session) → m.state ≡ n.state → m.changes ≡ n.changes → m.revisions ≡ n.revisions → m.cursors ≡ n.cursors →
     m.watches ≡ n.watches → m ≡ n
-whole_same m n s c t k w = λ i. record { state = s i; changes = c i; turns = t i; cursors = k i; watches = w i }
+whole_same m n s c t k w = λ i. record { state = s i; changes = c i; revisions = t i; cursors = k i; watches = w i }

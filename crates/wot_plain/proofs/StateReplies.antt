@@ -32,7 +32,7 @@ use Rattle.wot_keyring_spec.specs.Held.{cert_in, removing, verdict_set, verdict_
 use Rattle.wot_keyring_spec.specs.Import.{answer_to, answer_under, is_entry}
 use Rattle.wot_keyring_spec.specs.Keyring.{Certificates, is_fpr}
 use Rattle.wot_keyring_spec.specs.Verdict.{is_over}
-use Rattle.wot_network.specs.Told.{user_id_place}
+use Rattle.wot_network.specs.Records.{user_id_place}
 use Rattle.wot_standing.specs.declared.status.Standing.{Standing}
 use Rattle.wot_standing.specs.Kinds.{is_certification}
 use Rattle.wot_standing.specs.Own.{is_own_revoked}
@@ -59,7 +59,7 @@ use Rattle.wot_plain.specs.declared.class.StateCommand.TheVariants as kinds
 use Rattle.wot_plain.specs.declared.class.Change.{Change}
 use Rattle.wot_plain.specs.declared.class.Change.TheVariants as changes
 use Rattle.wot_plain.specs.declared.class.ViewChange.{ViewChange}
-use Rattle.wot_plain.specs.declared.class.ViewChange.TheVariants as turns
+use Rattle.wot_plain.specs.declared.class.ViewChange.TheVariants as revisions
 use Rattle.wot_plain.specs.declared.class.ViewQuestion.{ViewQuestion}
 use Rattle.wot_plain.specs.declared.class.ViewQuestion.TheVariants as questions
 use Rattle.wot_plain.specs.declared.class.Read.{Read}
@@ -304,10 +304,10 @@ change_replies rows s (changes.Unjudge number) =
     (only s replies.Absent) tt tt
 
 view_change_replies : (s : State) (view : List ℕ) (change : ViewChange) → IsStateReply (view_change_of s view change).reply
-view_change_replies s view (turns.Time t) = unless_replies s (timing view t s) (time_fault standard_limits s.views view)
-view_change_replies s view (turns.Root fpr amount) =
+view_change_replies s view (revisions.Time t) = unless_replies s (timing view t s) (time_fault standard_limits s.views view)
+view_change_replies s view (revisions.Root fpr amount) =
     unless_replies s (rooting view fpr amount s) (root_fault standard_limits (view_at s.views view) fpr amount)
-view_change_replies s view turns.Close =
+view_change_replies s view revisions.Close =
     either (is_some (view_at s.views view)) (done (closing view s)) (only s replies.View) tt tt
 
 question_replies : (s : State) (view : Option View) (question : ViewQuestion) (reply : Reply) →

@@ -8,7 +8,7 @@ use Rattle.wot_script.specs.declared.reply.Reply.{Reply}
 use Rattle.wot_script.specs.declared.reply.Reply.TheVariants as replies
 use Rattle.wot_script.specs.Grammar.{command_of}
 use Rattle.wot_script.specs.Replies.{reply_text}
-use Rattle.wot_plain.specs.Lines.{heard, is_silent, longest}
+use Rattle.wot_plain.specs.Lines.{command_in_line, is_silent, longest}
 use Rattle.wot_plain.specs.Session.{Session}
 use Rattle.wot_plain.specs.LineStep.{ReadLineStep, LineStep}
 use Rattle.wot_plain.specs.Served.{Served}
@@ -28,9 +28,9 @@ too_long rows s line given long = first (nat_lt longest (length line)) _ _ (lt-l
 pub looked_at : (rows : PolicyRows) (old : Session) (line : List ℕ) (given : Served) (reply : Reply) (new : Session) →
     length line ≤ longest → is_silent line ≡ false
     → ReadLineStep rows old (command_of line) given reply new → LineStep rows old line given (Some reply) new
-looked_at rows old line given reply new short heard answers =
+looked_at rows old line given reply new short command_in_line answers =
     second (nat_lt longest (length line)) _ _ (le-ltb longest (length line) short)
-    (second (is_silent line) _ _ heard answers)
+    (second (is_silent line) _ _ command_in_line answers)
 
 pub passed_over : (rows : PolicyRows) (s : Session) (line : List ℕ) (given : Served) → length line ≤ longest →
     is_silent line ≡ true → LineStep rows s line given None s
@@ -40,18 +40,18 @@ passed_over rows s line given short silent =
 
 -- ---- which lines are read as commands
 
-pub heard_long : (line : List ℕ) → longest < length line → heard line ≡ None
+pub heard_long : (line : List ℕ) → longest < length line → command_in_line line ≡ None
 heard_long line long = ap (λ (b : Bool). if b then None else if is_silent line then None else command_of line)
     (lt-ltb longest (length line) long)
 
-pub heard_silent : (line : List ℕ) → is_silent line ≡ true → heard line ≡ None
+pub heard_silent : (line : List ℕ) → is_silent line ≡ true → command_in_line line ≡ None
 heard_silent line silent = by (nat_lt longest (length line))
   where
     by : (b : Bool) → (if b then None else if is_silent line then None else command_of line) ≡ None
     by true = refl
     by false = ap (λ (b : Bool). if b then None else command_of line) silent
 
-pub heard_read : (line : List ℕ) → length line ≤ longest → is_silent line ≡ false → heard line ≡ command_of line
+pub heard_read : (line : List ℕ) → length line ≤ longest → is_silent line ≡ false → command_in_line line ≡ command_of line
 heard_read line short loud =
     ap (λ (b : Bool). if b then None else if is_silent line then None else command_of line)
     (le-ltb longest (length line) short)

@@ -28,7 +28,7 @@ use Rattle.wot_certd.specs.World.{Answer}
 use Rattle.wot_cache.specs.declared.view.View.{View}
 use Rattle.wot_cache.specs.declared.view.ViewFault.{ViewFault}
 use Rattle.wot_cache.specs.State.{State, closing, rooting, timing, with_held}
-use Rattle.wot_cache.specs.Turns.{AreTurnsBy, Turns, turn_at, turned, with_turn, without_turn}
+use Rattle.wot_cache.specs.Revisions.{AreRevisionsBy, Revisions, revision_at, turned, with_revision, without_revision}
 use Rattle.wot_cache.specs.Views.{Views, is_name, root_fault, rooted, time_fault, timed, view_at, with_amount}
 use Rattle.wot_cache.specs.Views.{with_root, with_time, without_view}
 use Rattle.wot_plain.specs.declared.class.Class.{Class}
@@ -198,100 +198,100 @@ does_views rows s (OfWatch name command) answer r m = λ g. same s m g
 
 -- ---- turns
 
-own_turn : (name : List ℕ) (before : Turns) → turn_at (turned name before) name ≡ Some (before.count + 1)
-own_turn name before = by (turn_at before name) refl
+own_revision : (name : List ℕ) (before : Revisions) → revision_at (turned name before) name ≡ Some (before.count + 1)
+own_revision name before = by (revision_at before name) refl
   where
-    by : (o : Option ℕ) → turn_at before name ≡ o
-        → lookup (is_name name) (with_turn before.each name (before.count + 1) o) ≡ Some (before.count + 1)
+    by : (o : Option ℕ) → revision_at before name ≡ o
+        → lookup (is_name name) (with_revision before.each name (before.count + 1) o) ≡ Some (before.count + 1)
     by None e = found_put view_name_cmp nat_list_cmp_total name (before.count + 1) before.each
-    by (Some turn) e = found_set (is_name name) (before.count + 1) before.each (ap is_some e)
+    by (Some revision) e = found_set (is_name name) (before.count + 1) before.each (ap is_some e)
 
-other_turned : (name other : List ℕ) (before : Turns) → is_name name other ≡ false
-    → turn_at (turned name before) other ≡ turn_at before other
-other_turned name other before e = by (turn_at before name)
+other_turned : (name other : List ℕ) (before : Revisions) → is_name name other ≡ false
+    → revision_at (turned name before) other ≡ revision_at before other
+other_turned name other before e = by (revision_at before name)
   where
     by : (o : Option ℕ)
-        → lookup (is_name other) (with_turn before.each name (before.count + 1) o) ≡ turn_at before other
+        → lookup (is_name other) (with_revision before.each name (before.count + 1) o) ≡ revision_at before other
     by None = other_put view_name_cmp nat_list_cmp_total name other (before.count + 1) before.each
         (apart view_name_cmp nat_list_cmp_total name other e)
-    by (Some turn) = other_set view_name_cmp nat_list_cmp_total name other (before.count + 1) before.each
+    by (Some revision) = other_set view_name_cmp nat_list_cmp_total name other (before.count + 1) before.each
         (apart view_name_cmp nat_list_cmp_total name other e)
 
-other_gone : (name other : List ℕ) (before : Turns) → is_name name other ≡ false
-    → turn_at (without_turn name before) other ≡ turn_at before other
+other_gone : (name other : List ℕ) (before : Revisions) → is_name name other ≡ false
+    → revision_at (without_revision name before) other ≡ revision_at before other
 other_gone name other before e = other_without view_name_cmp nat_list_cmp_total name other before.each
     (apart view_name_cmp nat_list_cmp_total name other e)
 
-by_others : (altered : Turns) (name other : List ℕ) (old : Views) (before : Turns) (new : Views) (after : Turns)
-    → turn_at altered other ≡ turn_at before other
-    → AreTurnsBy altered name old before new after → turn_at after other ≡ turn_at before other
-by_others altered name other old before new after e (inl p) = ap (λ (t : Turns). turn_at t other) p.1
-by_others altered name other old before new after e (inr p) = ap (λ (t : Turns). turn_at t other) p.1 ∙ e
+by_others : (altered : Revisions) (name other : List ℕ) (old : Views) (before : Revisions) (new : Views) (after : Revisions)
+    → revision_at altered other ≡ revision_at before other
+    → AreRevisionsBy altered name old before new after → revision_at after other ≡ revision_at before other
+by_others altered name other old before new after e (inl p) = ap (λ (t : Revisions). revision_at t other) p.1
+by_others altered name other old before new after e (inr p) = ap (λ (t : Revisions). revision_at t other) p.1 ∙ e
 
-by_more : (altered : Turns) (name : List ℕ) (old : Views) (before : Turns) (new : Views) (after : Turns)
+by_more : (altered : Revisions) (name : List ℕ) (old : Views) (before : Revisions) (new : Views) (after : Revisions)
     → before.count ≤ altered.count
-    → AreTurnsBy altered name old before new after → before.count ≤ after.count
-by_more altered name old before new after more (inl p) = let same = ap (λ (t : Turns). t.count) p.1 in
+    → AreRevisionsBy altered name old before new after → before.count ≤ after.count
+by_more altered name old before new after more (inl p) = let same = ap (λ (t : Revisions). t.count) p.1 in
     omega (arith, same)
-by_more altered name old before new after more (inr p) = let same = ap (λ (t : Turns). t.count) p.1 in
+by_more altered name old before new after more (inr p) = let same = ap (λ (t : Revisions). t.count) p.1 in
     omega (arith, same, more)
 
-pub turns_more : (turning : Turning) (old : Views) (before : Turns) (new : Views) (after : Turns)
+pub turns_more : (turning : Turning) (old : Views) (before : Revisions) (new : Views) (after : Revisions)
     → AreTurned turning old before new after → before.count ≤ after.count
 turns_more (Turning.turning name) old before new after p = by_more (turned name before) name old before new after
     (omega arith) p
-turns_more (Turning.closing name) old before new after p = by_more (without_turn name before) name old before new after
+turns_more (Turning.closing name) old before new after p = by_more (without_revision name before) name old before new after
     (omega arith) p
-turns_more Turning.leaving old before new after p = let same = ap (λ (t : Turns). t.count) p in omega (arith, same)
+turns_more Turning.leaving old before new after p = let same = ap (λ (t : Revisions). t.count) p in omega (arith, same)
 
 -- ---- a view since an earlier state
 
 -- the view and its turn are unchanged, or it isn't open, or its turn is later
-abbrev pub IsShown : List ℕ → Views → Turns → Views → Turns → Type 0
-IsShown view was since now turns =
-    ((view_at now view ≡ view_at was view) × (turn_at turns view ≡ turn_at since view))
-    ⊎ ((view_at now view ≡ None) ⊎ (since.count < unwrap_or (turn_at turns view) 0))
+abbrev pub IsShown : List ℕ → Views → Revisions → Views → Revisions → Type 0
+IsShown view was since now revisions =
+    ((view_at now view ≡ view_at was view) × (revision_at revisions view ≡ revision_at since view))
+    ⊎ ((view_at now view ≡ None) ⊎ (since.count < unwrap_or (revision_at revisions view) 0))
 
-module _ (view : List ℕ) (was : Views) (since : Turns) where
-  shown_same : (old : Views) (before : Turns) (new : Views) (after : Turns) → view_at new view ≡ view_at old view
-      → turn_at after view ≡ turn_at before view
+module _ (view : List ℕ) (was : Views) (since : Revisions) where
+  shown_same : (old : Views) (before : Revisions) (new : Views) (after : Revisions) → view_at new view ≡ view_at old view
+      → revision_at after view ≡ revision_at before view
       → IsShown view was since old before → IsShown view was since new after
   shown_same old before new after v t (inl p) = inl (v ∙ p.0, t ∙ p.1)
   shown_same old before new after v t (inr (inl none)) = inr (inl (v ∙ none))
   shown_same old before new after v t (inr (inr later)) =
-      let turn = ap (λ (o : Option ℕ). unwrap_or o 0) t in inr (inr (omega (arith, later, turn)))
+      let revision = ap (λ (o : Option ℕ). unwrap_or o 0) t in inr (inr (omega (arith, later, revision)))
 
-  shown_turned : (old : Views) (before : Turns) (new : Views) (after : Turns) → since.count ≤ before.count
-      → AreTurnsBy (turned view before) view old before new after
+  shown_turned : (old : Views) (before : Revisions) (new : Views) (after : Revisions) → since.count ≤ before.count
+      → AreRevisionsBy (turned view before) view old before new after
       → IsShown view was since old before → IsShown view was since new after
   shown_turned old before new after few (inl p) s =
-      shown_same old before new after p.0 (ap (λ (t : Turns). turn_at t view) p.1) s
+      shown_same old before new after p.0 (ap (λ (t : Revisions). revision_at t view) p.1) s
   shown_turned old before new after few (inr p) s =
-      let turn : unwrap_or (turn_at after view) 0 ≡ before.count + 1 =
-      ap (λ (t : Turns). unwrap_or (turn_at t view) 0) p.1 ∙ ap (λ (o : Option ℕ). unwrap_or o 0)
-      (own_turn view before) in
-      inr (inr (omega (arith, few, turn)))
+      let revision : unwrap_or (revision_at after view) 0 ≡ before.count + 1 =
+      ap (λ (t : Revisions). unwrap_or (revision_at t view) 0) p.1 ∙ ap (λ (o : Option ℕ). unwrap_or o 0)
+      (own_revision view before) in
+      inr (inr (omega (arith, few, revision)))
 
-  shown_closed : (old : Views) (before : Turns) (new : Views) (after : Turns) → (new ≡ old) ⊎ (view_at new view ≡ None)
-      → AreTurnsBy (without_turn view before) view old before new after → IsShown view was since old before
+  shown_closed : (old : Views) (before : Revisions) (new : Views) (after : Revisions) → (new ≡ old) ⊎ (view_at new view ≡ None)
+      → AreRevisionsBy (without_revision view before) view old before new after → IsShown view was since old before
       → IsShown view was since new after
   shown_closed old before new after v (inl p) s =
-      shown_same old before new after p.0 (ap (λ (t : Turns). turn_at t view) p.1) s
+      shown_same old before new after p.0 (ap (λ (t : Revisions). revision_at t view) p.1) s
   shown_closed old before new after (inl e) (inr p) s = absurd (p.0 (ap (λ (vs : Views). view_at vs view) e))
   shown_closed old before new after (inr none) (inr p) s = inr (inl none)
 
-  pub shown_by : (turning : Turning) (old : Views) (before : Turns) (new : Views) (after : Turns)
+  pub shown_by : (turning : Turning) (old : Views) (before : Revisions) (new : Views) (after : Revisions)
       → AreViewsInOrder old → since.count ≤ before.count
       → AreViewsBy turning old new → AreTurned turning old before new after → IsShown view was since old before
       → IsShown view was since new after
   shown_by Turning.leaving old before new after r few v t s =
-      shown_same old before new after (ap (λ (vs : Views). view_at vs view) v) (ap (λ (x : Turns). turn_at x view) t) s
+      shown_same old before new after (ap (λ (vs : Views). view_at vs view) v) (ap (λ (x : Revisions). revision_at x view) t) s
   shown_by (Turning.turning name) old before new after r few v t s = by (is_name name view) refl
     where
       by : (b : Bool) → is_name name view ≡ b → IsShown view was since new after
       by true e =
           shown_turned old before new after few
-          (subst (λ (n : List ℕ). AreTurnsBy (turned n before) n old before new after) (same_name name view e) t) s
+          (subst (λ (n : List ℕ). AreRevisionsBy (turned n before) n old before new after) (same_name name view e) t) s
       by false e =
           shown_same old before new after (v.others view e) (by_others (turned name before) name view old before new
           after (other_turned name view before e) t) s
@@ -301,42 +301,42 @@ module _ (view : List ℕ) (was : Views) (since : Turns) where
       by true e =
           let same = same_name name view e in
           shown_closed old before new after (subst (λ (n : List ℕ). (new ≡ old) ⊎ (view_at new n ≡ None)) same (v.1 r))
-          (subst (λ (n : List ℕ). AreTurnsBy (without_turn n before) n old before new after) same t) s
+          (subst (λ (n : List ℕ). AreRevisionsBy (without_revision n before) n old before new after) same t) s
       by false e =
-          shown_same old before new after (v.0.others view e) (by_others (without_turn name before) name view old before
+          shown_same old before new after (v.0.others view e) (by_others (without_revision name before) name view old before
           new after (other_gone name view before e) t) s
 
 -- ---- well-formed views and turns
 
-pub record AreSound (views : Views) (turns : Turns) : Type 0 where
+pub record AreSound (views : Views) (revisions : Revisions) : Type 0 where
   pub order : AreViewsInOrder views
-  pub few : AllValues (λ (turn : ℕ). turn ≤ turns.count) turns.each
+  pub few : AllValues (λ (revision : ℕ). revision ≤ revisions.count) revisions.each
 
-few_turned : (name : List ℕ) (before : Turns) → AllValues (λ (turn : ℕ). turn ≤ before.count) before.each
-    → AllValues (λ (turn : ℕ). turn ≤ before.count + 1) (turned name before).each
-few_turned name before all = by (turn_at before name)
+few_turned : (name : List ℕ) (before : Revisions) → AllValues (λ (revision : ℕ). revision ≤ before.count) before.each
+    → AllValues (λ (revision : ℕ). revision ≤ before.count + 1) (turned name before).each
+few_turned name before all = by (revision_at before name)
   where
-    more : AllValues (λ (turn : ℕ). turn ≤ before.count + 1) before.each
-    more = all_weaker (λ (turn : ℕ). turn ≤ before.count) (λ (turn : ℕ). turn ≤ before.count + 1)
-        (λ turn few. omega (arith, few)) before.each all
+    more : AllValues (λ (revision : ℕ). revision ≤ before.count + 1) before.each
+    more = all_weaker (λ (revision : ℕ). revision ≤ before.count) (λ (revision : ℕ). revision ≤ before.count + 1)
+        (λ revision few. omega (arith, few)) before.each all
 
     by : (o : Option ℕ)
-        → AllValues (λ (turn : ℕ). turn ≤ before.count + 1) (with_turn before.each name (before.count + 1) o)
-    by None = all_put (λ (turn : ℕ). turn ≤ before.count + 1) view_name_cmp name (before.count + 1) before.each
+        → AllValues (λ (revision : ℕ). revision ≤ before.count + 1) (with_revision before.each name (before.count + 1) o)
+    by None = all_put (λ (revision : ℕ). revision ≤ before.count + 1) view_name_cmp name (before.count + 1) before.each
         (omega arith) more
-    by (Some turn) = all_set (λ (turn : ℕ). turn ≤ before.count + 1) (is_name name) (before.count + 1) before.each
+    by (Some revision) = all_set (λ (revision : ℕ). revision ≤ before.count + 1) (is_name name) (before.count + 1) before.each
         (omega arith) more
 
-abbrev FewIn : Turns → Type 0
-FewIn turns = AllValues (λ (turn : ℕ). turn ≤ turns.count) turns.each
+abbrev FewIn : Revisions → Type 0
+FewIn revisions = AllValues (λ (revision : ℕ). revision ≤ revisions.count) revisions.each
 
-few_by : (altered : Turns) (name : List ℕ) (old : Views) (before : Turns) (new : Views) (after : Turns) → FewIn before
+few_by : (altered : Revisions) (name : List ℕ) (old : Views) (before : Revisions) (new : Views) (after : Revisions) → FewIn before
     → FewIn altered
-    → AreTurnsBy altered name old before new after → FewIn after
+    → AreRevisionsBy altered name old before new after → FewIn after
 few_by altered name old before new after p q (inl t) = subst FewIn (sym t.1) p
 few_by altered name old before new after p q (inr t) = subst FewIn (sym t.1) q
 
-pub sound_by : (turning : Turning) (old : Views) (before : Turns) (new : Views) (after : Turns)
+pub sound_by : (turning : Turning) (old : Views) (before : Revisions) (new : Views) (after : Revisions)
     → AreViewsBy turning old new
     → AreTurned turning old before new after → AreSound old before → AreSound new after
 sound_by (Turning.turning name) old before new after v t s = record {
@@ -346,8 +346,8 @@ sound_by (Turning.turning name) old before new after v t s = record {
 sound_by (Turning.closing name) old before new after v t s = record {
   order = v.0.order s.order;
   few =
-      few_by (without_turn name before) name old before new after s.few
-      (all_without (λ (turn : ℕ). turn ≤ before.count) (is_name name) before.each s.few) t;
+      few_by (without_revision name before) name old before new after s.few
+      (all_without (λ (revision : ℕ). revision ≤ before.count) (is_name name) before.each s.few) t;
 }
 sound_by Turning.leaving old before new after v t s = record {
   order = subst AreViewsInOrder (sym v) s.order;
@@ -356,13 +356,13 @@ sound_by Turning.leaving old before new after v t s = record {
 }
 
 -- no turn is later than the last
-pub turn_few : (views : Views) (turns : Turns) (name : List ℕ) → AreSound views turns
-    → unwrap_or (turn_at turns name) 0 ≤ turns.count
-turn_few views turns name s = by (turn_at turns name) refl
+pub turn_few : (views : Views) (revisions : Revisions) (name : List ℕ) → AreSound views revisions
+    → unwrap_or (revision_at revisions name) 0 ≤ revisions.count
+turn_few views revisions name s = by (revision_at revisions name) refl
   where
-    by : (o : Option ℕ) → turn_at turns name ≡ o → unwrap_or o 0 ≤ turns.count
+    by : (o : Option ℕ) → revision_at revisions name ≡ o → unwrap_or o 0 ≤ revisions.count
     by None e = omega arith
-    by (Some turn) e = all_found (λ (n : ℕ). n ≤ turns.count) (is_name name) turn turns.each s.few e
+    by (Some revision) e = all_found (λ (n : ℕ). n ≤ revisions.count) (is_name name) revision revisions.each s.few e
 
 pub order_by : (turning : Turning) (old new : Views) → AreViewsBy turning old new → AreViewsInOrder old
     → AreViewsInOrder new

@@ -14,7 +14,7 @@ use Rattle.wot_edge.specs.Answer.{IsAnswer, amount_of}
 use Rattle.wot_edge.specs.Path.{Question}
 use Rattle.wot_edge.specs.Record.{IsRecord}
 use Rattle.wot_keyring_spec.specs.Keyring.{Certificates}
-use Rattle.wot_network.specs.Told.{record_of}
+use Rattle.wot_network.specs.Records.{record_of}
 use Rattle.wot_policy.specs.declared.rows.PolicyRows.{PolicyRows}
 use Rattle.wot_script.specs.declared.reply.Reply.{Reply}
 use Rattle.wot_script.specs.declared.reply.Reply.TheVariants as replies
@@ -23,7 +23,7 @@ use Rattle.wot_verdict.specs.Verdicts.{Entries}
 use Rattle.wot_cache.specs.declared.view.View.{View}
 use Rattle.wot_cache.specs.Question.{question_in}
 use Rattle.wot_cache.specs.State.{IsState, State}
-use Rattle.wot_cache.specs.Turns.{Turns}
+use Rattle.wot_cache.specs.Revisions.{Revisions}
 use Rattle.wot_cache.specs.Views.{Views, view_at}
 use Rattle.wot_watch.specs.Watches.{Watch, Watches, is_full, watch_at, with_watch, without_watch}
 use Rattle.wot_plain.specs.declared.class.Class.{Class}
@@ -37,7 +37,7 @@ use Rattle.wot_plain.specs.Transcript.{octets_of}
 use Rattle.wot_plain.specs.Watching.{AreLines, BeginsWatch, HasAmount, IsAmount, IsLine, IsWatchLine, LeavesWatches}
 use Rattle.wot_plain.specs.Watching.{Opens, TakesOff, ReportsWatches, Watching, is_watching, line_by, opened, told_all}
 use Rattle.wot_plain.specs.Watching.{told_by, with_line}
-use Rattle.wot_plain.specs.Session.{IsTurnedBy, Session}
+use Rattle.wot_plain.specs.Session.{RevisedBy, Session}
 
 -- ---- other commands
 
@@ -85,10 +85,10 @@ state_watched rows old class given reply e =
     watched_cases (λ (c : Class). StateStep rows old c given reply old) (λ name view target wanted uid. refl)
     (λ name. refl) class e
 
-pub turns_watched : (class : Class) (old new : Views) (before after : Turns) → is_watching class ≡ true →
-    after ≡ before → IsTurnedBy class old before new after
+pub turns_watched : (class : Class) (old new : Views) (before after : Revisions) → is_watching class ≡ true →
+    after ≡ before → RevisedBy class old before new after
 turns_watched class old new before after e same =
-    watched_cases (λ (c : Class). IsTurnedBy c old before new after) (λ name view target wanted uid. same)
+    watched_cases (λ (c : Class). RevisedBy c old before new after) (λ name view target wanted uid. same)
     (λ name. same) class e
 
 pub uncalled_watched : (class : Class) → is_watching class ≡ true → use_by class ≡ unused
@@ -141,7 +141,7 @@ abbrev AnswerSome : Type 0
 AnswerSome = (q : Question) (wanted : ℕ) → 1 ≤ wanted → (paths : List Path) × IsAnswer q wanted paths
 
 abbrev pub AnswerOne : Type 0
-AnswerOne = (q : Question) (wanted : ℕ) (a b : List Path) → IsRecord q.told → IsAnswer q wanted a →
+AnswerOne = (q : Question) (wanted : ℕ) (a b : List Path) → IsRecord q.network → IsAnswer q wanted a →
     IsAnswer q wanted b → a ≡ b
 
 abbrev pub Lawful : Type 0

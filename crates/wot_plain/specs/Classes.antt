@@ -15,7 +15,7 @@ use Rattle.wot_plain.specs.declared.class.StateCommand.TheVariants as kinds
 use Rattle.wot_plain.specs.declared.class.Change.{Change}
 use Rattle.wot_plain.specs.declared.class.Change.TheVariants as changes
 use Rattle.wot_plain.specs.declared.class.ViewChange.{ViewChange}
-use Rattle.wot_plain.specs.declared.class.ViewChange.TheVariants as turns
+use Rattle.wot_plain.specs.declared.class.ViewChange.TheVariants as revisions
 use Rattle.wot_plain.specs.declared.class.ViewQuestion.{ViewQuestion}
 use Rattle.wot_plain.specs.declared.class.ViewQuestion.TheVariants as questions
 use Rattle.wot_plain.specs.declared.class.Read.{Read}
@@ -56,9 +56,9 @@ class_of (commands.Remove fpr) = changed (changes.Remove fpr)
 class_of (commands.Good number fpr) = changed (changes.Judge number (verdicts.Good fpr))
 class_of (commands.Bad number) = changed (changes.Judge number verdicts.Bad)
 class_of (commands.Unjudge number) = changed (changes.Unjudge number)
-class_of (commands.Time view t) = turned view (turns.Time t)
-class_of (commands.Root view fpr amount) = turned view (turns.Root fpr amount)
-class_of (commands.Close view) = turned view turns.Close
+class_of (commands.Time view t) = turned view (revisions.Time t)
+class_of (commands.Root view fpr amount) = turned view (revisions.Root fpr amount)
+class_of (commands.Close view) = turned view revisions.Close
 class_of (commands.Ask view target wanted uid) = asked view (questions.Ask target wanted uid)
 class_of (commands.List view wanted) = asked view (questions.List wanted)
 class_of (commands.Explain view fpr uid) = asked view (questions.Explain fpr uid)
@@ -92,9 +92,9 @@ change_of rows s (changes.Unjudge number) = clear_verdict s number
 
 -- a change of a view: the reply, and the state after it
 abbrev pub view_change_of : State → List ℕ → ViewChange → Outcome
-view_change_of s view (turns.Time t) = time s view t
-view_change_of s view (turns.Root fpr amount) = root s view fpr amount
-view_change_of s view turns.Close = close s view
+view_change_of s view (revisions.Time t) = time s view t
+view_change_of s view (revisions.Root fpr amount) = root s view fpr amount
+view_change_of s view revisions.Close = close s view
 
 -- what the reply to a question is, from a view or if there is none
 abbrev pub AnswersQuestion : State → Option View → ViewQuestion → Reply → Type 0

@@ -15,7 +15,7 @@ use Rattle.wot_keyring_spec.specs.Held.{cert_in}
 use Rattle.wot_certd.specs.World.{Answer, World, after_replace, called, fails_next, read_answer, with_entry}
 use Rattle.wot_cache.specs.State.{State}
 use Rattle.wot_plain.specs.Both.{Ends}
-use Rattle.wot_plain.specs.Lines.{heard}
+use Rattle.wot_plain.specs.Lines.{command_in_line}
 use Rattle.wot_plain.specs.Served.{Served, unserved}
 use Rattle.wot_plain.specs.Storing.{put_from}
 
@@ -41,7 +41,7 @@ use_of (Some command) = use_by (class_of command)
 
 -- none of these lines uses the directory
 abbrev pub CallNothing : List (List ℕ) → Type 0
-CallNothing lines = AllByRecursion (λ line. use_of (heard line) ≡ unused) lines
+CallNothing lines = AllByRecursion (λ line. use_of (command_in_line line) ≡ unused) lines
 
 -- the name of the entry that is read in this state
 abbrev pub entry_for : State → Use → Option Name

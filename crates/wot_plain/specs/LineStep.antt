@@ -20,7 +20,7 @@ use Rattle.wot_plain.specs.Outcome.{Outcome, load, only}
 use Rattle.wot_plain.specs.Served.{Served}
 use Rattle.wot_plain.specs.Pacing.{Paces}
 use Rattle.wot_plain.specs.Watching.{Watching}
-use Rattle.wot_plain.specs.Session.{IsCounted, IsTurnedBy, Session}
+use Rattle.wot_plain.specs.Session.{IsCounted, RevisedBy, Session}
 
 -- the reply and the new state of this outcome
 abbrev pub ComesTo : Outcome → Reply → State → Type 0
@@ -51,13 +51,13 @@ pub record CommandStep (rows : PolicyRows) (old : Session) (class : Class) (give
     (new : Session) : Type 0 where
   pub does : StateStep rows old.state class given reply new.state
   pub counted : IsCounted old new
-  pub turned : IsTurnedBy class old.state.views old.turns new.state.views new.turns
+  pub turned : RevisedBy class old.state.views old.revisions new.state.views new.revisions
   pub paces : Paces old class reply new.cursors
   pub watching : Watching old class reply new.watches
 
 -- this reply, and nothing changes
 abbrev pub Stays : Session → Reply → Reply → Session → Type 0
-Stays old told reply new = (reply ≡ told) × (new ≡ old)
+Stays old expected reply new = (reply ≡ expected) × (new ≡ old)
 
 -- what a line does that is neither too long nor silent
 abbrev pub ReadLineStep : PolicyRows → Session → Option Command → Served → Reply → Session → Type 0

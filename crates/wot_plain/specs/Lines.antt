@@ -13,5 +13,5 @@ is_silent [] = true
 is_silent (octet ∷ octets) = octet == 35
 
 -- the command of a line that is neither too long nor silent
-abbrev pub heard : List ℕ → Option Command
-heard line = if nat_lt longest (length line) then None else if is_silent line then None else command_of line
+abbrev pub command_in_line : List ℕ → Option Command
+command_in_line line = if nat_lt longest (length line) then None else if is_silent line then None else command_of line

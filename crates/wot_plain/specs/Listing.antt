@@ -7,7 +7,7 @@ use Rattle.wot_edge.specs.declared.path.Step.{Step}
 use Rattle.wot_keyring_spec.specs.Keyring.{Keyring, certificates_in}
 use Rattle.wot_keyring_spec.specs.declared.pending.Pending.{Pending}
 use Rattle.wot_keyring_spec.specs.Pending.{pending_in}
-use Rattle.wot_network.specs.Told.{record_of}
+use Rattle.wot_network.specs.Records.{record_of}
 use Rattle.wot_reply_lines.specs.declared.lines.BindLine.{BindLine}
 use Rattle.wot_reply_lines.specs.declared.lines.Hint.{Hint}
 use Rattle.wot_reply_lines.specs.declared.lines.Hint.TheVariants as hints
@@ -42,8 +42,8 @@ AreBindings s view wanted binds =
 
 -- a line for each listed binding
 abbrev pub ListsBy : (List ℕ → Record) → List (Fpr × ℕ) → ℕ → Keyring → Reply → Type 0
-ListsBy told roots wanted keyring reply =
-    (binds : List Bind) × IsListed told roots wanted (pairs_in (certificates_in keyring)) binds
+ListsBy network roots wanted keyring reply =
+    (binds : List Bind) × IsListed network roots wanted (pairs_in (certificates_in keyring)) binds
     × (reply ≡ bindings binds)
 
 -- `list`: the reply from an open view, a line for each such binding, in the order of fingerprint and user ID
@@ -63,7 +63,7 @@ reason_line reason = reason_by reason.0 reason.1 reason.2
 
 -- The target's word and a line for each certification on the user ID, if the certificate and the user ID exist.
 abbrev pub explained : Option Explained → Reply
-explained (Some told) = replies.Explained told.target (length told.certs) (map reason_line told.certs)
+explained (Some found) = replies.Explained found.target (length found.certs) (map reason_line found.certs)
 explained None = replies.Absent
 
 abbrev pub explained_from : State → Option View → Fpr → List ℕ → Reply

@@ -6,7 +6,7 @@ use Rattle.wot_plain.specs.declared.class.Class.TheVariants.{State as OfState, C
 use Rattle.wot_plain.specs.declared.class.StateCommand.{StateCommand}
 use Rattle.wot_plain.specs.declared.class.StateCommand.TheVariants as kinds
 use Rattle.wot_plain.specs.declared.class.ViewChange.{ViewChange}
-use Rattle.wot_plain.specs.declared.class.ViewChange.TheVariants as turns
+use Rattle.wot_plain.specs.declared.class.ViewChange.TheVariants as revisions
 use Rattle.wot_plain.specs.declared.class.CursorCommand.{CursorCommand}
 use Rattle.wot_plain.specs.declared.class.CursorCommand.TheVariants as paces
 use Rattle.wot_plain.specs.declared.class.WatchCommand.{WatchCommand}
@@ -25,10 +25,10 @@ MakesNothing old new before after = (after ≡ before) × (new.marks ≡ old.mar
 -- What a command does to the marks and to the count of made edges. A question makes edges for the certificates that are
 -- stale in its view, and none if the view isn't open. A view that is opened has no marks.
 abbrev pub ChangesMarks : {T E : Type 0} → Result T E → List ℕ → ViewChange → Engine → Engine → ℕ → ℕ → Type 0
-ChangesMarks result view (turns.Time t) old new before after =
+ChangesMarks result view (revisions.Time t) old new before after =
     MakesNothing old new before after × OnOk result (view_at old.views view ≡ None → marks_at new view ≡ [])
-ChangesMarks result view (turns.Root fpr amount) old new before after = MakesNothing old new before after
-ChangesMarks result view turns.Close old new before after = (after ≡ before) × OtherMarksStay view old new
+ChangesMarks result view (revisions.Root fpr amount) old new before after = MakesNothing old new before after
+ChangesMarks result view revisions.Close old new before after = (after ≡ before) × OtherMarksStay view old new
 
 abbrev pub MakesFor : {T E : Type 0} → Result T E → StateCommand → Engine → Engine → ℕ → ℕ → Type 0
 MakesFor result (kinds.Question view question) old new before after = IsRefreshed result view old new before after

@@ -70,7 +70,7 @@ imports rows s octets (Ok counts) = record {
   reply = replies.Taken counts.taken counts.skipped counts.fresh;
   state = with_held s (importing rows octets s.held);
 }
-imports rows s octets (Err told) = only s (refusal told)
+imports rows s octets (Err why) = only s (refusal why)
 
 -- `import`: takes all certificates of the octets, or none
 abbrev pub import : PolicyRows → State → List ℕ → Outcome

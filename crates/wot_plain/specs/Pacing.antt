@@ -10,11 +10,11 @@ use Rattle.wot_plain.specs.declared.class.CursorCommand.TheVariants as paces
 use Rattle.wot_script.specs.declared.reply.Reply.{Reply}
 use Rattle.wot_script.specs.declared.reply.Reply.TheVariants as replies
 use Rattle.wot_keyring_spec.specs.Keyring.{certificates_in}
-use Rattle.wot_network.specs.Net.{told_of}
+use Rattle.wot_network.specs.Net.{amount_reply_of}
 use Rattle.wot_network.specs.Roads.{present_of}
 use Rattle.wot_answers.specs.declared.parts.Parts.{Parts}
 use Rattle.wot_cache.specs.declared.view.View.{View}
-use Rattle.wot_cache.specs.Turns.{turn_at}
+use Rattle.wot_cache.specs.Revisions.{revision_at}
 use Rattle.wot_cache.specs.Views.{view_at}
 use Rattle.wot_cursor.specs.Age.{age_of}
 use Rattle.wot_cursor.specs.Cursors.{Cursor, Cursors, begun, cursor_at, is_full}
@@ -32,11 +32,11 @@ use Rattle.wot_plain.specs.Session.{Session}
 
 -- what a list from a view depends on: the count of changes, and the view's turn
 abbrev pub stamps_in : Session → List ℕ → Stamps
-stamps_in s view = record { keyring = s.changes; view = unwrap_or (turn_at s.turns view) 0 }
+stamps_in s view = record { keyring = s.changes; view = unwrap_or (revision_at s.revisions view) 0 }
 
 -- the reply and the cursors are these
 abbrev pub Leaves : Reply → Cursors → Reply → Cursors → Type 0
-Leaves told left reply cursors = (reply ≡ told) × (cursors ≡ left)
+Leaves drafted left reply cursors = (reply ≡ drafted) × (cursors ≡ left)
 
 -- ---- `cursor C over V N`
 
@@ -101,7 +101,7 @@ settled (Some moved) cursors = with_place cursors moved.cursor moved.place
 
 -- P holds of the reply, and of the cursors once the reply is written
 abbrev pub OnTold : {E : Type 0} → Result DraftReply E → Cursors → (Reply → Cursors → Type 0) → Type 0
-OnTold result cursors P = IfOk result (λ told. P told.reply (settled told.moved cursors))
+OnTold result cursors P = IfOk result (λ drafted. P drafted.reply (settled drafted.moved cursors))
 
 -- the piece, from the cursor's view if it is open
 abbrev pub ReturnsPiece : Session → List ℕ → ℕ → Cursor → Reply → Cursors → Type 0
@@ -110,20 +110,20 @@ ReturnsPiece s name count cursor reply cursors =
 
 -- The reply is the piece of the list over these parts, and the cursor moves behind it.
 abbrev pub TellsPiece : Parts → List ℕ → ℕ → Cursor → DraftReply → Type 0
-TellsPiece parts name count cursor told =
+TellsPiece parts name count cursor drafted =
     (binds : List Bind)
-    × IsThePiece (told_of (present_of parts.roads)) parts.roots.now cursor.wanted
+    × IsThePiece (amount_reply_of (present_of parts.roads)) parts.roots.now cursor.wanted
     (pairs_in (certificates_in parts.keyring.now)) cursor.place count binds
-    × (told.reply ≡ piece binds) × ((cursors : Cursors) → settled told.moved cursors ≡ behind cursors name binds)
+    × (drafted.reply ≡ piece binds) × ((cursors : Cursors) → settled drafted.moved cursors ≡ behind cursors name binds)
 
 -- the reply to a line and the cursors once it is written; None for a silent line
 abbrev pub reply_in : Option DraftReply → Option Reply
 reply_in None = None
-reply_in (Some told) = Some told.reply
+reply_in (Some drafted) = Some drafted.reply
 
 abbrev pub left_by : Option DraftReply → Cursors → Cursors
 left_by None cursors = cursors
-left_by (Some told) cursors = settled told.moved cursors
+left_by (Some drafted) cursors = settled drafted.moved cursors
 
 -- whether it is a command of a cursor
 abbrev pub is_pacing : Class → Bool

@@ -54,14 +54,14 @@ missing_reply names.Watch = replies.NoWatch
 
 -- the error is out of memory
 abbrev pub IsMemory : Refused → Type 0
-IsMemory (Keyring told) = told ≡ refusals.Memory
+IsMemory (Keyring why) = why ≡ refusals.Memory
 IsMemory (View fault) = fault ≡ faults.Memory
 IsMemory Memory = Unit {0}
 IsMemory refused = ⊥
 
 -- this is the reply to the error, which isn't out of memory
 abbrev pub IsReplyTo : Refused → Reply → Type 0
-IsReplyTo (Keyring told) reply = (reply ≡ refusal told) × (told ≢ refusals.Memory)
+IsReplyTo (Keyring why) reply = (reply ≡ refusal why) × (why ≢ refusals.Memory)
 IsReplyTo (View fault) reply = (reply ≡ view_refusal fault) × (fault ≢ faults.Memory)
 IsReplyTo (Missing named) reply = reply ≡ missing_reply named
 IsReplyTo FullCursors reply = reply ≡ replies.FullCursors

@@ -5,7 +5,7 @@ use Rattle.wot_policy.specs.declared.rows.PolicyRows.{PolicyRows}
 use Rattle.wot_script.specs.declared.reply.Reply.{Reply}
 use Rattle.wot_certd.specs.World.{World}
 use Rattle.wot_plain.specs.Entry.{Use, entry_for, given_by, put_for, use_of, world_after}
-use Rattle.wot_plain.specs.Lines.{heard}
+use Rattle.wot_plain.specs.Lines.{command_in_line}
 use Rattle.wot_plain.specs.Served.{Served}
 use Rattle.wot_plain.specs.LineStep.{LineStep}
 use Rattle.wot_plain.specs.Watching.{ReportsWatches}
@@ -30,9 +30,9 @@ world_behind old use_ =
 
 -- One line: a step of the abstract machine with what its certificate directory returns. The watch lines of the
 -- resulting state follow the line's reply.
-pub record Step (rows : PolicyRows) (old : Scene) (line : List ℕ) (reply : Option Reply) (told : List Reply)
+pub record Step (rows : PolicyRows) (old : Scene) (line : List ℕ) (reply : Option Reply) (reported : List Reply)
     (new : Scene) : Type 0 where
   pub mid : Session
-  pub does : LineStep rows old.whole line (served_in old (use_of (heard line))) reply mid
-  pub tells : ReportsWatches mid told new.whole
-  pub world : new.world ≡ world_behind old (use_of (heard line))
+  pub does : LineStep rows old.whole line (served_in old (use_of (command_in_line line))) reply mid
+  pub tells : ReportsWatches mid reported new.whole
+  pub world : new.world ≡ world_behind old (use_of (command_in_line line))

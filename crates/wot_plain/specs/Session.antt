@@ -1,7 +1,7 @@
 -- Everything that lasts from one line to the next: the state, the count of its changes, cursors and watches.
 use Rattle.std.specs.Prelude.{◌≡◌, ◌≢◌, ◌⊎◌, ◌+◌, ℕ, List, []}
 use Rattle.wot_cache.specs.State.{Engine, State, start, state_of}
-use Rattle.wot_cache.specs.Turns.{IsOneClosing, IsOneTurn, Turns, no_turns}
+use Rattle.wot_cache.specs.Revisions.{IsOneClosing, IsOneRevision, Revisions, no_revisions}
 use Rattle.wot_cache.specs.Views.{Views}
 use Rattle.wot_cursor.specs.Cursors.{Cursors}
 use Rattle.wot_watch.specs.Watches.{Watches}
@@ -15,20 +15,20 @@ use Rattle.wot_plain.specs.declared.class.ViewChange.TheVariants as alterings
 pub record Session : Type 0 where
   pub state : State
   pub changes : ℕ
-  pub turns : Turns
+  pub revisions : Revisions
   pub cursors : Cursors
   pub watches : Watches
 
 -- before the first line
 abbrev pub beginning : Session
-beginning = record { state = start; changes = 0; turns = no_turns; cursors = []; watches = [] }
+beginning = record { state = start; changes = 0; revisions = no_revisions; cursors = []; watches = [] }
 
 -- with this engine, these cursors, and no watches
 abbrev pub session_of : Engine → Cursors → Session
 session_of engine cursors = record {
   state = state_of engine;
   changes = engine.keyring.changes;
-  turns = engine.turns;
+  revisions = engine.revisions;
   cursors = cursors;
   watches = [];
 }
@@ -59,10 +59,10 @@ turning_of (OfState (kinds.View view change)) = turning_in view change
 turning_of _ = leaving
 
 -- how it changes them, by what it did to the view
-abbrev pub AreTurned : Turning → Views → Turns → Views → Turns → Type 0
-AreTurned (turning view) old before new after = IsOneTurn view old before new after
+abbrev pub AreTurned : Turning → Views → Revisions → Views → Revisions → Type 0
+AreTurned (turning view) old before new after = IsOneRevision view old before new after
 AreTurned (closing view) old before new after = IsOneClosing view old before new after
 AreTurned leaving old before new after = after ≡ before
 
-abbrev pub IsTurnedBy : Class → Views → Turns → Views → Turns → Type 0
-IsTurnedBy class old before new after = AreTurned (turning_of class) old before new after
+abbrev pub RevisedBy : Class → Views → Revisions → Views → Revisions → Type 0
+RevisedBy class old before new after = AreTurned (turning_of class) old before new after

@@ -29,12 +29,12 @@ abbrev pub united : Certificate → Certificate → Result Certificate Refusal
 united kept c = if bytes_eq kept.key c.key then unless_great (unite kept c) else Err refusals.Clash
 
 abbrev pub merged_entry : Certificate → Result Certificate Refusal → Result Certificate Refusal
-merged_entry kept (Err told) = Err told
+merged_entry kept (Err why) = Err why
 merged_entry kept (Ok c) = united kept c
 
 -- the text of a certificate, or the reply to a refusal
 abbrev pub text_unless : Result Certificate Refusal → Result (List ℕ) Reply
-text_unless (Err told) = Err (refusal told)
+text_unless (Err why) = Err (refusal why)
 text_unless (Ok c) = Ok (text_of c)
 
 -- What is to be written, by the answer to the read: the merged certificate, or the certificate alone if there is no

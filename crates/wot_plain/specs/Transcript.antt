@@ -21,8 +21,9 @@ octets_of replies = flat_map reply_text replies
 abbrev pub Run : PolicyRows → Scene → List (List ℕ) → List Reply → Scene → Type 0
 Run rows old [] replies new = (replies ≡ []) × (new ≡ old)
 Run rows old (line ∷ lines) replies new =
-    (reply : Option Reply) × (told : List Reply) × (mid : Scene) × (others : List Reply)
-    × Step rows old line reply told mid × Run rows mid lines others new × (replies ≡ (listed reply ++ told) ++ others)
+    (reply : Option Reply) × (reported : List Reply) × (mid : Scene) × (others : List Reply)
+    × Step rows old line reply reported mid × Run rows mid lines others new
+    × (replies ≡ (listed reply ++ reported) ++ others)
 
 -- the replies to these lines by a fresh machine, with a certificate directory in this world
 pub record RepliesTo (rows : PolicyRows) (world : World) (lines : List (List ℕ)) (replies : List Reply) : Type 0 where

@@ -35,8 +35,8 @@ HasAmount s (Some view) target wanted uid amount = (n : ℕ) × IsAmount s view 
 
 -- a watch's line, by the amount last reported and the current one; None if they are equal
 abbrev pub line_by : List ℕ → ℕ → Option ℕ → Option Reply
-line_by name told None = Some (replies.WatchGone name)
-line_by name told (Some amount) = if amount == told then None else Some (replies.WatchAmount name amount)
+line_by name reported None = Some (replies.WatchGone name)
+line_by name reported (Some amount) = if amount == reported then None else Some (replies.WatchAmount name amount)
 
 -- the line of a watch in this state, or None
 abbrev pub IsLine : State → List ℕ → Watch → Option Reply → Type 0
@@ -80,7 +80,7 @@ pub record ReportsWatches (old : Session) (lines : List Reply) (new : Session) :
 
 -- the reply and the watches are these
 abbrev pub LeavesWatches : Reply → Watches → Reply → Watches → Type 0
-LeavesWatches told left reply watches = (reply ≡ told) × (watches ≡ left)
+LeavesWatches reported left reply watches = (reply ≡ reported) × (watches ≡ left)
 
 abbrev pub opened : List ℕ → Fpr → ℕ → List ℕ → ℕ → Watch
 opened view target wanted uid amount =

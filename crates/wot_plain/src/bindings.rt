@@ -1,5 +1,5 @@
 //! The lines of bindings, of which a reply to `list` has all, and a piece of a cursor some.
-//! It stands on wot_explain for the bindings; wot_command and wot_cursor_commands print them.
+//! It uses wot_explain for the bindings; wot_command and wot_cursor_commands print them.
 ghost use Rattle.std.specs.Prelude.{◌≡◌, map, IfOk};
 ghost use Rattle.wot_plain.specs.Listing.{bind_line};
 

@@ -117,7 +117,7 @@ pub enum WatchCommand {
 }
 
 /// The class of a command.
-pub fn sort(command: Command) -> Class
+pub fn classify(command: Command) -> Class
     requires spelled { HasSpelling command }
     requires within { FitsLine 16777216 command }
     ensures class { result ≡ class_of command }

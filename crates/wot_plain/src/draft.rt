@@ -31,8 +31,8 @@ pub fn alone(reply: Reply) -> DraftReply
 }
 
 /// A reply that moves no cursor, or out of memory.
-pub fn plain(reply: Result<Reply, Memory>) -> Result<DraftReply, Memory>
-    ensures told { IfOk reply (λ r. result ≡ Ok (record { reply = r; moved = None })) }
+pub fn without_move(reply: Result<Reply, Memory>) -> Result<DraftReply, Memory>
+    ensures reported { IfOk reply (λ r. result ≡ Ok (record { reply = r; moved = None })) }
     ensures same { is_ok result ≡ is_ok reply }
 {
     match reply {
@@ -42,7 +42,7 @@ pub fn plain(reply: Result<Reply, Memory>) -> Result<DraftReply, Memory>
 }
 
 /// Moves the cursor.
-pub fn settle(moved: Option<CursorMove>, cursors: &mut Cursors)
+pub fn move_cursor(moved: Option<CursorMove>, cursors: &mut Cursors)
     ensures settled { cursors.new ≡ settled moved cursors.old }
 {
     if let Some(CursorMove { cursor, place }) = moved {

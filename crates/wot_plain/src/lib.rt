@@ -1,7 +1,7 @@
 //! One line's step: what each command does, by its class, and what is kept between lines. The definitions are in
 //! `specs/`; the code here sorts commands into classes, replies to refusals, and holds a reply until it is written.
 //! wot_command, wot_cursor_commands and wot_watch_commands run commands by these definitions, and wot_laws speaks of
-//! them, so all of these stand on this crate and not on one another.
+//! them, so all of these use this crate and not on one another.
 #![tactic(auto)]
 
 mod asked;
@@ -14,7 +14,7 @@ pub use asked::AskedBinding;
 pub use bindings::bind_lines;
 pub use class::{
     Change, Class, CursorCommand, Read, ShelfCall, StateCommand, ViewChange, ViewQuestion,
-    WatchCommand, sort,
+    WatchCommand, classify,
 };
-pub use draft::{CursorMove, DraftReply, alone, plain, settle};
+pub use draft::{CursorMove, DraftReply, alone, move_cursor, without_move};
 pub use refusal::{Missing, Refused, reply_to, reply_to_missing};

@@ -1,6 +1,6 @@
 //! What a policy is asked, and the tables of rows that answer it.
 //!
-//! It stands on `specs/Admits.antt`, which follows RFC 9580, sections 5.2.1 and 9.5. `standard` has the rows of the
+//! It uses `specs/Admits.antt`, which follows RFC 9580, sections 5.2.1 and 9.5. `standard` has the rows of the
 //! program; `docs/PROFILE.md` explains them.
 ghost use Rattle.std.specs.Prelude.{◌≡◌};
 ghost use Rattle.wot_policy.specs.Admits.{admits as admits_by, is_revoking as takes_back};

@@ -1,6 +1,6 @@
 //! The standard rows: which hash algorithms count, for which signature types, and until when.
 //!
-//! They stand on `specs/Standard.antt`. A change here changes answers, and `docs/PROFILE.md`, which states the rows.
+//! They use `specs/Standard.antt`. A change here changes answers, and `docs/PROFILE.md`, which states the rows.
 ghost use Rattle.std.specs.Prelude.{◌≡◌, ℕ, ◌<◌, slice_index_or};
 ghost use Rattle.wot_policy.specs.declared.rows.Row.TheVariants.{Never};
 ghost use Rattle.wot_policy.specs.Standard.{IsStandard, found_in, table_with};

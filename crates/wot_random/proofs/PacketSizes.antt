@@ -78,12 +78,12 @@ packets_length start index small =
 abbrev pub IsSmall : Certification → Type 0
 IsSmall made = length made.packet ≤ 45
 
-certification_fits : (start drawn index turn : ℕ) → IsSmall (certification_by start drawn index turn)
-certification_fits start drawn index turn =
+certification_fits : (start drawn index round : ℕ) → IsSmall (certification_by start drawn index round)
+certification_fits start drawn index round =
     let issuer = issuer_by start drawn index in
-    let body : length (certification_body start drawn index turn) ≡ 43 =
-    signature_length 16 (1100000000 + turn) (fpr_at start issuer) (trust_by start drawn) (fpr_length _ _ _ _ _) in
-    let packet = written_length 2 (certification_body start drawn index turn) (omega (arith, body)) in
+    let body : length (certification_body start drawn index round) ≡ 43 =
+    signature_length 16 (1100000000 + round) (fpr_at start issuer) (trust_by start drawn) (fpr_length _ _ _ _ _) in
+    let packet = written_length 2 (certification_body start drawn index round) (omega (arith, body)) in
     omega (arith, body, packet)
 
 -- at most three of them

@@ -20,23 +20,23 @@ issuer_by start drawn index = word start drawn % index
 abbrev pub trust_by : ℕ → ℕ → List ℕ
 trust_by start drawn = trust (word start (drawn + 1) % 4) (60 + word start (drawn + 1) / 4 % 61)
 
--- the body of the certification (type 0x10) made in this turn, from the words after this many
+-- the body of the certification (type 0x10) made in this round, from the words after this many
 abbrev pub certification_body : ℕ → ℕ → ℕ → ℕ → List ℕ
-certification_body start drawn index turn =
-    signature_body 16 (1100000000 + turn) (fpr_at start (issuer_by start drawn index)) (trust_by start drawn)
+certification_body start drawn index round =
+    signature_body 16 (1100000000 + round) (fpr_at start (issuer_by start drawn index)) (trust_by start drawn)
 
 -- its packet, its number on the user ID of the index, and its issuer
 abbrev pub certification_by : ℕ → ℕ → ℕ → ℕ → Certification
-certification_by start drawn index turn =
-    let body = certification_body start drawn index turn in
+certification_by start drawn index round =
+    let body = certification_body start drawn index round in
     record {
       packet = written 2 body;
       number = number_of (body_at start index) 1 (user_id index) body;
       issuer = fpr_at start (issuer_by start drawn index);
     }
 
--- the certifications of an index, in turns 1, 2 and 3
+-- the certifications of an index, in rounds 1, 2 and 3
 unfoldable pub certifications_at : ℕ → ℕ → ℕ → List Certification
 certifications_at start count index =
     if index == 0 then []
-    else map (λ turn. certification_by start (drawn_before count index + 2 * (turn - 1)) index turn) (1 ∷ 2 ∷ 3 ∷ [])
+    else map (λ round. certification_by start (drawn_before count index + 2 * (round - 1)) index round) (1 ∷ 2 ∷ 3 ∷ [])

@@ -44,19 +44,19 @@ fn choose(words: &mut Words, index: u32) -> Chosen
     Chosen { issuer, trust }
 }
 
-/// The certification made in this turn.
+/// The certification made in this round.
 fn certify(
     alloc: Global,
     words: &mut Words,
     identities: &[Identity],
     index: u32,
-    turn: u32,
+    round: u32,
 ) -> Result<Certification, Memory>
     requires drawn { words.old.drawn < 2 ^ 32 }
-    requires turn { turn ≤ 3 }
+    requires round { round ≤ 3 }
     requires index { 0 < index }
     requires identities { (count : ℕ) × (index < count) × AreIdentities words.old.start count identities.now }
-    ensures made { IfOk result (λ made. made ≡ certification_by words.old.start words.old.drawn index turn) }
+    ensures made { IfOk result (λ made. made ≡ certification_by words.old.start words.old.drawn index round) }
     ensures start { words.new.start ≡ words.old.start }
     ensures drawn { words.new.drawn ≡ words.old.drawn + 2 }
 {
@@ -64,7 +64,7 @@ fn certify(
     let issuer = identities[issuer as usize].fpr;
     let depth = (trust % 4) as u8;
     let amount = (60 + trust / 4 % 61) as u8;
-    let made = 1_100_000_000 + turn;
+    let made = 1_100_000_000 + round;
     let body = signature_body(alloc, 0x10, made, &issuer, &[3, 5, depth, amount])?;
     let subject = &identities[index as usize];
     let number = number_of(subject.body.items(), 1, subject.uid.octets(), &body);

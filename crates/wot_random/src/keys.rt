@@ -43,7 +43,7 @@ fn fpr_of_key(body: &[u8]) -> Fpr
 /// The key of an index. It takes four words.
 fn make_identity(alloc: Global, words: &mut Words, index: u32) -> Result<Identity, Memory>
     requires index { index < 2000 }
-    requires turn { words.old.drawn ≡ 4 * index }
+    requires round { words.old.drawn ≡ 4 * index }
     ensures made { IfOk result (IsIdentity words.old.start index) }
     ensures start { words.new.start ≡ words.old.start }
     ensures drawn { OnOk result (words.new.drawn ≡ words.old.drawn + 4) }

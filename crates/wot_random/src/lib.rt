@@ -1,4 +1,4 @@
-//! Random keys, user IDs and certifications, which a start and a count determine. It stands on wot_key, wot_packet and
+//! Random keys, user IDs and certifications, which a start and a count determine. It uses wot_key, wot_packet and
 //! wot_verdict for what they consist of, and knows no command and no reply. wot_gen makes a script of them.
 #![tactic(auto)]
 

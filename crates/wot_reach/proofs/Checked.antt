@@ -39,27 +39,27 @@ key_or_none fprs (e ∷ es) fpr all = by (is_at (fpr_cmp fpr) e.0) refl (key_or_
 
 -- ---- the check
 
-module _ (told : List ℕ → Record) (roots : List (Fpr × ℕ)) where
+module _ (network : List ℕ → Record) (roots : List (Fpr × ℕ)) where
   pub none_checked : (numbers : List (Fpr × ℕ)) (fprs : List Fpr) → AreKeysOf fprs numbers
-      → HaveEnoughBut told roots (number_of numbers) fprs
+      → HaveEnoughBut network roots (number_of numbers) fprs
   none_checked numbers fprs keys fpr = elim (key_or_none fprs numbers fpr keys) [
-    | inl none ↦ inl (absent_enough told roots numbers fpr none)
+    | inl none ↦ inl (absent_enough network roots numbers fpr none)
     | inr has ↦ inr has
   ]
 
   pub one_checked : (number : Fpr → ℕ) (fprs : List Fpr) (i : ℕ) (fpr : Fpr) → i < length fprs → fpr ≡ get_or fprs i fpr
-      → HaveEnoughBut told roots number (drop i fprs)
-      → HasEnough told roots number fpr → HaveEnoughBut told roots number (drop (i + 1) fprs)
+      → HaveEnoughBut network roots number (drop i fprs)
+      → HasEnough network roots number fpr → HaveEnoughBut network roots number (drop (i + 1) fprs)
   one_checked number fprs i fpr lt is but enough other = elim (but other) [
     | inl done ↦ inl done
     | inr there ↦ elim (subst (λ (xs : List Fpr). Has xs other) (drop_more fprs i fpr lt) there) [
-      | inl f ↦ inl (subst (HasEnough told roots number) (is ∙ sym f) enough)
+      | inl f ↦ inl (subst (HasEnough network roots number) (is ∙ sym f) enough)
       | inr more ↦ inr more
     ]
   ]
 
   pub all_checked : (number : Fpr → ℕ) (fprs : List Fpr) (i : ℕ) → length fprs ≤ i
-      → HaveEnoughBut told roots number (drop i fprs) → HaveEnough told roots number
+      → HaveEnoughBut network roots number (drop i fprs) → HaveEnough network roots number
   all_checked number fprs i le but fpr = elim (but fpr) [
     | inl done ↦ done
     | inr there ↦ absurd (subst (λ (xs : List Fpr). Has xs fpr) (drop_all i fprs le) there)

@@ -27,10 +27,10 @@ has_either [] x y (inr h) = absurd h
 has_either (z ∷ xs) x y (inl e) = inl (inl e)
 has_either (z ∷ xs) x y (inr h) = elim (has_either xs x y h) [ inl k ↦ inl (inr k) | inr e ↦ inr e ]
 
-module _ (told : List ℕ → Record) (number : Fpr → ℕ) (edge : EdgeFacts) where
+module _ (network : List ℕ → Record) (number : Fpr → ℕ) (edge : EdgeFacts) where
   pub adds_edge : (old new : Onward) → new.fpr ≡ old.fpr → new.edges.items ≡ old.edges.items ++ edge ∷ []
-      → IsUsableIf told old.usable new.usable edge → IsUsableIf told old.all_usable new.all_usable edge
-      → AddsLead told number edge old new
+      → IsUsableIf network old.usable new.usable edge → IsUsableIf network old.all_usable new.all_usable edge
+      → AddsLead network number edge old new
   adds_edge old new same e usable all = record {
     all = all;
     fpr = same;
@@ -41,7 +41,7 @@ module _ (told : List ℕ → Record) (number : Fpr → ℕ) (edge : EdgeFacts) 
         let both = usable yes in
         elim (has_either old.edges.items other edge (subst (λ (xs : List EdgeFacts). Has xs other) e h)) [
           | inl k ↦ before both.0 other k
-          | inr f ↦ subst (IsUsable told) (sym f) both.1
+          | inr f ↦ subst (IsUsable network) (sym f) both.1
         ];
   }
 
@@ -49,8 +49,8 @@ module _ (told : List ℕ → Record) (number : Fpr → ℕ) (edge : EdgeFacts) 
   clash true e f = absurd cc
   clash false e f = absurd cc
 
-  pub adds_none : (one : Onward) (all : Bool) → IsUsableIf told one.all_usable all edge → leads_on number edge ≡ false
-      → AddsLead told number edge one (record one { all_usable = all })
+  pub adds_none : (one : Onward) (all : Bool) → IsUsableIf network one.all_usable all edge → leads_on number edge ≡ false
+      → AddsLead network number edge one (record one { all_usable = all })
   adds_none one all is not = record {
     all = is;
     fpr = refl;
@@ -63,21 +63,21 @@ module _ (told : List ℕ → Record) (number : Fpr → ℕ) (edge : EdgeFacts) 
 -- ---- of these edges those before a place
 
 -- they were gathered
-pub record LeadTo (told : List ℕ → Record) (number : Fpr → ℕ) (fpr : Fpr) (edges : List EdgeFacts) (one : Onward)
+pub record LeadTo (network : List ℕ → Record) (number : Fpr → ℕ) (fpr : Fpr) (edges : List EdgeFacts) (one : Onward)
     (k : ℕ) : Type 0 where
   pub same : one.fpr ≡ fpr
   pub into : (edge : EdgeFacts) → Has one.edges.items edge → Has edges edge
   pub covers : (edge : EdgeFacts) → Has edges edge → leads_on number edge ≡ true
       → Has (drop k edges) edge ⊎ Has one.edges.items edge
-  pub usable : AreUsableIf told one.usable one.edges.items
-  pub all : one.all_usable ≡ true → (edge : EdgeFacts) → Has edges edge → Has (drop k edges) edge ⊎ IsUsable told edge
+  pub usable : AreUsableIf network one.usable one.edges.items
+  pub all : one.all_usable ≡ true → (edge : EdgeFacts) → Has edges edge → Has (drop k edges) edge ⊎ IsUsable network edge
 
 has_get : (edges : List EdgeFacts) (k : ℕ) (edge : EdgeFacts) → k < length edges → edge ≡ get_or edges k edge
     → Has edges edge
 has_get edges k edge lt is = subst (λ (e : EdgeFacts). Has edges e) (sym is) (has_at edges k edge lt)
 
-module _ (told : List ℕ → Record) (number : Fpr → ℕ) (fpr : Fpr) (edges : List EdgeFacts) where
-  pub lead_start : (one : Onward) → one.fpr ≡ fpr → one.edges.items ≡ [] → LeadTo told number fpr edges one 0
+module _ (network : List ℕ → Record) (number : Fpr → ℕ) (fpr : Fpr) (edges : List EdgeFacts) where
+  pub lead_start : (one : Onward) → one.fpr ≡ fpr → one.edges.items ≡ [] → LeadTo network number fpr edges one 0
   lead_start one same none = record {
     same = same;
     into = λ edge h. absurd (subst (λ (xs : List EdgeFacts). Has xs edge) none h);
@@ -87,8 +87,8 @@ module _ (told : List ℕ → Record) (number : Fpr → ℕ) (fpr : Fpr) (edges 
   }
 
   pub lead_more : (old new : Onward) (k : ℕ) (edge : EdgeFacts) → k < length edges → edge ≡ get_or edges k edge
-      → LeadTo told number fpr edges old k → AddsLead told number edge old new
-      → LeadTo told number fpr edges new (k + 1)
+      → LeadTo network number fpr edges old k → AddsLead network number edge old new
+      → LeadTo network number fpr edges new (k + 1)
   lead_more old new k edge lt is from adds = record {
     same = adds.fpr ∙ from.same;
     into = λ other h. elim (adds.only other h) [
@@ -112,16 +112,16 @@ module _ (told : List ℕ → Record) (number : Fpr → ℕ) (fpr : Fpr) (edges 
           | inl there ↦ elim (subst (λ (xs : List EdgeFacts). Has xs other) (drop_more edges k edge lt) there) [
             | inl f ↦
                 let same : edge ≡ other = is ∙ sym f in
-                inr (subst (IsUsable told) same both.1)
+                inr (subst (IsUsable network) same both.1)
             | inr more ↦ inl more
           ]
           | inr done ↦ inr done
         ];
   }
 
-  pub lead_end : (one : Onward) (k : ℕ) → ((uid : List ℕ) → edges ≡ edges_into (told uid) fpr) → length edges ≤ k
-      → LeadTo told number fpr edges one k → LeadsOnInto told number one.fpr one
-  lead_end one k rows le from = subst (λ (f : Fpr). LeadsOnInto told number f one) (sym from.same) (record {
+  pub lead_end : (one : Onward) (k : ℕ) → ((uid : List ℕ) → edges ≡ edges_into (network uid) fpr) → length edges ≤ k
+      → LeadTo network number fpr edges one k → LeadsOnInto network number one.fpr one
+  lead_end one k rows le from = subst (λ (f : Fpr). LeadsOnInto network number f one) (sym from.same) (record {
     into = λ uid edge h. subst (λ (xs : List EdgeFacts). Has xs edge) (rows uid) (from.into edge h);
     covers = λ uid edge h lead.
         elim (from.covers edge (subst (λ (xs : List EdgeFacts). Has xs edge) (sym (rows uid)) h) lead) [
@@ -135,8 +135,8 @@ module _ (told : List ℕ → Record) (number : Fpr → ℕ) (fpr : Fpr) (edges 
     ];
   })
 
-pub onward_added : (told : List ℕ → Record) (number : Fpr → ℕ) (old new : List Onward) (one : Onward)
-    → AreOnward told number old → LeadsOnInto told number one.fpr one → new ≡ old ++ one ∷ []
-    → AreOnward told number new
-onward_added told number old new one are leads e =
-    subst (AreOnward told number) (sym e) (All-push (λ (x : Onward). LeadsOnInto told number x.fpr x) old one are leads)
+pub onward_added : (network : List ℕ → Record) (number : Fpr → ℕ) (old new : List Onward) (one : Onward)
+    → AreOnward network number old → LeadsOnInto network number one.fpr one → new ≡ old ++ one ∷ []
+    → AreOnward network number new
+onward_added network number old new one are leads e =
+    subst (AreOnward network number) (sym e) (All-push (λ (x : Onward). LeadsOnInto network number x.fpr x) old one are leads)

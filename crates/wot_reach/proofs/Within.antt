@@ -28,31 +28,31 @@ all_within reach all (step ∷ rest) few =
 pub open_within : (reach : Fpr → ℕ) → ((fpr : Fpr) → reach fpr ≡ 255) → (q : Question) (used : Use) → Holds reach q used
 open_within reach all q used steps o = all_within reach all steps o.0.few
 
-pub all_reach : (told : List ℕ → Record) (roots : List (Fpr × ℕ)) (reach : Fpr → ℕ) → ((fpr : Fpr) → reach fpr ≡ 255)
-    → HaveEnough told roots reach
-all_reach told roots reach all fpr = record {
+pub all_reach : (network : List ℕ → Record) (roots : List (Fpr × ℕ)) (reach : Fpr → ℕ) → ((fpr : Fpr) → reach fpr ≡ 255)
+    → HaveEnough network roots reach
+all_reach network roots reach all fpr = record {
   root = λ some. all fpr;
   edges = λ uid row has usable some. let e = all fpr in let f = all row.edge.issuer in omega (arith, e, f);
 }
 
-pub none_onward : (told : List ℕ → Record) (number : Fpr → ℕ) (onward : List Onward) → onward ≡ []
-    → AreOnward told number onward
-none_onward told number onward none = subst (AreOnward told number) (sym none) (λ i one lt. absurd (omega (arith, lt)))
+pub none_onward : (network : List ℕ → Record) (number : Fpr → ℕ) (onward : List Onward) → onward ≡ []
+    → AreOnward network number onward
+none_onward network number onward none = subst (AreOnward network number) (sym none) (λ i one lt. absurd (omega (arith, lt)))
 
-pub everywhere_reach : (told : List ℕ → Record) (roots : List (Fpr × ℕ)) (table : Table)
-    → ((fpr : Fpr) → number_at table fpr ≡ 255) → table.onward ≡ [] → IsReach told roots table
-everywhere_reach told roots table all none =
+pub everywhere_reach : (network : List ℕ → Record) (roots : List (Fpr × ℕ)) (table : Table)
+    → ((fpr : Fpr) → number_at table fpr ≡ 255) → table.onward ≡ [] → IsReach network roots table
+everywhere_reach network roots table all none =
     record {
-      enough = all_reach told roots (number_at table) all;
-      onward = none_onward told (number_at table) table.onward none;
+      enough = all_reach network roots (number_at table) all;
+      onward = none_onward network (number_at table) table.onward none;
     }
 
 -- ---- by a table
 
-module _ (told : List ℕ → Record) (roots : List (Fpr × ℕ)) (reach : Fpr → ℕ) (is : HaveEnough told roots reach)
+module _ (network : List ℕ → Record) (roots : List (Fpr × ℕ)) (reach : Fpr → ℕ) (is : HaveEnough network roots reach)
     (uid : List ℕ) (target : Fpr) (used : Use) where
   abbrev q : Question
-  q = asks (told uid) roots target
+  q = asks (network uid) roots target
 
   -- the reach of where the rest begins is at least its length
   rest_high : (step : Step) (rest : List Step) → Stands q step rest → 0 < step_left used step

@@ -25,23 +25,24 @@ number_at table fpr = number_of table.numbers fpr
 
 -- When a fingerprint has enough: it has 255 if it is a root, and the target of each usable edge of positive amount has
 -- at least the lesser of the edge's depth and one less than its issuer's number.
-pub record HasEnough (told : List ℕ → Record) (roots : List (Fpr × ℕ)) (number : Fpr → ℕ) (fpr : Fpr) : Type 0 where
+pub record HasEnough (network : List ℕ → Record) (roots : List (Fpr × ℕ)) (number : Fpr → ℕ) (fpr : Fpr) : Type 0 where
   pub root : 0 < root_amount roots fpr → number fpr ≡ 255
-  pub edges : (uid : List ℕ) (row : Row) → Has (rows_into (told uid) fpr) row → row.usable ≡ true → 0 < row.edge.amount
+  pub edges : (uid : List ℕ) (row : Row) → Has (rows_into (network uid) fpr) row → row.usable ≡ true
+      → 0 < row.edge.amount
       → min row.edge.depth (number row.edge.issuer - 1) ≤ number fpr
 
 -- These numbers are the reach for all records, scopes left aside, and for the roots: on a path from a root no issuer
 -- comes further before the target than its number.
 abbrev pub HaveEnough : (List ℕ → Record) → List (Fpr × ℕ) → (Fpr → ℕ) → Type 0
-HaveEnough told roots number = (fpr : Fpr) → HasEnough told roots number fpr
+HaveEnough network roots number = (fpr : Fpr) → HasEnough network roots number fpr
 
 -- the numbers of a table are the reach, and its places are those of all edges that lead on
-pub record IsReach (told : List ℕ → Record) (roots : List (Fpr × ℕ)) (table : Table) : Type 0 where
-  pub enough : HaveEnough told roots (number_at table)
-  pub onward : AreOnward told (number_at table) table.onward
+pub record IsReach (network : List ℕ → Record) (roots : List (Fpr × ℕ)) (table : Table) : Type 0 where
+  pub enough : HaveEnough network roots (number_at table)
+  pub onward : AreOnward network (number_at table) table.onward
 
 -- an edge asks no more than n of its target
 abbrev pub Allows : (List ℕ → Record) → (Fpr → ℕ) → ℕ → EdgeFacts → Type 0
-Allows told number n edge =
-    (uid : List ℕ) (row : Row) → Has (rows_into (told uid) edge.target) row → row.edge ≡ edge → row.usable ≡ true
+Allows network number n edge =
+    (uid : List ℕ) (row : Row) → Has (rows_into (network uid) edge.target) row → row.edge ≡ edge → row.usable ≡ true
     → 0 < row.edge.amount → min row.edge.depth (number row.edge.issuer - 1) ≤ n

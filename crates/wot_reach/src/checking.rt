@@ -1,6 +1,6 @@
 //! The last steps of making a table of reach: its numbers go into the table, and each fingerprint is checked.
 //!
-//! It stands on `reach` and `numbers`, and `making` takes the steps. If the check fails, a table that leaves nothing
+//! It uses `reach` and `numbers`, and `making` takes the steps. If the check fails, a table that leaves nothing
 //! out takes its place: wrong numbers can cost time but never an answer.
 ghost use Rattle.std.specs.Prelude.{ℕ, List, IfOk};
 ghost use Rattle.wot_types.specs.declared.fpr.Fpr.{Fpr as Print};
@@ -49,7 +49,7 @@ impl Numbering {
     /// Puts in the next number; after the last one the check begins.
     pub(crate) fn number(mut self, alloc: Global) -> Result<Making, Memory>
         requires keys { AreKeysOf self.fprs.items self.table }
-        ensures making { (told : List ℕ → Record) (roots : List (Print × ℕ)) → IfOk result (IsMaking told roots) }
+        ensures making { (network : List ℕ → Record) (roots : List (Print × ℕ)) → IfOk result (IsMaking network roots) }
     {
         if self.next >= self.fprs.len() {
             return Ok(Making::Checking(Checking::new(alloc, self.fprs, self.table.into_table())));
@@ -66,7 +66,7 @@ impl Checking {
     /// A table of these numbers, none checked yet.
     pub(crate) fn new(alloc: Global, fprs: Vec<Fpr>, table: BTreeMap<Fpr, u8>) -> Checking
         requires keys { AreKeysOf fprs.items table.entries }
-        ensures checking { (told : List ℕ → Record) (roots : List (Print × ℕ)) → IsChecking told roots result }
+        ensures checking { (network : List ℕ → Record) (roots : List (Print × ℕ)) → IsChecking network roots result }
     {
         Checking {
             fprs,
@@ -83,8 +83,8 @@ impl Checking {
 
     /// Adds the next slot.
     pub(crate) fn slot(mut self) -> Result<Checking, Memory>
-        ensures checking { (told : List ℕ → Record) (roots : List (Print × ℕ)) → IsChecking told roots self
-            → IfOk result (IsChecking told roots) }
+        ensures checking { (net : List ℕ → Record) (roots : List (Print × ℕ)) → IsChecking net roots self
+            → IfOk result (IsChecking net roots) }
     {
         let Some(fpr) = self.fprs.get(self.slotted) else {
             return Ok(self);
@@ -102,8 +102,8 @@ impl Checking {
         roads: &R,
         roots: &Roots,
     ) -> Result<Making, Memory>
-        requires checking { IsChecking (R.told roads.now) roots.now self }
-        ensures making { IfOk result (IsMaking (R.told roads.now) roots.now) }
+        requires checking { IsChecking (R.network roads.now) roots.now self }
+        ensures making { IfOk result (IsMaking (R.network roads.now) roots.now) }
     {
         if self.next >= self.fprs.len() {
             return Ok(Making::Made(self.reach));

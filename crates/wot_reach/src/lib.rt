@@ -1,6 +1,6 @@
 //! The table of reach: how far before a target each key may come on a path from the current roots.
 //!
-//! It stands on `wot_edge`. `wot_search` skips what a table excludes, and hands on its names; `wot_cache` keeps tables.
+//! It uses `wot_edge`. `wot_search` skips what a table excludes, and hands on its names; `wot_cache` keeps tables.
 //! A table changes no answer, only the time, and `docs/SEARCH.md` explains it.
 #![tactic(auto)]
 

@@ -1,6 +1,6 @@
 //! A table of reach, made in steps, so that many questions share its cost.
 //!
-//! It stands on `reaching`, which finds the numbers, and on `checking`, which checks them. `wot_answers` takes some
+//! It uses `reaching`, which finds the numbers, and on `checking`, which checks them. `wot_answers` takes some
 //! steps with each question to a view.
 ghost use Rattle.std.specs.Prelude.{ℕ, List, IfOk};
 ghost use Rattle.wot_types.specs.declared.fpr.Fpr.{Fpr as Print};
@@ -66,8 +66,8 @@ impl Making {
 
     /// Takes one step: one fingerprint, or some links, of the current phase.
     fn step<R: Roads>(self, alloc: Global, roads: &R, roots: &Roots) -> Result<Making, Memory>
-        requires making { IsMaking (R.told roads.now) roots.now self }
-        ensures making { IfOk result (IsMaking (R.told roads.now) roots.now) }
+        requires making { IsMaking (R.network roads.now) roots.now self }
+        ensures making { IfOk result (IsMaking (R.network roads.now) roots.now) }
     {
         match self {
             Making::Begun(fprs) => Ok(Making::Placing(Placing::new(alloc, fprs))),
@@ -89,8 +89,8 @@ impl Making {
         roots: &Roots,
         looks: u64,
     ) -> Result<Making, Memory>
-        requires making { IsMaking (R.told roads.now) roots.now self }
-        ensures making { IfOk result (IsMaking (R.told roads.now) roots.now) }
+        requires making { IsMaking (R.network roads.now) roots.now self }
+        ensures making { IfOk result (IsMaking (R.network roads.now) roots.now) }
     {
         let mut making = self;
         let mut left = looks;
@@ -107,7 +107,7 @@ impl Making {
 
 /// Notes one more place; after the last one, links are collected.
 fn placed(alloc: Global, placing: Placing) -> Result<Making, Memory>
-    ensures making { (told : List ℕ → Record) (amounts : List (Print × ℕ)) → IfOk result (IsMaking told amounts) }
+    ensures making { (network : List ℕ → Record) (amounts : List (Print × ℕ)) → IfOk result (IsMaking network amounts) }
 {
     if placing.is_over() {
         return Ok(Making::Linking(placing.link(alloc)));
@@ -124,10 +124,10 @@ fn linked<R: Roads>(
     roots: &Roots,
     linking: Linking,
 ) -> Result<Making, Memory>
-    ensures making { (told : List ℕ → Record) (amounts : List (Print × ℕ)) → IfOk result (IsMaking told amounts) }
+    ensures making { (network : List ℕ → Record) (amounts : List (Print × ℕ)) → IfOk result (IsMaking network amounts) }
 {
     if linking.is_over() {
-        return Ok(Making::Passing(linking.pass(alloc, roots)?));
+        return Ok(Making::Passing(linking.to_passing(alloc, roots)?));
     }
     let mut linking = linking;
     linking.link(roads)?;
@@ -136,13 +136,13 @@ fn linked<R: Roads>(
 
 /// Passes numbers along some links; after the last pass, the numbers are put into a table.
 fn passed<R: Roads>(alloc: Global, roads: &R, passing: Passing) -> Result<Making, Memory>
-    ensures making { (told : List ℕ → Record) (amounts : List (Print × ℕ)) → IfOk result (IsMaking told amounts) }
+    ensures making { (network : List ℕ → Record) (amounts : List (Print × ℕ)) → IfOk result (IsMaking network amounts) }
 {
     if passing.is_over() {
         return Ok(Making::Numbering(passing.numbering(alloc)));
     }
     let mut passing = passing;
-    passing.pass(roads);
+    passing.pass_on(roads);
     Ok(Making::Passing(passing))
 }
 
@@ -153,8 +153,8 @@ fn checked<R: Roads>(
     roots: &Roots,
     checking: Checking,
 ) -> Result<Making, Memory>
-    requires checking { IsChecking (R.told roads.now) roots.now checking }
-    ensures making { IfOk result (IsMaking (R.told roads.now) roots.now) }
+    requires checking { IsChecking (R.network roads.now) roots.now checking }
+    ensures making { IfOk result (IsMaking (R.network roads.now) roots.now) }
 {
     if checking.is_slotted() {
         return checking.check(alloc, roads, roots);
@@ -171,7 +171,7 @@ pub fn make_reach<R: Roads>(
     roots: &Roots,
     fprs: &[Fpr],
 ) -> Result<Reach, Memory>
-    ensures reach { IfOk result (λ reach. IsReach (R.told roads.now) roots.now reach) }
+    ensures reach { IfOk result (λ reach. IsReach (R.network roads.now) roots.now reach) }
 {
     let mut all = Vec::new(alloc);
     all.extend_from_slice(fprs)?;

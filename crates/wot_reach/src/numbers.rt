@@ -1,6 +1,6 @@
 //! The numbers of a table of reach while they are inserted.
 //!
-//! It stands on std's map. `checking` fills it, and takes the map once all numbers are there.
+//! It uses std's map. `checking` fills it, and takes the map once all numbers are there.
 ghost use Rattle.std.specs.Prelude.{◌≡◌, [], OnOk};
 ghost use Rattle.std.specs.BTreeMap.{insert_entry};
 ghost use Rattle.wot_types.specs.Fpr.{fpr_cmp};

@@ -71,8 +71,8 @@ fn is_onward(slots: &Slots, numbers: &BTreeMap<Fpr, u8>, edge: &Edge) -> bool
 
 /// Whether an edge and those before it are usable.
 fn is_usable_too<R: Roads>(roads: &R, usable: bool, edge: &Edge) -> bool
-    requires row { (id : List ℕ) → Has (edges_into (R.told roads.now id) edge.now.target) edge.now }
-    ensures usable { IsUsableIf (R.told roads.now) usable result edge.now }
+    requires row { (id : List ℕ) → Has (edges_into (R.network roads.now id) edge.now.target) edge.now }
+    ensures usable { IsUsableIf (R.network roads.now) usable result edge.now }
 {
     if !usable {
         return false;
@@ -87,11 +87,11 @@ fn put_edge<R: Roads>(
     place: usize,
     onward: &mut Onward,
 ) -> Result<(), Memory>
-    requires row { (id : List ℕ) → Has (edges_into (R.told roads.now id) edge.now.target) edge.now }
+    requires row { (id : List ℕ) → Has (edges_into (R.network roads.now id) edge.now.target) edge.now }
     ensures fpr { onward.new.fpr ≡ onward.old.fpr }
     ensures all { onward.new.all_usable ≡ onward.old.all_usable }
     ensures edges { OnOk result (onward.new.edges.items ≡ onward.old.edges.items ++ edge.now ∷ []) }
-    ensures usable { OnOk result (IsUsableIf (R.told roads.now) onward.old.usable onward.new.usable edge.now) }
+    ensures usable { OnOk result (IsUsableIf (R.network roads.now) onward.old.usable onward.new.usable edge.now) }
 {
     onward
         .edges
@@ -111,8 +111,8 @@ fn put_if<R: Roads>(
     onward: &mut Onward,
 ) -> Result<(), Memory>
     requires slots { AreSlots numbers.now.entries slots.now.slots.items }
-    requires row { (id : List ℕ) → Has (edges_into (R.told roads.now id) edge.now.target) edge.now }
-    ensures adds { OnOk result (AddsLead (R.told roads.now) (number_of numbers.now.entries) edge.now
+    requires row { (id : List ℕ) → Has (edges_into (R.network roads.now id) edge.now.target) edge.now }
+    ensures adds { OnOk result (AddsLead (R.network roads.now) (number_of numbers.now.entries) edge.now
         onward.old onward.new) }
 {
     onward.all_usable = is_usable_too(roads, onward.all_usable, edge);
@@ -132,7 +132,7 @@ fn onward_of<R: Roads>(
     numbers: &BTreeMap<Fpr, u8>,
 ) -> Result<Onward, Memory>
     requires slots { AreSlots numbers.now.entries slots.now.slots.items }
-    ensures leads { IfOk result (λ one. LeadsOnInto (R.told roads.now) (number_of numbers.now.entries) one.fpr one) }
+    ensures leads { IfOk result (λ one. LeadsOnInto (R.network roads.now) (number_of numbers.now.entries) one.fpr one) }
 {
     let mut onward = Onward::new(alloc, fpr);
     let edges = roads.rows(fpr);
@@ -152,8 +152,8 @@ pub(crate) fn put_onward<R: Roads>(
     onward: &mut Vec<Onward>,
 ) -> Result<(), Memory>
     requires slots { AreSlots numbers.now.entries slots.now.slots.items }
-    requires onward { AreOnward (R.told roads.now) (number_of numbers.now.entries) onward.old.items }
-    ensures onward { OnOk result (AreOnward (R.told roads.now) (number_of numbers.now.entries) onward.new.items) }
+    requires onward { AreOnward (R.network roads.now) (number_of numbers.now.entries) onward.old.items }
+    ensures onward { OnOk result (AreOnward (R.network roads.now) (number_of numbers.now.entries) onward.new.items) }
 {
     let one = onward_of(alloc, roads, fpr, slots, numbers)?;
     onward.push(one)?;

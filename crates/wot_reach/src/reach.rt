@@ -1,6 +1,6 @@
 //! A table of reach: how far before a target each key may come on a path from the current roots.
 //!
-//! It stands on `slots`, `rows` and `onward`, and on `specs/Reach.antt`. It serves every question of a view and changes
+//! It uses `slots`, `rows` and `onward`, and on `specs/Reach.antt`. It serves every question of a view and changes
 //! no answer, only the time; `docs/SEARCH.md` explains it.
 ghost use Rattle.std.specs.Prelude.{◌≡◌, ◌<◌, ℕ, List, [], true, false, IfOk, OnOk};
 ghost use Rattle.wot_types.specs.declared.fpr.Fpr.{Fpr as Print};
@@ -45,7 +45,7 @@ impl Reach {
     /// A table that leaves nothing out.
     pub fn everywhere(alloc: Global) -> Reach
         ensures all { (fpr : Print) → number_at result fpr ≡ 255 }
-        ensures reach { (told : List ℕ → Record) (roots : List (Print × ℕ)) → IsReach told roots result }
+        ensures reach { (network : List ℕ → Record) (roots : List (Print × ℕ)) → IsReach network roots result }
     {
         Reach {
             numbers: BTreeMap::new(alloc),
@@ -150,11 +150,11 @@ impl Reach {
         roots: &Roots,
         fpr: &Fpr,
     ) -> Result<bool, Memory>
-        requires onward { AreOnward (R.told roads.now) (number_at self.old) self.old.onward }
+        requires onward { AreOnward (R.network roads.now) (number_at self.old) self.old.onward }
         ensures numbers { self.new.numbers ≡ self.old.numbers }
-        ensures onward { OnOk result (AreOnward (R.told roads.now) (number_at self.new) self.new.onward) }
+        ensures onward { OnOk result (AreOnward (R.network roads.now) (number_at self.new) self.new.onward) }
         ensures enough { IfOk result (λ yes. yes ≡ true →
-            HasEnough (R.told roads.now) roots.now (number_at self.new) fpr.now) }
+            HasEnough (R.network roads.now) roots.now (number_at self.new) fpr.now) }
     {
         add_row(roads, fpr, &self.slots, &self.numbers, &mut self.rows)?;
         put_onward(
@@ -178,7 +178,7 @@ fn is_low_root(roots: &Roots, number: u8, fpr: &Fpr) -> bool
 
 /// Whether a fingerprint has 255 if it is a root, and at least what each edge into it asks for.
 fn has_enough<R: Roads>(roads: &R, roots: &Roots, reach: &Reach, fpr: &Fpr) -> bool
-    ensures enough { result ≡ true → HasEnough (R.told roads.now) roots.now (number_at reach.now) fpr.now }
+    ensures enough { result ≡ true → HasEnough (R.network roads.now) roots.now (number_at reach.now) fpr.now }
 {
     let number = reach.get(fpr);
     if is_low_root(roots, number, fpr) {
@@ -197,8 +197,8 @@ fn has_enough<R: Roads>(roads: &R, roots: &Roots, reach: &Reach, fpr: &Fpr) -> b
 
 /// Whether an edge asks no more of its target than this number.
 fn allows<R: Roads>(roads: &R, reach: &Reach, place: usize, number: u8, edge: &Edge) -> bool
-    requires row { (id : List ℕ) → Has (edges_into (R.told roads.now id) edge.now.target) edge.now }
-    ensures allows { result ≡ true → Allows (R.told roads.now) (number_at reach.now) number edge.now }
+    requires row { (id : List ℕ) → Has (edges_into (R.network roads.now id) edge.now.target) edge.now }
+    ensures allows { result ≡ true → Allows (R.network roads.now) (number_at reach.now) number edge.now }
 {
     let facts = edge.facts();
     let passed_on = reach.get_near(place, &facts.issuer).saturating_sub(1);

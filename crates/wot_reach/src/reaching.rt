@@ -201,7 +201,7 @@ impl Linking {
     }
 
     /// Before the first pass.
-    pub(crate) fn pass(self, alloc: Global, roots: &Roots) -> Result<Passing, Memory> {
+    pub(crate) fn to_passing(self, alloc: Global, roots: &Roots) -> Result<Passing, Memory> {
         let numbers = first_numbers(alloc, roots, &self.fprs)?;
         Ok(Passing {
             fprs: self.fprs,
@@ -228,7 +228,7 @@ impl Passing {
     }
 
     /// Passes numbers along some more links.
-    pub(crate) fn pass<R: Roads>(&mut self, roads: &R) {
+    pub(crate) fn pass_on<R: Roads>(&mut self, roads: &R) {
         if self.next >= self.links.len() {
             self.next = 0;
             self.rose = false;

@@ -1,7 +1,7 @@
 //! The numbers of a table in the order of edges: a search that walks over the edges into a fingerprint finds the
 //! numbers of their issuers next to each other.
 //!
-//! It stands on `slots`, and `reach` reads it through checks that compare fingerprints.
+//! It uses `slots`, and `reach` reads it through checks that compare fingerprints.
 ghost use Rattle.std.specs.Prelude.{ℕ, List};
 ghost use Rattle.wot_types.specs.declared.fpr.Fpr.{Fpr as Print};
 ghost use Rattle.wot_reach.specs.Slots.{AreSlots, HasNumber, HasNumberIfSome};

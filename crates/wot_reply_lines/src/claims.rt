@@ -1,6 +1,6 @@
 //! Claims and tables of labels in a line: `claim PATHS TABLE` in the reply to `absence`, and the fields of `check`.
 //!
-//! It has their types, and reads and prints them by `specs/Claims.antt`; it stands on `wot_fields`. `wot_script` reads
+//! It has their types, and reads and prints them by `specs/Claims.antt`; it uses `wot_fields`. `wot_script` reads
 //! `check` and prints `check` and the reply to `absence` with it.
 ghost use Rattle.std.specs.Prelude.{◌≡◌, ◌++◌, ◌∷◌, ℕ, List, Option, IfOk};
 ghost use Rattle.std.specs.List.{flat_map};

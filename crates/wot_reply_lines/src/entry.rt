@@ -1,6 +1,6 @@
 //! The name of an entry of the certificate directory, as `load` has it: a fingerprint, or `trust-root`.
 //!
-//! It stands on `specs/Entry.antt`; a further kind of entry is a row in each function and in `laws`.
+//! It uses `specs/Entry.antt`; a further kind of entry is a row in each function and in `laws`.
 ghost use Rattle.std.specs.Prelude.{◌≡◌};
 ghost use Rattle.wot_reply_lines.specs.Entry.{entry_of, entry_text};
 ghost use Rattle.wot_fields.specs.Pieces.{piece_text};

@@ -1,6 +1,6 @@
 //! First lines that several replies have: with a count, with a number, stale, refused.
 //!
-//! It stands on `wot_fields`, `lines` and `specs/Lines.antt`. `wot_script` prints each reply with one of these, or with
+//! It uses `wot_fields`, `lines` and `specs/Lines.antt`. `wot_script` prints each reply with one of these, or with
 //! pieces of its own.
 ghost use Rattle.std.specs.Prelude.{◌∷◌, [], ◌++◌, codes};
 ghost use Rattle.std.specs.Fmt.{decimal};

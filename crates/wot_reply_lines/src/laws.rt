@@ -1,7 +1,7 @@
 //! Laws: printed entries, questions, paths and labels are read back, and words are short. Each function proves one for
 //! its values, and `wot_script` cites them by a call.
 //!
-//! They stand on `specs/Entry.antt`, `specs/Question.antt`, `specs/ClaimLaws.antt` and `specs/Words.antt`. A change of
+//! They use `specs/Entry.antt`, `specs/Question.antt`, `specs/ClaimLaws.antt` and `specs/Words.antt`. A change of
 //! a format shows here first.
 ghost use Rattle.std.specs.Prelude.{◌≡◌, ◌≢◌, ◌≤◌, ◌<◌, ◌^◌, true, Some, length};
 ghost use Rattle.std.specs.Fmt.{decimal};

@@ -1,7 +1,7 @@
 //! Parts of lines that no command and no reply has alone: names of entries, questions, claims, refusals, and the lines
 //! of long replies. It has their types, prints them and reads them.
 //!
-//! It stands on `wot_fields`, which has the words of a line. `wot_script` makes commands and replies of these parts and
+//! It uses `wot_fields`, which has the words of a line. `wot_script` makes commands and replies of these parts and
 //! hands on their types. `docs/PROTOCOL.md` specifies them, and `specs/` defines them. A further command needs nothing
 //! here, unless its reply has lines of its own.
 #![tactic(auto)]

@@ -1,6 +1,6 @@
 //! The lines of replies that have several: paths and steps, bindings, reasons, pending signatures, keys.
 //!
-//! It has their types, and prints them by `specs/Lines.antt`. It stands on `wot_fields`, and `wot_script` puts the
+//! It has their types, and prints them by `specs/Lines.antt`. It uses `wot_fields`, and `wot_script` puts the
 //! first line in front of them. What `wot_plain` and the crates above it define speaks of these types.
 ghost use Rattle.std.specs.Prelude.{◌≡◌, ◌++◌, ℕ, List};
 ghost use Rattle.std.specs.List.{flat_map};

@@ -1,7 +1,7 @@
 //! Certificates for tests, written down by name. No part of the product.
 //!
 //! A test says packet by packet what a certificate holds, and [`text`] returns its octets (RFC 9580, section 10.1). The
-//! test crates use it; wot_types is all that it stands on.
+//! test crates use it; wot_types is all that it uses.
 #![tactic(auto)]
 
 mod certificates;

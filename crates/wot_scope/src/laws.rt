@@ -1,4 +1,4 @@
-//! A law of the definition of a scope. The function does nothing: its contract is the law, which rests on the laws of
+//! A law of the definition of a scope. The function does nothing: its contract is the law, which depends on the laws of
 //! `wot_pattern`.
 ghost use Rattle.std.specs.Prelude.{◌↔◌, ℕ, List, IsTrue};
 ghost use Rattle.wot_scope.specs.Scope.{ScopeHolds};
@@ -8,7 +8,7 @@ use wot_pattern::laws::{matching_is_told, reading_is_told};
 
 /// Whether a scope holds for a user ID is a function of both.
 pub fn scope_is_told()
-    ensures told { (texts : List (List ℕ)) (uid : List ℕ) → IsTrue (scope_holds texts uid) ↔ ScopeHolds texts uid }
+    ensures reported { (texts : List (List ℕ)) (uid : List ℕ) → IsTrue (scope_holds texts uid) ↔ ScopeHolds texts uid }
 {
     reading_is_told();
     matching_is_told();

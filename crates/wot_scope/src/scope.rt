@@ -1,6 +1,6 @@
 //! `in_scope`: whether one of a signature's regular expressions matches a user ID.
 //!
-//! It stands on `scopes` of `wot_signature`, on `parse` and `Matcher`, and on `specs/Scope.antt`. A change here changes
+//! It uses `scopes` of `wot_signature`, on `parse` and `Matcher`, and on `specs/Scope.antt`. A change here changes
 //! which edges a path may use.
 ghost use Rattle.std.specs.Prelude.{◌≡◌, ◌↔◌, ◌∷◌, IsTrue, IfOk};
 ghost use Rattle.wot_signature.specs.Signature.{scopes_of};
@@ -18,7 +18,7 @@ use wot_types::Memory;
 /// is UTF-8 and a well-formed regular expression of the body matches it.
 pub fn in_scope(alloc: Global, body: &[u8], uid: &[u8]) -> Result<bool, Memory>
     ensures holds { IfOk result (λ holds. IsTrue holds ↔ ScopeHolds (scopes_of body.now) uid.now) }
-    ensures told { IfOk result (λ holds. holds ≡ scope_holds (scopes_of body.now) uid.now) }
+    ensures reported { IfOk result (λ holds. holds ≡ scope_holds (scopes_of body.now) uid.now) }
 {
     scope_is_told();
     holds(alloc, body, uid)

@@ -66,7 +66,7 @@ line_for command (octet ∷ octets) h =
     in
     record {
       no_feed = lacks_from_test 10 (octet ∷ octets) parts.0;
-      heard = (lacks_from_test 35 (octet ∷ []) others.0).0;
+      no_comment = (lacks_from_test 35 (octet ∷ []) others.0).0;
       short = leb-true (length (octet ∷ octets)) (most_octets command) others.1;
     }
 

@@ -1,4 +1,4 @@
-//! Laws of the grammar. Each function does nothing: its contract is the law. They stand on `specs/Grammar.antt` and
+//! Laws of the grammar. Each function does nothing: its contract is the law. They use `specs/Grammar.antt` and
 //! `specs/Laws.antt`. wot_laws uses the first one; the others are for readers.
 ghost use Rattle.std.specs.Prelude.{◌≡◌, ℕ, List, Some};
 ghost use Rattle.wot_script.specs.declared.command.Command.{Command as TheCommand};

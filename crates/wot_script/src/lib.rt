@@ -1,6 +1,6 @@
 //! The script: how lines are read as commands, and how commands and replies are printed.
 //!
-//! It stands on `wot_fields`, which has the words of a line and the lines that set a part of the state, and on
+//! It uses `wot_fields`, which has the words of a line and the lines that set a part of the state, and on
 //! `wot_reply_lines`, which has claims and the lines of long replies. `docs/PROTOCOL.md` specifies the lines, and
 //! `specs/Grammar.antt`, `specs/Spelling.antt` and `specs/Replies.antt` define them. `wot_machine` answers the
 //! commands; generated scripts print them.

@@ -1,5 +1,5 @@
-//! A law: replies of one line are short, so that they can be printed into reserved room when memory runs out. It stands
-//! on `specs/Replies.antt`; `tell` uses it, and a longer word or reply breaks it.
+//! A law: replies of one line are short, so that they can be printed into reserved room when memory runs out. It uses
+//! `specs/Replies.antt`; `tell` uses it, and a longer word or reply breaks it.
 ghost use Rattle.std.specs.Prelude.{◌≡◌, ◌≤◌, length, true};
 ghost use Rattle.wot_script.specs.Replies.{is_short, reply_text};
 

@@ -1,4 +1,4 @@
-//! Laws: the line of a command is read back as that command. `spell` uses the last one. They stand on the laws of
+//! Laws: the line of a command is read back as that command. `spell` uses the last one. They use the laws of
 //! fields in `wot_fields` and `wot_reply_lines`, on `specs/Spelling.antt` and on `specs/Grammar.antt`, and a change of
 //! either shows here first.
 ghost use Rattle.std.specs.Prelude.{◌≡◌, true};

@@ -15,7 +15,7 @@ use Rattle.wot_first_path.proofs.Rooted.{widest_quest, first_open, valid_rooted}
 use Rattle.wot_reach.proofs.Within.{Holds}
 
 module _ (reach : Fpr → ℕ) (q : Question) (used : Use) (holds : Holds reach q used)
-    (ok : (entry_at q.told q.target).in_order ≡ true) (wide : List Step) (f : IsFirst (widest_quest reach q used) wide)
+    (ok : (entry_at q.network q.target).in_order ≡ true) (wide : List Step) (f : IsFirst (widest_quest reach q used) wide)
   where
     wide_open : IsOpen q used wide
     wide_open = first_open (widest_quest reach q used) wide (omega arith) ok f

@@ -31,7 +31,7 @@ amounts_small (x ∷ roots) a fpr = by (is_at (fpr_cmp fpr) x.0) (amounts_small 
     by false ih = ih
 
 module _ (reach : Fpr → ℕ) (q : Question) (used : Use) (holds : Holds reach q used)
-    (ok : (entry_at q.told q.target).in_order ≡ true) where
+    (ok : (entry_at q.network q.target).in_order ≡ true) where
   -- the path of both searches
   abbrev IsBoth : ℕ → Option Path → Type 0
   IsBoth n None = ⊥
@@ -81,11 +81,11 @@ pub spent_local : (reach : Fpr → ℕ) → ((fpr : Fpr) → reach fpr ≡ 255) 
 spent_local reach all q used holds set f l other a =
     spent_there reach all q other used set a l (none_spent reach q used holds f)
 
-pub unordered_next : (q : Question) (used : Use) → (entry_at q.told q.target).in_order ≡ false
+pub unordered_next : (q : Question) (used : Use) → (entry_at q.network q.target).in_order ≡ false
     → IsNextOrSpent q used None
 unordered_next q used e = disordered_spent q used e
 
 pub unordered_local : (q : Question) (used : Use) (set : List Fpr) → Has set q.target
-    → (entry_at q.told q.target).in_order ≡ false → (other : Question) → Agree q other set
+    → (entry_at q.network q.target).in_order ≡ false → (other : Question) → Agree q other set
     → IsNextOrSpent other used None
 unordered_local q used set h e other a = disordered_there q other used set a h e

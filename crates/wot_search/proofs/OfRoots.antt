@@ -138,8 +138,8 @@ module _ (quest : Quest) (found : Found) (size : ℕ) where
 
 -- ---- the first paths
 
-module _ (reach : Fpr → ℕ) (q : Question) (good : IsRecord q.told) (used : Use) (holds : Holds reach q used)
-    (ok : (entry_at q.told q.target).in_order ≡ true)
+module _ (reach : Fpr → ℕ) (q : Question) (good : IsRecord q.network) (used : Use) (holds : Holds reach q used)
+    (ok : (entry_at q.network q.target).in_order ≡ true)
     (wide : Path) (first : IsResult (widest_quest reach q used) (Some wide)) (found : Found)
     (entries : (fpr : Fpr) (node : Node) → found fpr ≡ Some node
     → IsEntry (least_quest reach q used wide.amount) found (length wide.steps) fpr node)
@@ -299,8 +299,8 @@ module _ (reach : Fpr → ℕ) (q : Question) (good : IsRecord q.told) (used : U
           (roots_there reach all q other used (length wide.steps) wide.amount set agree looked (p ∷ ps) f)
 
 -- what a search in as many layers as the widest path has edges found of the roots
-pub found_offers : (reach : Fpr → ℕ) (q : Question) → IsRecord q.told → (used : Use) → Holds reach q used
-    → (entry_at q.told q.target).in_order ≡ true → (wide : Path) → IsResult (widest_quest reach q used) (Some wide)
+pub found_offers : (reach : Fpr → ℕ) (q : Question) → IsRecord q.network → (used : Use) → Holds reach q used
+    → (entry_at q.network q.target).in_order ≡ true → (wide : Path) → IsResult (widest_quest reach q used) (Some wide)
     → (n : ℕ) → n ≡ length wide.steps → (paths : List Path) → IsStrictlySortedBy fpr_cmp (keys_of q.roots)
     → AreFoundOffers (least_quest reach q used wide.amount) n q.roots paths → AreNext q.roots q used paths
 found_offers reach q good used holds ok wide f n same paths rise found =

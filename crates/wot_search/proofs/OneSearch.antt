@@ -71,11 +71,11 @@ module _ (reach : Fpr → ℕ) (q : Question) (used : Use) where
 
   suffix_any : (steps : List Step) → Suffix wide steps → Suffix any steps
   suffix_any [] t = tt
-  suffix_any (step ∷ rest) t = (record { stands = t.0.stands; left = t.0.left; high = t.0.high }, suffix_any rest t.1)
+  suffix_any (step ∷ rest) t = (record { usable_edge = t.0.usable_edge; left = t.0.left; high = t.0.high }, suffix_any rest t.1)
 
   suffix_wide : (steps : List Step) → Suffix any steps → Suffix wide steps
   suffix_wide [] t = tt
-  suffix_wide (step ∷ rest) t = (record { stands = t.0.stands; left = t.0.left; high = t.0.high }, suffix_wide rest t.1)
+  suffix_wide (step ∷ rest) t = (record { usable_edge = t.0.usable_edge; left = t.0.left; high = t.0.high }, suffix_wide rest t.1)
 
   rooted_any : (steps : List Step) → Rooted wide steps → Rooted any steps
   rooted_any steps r = record { some = r.some; few = r.few; suffix = suffix_any steps r.suffix; root = r.root }
@@ -129,7 +129,7 @@ module _ (reach : Fpr → ℕ) (q : Question) (used : Use) where
     suffix_less : (steps : List Step) → Suffix more steps → Suffix any steps
     suffix_less [] t = tt
     suffix_less (step ∷ rest) t = (
-      record { stands = t.0.stands; left = let a = t.0.left in omega (arith, pos, a); high = t.0.high },
+      record { usable_edge = t.0.usable_edge; left = let a = t.0.left in omega (arith, pos, a); high = t.0.high },
       suffix_less rest t.1,
     )
 
@@ -137,7 +137,7 @@ module _ (reach : Fpr → ℕ) (q : Question) (used : Use) where
     kept_less [] k = tt
     kept_less (step ∷ rest) k = (
       k.0,
-      record { stands = k.1.stands; left = let a = k.1.left in omega (arith, pos, a); high = k.1.high },
+      record { usable_edge = k.1.usable_edge; left = let a = k.1.left in omega (arith, pos, a); high = k.1.high },
       kept_less rest k.2,
     )
 
@@ -146,7 +146,7 @@ module _ (reach : Fpr → ℕ) (q : Question) (used : Use) where
     kept_more (step ∷ rest) k = (
       k.0,
       record {
-        stands = k.1.stands;
+        usable_edge = k.1.usable_edge;
         left = let w = each step.issuer (node_of used step rest) k.0 in
             omega (arith, w);
         high = k.1.high;

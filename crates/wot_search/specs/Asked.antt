@@ -14,15 +14,15 @@ use Rattle.wot_search.specs.declared.asked.Asked.{Asked}
 
 -- the question, given what the network says
 abbrev pub question_of : (List ℕ → Record) → Asked → Question
-question_of told asked = asks (told asked.uid.now) asked.roots.now asked.target.now
+question_of network asked = asks (network asked.uid.now) asked.roots.now asked.target.now
 
 -- the reach is one of this network and of the roots
 abbrev pub HasItsReach : (List ℕ → Record) → Asked → Type 0
-HasItsReach told asked = IsReach told asked.roots.now asked.reach.now
+HasItsReach network asked = IsReach network asked.roots.now asked.reach.now
 
 -- what leads to the target by rows
 abbrev pub LeadsToAsked : (List ℕ → Record) → Asked → Fpr → Type 0
-LeadsToAsked told asked fpr = Leads (told asked.uid.now) asked.target.now fpr
+LeadsToAsked network asked fpr = Leads (network asked.uid.now) asked.target.now fpr
 
 -- a reach that leaves nothing out
 abbrev pub HasAll : Table → Type 0
@@ -32,28 +32,28 @@ HasAll table = (fpr : Fpr) → number_at table fpr ≡ 255
 
 -- the next path after what is used, or that there is none, for every question that agrees on it
 abbrev pub IsNextLocally : (List ℕ → Record) → Asked → Sums → (Fpr → Type 0) → Option Path → Type 0
-IsNextLocally told asked used noted found =
-    HasAll asked.reach.now → IsNextWhereAgreed (question_of told asked) (use_in used) noted found
+IsNextLocally network asked used noted found =
+    HasAll asked.reach.now → IsNextWhereAgreed (question_of network asked) (use_in used) noted found
 
 -- the next path and offers after it, for every question that agrees on it
 abbrev pub AreNextLocally : (List ℕ → Record) → Asked → Sums → (Fpr → Type 0) → List Path → Type 0
-AreNextLocally told asked used noted paths =
-    HasAll asked.reach.now → AreNextWhereAgreed asked.roots.now (question_of told asked) (use_in used) noted paths
+AreNextLocally network asked used noted paths =
+    HasAll asked.reach.now → AreNextWhereAgreed asked.roots.now (question_of network asked) (use_in used) noted paths
 
 -- the next path and offers after it, for every question that agrees on it and had the old offers
 abbrev pub TakesLocally :
     (List ℕ → Record) → Asked → Sums → (Fpr → Type 0) → List Path → List Path → Option Path → Type 0
-TakesLocally told asked used noted old new found =
+TakesLocally network asked used noted old new found =
     HasAll asked.reach.now
-    → TakesWhereAgreed asked.roots.now (question_of told asked) (use_in used) noted old new found
+    → TakesWhereAgreed asked.roots.now (question_of network asked) (use_in used) noted old new found
 
 -- ---- what a search found, if it served
 
 abbrev pub AreNextIfSome : (List ℕ → Record) → Asked → Sums → Option (Vec Path Global) → Type 0
-AreNextIfSome told asked used None = Unit {0}
-AreNextIfSome told asked used (Some paths) = AreNextFor (question_of told asked) (use_in used) paths.items
+AreNextIfSome network asked used None = Unit {0}
+AreNextIfSome network asked used (Some paths) = AreNextFor (question_of network asked) (use_in used) paths.items
 
 abbrev pub AreNextLocallyIfSome :
     (List ℕ → Record) → Asked → Sums → (Fpr → Type 0) → Option (Vec Path Global) → Type 0
-AreNextLocallyIfSome told asked used noted None = Unit {0}
-AreNextLocallyIfSome told asked used noted (Some paths) = AreNextLocally told asked used noted paths.items
+AreNextLocallyIfSome network asked used noted None = Unit {0}
+AreNextLocallyIfSome network asked used noted (Some paths) = AreNextLocally network asked used noted paths.items

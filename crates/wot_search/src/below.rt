@@ -1,6 +1,6 @@
 //! The next path, or only its amount if that is enough: then the least path of this amount isn't looked for.
 //!
-//! It stands on `widest`, `offered` and `offers`. `wot_auth` uses it when only the sum of an answer is wanted.
+//! It uses `widest`, `offered` and `offers`. `wot_auth` uses it when only the sum of an answer is wanted.
 ghost use Rattle.std.specs.Prelude.{◌≡◌, IfOk, OnOk};
 ghost use Rattle.wot_edge.specs.Sums.{use_in};
 ghost use Rattle.wot_search.specs.Asked.{HasItsReach, question_of};
@@ -47,10 +47,10 @@ pub fn next_below<R: Roads>(
     enough: u32,
     offers: &mut Vec<Path>,
 ) -> Result<Next, Memory>
-    requires reach { HasItsReach (R.told roads.now) asked.now }
-    requires offers { AreOffersFor (question_of (R.told roads.now) asked.now) (use_in used.now) offers.old.items }
-    ensures next { IfOk result (IsNextBelow (question_of (R.told roads.now) asked.now) (use_in used.now) enough) }
-    ensures offers { OnOk result (AreOffersFor (question_of (R.told roads.now) asked.now) (use_in used.now)
+    requires reach { HasItsReach (R.network roads.now) asked.now }
+    requires offers { AreOffersFor (question_of (R.network roads.now) asked.now) (use_in used.now) offers.old.items }
+    ensures next { IfOk result (IsNextBelow (question_of (R.network roads.now) asked.now) (use_in used.now) enough) }
+    ensures offers { OnOk result (AreOffersFor (question_of (R.network roads.now) asked.now) (use_in used.now)
         offers.new.items) }
 {
     drop_spent(asked.roots, used, offers);

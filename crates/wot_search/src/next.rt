@@ -1,6 +1,6 @@
 //! `next_path`: the next path after what earlier paths use.
 //!
-//! It stands on `widest` and on the searches of `wot_first_path`, and its contract is the definition in
+//! It uses `widest` and on the searches of `wot_first_path`, and its contract is the definition in
 //! `wot_edge/specs/Path.antt`. `wot_auth` makes answers of it; a faster search has to keep these clauses.
 ghost use Rattle.std.specs.Prelude.{◌≤◌, IfOk};
 ghost use Rattle.wot_types.specs.declared.fpr.Fpr.{Fpr as Print};
@@ -41,17 +41,17 @@ pub fn next_path<R: Roads>(
     consulted: &mut Consulted,
 ) -> Result<Option<Path>, Memory>
     // The next path, or none if there is none.
-    ensures next { IfOk result (IsNextOrSpent (asks (R.told roads.now uid.now) roots.now target.now)
+    ensures next { IfOk result (IsNextOrSpent (asks (R.network roads.now uid.now) roots.now target.now)
         (use_in used.now)) }
 
     // `consulted` only grows, and only by what leads to the target by rows.
     ensures grows { Grows consulted.old consulted.new }
-    ensures leads { GainsLeads (R.told roads.now uid.now) target.now consulted.old consulted.new }
+    ensures leads { GainsLeads (R.network roads.now uid.now) target.now consulted.old consulted.new }
 
     // It is also the next path of every question that agrees on what was looked at.
-    ensures local { IfOk result (IsNextOfAgreeing (asks (R.told roads.now uid.now) roots.now target.now)
+    ensures local { IfOk result (IsNextOfAgreeing (asks (R.network roads.now uid.now) roots.now target.now)
         (use_in used.now) consulted.new) }
-    ensures lawful { IfOk result (λ found. IsRecord (R.told roads.now uid.now)) }
+    ensures lawful { IfOk result (λ found. IsRecord (R.network roads.now uid.now)) }
 {
     let reach = Reach::everywhere(alloc);
     let asked = Asked {
@@ -73,15 +73,15 @@ pub fn next_path_within<R: Roads, N: Notes>(
     used: &Used,
     notes: &mut N,
 ) -> Result<Option<Path>, Memory>
-    requires reach { HasItsReach (R.told roads.now) asked.now }
-    ensures next { IfOk result (IsNextOrSpent (question_of (R.told roads.now) asked.now) (use_in used.now)) }
+    requires reach { HasItsReach (R.network roads.now) asked.now }
+    ensures next { IfOk result (IsNextOrSpent (question_of (R.network roads.now) asked.now) (use_in used.now)) }
     ensures grows { Widens (N.noted notes.old) (N.noted notes.new) }
-    ensures leads { Gains (LeadsToAsked (R.told roads.now) asked.now) (N.noted notes.old) (N.noted notes.new) }
+    ensures leads { Gains (LeadsToAsked (R.network roads.now) asked.now) (N.noted notes.old) (N.noted notes.new) }
 
     // If the table leaves nothing out, it is also the next path of every question that agrees on a set that contains
     // what was noted.
-    ensures local { IfOk result (IsNextLocally (R.told roads.now) asked.now used.now (N.noted notes.new)) }
-    ensures lawful { IfOk result (λ found. IsRecord (R.told roads.now asked.now.uid.now)) }
+    ensures local { IfOk result (IsNextLocally (R.network roads.now) asked.now used.now (N.noted notes.new)) }
+    ensures lawful { IfOk result (λ found. IsRecord (R.network roads.now asked.now.uid.now)) }
 {
     let amount = match widest(alloc, roads, asked, used, notes)? {
         None => return Ok(None),

@@ -1,6 +1,6 @@
 //! Next paths from offers: which offer of an earlier search is the next path now.
 //!
-//! It stands on `offers` and on `specs/Offers.antt`. `wot_auth` asks it for each path after the first, which saves a
+//! It uses `offers` and on `specs/Offers.antt`. `wot_auth` asks it for each path after the first, which saves a
 //! search most of the time.
 ghost use Rattle.std.specs.Prelude.{◌≡◌, nat_le, IfOk, OnOk};
 ghost use Rattle.wot_edge.specs.Answer.{IsNextOrSpent};
@@ -100,17 +100,17 @@ pub fn next_offered<R: Roads, N: Notes>(
     offers: &mut Vec<Path>,
     notes: &mut N,
 ) -> Result<Option<Path>, Memory>
-    requires reach { HasItsReach (R.told roads.now) asked.now }
-    requires offers { AreOffersFor (question_of (R.told roads.now) asked.now) (use_in used.now) offers.old.items }
-    ensures next { IfOk result (IsNextOrSpent (question_of (R.told roads.now) asked.now) (use_in used.now)) }
-    ensures offers { OnOk result (AreOffersFor (question_of (R.told roads.now) asked.now) (use_in used.now)
+    requires reach { HasItsReach (R.network roads.now) asked.now }
+    requires offers { AreOffersFor (question_of (R.network roads.now) asked.now) (use_in used.now) offers.old.items }
+    ensures next { IfOk result (IsNextOrSpent (question_of (R.network roads.now) asked.now) (use_in used.now)) }
+    ensures offers { OnOk result (AreOffersFor (question_of (R.network roads.now) asked.now) (use_in used.now)
         offers.new.items) }
     ensures grows { Widens (N.noted notes.old) (N.noted notes.new) }
-    ensures leads { Gains (LeadsToAsked (R.told roads.now) asked.now) (N.noted notes.old) (N.noted notes.new) }
+    ensures leads { Gains (LeadsToAsked (R.network roads.now) asked.now) (N.noted notes.old) (N.noted notes.new) }
 
     // If the table leaves nothing out, this holds for every question that agrees on a set that contains what was noted
     // and that had the earlier offers.
-    ensures local { IfOk result (TakesLocally (R.told roads.now) asked.now used.now (N.noted notes.new)
+    ensures local { IfOk result (TakesLocally (R.network roads.now) asked.now used.now (N.noted notes.new)
         offers.old.items offers.new.items) }
 {
     drop_spent(asked.roots, used, offers);

@@ -1,6 +1,6 @@
 //! Offers: the next paths of several roots, found by one search.
 //!
-//! It stands on `widest`, on the searches of `wot_first_path`, and on `specs/Offers.antt`. `offered` takes paths from
+//! It uses `widest`, on the searches of `wot_first_path`, and on `specs/Offers.antt`. `offered` takes paths from
 //! them while their amounts last.
 ghost use Rattle.std.specs.Prelude.{◌≡◌, ℕ, List, nat_le, true, IfOk, IfSome, OnOk};
 ghost use Rattle.std.specs.List.{list_all};
@@ -36,9 +36,9 @@ fn layers_of<R: Roads>(
     quest: &Quest,
     count: u8,
 ) -> Result<Reached, Memory>
-    requires lawful { (id : List ℕ) → IsRecord (R.told roads.now id) }
-    requires onward { LeadsOn (R.told roads.now) quest.now }
-    ensures after { IfOk result (λ reached. IsAfter (quest_of (R.told roads.now) quest.now) count reached
+    requires lawful { (id : List ℕ) → IsRecord (R.network roads.now id) }
+    requires onward { LeadsOn (R.network roads.now) quest.now }
+    ensures after { IfOk result (λ reached. IsAfter (quest_of (R.network roads.now) quest.now) count reached
         (λ fpr. Unit {0})) }
 {
     let mut reached = begin(alloc, quest.target)?;
@@ -120,9 +120,9 @@ pub(crate) fn offers_by<R: Roads>(
     quest: &Quest,
     size: u8,
 ) -> Result<Vec<Path>, Memory>
-    requires lawful { (id : List ℕ) → IsRecord (R.told roads.now id) }
-    requires onward { LeadsOn (R.told roads.now) quest.now }
-    ensures { IfOk result (λ paths. AreFoundOffers (quest_of (R.told roads.now) quest.now) size
+    requires lawful { (id : List ℕ) → IsRecord (R.network roads.now id) }
+    requires onward { LeadsOn (R.network roads.now) quest.now }
+    ensures { IfOk result (λ paths. AreFoundOffers (quest_of (R.network roads.now) quest.now) size
         quest.now.roots.now paths.items) }
 {
     let reached = layers_of(alloc, roads, quest, size)?;
@@ -138,12 +138,13 @@ pub(crate) fn offers_after<R: Roads>(
     used: &Used,
     wide: &Path,
 ) -> Result<Vec<Path>, Memory>
-    requires reach { HasItsReach (R.told roads.now) asked.now }
-    requires lawful { (id : List ℕ) → IsRecord (R.told roads.now id) }
-    requires widest { IsWidest (R.told roads.now) asked.now used.now wide.now }
-    ensures next { IfOk result (λ paths. AreNextFor (question_of (R.told roads.now) asked.now) (use_in used.now)
+    requires reach { HasItsReach (R.network roads.now) asked.now }
+    requires lawful { (id : List ℕ) → IsRecord (R.network roads.now id) }
+    requires widest { IsWidest (R.network roads.now) asked.now used.now wide.now }
+    ensures next { IfOk result (λ paths. AreNextFor (question_of (R.network roads.now) asked.now) (use_in used.now)
         paths.items) }
-    ensures local { IfOk result (λ paths. AreNextByWidest (R.told roads.now) asked.now used.now wide.now paths.items) }
+    ensures local { IfOk result
+        (λ paths. AreNextByWidest (R.network roads.now) asked.now used.now wide.now paths.items) }
 {
     bound_amounts(asked.roots);
     // The order of the roots, as a fact.
@@ -201,12 +202,12 @@ fn next_paths_by_one<R: Roads, N: Notes>(
     used: &Used,
     notes: &mut N,
 ) -> Result<Option<Vec<Path>>, Memory>
-    requires reach { HasItsReach (R.told roads.now) asked.now }
-    ensures next { IfOk result (AreNextIfSome (R.told roads.now) asked.now used.now) }
-    ensures local { IfOk result (AreNextLocallyIfSome (R.told roads.now) asked.now used.now (N.noted notes.new)) }
+    requires reach { HasItsReach (R.network roads.now) asked.now }
+    ensures next { IfOk result (AreNextIfSome (R.network roads.now) asked.now used.now) }
+    ensures local { IfOk result (AreNextLocallyIfSome (R.network roads.now) asked.now used.now (N.noted notes.new)) }
     ensures grows { Widens (N.noted notes.old) (N.noted notes.new) }
-    ensures leads { Gains (LeadsToAsked (R.told roads.now) asked.now) (N.noted notes.old) (N.noted notes.new) }
-    ensures lawful { IfOk result (λ found. IfSome found (λ paths. IsRecord (R.told roads.now asked.now.uid.now))) }
+    ensures leads { Gains (LeadsToAsked (R.network roads.now) asked.now) (N.noted notes.old) (N.noted notes.new) }
+    ensures lawful { IfOk result (λ found. IfSome found (λ paths. IsRecord (R.network roads.now asked.now.uid.now))) }
 {
     if asked.reach.is_everywhere() {
         return Ok(None);
@@ -255,16 +256,16 @@ pub fn next_paths_within<R: Roads, N: Notes>(
     used: &Used,
     notes: &mut N,
 ) -> Result<Vec<Path>, Memory>
-    requires reach { HasItsReach (R.told roads.now) asked.now }
-    ensures next { IfOk result (λ paths. AreNextFor (question_of (R.told roads.now) asked.now) (use_in used.now)
+    requires reach { HasItsReach (R.network roads.now) asked.now }
+    ensures next { IfOk result (λ paths. AreNextFor (question_of (R.network roads.now) asked.now) (use_in used.now)
         paths.items) }
     ensures grows { Widens (N.noted notes.old) (N.noted notes.new) }
-    ensures leads { Gains (LeadsToAsked (R.told roads.now) asked.now) (N.noted notes.old) (N.noted notes.new) }
+    ensures leads { Gains (LeadsToAsked (R.network roads.now) asked.now) (N.noted notes.old) (N.noted notes.new) }
 
     // If the table leaves nothing out, every question that agrees on a set with all that was noted has them too.
-    ensures local { IfOk result (λ paths. AreNextLocally (R.told roads.now) asked.now used.now (N.noted notes.new)
+    ensures local { IfOk result (λ paths. AreNextLocally (R.network roads.now) asked.now used.now (N.noted notes.new)
         paths.items) }
-    ensures lawful { IfOk result (λ paths. IsRecord (R.told roads.now asked.now.uid.now)) }
+    ensures lawful { IfOk result (λ paths. IsRecord (R.network roads.now asked.now.uid.now)) }
 {
     match next_paths_by_one(alloc, roads, asked, used, notes)? {
         Some(paths) => Ok(paths),

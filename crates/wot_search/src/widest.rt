@@ -1,6 +1,6 @@
 //! A path of the greatest amount. A search for next paths begins with it, unless one search finds both.
 //!
-//! It stands on the searches of `wot_first_path` and on `specs/Widest.antt`. `next`, `offers` and `below` call it.
+//! It uses the searches of `wot_first_path` and on `specs/Widest.antt`. `next`, `offers` and `below` call it.
 ghost use Rattle.std.specs.Prelude.{ℕ, List, IfOk};
 ghost use Rattle.wot_edge.specs.Record.{IsRecord};
 ghost use Rattle.wot_first_path.specs.Looked.{Gains, Widens};
@@ -23,12 +23,12 @@ pub(crate) fn widest<R: Roads, N: Notes>(
     used: &Used,
     notes: &mut N,
 ) -> Result<Option<Path>, Memory>
-    requires { HasItsReach (R.told roads.now) asked.now }
-    ensures widest { IfOk result (IsWidestOrSpent (R.told roads.now) asked.now used.now) }
-    ensures noted { IfOk result (IsWidestNoted (R.told roads.now) asked.now used.now (N.noted notes.new)) }
+    requires { HasItsReach (R.network roads.now) asked.now }
+    ensures widest { IfOk result (IsWidestOrSpent (R.network roads.now) asked.now used.now) }
+    ensures noted { IfOk result (IsWidestNoted (R.network roads.now) asked.now used.now (N.noted notes.new)) }
     ensures grows { Widens (N.noted notes.old) (N.noted notes.new) }
-    ensures leads { Gains (LeadsToAsked (R.told roads.now) asked.now) (N.noted notes.old) (N.noted notes.new) }
-    ensures lawful { IfOk result (λ found. (id : List ℕ) → IsRecord (R.told roads.now id)) }
+    ensures leads { Gains (LeadsToAsked (R.network roads.now) asked.now) (N.noted notes.old) (N.noted notes.new) }
+    ensures lawful { IfOk result (λ found. (id : List ℕ) → IsRecord (R.network roads.now id)) }
 {
     notes.note(asked.target)?;
     if !roads.in_order(asked.target, asked.uid) {

@@ -1,6 +1,6 @@
 //! Which subpackets are known: their types, and which bodies fit them.
 //!
-//! It stands on `specs/Known.antt`. A critical subpacket that isn't known here makes a signature count for nothing, so
+//! It uses `specs/Known.antt`. A critical subpacket that isn't known here makes a signature count for nothing, so
 //! a change changes answers.
 ghost use Rattle.std.specs.Prelude.{◌≡◌, ◌==◌};
 ghost use Rattle.std.specs.List.{list_any};

@@ -1,6 +1,6 @@
 //! Laws of signature bodies. Each function does nothing: its contract is the law.
 //!
-//! They stand on the definitions alone. A change to how a version is read has to keep them.
+//! They use the definitions alone. A change to how a version is read has to keep them.
 ghost use Rattle.std.specs.Prelude.{◌≡◌, ◌∷◌, ℕ, List};
 ghost use Rattle.wot_signature.specs.Signature.{facts_of, hint_of, scopes_of};
 ghost use Rattle.wot_signature.specs.VersionFour.{NamesNoV6, facts_v4, hint_v4, scopes_v4};

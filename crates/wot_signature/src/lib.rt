@@ -1,6 +1,6 @@
 //! What a signature of version 4 or 6 says (RFC 9580, section 5.2), read from its body in place: no octet is copied.
 //!
-//! It stands on `wot_subpacket` and `wot_types`. `wot_cert`, `wot_standing` and `wot_live` decide by these facts, and
+//! It uses `wot_subpacket` and `wot_types`. `wot_cert`, `wot_standing` and `wot_live` decide by these facts, and
 //! `wot_scope` takes regular expressions from here.
 #![tactic(auto)]
 

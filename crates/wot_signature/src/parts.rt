@@ -1,7 +1,7 @@
 //! The parts of a signature body: type, hash algorithm and both areas, in the forms of versions 4 and 6 (RFC 9580,
 //! section 5.2.3).
 //!
-//! It stands on `specs/Body.antt`. `read_body` parses the hashed area that it cuts out.
+//! It uses `specs/Body.antt`. `read_body` parses the hashed area that it cuts out.
 ghost use Rattle.std.specs.Prelude.{IfSome};
 ghost use Rattle.wot_subpacket.specs.Slice.{IsSliceOf};
 ghost use Rattle.wot_signature.specs.Body.{

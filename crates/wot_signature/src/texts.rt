@@ -1,4 +1,4 @@
-//! The iterator over a signature's regular expressions. It stands on `AreaIter` of `wot_subpacket`; `scopes` makes it,
+//! The iterator over a signature's regular expressions. It uses `AreaIter` of `wot_subpacket`; `scopes` makes it,
 //! and `wot_scope` takes one text after another from it.
 ghost use Rattle.std.specs.Prelude.{◌≡◌};
 ghost use Rattle.std.specs.Iterator.{YieldsFirstRef};

@@ -1,7 +1,7 @@
 //! Values by signature number, most of them in a row of slots, so that a lookup needs no walk over a tree. They can
 //! also be listed in the order of their numbers.
 //!
-//! It stands on `wot_types` alone. `wot_verdict` keeps verdicts and the fingerprints of certificates here.
+//! It uses `wot_types` alone. `wot_verdict` keeps verdicts and the fingerprints of certificates here.
 #![tactic(auto)]
 
 mod above;

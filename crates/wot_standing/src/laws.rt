@@ -1,5 +1,5 @@
 //! A law of certifications. The function does nothing: its contract is the law, which crates above cite by a call. It
-//! stands on `specs/Standing.antt`.
+//! uses `specs/Standing.antt`.
 ghost use Rattle.std.specs.Prelude.{ℕ};
 ghost use Rattle.wot_verdict.specs.Verdicts.{Entries};
 ghost use Rattle.wot_standing.specs.Standing.{OnlyCounted};

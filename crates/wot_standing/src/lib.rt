@@ -1,6 +1,6 @@
 //! Whether a key stands at a time, what ends or revokes it, and each issuer's newest certification on a user ID.
 //!
-//! It stands on `wot_cert` and its verdicts. `wot_live` makes edges by it and `wot_network` decides usable edges;
+//! It uses `wot_cert` and its verdicts. `wot_live` makes edges by it and `wot_network` decides usable edges;
 //! `docs/PROFILE.md` states these rules.
 #![tactic(auto)]
 

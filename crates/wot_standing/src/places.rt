@@ -1,6 +1,6 @@
 //! The place of a certification for each issuer and user ID, all in one map.
 //!
-//! It stands on `specs/Certifiers.antt`. `certifiers` fills the map.
+//! It uses `specs/Certifiers.antt`. `certifiers` fills the map.
 ghost use Rattle.std.specs.Prelude.{◌≡◌, ◌+◌, length, is_some, OnOk, IfOk, if◌then◌else◌};
 ghost use Rattle.std.specs.List.Sorted.{IsStrictlySortedBy};
 ghost use Rattle.std.specs.Map.{keys_of};

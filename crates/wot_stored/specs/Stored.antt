@@ -22,14 +22,14 @@ answer_of Long = Answer.long
 
 -- The text of the certificate, or the reply to the refusal, unless it is out of memory.
 abbrev pub TellsCert : Result Certificate Refusal → Result Certificate Refusal → Type 0
-TellsCert (Ok c) told = text_unless told ≡ Ok (text_of c)
-TellsCert (Err refusals.Memory) told = Unit {0}
-TellsCert (Err other) told = text_unless told ≡ Err (refusal other)
+TellsCert (Ok c) written = text_unless written ≡ Ok (text_of c)
+TellsCert (Err refusals.Memory) written = Unit {0}
+TellsCert (Err other) written = text_unless written ≡ Err (refusal other)
 
 -- why nothing is written, unless it is out of memory
 abbrev pub TellsUnwritten : Result (List ℕ) Reply → Unwritten → Type 0
-TellsUnwritten told (Told reply) = told ≡ Err reply
-TellsUnwritten told Memory = Unit {0}
+TellsUnwritten written (Told reply) = written ≡ Err reply
+TellsUnwritten written Memory = Unit {0}
 
 -- the reply is one line
 abbrev pub IsShort : Unwritten → Type 0

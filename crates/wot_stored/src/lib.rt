@@ -1,4 +1,4 @@
-//! What `store` writes: a kept certificate, merged with its entry of the certificate directory. It stands on wot_cert
+//! What `store` writes: a kept certificate, merged with its entry of the certificate directory. It uses wot_cert
 //! for the merge, and on wot_keyring for reading an entry by the rules of `load`. wot_command writes it.
 #![tactic(auto)]
 

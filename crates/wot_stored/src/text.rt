@@ -29,7 +29,7 @@ pub enum Unwritten {
 pub fn text_for(alloc: Global, fpr: &Fpr, kept: &Cert, given: Given) -> Result<Vec<u8>, Unwritten>
     requires within { FitsEntry given }
     ensures text { IfOk result (λ text. writing fpr.now kept.now (answer_of given) ≡ Ok text.items) }
-    ensures told { IfErr result (TellsUnwritten (writing fpr.now kept.now (answer_of given))) }
+    ensures reported { IfErr result (TellsUnwritten (writing fpr.now kept.now (answer_of given))) }
     ensures short { IfErr result IsShort }
 {
     match given {
@@ -56,7 +56,7 @@ fn union_text(alloc: Global, fpr: &Fpr, kept: &Cert, octets: &[u8]) -> Result<Ve
     requires short { length octets.now < 2 ^ 29 }
     ensures text { IfOk result (λ text.
         text_unless (merged_entry kept.now (entry_in (CertName fpr.now) octets.now)) ≡ Ok text.items) }
-    ensures told { IfErr result
+    ensures reported { IfErr result
         (TellsUnwritten (text_unless (merged_entry kept.now (entry_in (CertName fpr.now) octets.now)))) }
     ensures short { IfErr result IsShort }
 {

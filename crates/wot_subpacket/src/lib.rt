@@ -1,6 +1,6 @@
 //! Lists of signature subpackets (RFC 9580, section 5.2.3.7), read in place: no octet is copied.
 //!
-//! It stands on std alone. `wot_signature` reads both areas of a signature through it.
+//! It uses std alone. `wot_signature` reads both areas of a signature through it.
 #![tactic(auto)]
 
 mod area;

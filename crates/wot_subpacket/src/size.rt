@@ -1,4 +1,4 @@
-//! The length in front of a subpacket, in one, two or five octets. It stands on `specs/Length.antt`. `first` reads each
+//! The length in front of a subpacket, in one, two or five octets. It uses `specs/Length.antt`. `first` reads each
 //! length through it.
 ghost use Rattle.std.specs.Prelude.{◌≡◌, ◌<◌, ◌≤◌, MatchOption, None, Some};
 ghost use Rattle.wot_subpacket.specs.Length.{length_at, two_octets_at, four_octets_at};

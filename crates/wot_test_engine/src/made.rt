@@ -143,7 +143,7 @@ fn play<F: Fn(Ask) -> bool>(
     out: &mut Vec<u8>,
 ) -> Option<u32>
     requires fresh { machine.old.engine.keyring.changes ≡ 0 }
-    requires unturned { machine.old.engine.turns.count ≡ 0 }
+    requires unturned { machine.old.engine.revisions.count ≡ 0 }
     requires judged { IsJudgedBy (rows_of policy.old) machine.old.engine.keyring }
     requires faithful { IsFaithful F.Fn policy.old }
 {

@@ -72,7 +72,7 @@ static PARTS: [(&[u8], &[u8]); 9] = [
 ];
 
 /// What is returned for these octets, in pieces of this size, if the read of this number fails.
-fn told(rt: &impl Abort, alloc: Global, input: &[u8], piece: usize, failing: u64) -> Vec<u8> {
+fn network(rt: &impl Abort, alloc: Global, input: &[u8], piece: usize, failing: u64) -> Vec<u8> {
     let input = input.to_vec(alloc).expect(rt, "memory");
     let fails = [failing].to_vec(alloc).expect(rt, "memory");
     let mut source = MemorySource::new(input, piece.max(1), fails);
@@ -85,7 +85,7 @@ fn lines_are_the_parts_between_line_feeds(rt: HostRuntime) {
         for piece in [1, 5, 65536] {
             expect_that(
                 &rt,
-                told(&rt, rt.alloc(), input, piece, 0).as_slice() == *want,
+                network(&rt, rt.alloc(), input, piece, 0).as_slice() == *want,
             );
         }
     }
@@ -105,7 +105,7 @@ fn a_read_fault_is_answered_again(rt: HostRuntime) {
     for (input, failing, want) in &FAULTS {
         expect_that(
             &rt,
-            told(&rt, rt.alloc(), input, 5, *failing).as_slice() == *want,
+            network(&rt, rt.alloc(), input, 5, *failing).as_slice() == *want,
         );
     }
 }

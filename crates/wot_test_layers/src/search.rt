@@ -1,6 +1,6 @@
 //! Tests of wot_search: which keys a search looks at, how many paths one search offers, and how far keys reach. No
 //! contract says that this is so little and so much. The paths themselves are rows (`tests/suites/rows/paths`).
-ghost use Rattle.wot_edge.specs.Plain.{told_of};
+ghost use Rattle.wot_edge.specs.Plain.{network_for};
 ghost use Rattle.wot_reach.specs.Reach.{IsReach};
 
 use crate::assertion::expect_that;
@@ -61,7 +61,7 @@ fn roots_of(rt: &impl Abort, alloc: Global, octets: &[u8], amount: u8) -> Roots 
 
 /// How far the keys 1 to 9 reach.
 fn reach_of(rt: &impl Abort, alloc: Global, roads: &PlainRoads, roots: &Roots) -> Reach
-    ensures reach { IsReach (told_of roads.now) roots.now result }
+    ensures reach { IsReach (network_for roads.now) roots.now result }
 {
     let mut fprs = Vec::new(alloc);
     for octet in 1..10u8 {

@@ -1,4 +1,4 @@
-//! One law about hexadecimal digits: decoding undoes encoding. It stands on the contract of `hex`. `fpr` and `number`
+//! One law about hexadecimal digits: decoding undoes encoding. It uses the contract of `hex`. `fpr` and `number`
 //! need it to show that what they print is what they read.
 ghost use Rattle.std.specs.Prelude.{◌≡◌, length};
 ghost use Rattle.hex.specs.Hex.{encode_lower};

@@ -1,6 +1,6 @@
 //! Fingerprints of version 4 and version 6 keys: their octets, how they are read and printed, and their order.
 //!
-//! It stands on `hex`, `octets` and `specs/Fpr.antt`. Maps everywhere are ordered by fingerprints, and dumps and
+//! It uses `hex`, `octets` and `specs/Fpr.antt`. Maps everywhere are ordered by fingerprints, and dumps and
 //! replies print them, so a change here touches all of it. The order's own proof is `specs/FprOrder.antt`.
 ghost use Rattle.std.specs.Prelude.{◌≡◌, ◌<◌, ◌≤◌, ◌+◌, ◌++◌, length, vec_len, vec_capacity, OnOk, OnErr, Some, None};
 ghost use Rattle.std.specs.Cmp.Lexicographic.{slice_cmp};

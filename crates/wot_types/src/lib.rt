@@ -1,7 +1,7 @@
 //! Values that every crate speaks of: fingerprints, signature numbers, user IDs, names, limits, the count of edges, and
 //! the error of a failed allocation.
 //!
-//! This is the lowest crate and stands on `hex` and std alone, so a change to any contract here proves every other
+//! This is the lowest crate and uses `hex` and std alone, so a change to any contract here proves every other
 //! crate again.
 #![tactic(auto)]
 

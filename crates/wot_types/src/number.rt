@@ -1,6 +1,6 @@
 //! Signature numbers: how they are read and printed, and their order.
 //!
-//! It stands on `hex`, `octets` and `specs/SigNumber.antt`. `wot_verdict` says which number a signature has; verdicts
+//! It uses `hex`, `octets` and `specs/SigNumber.antt`. `wot_verdict` says which number a signature has; verdicts
 //! are kept by these numbers. The order's own proof is `specs/NumberOrder.antt`.
 ghost use Rattle.std.specs.Prelude.{◌≡◌, ◌<◌, ◌≤◌, ◌+◌, ◌++◌, length, vec_len, vec_capacity, OnOk, OnErr};
 ghost use Rattle.wot_types.specs.SigNumber.{number_digits, number_cmp, number_of_digits};

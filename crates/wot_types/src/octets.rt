@@ -1,6 +1,6 @@
 //! How octets compare: eight at a time, as one number.
 //!
-//! It stands on std's slices. Fingerprints and signature numbers compare by it, and so do all maps of them.
+//! It uses std's slices. Fingerprints and signature numbers compare by it, and so do all maps of them.
 ghost use Rattle.std.specs.Prelude.{◌≡◌};
 ghost use Rattle.std.specs.Cmp.Lexicographic.{slice_cmp};
 ghost use Rattle.std.specs.Ordering.{nat_cmp};

@@ -1,4 +1,4 @@
-//! The count of the edges that were made, which benches and tests read to see how much was computed again. It stands on
+//! The count of the edges that were made, which benches and tests read to see how much was computed again. It uses
 //! nothing, and no reply depends on it.
 ghost use Rattle.std.specs.Prelude.{◌≡◌};
 

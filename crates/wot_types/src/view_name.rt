@@ -1,6 +1,6 @@
 //! Names of views: which texts are names, and their order.
 //!
-//! It stands on `specs/ViewName.antt`. Cursors and watches have such names too. A change of what a name is made of also
+//! It uses `specs/ViewName.antt`. Cursors and watches have such names too. A change of what a name is made of also
 //! changes `docs/PROTOCOL.md`.
 ghost use Rattle.std.specs.Prelude.{◌≡◌, true, IfOk};
 ghost use Rattle.std.specs.List.{list_all};

@@ -1,4 +1,4 @@
--- Verdicts by number: a finite map, seen as the list of its entries in the order of the numbers. Beside it stands on
+-- Verdicts by number: a finite map, seen as the list of its entries in the order of the numbers. Beside it uses
 -- which certificate the signature of each number is.
 use Rattle.std.specs.Prelude.{◌≡◌, Bool, cond, List, Option}
 use Rattle.std.specs.BTreeMap.{is_at, insert_entry}

@@ -67,14 +67,14 @@ impl Watch {
 
     /// The amount last reported.
     pub fn told(&self) -> u32
-        ensures told { result ≡ self.now.told }
+        ensures reported { result ≡ self.now.told }
     {
         self.told
     }
 
     /// Records that this amount was reported.
     pub(crate) fn tell(&mut self, amount: u32)
-        ensures told { self.new ≡ record self.old { told = amount } }
+        ensures reported { self.new ≡ record self.old { told = amount } }
     {
         self.told = amount;
     }

@@ -82,7 +82,7 @@ impl Watches {
     /// Records that this amount was reported for the watch. Returns whether the watch is there.
     pub fn tell(&mut self, name: &ViewName, amount: u32) -> bool
         ensures there { result ≡ is_some (watch_at self.old name.now) }
-        ensures told { self.new ≡ with_told self.old name.now amount }
+        ensures reported { self.new ≡ with_told self.old name.now amount }
     {
         match self.watches.get_mut(name) {
             Some(watch) => {

@@ -43,7 +43,7 @@ module _ (T : Type 0) {E : Type 0} (e : E) where
   refreshed_still : (name : List ℕ) (engine : Engine) (made : ℕ)
       → IsRefreshed {T = T} {E = E} (Err e) name engine engine made made
   refreshed_still name engine made = record {
-    stays = record { keyring = refl; views = refl; turns = refl };
+    stays = record { keyring = refl; views = refl; revisions = refl };
     made = by (view_at engine.views name);
     others = λ other is. refl;
     closed = λ none. (refl, refl);

@@ -14,10 +14,10 @@ use Rattle.wot_script.specs.declared.reply.Reply.TheVariants as replies
 use Rattle.wot_cache.specs.declared.view.View.{View}
 use Rattle.wot_cache.specs.Basis as bases
 use Rattle.wot_cache.specs.Basis.{AreViewsOn, Basis, HasGrown, IsKeptOn, IsKeyringOn, IsUndisturbed, RestsOnLater}
-use Rattle.wot_cache.specs.Basis.{RestsOnMore, TurnGoesOn}
+use Rattle.wot_cache.specs.Basis.{RestsOnMore, RevisionGoesOn}
 use Rattle.wot_cache.specs.Question.{question_in}
 use Rattle.wot_cache.specs.State.{Engine, State, StaysButMarks, closing, state_of}
-use Rattle.wot_cache.specs.Turns.{AreTurnsBy, Turns, without_turn}
+use Rattle.wot_cache.specs.Revisions.{AreRevisionsBy, Revisions, without_revision}
 use Rattle.wot_cache.specs.Views.{Views, view_at}
 use Rattle.wot_table.specs.Table.{is_name}
 use Rattle.wot_watch.specs.Watches.{Watch, Watches, is_full, watch_at, with_watch, without_watch}
@@ -25,7 +25,7 @@ use Rattle.wot_plain.specs.declared.class.Class.{Class}
 use Rattle.wot_plain.specs.declared.class.Class.TheVariants.{State as OfState}
 use Rattle.wot_plain.specs.declared.class.StateCommand.TheVariants as kinds
 use Rattle.wot_plain.specs.declared.class.ViewChange.{ViewChange}
-use Rattle.wot_plain.specs.declared.class.ViewChange.TheVariants as turns
+use Rattle.wot_plain.specs.declared.class.ViewChange.TheVariants as revisions
 use Rattle.wot_plain.specs.Classes.{class_of, view_change_of}
 use Rattle.wot_plain.specs.Served.{Served}
 use Rattle.wot_cursor.specs.Cursors.{Cursors}
@@ -34,7 +34,7 @@ use Rattle.wot_plain.specs.Outcome.{close, done, only}
 use Rattle.wot_watch_commands.specs.Settled.{AllSettled, AreOpen, AreSettled, IsNoAmount, IsSettled}
 use Rattle.wot_plain.specs.Watching.{AreLines, HasAmount, LeavesWatches, Opens, TakesOff, Watching, is_watching}
 use Rattle.wot_plain.specs.Watching.{line_by, opened}
-use Rattle.wot_plain.specs.Session.{IsCounted, IsTurnedBy, Session, watched, session_of}
+use Rattle.wot_plain.specs.Session.{IsCounted, RevisedBy, Session, watched, session_of}
 use Rattle.wot_plain.proofs.Entries.{all_weaker, all_without}
 use Rattle.wot_plain.proofs.Viewed.{changes_view, does_views}
 use Rattle.wot_plain.proofs.Watched.{amount_has, plain_watching, watched_cases}
@@ -168,24 +168,24 @@ all_left engine basis old new (inr took) all =
 abbrev pub ChangedOn : Type 0
 ChangedOn = (old new : Keyring) → IsOneChange old new → length old.certs ≤ length new.certs → IsKeyringOn old new
 
-views_still : (old new : Views) (before after : Turns) → new ≡ old → after ≡ before → AreViewsOn old before new after
-views_still old new before after same turns =
-    let count = ap (λ (t : Turns). t.count) turns in
+views_still : (old new : Views) (before after : Revisions) → new ≡ old → after ≡ before → AreViewsOn old before new after
+views_still old new before after same revisions =
+    let count = ap (λ (t : Revisions). t.count) revisions in
     record { counted = omega (arith, count); each = λ e name. inl (ap (λ (vs : Views). view_at vs name) same) }
 
 -- one of the counts shows a change
 abbrev pub IsCountedOn : Session → Session → Type 0
-IsCountedOn old new = (new.changes ≢ old.changes) ⊎ (new.turns.count ≢ old.turns.count)
+IsCountedOn old new = (new.changes ≢ old.changes) ⊎ (new.revisions.count ≢ old.revisions.count)
 
 closed_on : (old new : Session) (view : List ℕ) (reply : Reply) → ComesTo (close old.state view) reply new.state
-    → IsCounted old new → IsTurnedBy (OfState (kinds.View view turns.Close)) old.state.views old.turns new.state.views new.turns
-    → (reply ≡ replies.Done → IsCountedOn old new) → AreViewsOn old.state.views old.turns new.state.views new.turns
+    → IsCounted old new → RevisedBy (OfState (kinds.View view revisions.Close)) old.state.views old.revisions new.state.views new.revisions
+    → (reply ≡ replies.Done → IsCountedOn old new) → AreViewsOn old.state.views old.revisions new.state.views new.revisions
 closed_on old new view reply g counted turned tells = by (is_some (view_at old.state.views view)) refl g
   where
-    same_count : AreTurnsBy (without_turn view old.turns) view old.state.views old.turns new.state.views new.turns
-        → new.turns.count ≡ old.turns.count
-    same_count (inl p) = ap (λ (t : Turns). t.count) p.1
-    same_count (inr p) = ap (λ (t : Turns). t.count) p.1
+    same_count : AreRevisionsBy (without_revision view old.revisions) view old.state.views old.revisions new.state.views new.revisions
+        → new.revisions.count ≡ old.revisions.count
+    same_count (inl p) = ap (λ (t : Revisions). t.count) p.1
+    same_count (inr p) = ap (λ (t : Revisions). t.count) p.1
 
     same_changes : new.state.held ≡ old.state.held → IsCounted old new → new.changes ≡ old.changes
     same_changes held (inl c) = c.1
@@ -197,48 +197,48 @@ closed_on old new view reply g counted turned tells = by (is_some (view_at old.s
 
     by : (b : Bool) → is_some (view_at old.state.views view) ≡ b
         → ComesTo (if b then done (closing view old.state) else only old.state replies.View) reply new.state
-        → AreViewsOn old.state.views old.turns new.state.views new.turns
+        → AreViewsOn old.state.views old.revisions new.state.views new.revisions
     by true e h = absurd (never (ap (λ (s : State). s.held) h.1) (tells h.0))
     by false e h =
         let same = ap (λ (s : State). s.views) h.1 in
-        views_still old.state.views new.state.views old.turns new.turns same
-        (turned_still (OfState (kinds.View view turns.Close)) old.state.views new.state.views old.turns new.turns same turned)
+        views_still old.state.views new.state.views old.revisions new.revisions same
+        (turned_still (OfState (kinds.View view revisions.Close)) old.state.views new.state.views old.revisions new.revisions same turned)
 
-module _ (rows : PolicyRows) (on : TurnGoesOn) where
+module _ (rows : PolicyRows) (on : RevisionGoesOn) where
   view_on : (old new : Session) (view : List ℕ) (change : ViewChange) (reply : Reply)
       → ComesTo (view_change_of old.state view change) reply new.state → IsCounted old new
-      → IsTurnedBy (OfState (kinds.View view change)) old.state.views old.turns new.state.views new.turns
-      → (reply ≡ replies.Done → IsCountedOn old new) → AreViewsOn old.state.views old.turns new.state.views new.turns
-  view_on old new view turns.Close reply d counted turned tells = closed_on old new view reply d counted turned tells
-  view_on old new view (turns.Time t) reply d counted turned tells =
-      on view old.state.views new.state.views old.turns new.turns
-      (changes_view old.state view (turns.Time t) reply new.state d).others turned
-  view_on old new view (turns.Root fpr amount) reply d counted turned tells =
-      on view old.state.views new.state.views old.turns new.turns
-      (changes_view old.state view (turns.Root fpr amount) reply new.state d).others turned
+      → RevisedBy (OfState (kinds.View view change)) old.state.views old.revisions new.state.views new.revisions
+      → (reply ≡ replies.Done → IsCountedOn old new) → AreViewsOn old.state.views old.revisions new.state.views new.revisions
+  view_on old new view revisions.Close reply d counted turned tells = closed_on old new view reply d counted turned tells
+  view_on old new view (revisions.Time t) reply d counted turned tells =
+      on view old.state.views new.state.views old.revisions new.revisions
+      (changes_view old.state view (revisions.Time t) reply new.state d).others turned
+  view_on old new view (revisions.Root fpr amount) reply d counted turned tells =
+      on view old.state.views new.state.views old.revisions new.revisions
+      (changes_view old.state view (revisions.Root fpr amount) reply new.state d).others turned
 
   does_on : (old new : Session) (class : Class) (given : Served) (reply : Reply)
       → StateStep rows old.state class given reply new.state → IsCounted old new
-      → IsTurnedBy class old.state.views old.turns new.state.views new.turns
-      → (reply ≡ replies.Done → IsCountedOn old new) → AreViewsOn old.state.views old.turns new.state.views new.turns
+      → RevisedBy class old.state.views old.revisions new.state.views new.revisions
+      → (reply ≡ replies.Done → IsCountedOn old new) → AreViewsOn old.state.views old.revisions new.state.views new.revisions
   does_on old new (OfState (kinds.View view change)) given reply d counted turned tells =
       view_on old new view change reply d counted turned tells
   does_on old new class given reply d counted turned tells =
-      views_still old.state.views new.state.views old.turns new.turns
+      views_still old.state.views new.state.views old.revisions new.revisions
       (does_views rows old.state class given reply new.state d) turned
 
   -- the state after a line develops from the one before, by its reply and the counts
   pub obeys_on : (old new : Session) (class : Class) (given : Served) (reply : Reply)
       → CommandStep rows old class given reply new → (reply ≡ replies.Done → IsCountedOn old new)
-      → AreViewsOn old.state.views old.turns new.state.views new.turns
+      → AreViewsOn old.state.views old.revisions new.state.views new.revisions
   obeys_on old new class given reply o tells = does_on old new class given reply o.does o.counted o.turned tells
 
   answers_on : (old new : Session) (command : Option Command) (given : Served) (reply : Reply)
       → ReadLineStep rows old command given reply new → (reply ≡ replies.Done → IsCountedOn old new)
-      → AreViewsOn old.state.views old.turns new.state.views new.turns
+      → AreViewsOn old.state.views old.revisions new.state.views new.revisions
   answers_on old new None given reply g tells =
-      views_still old.state.views new.state.views old.turns new.turns (ap (λ (w : Session). w.state.views) g.1)
-      (ap (λ (w : Session). w.turns) g.1)
+      views_still old.state.views new.state.views old.revisions new.revisions (ap (λ (w : Session). w.state.views) g.1)
+      (ap (λ (w : Session). w.revisions) g.1)
   answers_on old new (Some command) given reply g tells = obeys_on old new (class_of command) given reply g tells
 
   answers_leaves : (old new : Session) (command : Option Command) (given : Served) (reply : Reply)
@@ -271,23 +271,23 @@ module _ (rows : PolicyRows) (on : TurnGoesOn) where
   -- a line was answered, by the counts before it, for a basis that was kept or dropped
   pub settled_told : RestsOnLater → ChangedOn → (old new : Engine) (cursors after : Cursors) (watches left : Watches)
       (command : Option Command) (given : Served) (reply : Reply) (found taken : Option Basis)
-      (certificates changes turns : ℕ)
+      (certificates changes revisions : ℕ)
       → ReadLineStep rows (watched (session_of old cursors) watches) command given reply (watched (session_of new after) left)
       → IsOneChange old.keyring new.keyring
-      → certificates ≡ length old.keyring.certs → changes ≡ old.keyring.changes → turns ≡ old.turns.count
+      → certificates ≡ length old.keyring.certs → changes ≡ old.keyring.changes → revisions ≡ old.revisions.count
       → IfSome taken (λ (b : Basis). found ≡ Some b)
       → IfSome taken (λ (b : Basis). certificates ≤ length new.keyring.certs)
       → IfSome taken (λ (b : Basis). IsNoAmount reply)
-      → IfSome taken (λ (b : Basis). reply ≡ replies.Done → (new.keyring.changes ≢ changes) ⊎ (new.turns.count ≢ turns))
+      → IfSome taken (λ (b : Basis). reply ≡ replies.Done → (new.keyring.changes ≢ changes) ⊎ (new.revisions.count ≢ revisions))
       → AreSettled old watches found → AreSettled new left taken
   settled_told later changed old new cursors after watches left command given reply found None certificates changes
-      turns a one here were turned same more plain tells s = tt
+      revisions a one here were turned same more plain tells s = tt
   settled_told later changed old new cursors after watches left command given reply found (Some basis) certificates
-      changes turns a one here were turned same more plain tells s =
+      changes revisions a one here were turned same more plain tells s =
       settled_behind later changed old new cursors after watches left command given reply (Some basis) a one
       (subst (λ n. n ≤ length new.keyring.certs) here more)
-      (λ done. subst (λ t. (new.keyring.changes ≢ old.keyring.changes) ⊎ (new.turns.count ≢ t)) turned
-      (subst (λ n. (new.keyring.changes ≢ n) ⊎ (new.turns.count ≢ turns)) were (tells done)))
+      (λ done. subst (λ t. (new.keyring.changes ≢ old.keyring.changes) ⊎ (new.revisions.count ≢ t)) turned
+      (subst (λ n. (new.keyring.changes ≢ n) ⊎ (new.revisions.count ≢ revisions)) were (tells done)))
       plain (subst (AreSettled old watches) same s)
 
 -- ---- the amount of a question
@@ -311,23 +311,23 @@ settled_before later old new basis watch on s = record {
 }
 
 pub stays_back : (old new : Engine) → StaysButMarks old new → StaysButMarks new old
-stays_back old new stays = record { keyring = sym stays.keyring; views = sym stays.views; turns = sym stays.turns }
+stays_back old new stays = record { keyring = sym stays.keyring; views = sym stays.views; revisions = sym stays.revisions }
 
 -- a basis that grew has the same counts
 pub present_grown : (engine : Engine) (old new : Basis) → HasGrown old new → bases.IsPresent engine old →
     bases.IsPresent engine new
-present_grown engine old new more p = record { changes = more.changes ∙ p.changes; turns = more.turns ∙ p.turns }
+present_grown engine old new more p = record { changes = more.changes ∙ p.changes; revisions = more.revisions ∙ p.revisions }
 
 pub grown_further : (old mid new : Basis) → HasGrown old mid → HasGrown mid new → HasGrown old new
 grown_further old mid new a b = record {
   changes = b.changes ∙ a.changes;
-  turns = b.turns ∙ a.turns;
+  revisions = b.revisions ∙ a.revisions;
   fprs = λ fpr e. b.fprs fpr (a.fprs fpr e);
   whole = λ e. b.whole (a.whole e);
 }
 
 pub grown_not : (basis : Basis) → HasGrown basis basis
-grown_not basis = record { changes = refl; turns = refl; fprs = λ fpr e. e; whole = λ e. e }
+grown_not basis = record { changes = refl; revisions = refl; fprs = λ fpr e. e; whole = λ e. e }
 
 -- However much the basis grows: if the remaining watches are settled on it and there is no line, all are settled.
 abbrev pub SettlesSoFar : Engine → Basis → Watches → Watches → List Reply → Type 0

@@ -29,7 +29,7 @@ AreOpen engine watches = AllByRecursion (λ (e : List ℕ × Watch). is_some (vi
 
 -- one of the two counts changed
 abbrev pub CountsDiffer : Engine → ℕ → ℕ → Type 0
-CountsDiffer engine changes turns = (engine.keyring.changes ≢ changes) ⊎ (engine.turns.count ≢ turns)
+CountsDiffer engine changes revisions = (engine.keyring.changes ≢ changes) ⊎ (engine.revisions.count ≢ revisions)
 
 -- the reply isn't the amount of a watch, as it is when a watch begins
 abbrev pub IsNoAmount : Reply → Type 0

@@ -1,5 +1,5 @@
 //! The commands of watches, and the watch lines after each line. wot_plain defines both, wot_watch keeps the watches,
-//! and wot_cache answers their questions. It stands on wot_plain, so it is proved beside wot_command; wot_machine calls
+//! and wot_cache answers their questions. It uses wot_plain, so it is proved beside wot_command; wot_machine calls
 //! it.
 #![tactic(auto)]
 

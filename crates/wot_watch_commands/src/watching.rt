@@ -90,7 +90,7 @@ fn begin(
     ensures short { IfOk result (λ reply. is_short reply ≡ true) }
     ensures kept { OnErr result (watches.new ≡ watches.old) }
 {
-    let told = name.duplicate(alloc)?;
+    let shown = name.duplicate(alloc)?;
     let key = name.duplicate(alloc)?;
     let view = asked.view.duplicate(alloc)?;
     let uid = UserId::new(alloc, asked.uid)?;
@@ -98,7 +98,7 @@ fn begin(
         key,
         Watch::new(view, *asked.target, asked.wanted, uid, amount),
     ) {
-        Ok(()) => Ok(Reply::WatchAmount(told, amount)),
+        Ok(()) => Ok(Reply::WatchAmount(shown, amount)),
         Err(fault) => reply_to(Refused::from(fault)),
     }
 }
@@ -229,7 +229,7 @@ pub fn are_settled(engine: &Engine, watches: &Watches, basis: &mut Option<Basis>
 {
     kept_on_is_order();
     match basis {
-        Some(basis) => engine.stands(basis) && all_open(engine, watches),
+        Some(basis) => engine.still_current(basis) && all_open(engine, watches),
         None => false,
     }
 }
@@ -249,7 +249,7 @@ fn all_open(engine: &Engine, watches: &Watches) -> bool
 
 /// Marks these watch lines as reported. Takes no memory.
 pub fn tell_all(watches: &mut Watches, lines: &[Reply])
-    ensures told { watches.new ≡ told_all watches.old lines.now }
+    ensures reported { watches.new ≡ told_all watches.old lines.now }
 {
     let mut rest = lines;
     'rest: while let Some((line, others)) = rest.split_first() {
@@ -260,7 +260,7 @@ pub fn tell_all(watches: &mut Watches, lines: &[Reply])
 
 /// Marks this watch line as reported.
 fn tell_one(watches: &mut Watches, line: &Reply)
-    ensures told { watches.new ≡ told_by watches.old line.now }
+    ensures reported { watches.new ≡ told_by watches.old line.now }
 {
     match line {
         Reply::WatchAmount(name, amount) => {

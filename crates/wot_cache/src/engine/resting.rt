@@ -78,14 +78,14 @@ impl Engine {
 
     /// Whether all sums that depend on this basis are current. If so, the basis is moved to the engine's current
     /// counts. False doesn't mean that a sum changed: if many fingerprints changed, they aren't checked.
-    pub fn stands(&self, basis: &mut Basis) -> bool
-        ensures stands { result ≡ true → IsUndisturbed self.now basis.old }
+    pub fn still_current(&self, basis: &mut Basis) -> bool
+        ensures current { result ≡ true → IsUndisturbed self.now basis.old }
         ensures present { result ≡ true → IsPresent self.now basis.new }
         // It is true if nothing was counted since.
         ensures still { IsPresent self.now basis.old → result ≡ true }
         ensures carries_on { CarriesOn self.now basis.old basis.new }
         ensures kept { result ≡ false → basis.new ≡ basis.old }
     {
-        basis.stands(&self.networked.keyring, self.turns.count())
+        basis.still_current(&self.networked.keyring, self.revisions.count())
     }
 }

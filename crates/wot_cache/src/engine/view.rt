@@ -1,12 +1,13 @@
-//! Views: opened, moved in time, given roots, closed, and read. Each change of a view is one turn of it, which cursors
-//! compare; closing one forgets its network and its answers. A rule about views changes here and in specs/Views.antt.
+//! Views: opened, moved in time, given roots, closed, and read. Each change of a view is one revision of it, which
+//! cursors compare; closing one forgets its network and its answers. A rule about views changes here and in
+//! specs/Views.antt.
 ghost use Rattle.std.specs.Prelude.{◌≡◌, ◌≢◌, ◌<◌, ◌-◌, ◌^◌, [], length, false, true};
 ghost use Rattle.std.specs.Prelude.{None, Err, is_ok, is_some, IfSome, OnOk, OnErr};
 ghost use Rattle.std.specs.Option.{option_copied, option_map};
 ghost use Rattle.wot_edge.specs.Roots.{IsRoots, root_amount};
 ghost use Rattle.wot_cache.specs.Marks.{IsForgotten};
 ghost use Rattle.wot_cache.specs.State.{marks_at, OtherMarksStay};
-ghost use Rattle.wot_cache.specs.Turns.{turn_at, IsOneTurn, IsOneClosing};
+ghost use Rattle.wot_cache.specs.Revisions.{revision_at, IsOneRevision, IsOneClosing};
 ghost use Rattle.wot_cache.specs.Views.{view_at, with_time, time_fault, with_root, root_fault, without_view};
 ghost use Rattle.wot_cache.specs.Views.{TellsFault};
 
@@ -18,12 +19,13 @@ use wot_types::{Fpr, Limit, Memory, ViewName};
 
 impl Engine {
     /// Opens a view without roots at this time (in seconds since 1970), or moves the time of an open view, which keeps
-    /// its roots. A view that is opened, or whose time changes, gets a new turn. `Full` comes if the number of views is
-    /// at its limit.
+    /// its roots. A view that is opened, or whose time changes, gets a new revision. `Full` comes if the number of
+    /// views is at its limit.
     pub fn view_time(&mut self, view: &ViewName, t: u32) -> Result<(), ViewFault>
-        requires turnable { self.old.turns.count < 2 ^ 64 - 1 }
+        requires turnable { self.old.revisions.count < 2 ^ 64 - 1 }
         ensures timed { OnOk result (self.new.views ≡ with_time self.old.views view.now t) }
-        ensures turned { OnOk result (IsOneTurn view.now self.old.views self.old.turns self.new.views self.new.turns) }
+        ensures turned { OnOk result
+            (IsOneRevision view.now self.old.views self.old.revisions self.new.views self.new.revisions) }
         ensures fault { TellsFault result (time_fault self.old.keyring.limits self.old.views view.now) }
         ensures kept { OnErr result (self.new ≡ self.old) }
         ensures keyring { self.new.keyring ≡ self.old.keyring }
@@ -36,7 +38,7 @@ impl Engine {
             return Ok(());
         }
         if views::move_time(&mut self.networked.views, view, t) {
-            self.turns.raise(view);
+            self.revisions.raise(view);
             return Ok(());
         }
         if self.networked.keyring.limits().views <= self.networked.views.len() as u64 {
@@ -46,18 +48,19 @@ impl Engine {
     }
 
     fn open(&mut self, view: &ViewName, t: u32) -> Result<(), ViewFault>
-        requires turnable { self.old.turns.count < 2 ^ 64 - 1 }
+        requires turnable { self.old.revisions.count < 2 ^ 64 - 1 }
         requires closed { view_at self.old.views view.now ≡ None }
         requires room { length self.old.views < self.old.keyring.limits.views }
         ensures opened { OnOk result (self.new.views ≡ with_time self.old.views view.now t) }
-        ensures turned { OnOk result (IsOneTurn view.now self.old.views self.old.turns self.new.views self.new.turns) }
+        ensures turned { OnOk result
+            (IsOneRevision view.now self.old.views self.old.revisions self.new.views self.new.revisions) }
         ensures fault { OnErr result (result ≡ Err ViewFault.Memory) }
         ensures kept { OnErr result (self.new ≡ self.old) }
         ensures keyring { self.new.keyring ≡ self.old.keyring }
         ensures marks { self.new.marks ≡ self.old.marks }
         ensures answers { self.new.answers ≡ self.old.answers }
     {
-        self.turns.begin(view.duplicate(self.alloc)?)?;
+        self.revisions.begin(view.duplicate(self.alloc)?)?;
         let opened = View {
             time: t,
             roots: Roots::new(self.alloc),
@@ -65,19 +68,20 @@ impl Engine {
         match views::open(self.alloc, &mut self.networked.views, view, opened) {
             Ok(()) => Ok(()),
             Err(Memory) => {
-                self.turns.take_back(view);
+                self.revisions.take_back(view);
                 Err(ViewFault::Memory)
             }
         }
     }
 
     /// Sets the amount of a root in an open view; 0 removes the root. A root needs no certificate in the keyring. A
-    /// view whose roots change gets a new turn. `View` comes if the view isn't open, `Absent` if there is no root to
-    /// remove, and `Full` if the number of the view's roots is at its limit.
+    /// view whose roots change gets a new revision. `View` comes if the view isn't open, `Absent` if there is no root
+    /// to remove, and `Full` if the number of the view's roots is at its limit.
     pub fn view_root(&mut self, view: &ViewName, fpr: &Fpr, amount: u8) -> Result<(), ViewFault>
-        requires turnable { self.old.turns.count < 2 ^ 64 - 1 }
+        requires turnable { self.old.revisions.count < 2 ^ 64 - 1 }
         ensures rooted { OnOk result (self.new.views ≡ with_root self.old.views view.now fpr.now amount) }
-        ensures turned { OnOk result (IsOneTurn view.now self.old.views self.old.turns self.new.views self.new.turns) }
+        ensures turned { OnOk result
+            (IsOneRevision view.now self.old.views self.old.revisions self.new.views self.new.revisions) }
         ensures fault { TellsFault result
             (root_fault self.old.keyring.limits (view_at self.old.views view.now) fpr.now amount) }
         ensures kept { OnErr result (self.new ≡ self.old) }
@@ -92,7 +96,7 @@ impl Engine {
             return Ok(());
         }
         views::set_amount(&mut self.networked.views, view, *fpr, amount)?;
-        self.turns.raise(view);
+        self.revisions.raise(view);
         Ok(())
     }
 
@@ -133,11 +137,11 @@ impl Engine {
         None
     }
 
-    /// Closes a view and forgets its roots. Takes no memory. The counter of turns doesn't change.
+    /// Closes a view and forgets its roots. Takes no memory. The counter of revisions doesn't change.
     pub fn view_close(&mut self, view: &ViewName) -> Result<(), NoView>
         ensures closed { OnOk result (self.new.views ≡ without_view self.old.views view.now) }
         ensures turned { OnOk result
-            (IsOneClosing view.now self.old.views self.old.turns self.new.views self.new.turns) }
+            (IsOneClosing view.now self.old.views self.old.revisions self.new.views self.new.revisions) }
         ensures absent { is_ok result ≡ is_some (view_at self.old.views view.now) }
         ensures kept { OnErr result (self.new ≡ self.old) }
         ensures keyring { self.new.keyring ≡ self.old.keyring }
@@ -151,23 +155,23 @@ impl Engine {
         views::close(&mut self.networked.views, view);
         networks::forget(&mut self.networked.networks, view);
         forget(&mut self.answers, view);
-        self.turns.forget(view);
+        self.revisions.forget(view);
         Ok(())
     }
 
     /// How often views were opened, or changed their time or roots.
-    pub fn turns(&self) -> u64
-        ensures turns { result ≡ self.now.turns.count }
+    pub fn revisions(&self) -> u64
+        ensures revisions { result ≡ self.now.revisions.count }
     {
-        self.turns.count()
+        self.revisions.count()
     }
 
-    /// The turn at which a view was last opened or changed. `None` exactly if it isn't open.
-    pub fn turn(&self, view: &ViewName) -> Option<u64>
-        ensures turn { result ≡ turn_at self.now.turns view.now }
+    /// The revision at which a view was last opened or changed. `None` exactly if it isn't open.
+    pub fn revision(&self, view: &ViewName) -> Option<u64>
+        ensures revision { result ≡ revision_at self.now.revisions view.now }
         ensures open { is_some result ≡ is_some (view_at self.now.views view.now) }
     {
-        self.turns.of(view)
+        self.revisions.of(view)
     }
 
     /// The time of an open view, in seconds since 1970.

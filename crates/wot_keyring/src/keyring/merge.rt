@@ -1,6 +1,6 @@
 //! Merges certificates that were read with the kept ones: all, or none if two clash or a limit would be exceeded. It
 //! gathers, tries and merges with wot_merge, and keeps totals, index and log in step. A new certificate that came alone
-//! is kept as it was read, without a copy. `import` and `load` call `take`, whose contract theirs stand on.
+//! is kept as it was read, without a copy. `import` and `load` call `take`, whose contract theirs use.
 ghost use Rattle.std.specs.Prelude.{◌≡◌, ◌<◌, ◌^◌, ◌+◌, ◌-◌, nat_lt, if◌then◌else◌, Some};
 ghost use Rattle.std.specs.Prelude.{true, Ok, OnOk, OnErr};
 ghost use Rattle.std.specs.List.{AllByRecursion};
@@ -73,7 +73,7 @@ impl Keyring {
     /// asked.
     fn refusal(&mut self, alloc: Global, list: &[Cert]) -> Option<Refusal>
         requires countable { self.old.changes < 2 ^ 64 - 1 }
-        ensures told { TellsUnion result self.old.limits (certificates_in self.old) list.now }
+        ensures reported { TellsUnion result self.old.limits (certificates_in self.old) list.now }
         ensures same { self.new ≡ self.old }
     {
         if self.has_room_for(list) {

@@ -17,8 +17,8 @@ returns-in-Ok-clause-few c =
     c.in-Ok.ensures.earlier c.requires.room c.requires.fits))
 
 pub returns-in-Ok-clause-right : goal.returns-in-Ok-clause-right
-returns-in-Ok-clause-right c k roots turn all right good =
-    rw c.in-Ok.ensures.entries (right_put k roots turn c.args.table.now.entries c.args.answer all right good)
+returns-in-Ok-clause-right c k roots revision all right good =
+    rw c.in-Ok.ensures.entries (right_put k roots revision c.args.table.now.entries c.args.answer all right good)
 
 pub returns-in-Ok-clause-kept : goal.returns-in-Ok-clause-kept
 returns-in-Ok-clause-kept c =

@@ -1,7 +1,7 @@
 use Rattle.std.specs.Prelude.{IfSome}
 use Rattle.std.proofs.Common.{◌≡◌, Option, rules, sym, subst}
 use Rattle.wot_edge.specs.Record.{IsRecord}
-use Rattle.wot_network.specs.Net.{Present, told_of}
+use Rattle.wot_network.specs.Net.{Present, network_for}
 use Rattle.wot_answers.specs.declared.reach.KeptReach.{KeptReach}
 use Rattle.wot_answers.specs.Answers.{AllAnswers, AreAllRight, AreRight, Entries, IsReaching, WereKeptOr, answers_for}
 use Rattle.wot_answers.specs.Asked.{question_of}
@@ -17,10 +17,10 @@ find-requires-clause-right c =
     right_found c.args.parts.now.keyring.now c.args.answers.now.entries c.args.view.now c.in-Some.of_view.now
     c.requires.right (sym c.in-Some.ensures.value)
 
-pub returns-in-Some-clause-told : goal.returns-in-Some-clause-told
-returns-in-Some-clause-told c =
+pub returns-in-Some-clause-reported : goal.returns-in-Some-clause-reported
+returns-in-Some-clause-reported c =
     let asked = c.args.asked.now in
-    let lawful = subst (λ (present : Present). IsRecord (told_of present asked.uid.now)) c.requires.askable.present
+    let lawful = subst (λ (present : Present). IsRecord (network_for present asked.uid.now)) c.requires.askable.present
     (c.requires.lawful asked.uid.now) in
     if_ok c.find.result _ _ (λ a is. told_from c.answer_is_one.ensures.one c.zero_is_no_path.ensures.zero
     c.paths_fit.ensures.pairs c.paths_fit.ensures.roots (question_of c.args.parts.now asked) asked.wanted a
@@ -37,15 +37,15 @@ find-found-requires-clause-right c =
     let k = c.args.parts.now.keyring.now in
     let of_view = c.new-of_view.result in
     record {
-      each = subst (λ (es : Entries). AreRight k of_view.roots of_view.turn es) (sym c.new-of_view.ensures.none) tt;
-      reach = subst (λ (o : Option KeptReach). IfSome o (IsReaching k of_view.roots of_view.turn))
+      each = subst (λ (es : Entries). AreRight k of_view.roots of_view.revision es) (sym c.new-of_view.ensures.none) tt;
+      reach = subst (λ (o : Option KeptReach). IfSome o (IsReaching k of_view.roots of_view.revision))
           (sym c.new-of_view.ensures.no_reach) tt;
     }
 
-pub returns-in-None-clause-told : goal.returns-in-None-clause-told
-returns-in-None-clause-told c =
+pub returns-in-None-clause-reported : goal.returns-in-None-clause-reported
+returns-in-None-clause-reported c =
     let asked = c.args.asked.now in
-    let lawful = subst (λ (present : Present). IsRecord (told_of present asked.uid.now)) c.requires.askable.present
+    let lawful = subst (λ (present : Present). IsRecord (network_for present asked.uid.now)) c.requires.askable.present
     (c.requires.lawful asked.uid.now) in
     if_ok c.find-found.result _ _ (λ a is. told_from c.answer_is_one.ensures.one c.zero_is_no_path.ensures.zero
     c.paths_fit.ensures.pairs c.paths_fit.ensures.roots (question_of c.args.parts.now asked) asked.wanted a

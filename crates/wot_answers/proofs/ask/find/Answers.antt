@@ -8,9 +8,9 @@ returns-in-Ok-clause-kept c =
     let asked = c.args.asked.now in
     let Found = IsFoundOver p asked in
     let old = c.args.of_view.now.entries in
-    let mid = c.recalled.new.of_view.entries in
+    let mid = c.answer_from_kept.new.of_view.entries in
     kept_further Found (over_carries p asked) old mid c.search_near.new.of_view.entries
-    (kept_on Found old c.settle.new.self.entries mid c.settle.ensures.kept c.recalled.ensures.kept)
+    (kept_on Found old c.take_roots.new.self.entries mid c.take_roots.ensures.kept c.answer_from_kept.ensures.kept)
     c.search_near.ensures.kept
 
 pub returns-in-Err-clause-kept : goal.returns-in-Err-clause-kept
@@ -19,7 +19,7 @@ returns-in-Err-clause-kept c =
     let asked = c.args.asked.now in
     let Found = IsFoundOver p asked in
     let old = c.args.of_view.now.entries in
-    let mid = c.recalled.new.of_view.entries in
+    let mid = c.answer_from_kept.new.of_view.entries in
     kept_further Found (over_carries p asked) old mid c.search_near.new.of_view.entries
-    (kept_on Found old c.settle.new.self.entries mid c.settle.ensures.kept c.recalled.ensures.kept)
+    (kept_on Found old c.take_roots.new.self.entries mid c.take_roots.ensures.kept c.answer_from_kept.ensures.kept)
     c.search_near.ensures.kept

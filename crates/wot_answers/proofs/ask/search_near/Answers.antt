@@ -2,7 +2,7 @@ use Rattle.std.proofs.Common.{List, inl, inr, subst}
 use Rattle.wot_types.specs.declared.fpr.Fpr.{Fpr}
 use Rattle.wot_edge.specs.Leads.{Leads}
 use Rattle.wot_edge.specs.Record.{Has}
-use Rattle.wot_network.specs.Net.{Present, told_of}
+use Rattle.wot_network.specs.Net.{Present, network_for}
 use Rattle.wot_answers.specs.Question.{IsAnswerAround, asked_over}
 use Rattle.wot_answers.proofs.Told.{answered_over}
 use Rattle.wot_answers.proofs.ask.search_near.Goals as goal
@@ -21,7 +21,7 @@ remember-requires c =
         local = subst (λ (present : Present). IsAnswerAround (asked_over present p.roots.now asked.target.now
             asked.uid.now) asked.wanted a.paths set) c.requires.askable.present c.in-Ok.ensures.local;
         leads = λ fpr has.
-            subst (λ (present : Present). Leads (told_of present asked.uid.now) asked.target.now fpr)
+            subst (λ (present : Present). Leads (network_for present asked.uid.now) asked.target.now fpr)
             c.requires.askable.present
             (elim (c.authenticate_metered.ensures.leads fpr has) [
               | inl before ↦ absurd (subst (λ (set : List Fpr). Has set fpr) c.new-metered.ensures.none before)

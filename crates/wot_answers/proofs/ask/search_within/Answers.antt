@@ -1,6 +1,6 @@
 use Rattle.std.proofs.Common.{sym, subst}
 use Rattle.wot_reach.specs.Reach.{IsReach}
-use Rattle.wot_network.specs.Net.{Present, told_of}
+use Rattle.wot_network.specs.Net.{Present, network_for}
 use Rattle.wot_answers.proofs.Told.{answered_over}
 use Rattle.wot_answers.specs.CaseLaws.{both_ok}
 use Rattle.wot_answers.proofs.ask.search_within.Goals as goal
@@ -9,7 +9,7 @@ pub authenticate_within-requires : goal.authenticate_within-requires
 authenticate_within-requires c = record {
   wanted = c.requires.askable.wanted;
   few = c.requires.askable.few;
-  reach = subst (λ (present : Present). IsReach (told_of present) c.args.parts.now.roots.now c.args.reach.now)
+  reach = subst (λ (present : Present). IsReach (network_for present) c.args.parts.now.roots.now c.args.reach.now)
       (sym c.requires.askable.present) c.requires.reach;
 }
 

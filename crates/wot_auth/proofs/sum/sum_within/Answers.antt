@@ -12,8 +12,8 @@ use Rattle.wot_auth.proofs.sum.sum_within.Goals as goal
 
 pub paths-init : goal.paths-init
 paths-init g c =
-    let told = g.R.Roads.told c.args.roads.now c.args.asked.now.uid.now in
-    let q = asks told c.args.asked.now.roots.now c.args.asked.now.target.now in
+    let network = g.R.Roads.network c.args.roads.now c.args.asked.now.uid.now in
+    let q = asks network c.args.asked.now.roots.now c.args.asked.now.target.now in
     let none = sym c.new-paths.ensures.items in
     record {
       each = subst (EachNext q []) none tt;
@@ -26,7 +26,7 @@ paths-init g c =
 
 pub returns-in-Spent : goal.returns-in-Spent
 returns-in-Spent g c =
-    let q = asks (g.R.Roads.told c.args.roads.now c.args.asked.now.uid.now) c.args.asked.now.roots.now c.args.asked.now.target.now in
+    let q = asks (g.R.Roads.network c.args.roads.now c.args.asked.now.uid.now) c.args.asked.now.roots.now c.args.asked.now.target.now in
     let inv = c.paths.invariant in
     let next = subst (IsNextBelow q (use_in c.paths.used) _) c.in-Spent.is c.in_ok-next.ensures.next in
     let spent = subst (λ (u : Use). IsSpent q u) inv.used next in
@@ -40,7 +40,7 @@ returns-in-Spent g c =
 
 pub returns-in-Enough : goal.returns-in-Enough
 returns-in-Enough g c =
-    let q = asks (g.R.Roads.told c.args.roads.now c.args.asked.now.uid.now) c.args.asked.now.roots.now c.args.asked.now.target.now in
+    let q = asks (g.R.Roads.network c.args.roads.now c.args.asked.now.uid.now) c.args.asked.now.roots.now c.args.asked.now.target.now in
     let good = c.rows-rows.ensures.lawful c.args.asked.now.uid.now in
     let inv = c.paths.invariant in
     let amount = c.in-Enough.amount in
@@ -58,7 +58,7 @@ returns-in-Enough g c =
 
 pub overflow_add-result : goal.overflow_add-result
 overflow_add-result g c =
-    let q = asks (g.R.Roads.told c.args.roads.now c.args.asked.now.uid.now) c.args.asked.now.roots.now c.args.asked.now.target.now in
+    let q = asks (g.R.Roads.network c.args.roads.now c.args.asked.now.uid.now) c.args.asked.now.roots.now c.args.asked.now.target.now in
     let good = c.rows-rows.ensures.lawful c.args.asked.now.uid.now in
     let inv = c.paths.invariant in
     let amount = c.in-Enough.amount in
@@ -77,7 +77,7 @@ overflow_add-result g c =
 
 pub add-requires-clause-pairs_fit : goal.add-requires-clause-pairs_fit
 add-requires-clause-pairs_fit g c issuer target =
-    let q = asks (g.R.Roads.told c.args.roads.now c.args.asked.now.uid.now) c.args.asked.now.roots.now c.args.asked.now.target.now in
+    let q = asks (g.R.Roads.network c.args.roads.now c.args.asked.now.uid.now) c.args.asked.now.roots.now c.args.asked.now.target.now in
     let next = next_here q c.paths.used c.paths.paths.items _ _ c.in-Path.path c.paths.invariant.used
     c.in_ok-next.ensures.next c.in-Path.is in
     let small = more_small c.paths_fit.ensures.sum q c.paths.paths.items c.in-Path.path
@@ -87,7 +87,7 @@ add-requires-clause-pairs_fit g c issuer target =
 
 pub add-requires-clause-roots_fit : goal.add-requires-clause-roots_fit
 add-requires-clause-roots_fit g c fpr =
-    let q = asks (g.R.Roads.told c.args.roads.now c.args.asked.now.uid.now) c.args.asked.now.roots.now c.args.asked.now.target.now in
+    let q = asks (g.R.Roads.network c.args.roads.now c.args.asked.now.uid.now) c.args.asked.now.roots.now c.args.asked.now.target.now in
     let next = next_here q c.paths.used c.paths.paths.items _ _ c.in-Path.path c.paths.invariant.used
     c.in_ok-next.ensures.next c.in-Path.is in
     let small = more_small c.paths_fit.ensures.sum q c.paths.paths.items c.in-Path.path
@@ -97,7 +97,7 @@ add-requires-clause-roots_fit g c fpr =
 
 pub overflow_add-sum : goal.overflow_add-sum
 overflow_add-sum g c =
-    let q = asks (g.R.Roads.told c.args.roads.now c.args.asked.now.uid.now) c.args.asked.now.roots.now c.args.asked.now.target.now in
+    let q = asks (g.R.Roads.network c.args.roads.now c.args.asked.now.uid.now) c.args.asked.now.roots.now c.args.asked.now.target.now in
     let next = next_here q c.paths.used c.paths.paths.items _ _ c.in-Path.path c.paths.invariant.used
     c.in_ok-next.ensures.next c.in-Path.is in
     let small = more_small c.paths_fit.ensures.sum q c.paths.paths.items c.in-Path.path
@@ -108,8 +108,8 @@ overflow_add-sum g c =
 
 pub paths-preserved : goal.paths-preserved
 paths-preserved g c =
-    let told = g.R.Roads.told c.args.roads.now c.args.asked.now.uid.now in
-    let q = asks told c.args.asked.now.roots.now c.args.asked.now.target.now in
+    let network = g.R.Roads.network c.args.roads.now c.args.asked.now.uid.now in
+    let q = asks network c.args.asked.now.roots.now c.args.asked.now.target.now in
     let old = c.paths.paths.items in
     let path = c.in-Path.path in
     let more = sym c.in_ok-push-in-Path.ensures.items in
@@ -131,7 +131,7 @@ paths-preserved g c =
 
 pub returns : goal.returns
 returns g c =
-    let q = asks (g.R.Roads.told c.args.roads.now c.args.asked.now.uid.now) c.args.asked.now.roots.now c.args.asked.now.target.now in
+    let q = asks (g.R.Roads.network c.args.roads.now c.args.asked.now.uid.now) c.args.asked.now.roots.now c.args.asked.now.target.now in
     let inv = c.paths.invariant in
     let full = c.paths-test.false in
     let sum = inv.sum in

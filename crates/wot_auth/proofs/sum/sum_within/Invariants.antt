@@ -7,7 +7,7 @@ use Rattle.wot_auth.proofs.sum.sum_within.Given as goal
 
 abbrev pub invariant-paths : goal.invariant-paths
 invariant-paths g l =
-    let q = asks (g.R.Roads.told l.roads l.asked.uid.now) l.asked.roots.now l.asked.target.now in
+    let q = asks (g.R.Roads.network l.roads l.asked.uid.now) l.asked.roots.now l.asked.target.now in
     record {
       each : EachNext q [] l.paths.items;
       short : amount_of (but_last l.paths.items) < l.wanted;

@@ -10,8 +10,8 @@ use Rattle.wot_auth.proofs.take.take.Goals as goal
 
 pub paths-init : goal.paths-init
 paths-init g c =
-    let told = g.R.Roads.told c.args.roads.now c.args.asked.now.uid.now in
-    let q = asks told c.args.asked.now.roots.now c.args.asked.now.target.now in
+    let network = g.R.Roads.network c.args.roads.now c.args.asked.now.uid.now in
+    let q = asks network c.args.asked.now.roots.now c.args.asked.now.target.now in
     let none = sym c.new-paths.ensures.items in
     record {
       each = subst (EachNext q []) none tt;
@@ -30,14 +30,14 @@ paths-init g c =
 
 pub returns-in-None-clause-answer : goal.returns-in-None-clause-answer
 returns-in-None-clause-answer g c =
-    let q = asks (g.R.Roads.told c.args.roads.now c.args.asked.now.uid.now) c.args.asked.now.roots.now c.args.asked.now.target.now in
+    let q = asks (g.R.Roads.network c.args.roads.now c.args.asked.now.uid.now) c.args.asked.now.roots.now c.args.asked.now.target.now in
     spent_answer q c.args.wanted c.paths.used c.paths.paths.items c.new-paths-in-None.result c.in_ok-next.next
     c.paths.invariant.each c.paths.invariant.short c.paths.invariant.used c.in_ok-next.ensures.next c.in-None.is
     c.new-paths-in-None.ensures.items
 
 pub returns-in-None-clause-local : goal.returns-in-None-clause-local
 returns-in-None-clause-local g c all set has other a =
-    let q = asks (g.R.Roads.told c.args.roads.now c.args.asked.now.uid.now) c.args.asked.now.roots.now c.args.asked.now.target.now in
+    let q = asks (g.R.Roads.network c.args.roads.now c.args.asked.now.uid.now) c.args.asked.now.roots.now c.args.asked.now.target.now in
     let each = c.paths.invariant.local all set (λ fpr h. has fpr (c.in_ok-next.ensures.grows fpr h)) other a in
     let there = c.in_ok-next.ensures.local all set has other a each.1 in
     spent_answer other c.args.wanted c.paths.used c.paths.paths.items c.new-paths-in-None.result c.in_ok-next.next
@@ -45,7 +45,7 @@ returns-in-None-clause-local g c all set has other a =
 
 pub add-requires-clause-pairs_fit : goal.add-requires-clause-pairs_fit
 add-requires-clause-pairs_fit g c issuer target =
-    let q = asks (g.R.Roads.told c.args.roads.now c.args.asked.now.uid.now) c.args.asked.now.roots.now c.args.asked.now.target.now in
+    let q = asks (g.R.Roads.network c.args.roads.now c.args.asked.now.uid.now) c.args.asked.now.roots.now c.args.asked.now.target.now in
     let next = next_found q c.paths.used c.paths.paths.items c.in_ok-next.next c.in-Some.path c.paths.invariant.used
     c.in_ok-next.ensures.next c.in-Some.is in
     let small = more_small c.paths_fit.ensures.sum q c.paths.paths.items c.in-Some.path
@@ -55,7 +55,7 @@ add-requires-clause-pairs_fit g c issuer target =
 
 pub add-requires-clause-roots_fit : goal.add-requires-clause-roots_fit
 add-requires-clause-roots_fit g c fpr =
-    let q = asks (g.R.Roads.told c.args.roads.now c.args.asked.now.uid.now) c.args.asked.now.roots.now c.args.asked.now.target.now in
+    let q = asks (g.R.Roads.network c.args.roads.now c.args.asked.now.uid.now) c.args.asked.now.roots.now c.args.asked.now.target.now in
     let next = next_found q c.paths.used c.paths.paths.items c.in_ok-next.next c.in-Some.path c.paths.invariant.used
     c.in_ok-next.ensures.next c.in-Some.is in
     let small = more_small c.paths_fit.ensures.sum q c.paths.paths.items c.in-Some.path
@@ -65,7 +65,7 @@ add-requires-clause-roots_fit g c fpr =
 
 pub overflow_add-sum : goal.overflow_add-sum
 overflow_add-sum g c =
-    let q = asks (g.R.Roads.told c.args.roads.now c.args.asked.now.uid.now) c.args.asked.now.roots.now c.args.asked.now.target.now in
+    let q = asks (g.R.Roads.network c.args.roads.now c.args.asked.now.uid.now) c.args.asked.now.roots.now c.args.asked.now.target.now in
     let next = next_found q c.paths.used c.paths.paths.items c.in_ok-next.next c.in-Some.path c.paths.invariant.used
     c.in_ok-next.ensures.next c.in-Some.is in
     let small = more_small c.paths_fit.ensures.sum q c.paths.paths.items c.in-Some.path
@@ -76,8 +76,8 @@ overflow_add-sum g c =
 
 pub paths-preserved : goal.paths-preserved
 paths-preserved g c =
-    let told = g.R.Roads.told c.args.roads.now c.args.asked.now.uid.now in
-    let q = asks told c.args.asked.now.roots.now c.args.asked.now.target.now in
+    let network = g.R.Roads.network c.args.roads.now c.args.asked.now.uid.now in
+    let q = asks network c.args.asked.now.roots.now c.args.asked.now.target.now in
     let old = c.paths.paths.items in
     let path = c.in-Some.path in
     let more = sym c.in_ok-push-in-Some.ensures.items in
@@ -118,7 +118,7 @@ returns-clause-local g c all set has other a =
 
 pub returns-clause-answer : goal.returns-clause-answer
 returns-clause-answer g c =
-    let q = asks (g.R.Roads.told c.args.roads.now c.args.asked.now.uid.now) c.args.asked.now.roots.now c.args.asked.now.target.now in
+    let q = asks (g.R.Roads.network c.args.roads.now c.args.asked.now.uid.now) c.args.asked.now.roots.now c.args.asked.now.target.now in
     full_answer q c.args.wanted c.paths.paths.items c.new-paths-2.result c.paths.sum c.paths.invariant.each
     c.paths.invariant.short c.paths.invariant.sum c.paths-test.false c.new-paths-2.ensures.items
 

@@ -13,8 +13,8 @@ use Rattle.wot_auth.proofs.take.take.Given as goal
 
 abbrev pub invariant-paths : goal.invariant-paths
 invariant-paths g l =
-    let told = g.R.Roads.told l.roads l.asked.uid.now in
-    let q = asks told l.asked.roots.now l.asked.target.now in
+    let network = g.R.Roads.network l.roads l.asked.uid.now in
+    let q = asks network l.asked.roots.now l.asked.target.now in
     record {
       each : EachNext q [] l.paths.items;
       short : amount_of (but_last l.paths.items) < l.wanted;
@@ -22,7 +22,7 @@ invariant-paths g l =
       sum : l.sum ≡ amount_of l.paths.items;
       offers : AreOffers l.asked.roots.now q (use_in l.used) l.offers.items;
       grows : Widens (g.N.Notes.noted l.fn.notes) (g.N.Notes.noted l.notes);
-      leads : Gains (Leads told l.asked.target.now) (g.N.Notes.noted l.fn.notes) (g.N.Notes.noted l.notes);
+      leads : Gains (Leads network l.asked.target.now) (g.N.Notes.noted l.fn.notes) (g.N.Notes.noted l.notes);
       local : ((fpr : Fpr) → number_at l.asked.reach.now fpr ≡ 255) → (set : List Fpr)
           → Widens (g.N.Notes.noted l.notes) (Has set)
           → (other : Question) → Agree q other set

@@ -3,6 +3,6 @@ use Rattle.wot_cache.proofs.basis.add.Goals as goal
 
 pub returns-in-Ok : goal.returns-in-Ok
 returns-in-Ok c = record {
-  has = λ told. c.in-Ok.ensures.updates.1;
+  has = λ network. c.in-Ok.ensures.updates.1;
   grows = updated_more c.args.fpr c.args.set.now.keys c.insert.new.self.keys c.in-Ok.ensures.updates.0;
 }

@@ -10,5 +10,5 @@ none_out fprs [] none = tt
 none_out fprs (l ∷ ls) none = absurd (omega (arith, none))
 
 pub returns-clause-all : goal.returns-clause-all
-returns-clause-all c = λ told. c.rest.invariant.all c.rest.set.keys (λ fpr h. h)
+returns-clause-all c = λ network. c.rest.invariant.all c.rest.set.keys (λ fpr h. h)
     (none_out c.rest.set.keys c.rest.rest.now c.in_default.ensures.cases)

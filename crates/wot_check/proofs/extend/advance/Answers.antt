@@ -8,7 +8,7 @@ use Rattle.wot_check.proofs.extend.advance.Goals as goal
 
 pub returns : goal.returns
 returns g c =
-    let q = question_of (g.R.Roads.told c.args.roads.now) c.args.asked.now in
+    let q = question_of (g.R.Roads.network c.args.roads.now) c.args.asked.now in
     let now : Growth = record { table = c.args.growth.now.table; layer = c.replace-layer.new.dest } in
     let l = c.deref.ensures.value ∙ ap (λ (v : Vec Fpr Global). v.items) c.replace-layer.ensures.value in
     let e = ap (λ (v : Vec Fpr Global). v.items) c.replace-layer.ensures.after ∙ c.new.ensures.items in

@@ -9,35 +9,35 @@ use Rattle.wot_check.proofs.extend.extend.Goals as goal
 
 pub rest-init : goal.rest-init
 rest-init g c =
-    let told = g.R.Roads.told c.args.roads.now in
-    let q = question_of told c.args.asked.now in
+    let network = g.R.Roads.network c.args.roads.now in
+    let q = question_of network c.args.asked.now in
     record {
-      into = all_into told c.args.at.now c.rows-rest.result.now c.rows-rest.ensures.rows;
+      into = all_into network c.args.at.now c.rows-rest.result.now c.rows-rest.ensures.rows;
       grew = λ leads layered. grew_begin q (used_in c.args.asked.now) c.args.size c.args.at.now c.args.growth.now
           c.rows-rest.result.now (c.rows-rest.ensures.rows c.args.asked.now.uid.now) layered;
     }
 
 pub consider-requires-clause-row : goal.consider-requires-clause-row
 consider-requires-clause-row g c =
-    let told = g.R.Roads.told c.args.roads.now in
-    let h : (id : List ℕ) → Has (edges_into (told id) c.args.at.now) c.in-Some.edge.now =
+    let network = g.R.Roads.network c.args.roads.now in
+    let h : (id : List ℕ) → Has (edges_into (network id) c.args.at.now) c.in-Some.edge.now =
     λ id. within_first c.rest.rest.now _ c.in-Some.later.now c.in-Some.edge.now c.in-Some.ensures.cases.0
     (c.rest.invariant.into id) in
-    into_own told c.rows-rest.ensures.lawful c.args.at.now c.in-Some.edge.now h
+    into_own network c.rows-rest.ensures.lawful c.args.at.now c.in-Some.edge.now h
 
 pub rest-preserved : goal.rest-preserved
 rest-preserved g c =
-    let told = g.R.Roads.told c.args.roads.now in
+    let network = g.R.Roads.network c.args.roads.now in
     let uid = c.args.asked.now.uid.now in
-    let q = question_of told c.args.asked.now in
+    let q = question_of network c.args.asked.now in
     let used = used_in c.args.asked.now in
     let edge = c.in-Some.edge.now in
     let both = c.in-Some.ensures.cases.0 in
-    let h : (id : List ℕ) → Has (edges_into (told id) c.args.at.now) edge =
+    let h : (id : List ℕ) → Has (edges_into (network id) c.args.at.now) edge =
     λ id. within_first c.rest.rest.now _ c.in-Some.later.now edge both (c.rest.invariant.into id) in
-    let t = into_target told c.rows-rest.ensures.lawful c.args.at.now edge h uid in
+    let t = into_target network c.rows-rest.ensures.lawful c.args.at.now edge h uid in
     let P : Demand → Type 0 =
-    λ d. EachRow q.told edge
+    λ d. EachRow q.network edge
     (λ (row : Row). GivesIf (is_new q.target used d c.rest.growth.table row) c.rest.growth c.consider.new.growth
     row.edge.issuer (c.args.size + 1)) in
     let gives = subst P c.demanded-demand.ensures c.in_ok-consider.ensures.given in
@@ -50,7 +50,7 @@ rest-preserved g c =
 
 pub returns : goal.returns
 returns g c =
-    let q = question_of (g.R.Roads.told c.args.roads.now) c.args.asked.now in
+    let q = question_of (g.R.Roads.network c.args.roads.now) c.args.asked.now in
     record {
       grown = λ leads layered. grew_end q (used_in c.args.asked.now) c.args.size c.args.at.now c.args.growth.now
           c.rest.growth c.rest.rest.now c.in_default.ensures.cases (c.rest.invariant.grew leads layered);

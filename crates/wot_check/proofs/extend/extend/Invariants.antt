@@ -7,10 +7,10 @@ use Rattle.wot_check.proofs.extend.extend.Given as goal
 
 abbrev pub invariant-rest : goal.invariant-rest
 invariant-rest g l =
-    let told = g.R.Roads.told l.roads in
-    let q = question_of told l.asked in
+    let network = g.R.Roads.network l.roads in
+    let q = question_of network l.asked in
     record {
-      into : AreInto told l.at l.rest;
+      into : AreInto network l.at l.rest;
       grew : Leads q (used_in l.asked) l.fn.growth.table l.size l.at
           → IsLayered q (used_in l.asked) (suc l.size) l.fn.growth
           → GrewInto q (used_in l.asked) l.size l.at l.fn.growth l.growth l.rest;

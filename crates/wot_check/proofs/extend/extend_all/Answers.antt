@@ -6,7 +6,7 @@ use Rattle.wot_check.proofs.extend.extend_all.Goals as goal
 
 pub rest-init : goal.rest-init
 rest-init g c =
-    let q = question_of (g.R.Roads.told c.args.roads.now) c.args.asked.now in
+    let q = question_of (g.R.Roads.network c.args.roads.now) c.args.asked.now in
     record {
       within = λ x h. h;
       grew = λ leads layered. record {
@@ -17,7 +17,7 @@ rest-init g c =
 
 pub rest-preserved : goal.rest-preserved
 rest-preserved g c =
-    let q = question_of (g.R.Roads.told c.args.roads.now) c.args.asked.now in
+    let q = question_of (g.R.Roads.network c.args.roads.now) c.args.asked.now in
     let both = c.in-Some.ensures.cases.0 in
     let h = within_first c.rest.rest.now c.args.layer.now c.in-Some.later.now c.in-Some.at.now both
     c.rest.invariant.within in
@@ -31,7 +31,7 @@ rest-preserved g c =
 
 pub returns : goal.returns
 returns g c =
-    let q = question_of (g.R.Roads.told c.args.roads.now) c.args.asked.now in
+    let q = question_of (g.R.Roads.network c.args.roads.now) c.args.asked.now in
     record {
       grown = λ leads layered. grew_by_end q (used_in c.args.asked.now) c.args.size c.args.layer.now
           c.args.growth.now c.rest.growth c.rest.rest.now c.in_default.ensures.cases

@@ -7,7 +7,7 @@ use Rattle.wot_check.proofs.extend.extend_all.Given as goal
 
 abbrev pub invariant-rest : goal.invariant-rest
 invariant-rest g l =
-    let q = question_of (g.R.Roads.told l.roads) l.asked in
+    let q = question_of (g.R.Roads.network l.roads) l.asked in
     record {
       within : Within l.rest l.layer;
       grew : LeadsFromLayer q (used_in l.asked) l.size l.layer l.fn.growth.table

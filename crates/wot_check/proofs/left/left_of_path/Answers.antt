@@ -4,8 +4,8 @@ use Rattle.wot_check.specs.Asked.{question_of, used_in}
 use Rattle.wot_check.proofs.left.left_of_path.Goals as goal
 
 pub returns : goal.returns
-returns c told e =
+returns c network e =
     let used = used_in c.args.asked.now in
     c.least.ensures
     ∙ ap (λ (n : ℕ). least_left used n c.args.steps.now)
-    (c.left_of_root.ensures told ∙ ap (root_left (question_of told c.args.asked.now) used) e)
+    (c.left_of_root.ensures network ∙ ap (root_left (question_of network c.args.asked.now) used) e)

@@ -6,10 +6,10 @@ use Rattle.wot_check.proofs.points.covers.Given as goal
 
 abbrev pub invariant-rest : goal.invariant-rest
 invariant-rest g l =
-    let told = g.R.Roads.told l.roads in
+    let network = g.R.Roads.network l.roads in
     record {
-      into : AreInto told l.at l.rest;
-      covered : CoveredSoFar (question_of told l.asked) (used_in l.asked) l.size l.table l.at l.rest;
+      into : AreInto network l.at l.rest;
+      covered : CoveredSoFar (question_of network l.asked) (used_in l.asked) l.size l.table l.at l.rest;
     }
 
 abbrev pub decreases-rest : goal.decreases-rest

@@ -8,7 +8,7 @@ use Rattle.wot_check.proofs.points.covers_all.Goals as goal
 
 pub returns-then-not-branch : goal.returns-then-not-branch
 returns-then-not-branch g c =
-    let q = question_of (g.R.Roads.told c.args.roads.now) c.args.asked.now in
+    let q = question_of (g.R.Roads.network c.args.roads.now) c.args.asked.now in
     let h = within_first c.rest.rest c.args.table.now c.next.new.self (c.in-Some.fpr, c.in-Some.label)
     c.in-Some.ensures.steps c.rest.invariant.2.within in (
       λ e. absurd (false≢true e),
@@ -21,7 +21,7 @@ returns-then-not-branch g c =
 
 pub rest-preserved : goal.rest-preserved
 rest-preserved g c =
-    let q = question_of (g.R.Roads.told c.args.roads.now) c.args.asked.now in (
+    let q = question_of (g.R.Roads.network c.args.roads.now) c.args.asked.now in (
       tt,
       tt,
       record {
@@ -35,7 +35,7 @@ rest-preserved g c =
 
 pub returns : goal.returns
 returns g c =
-    let q = question_of (g.R.Roads.told c.args.roads.now) c.args.asked.now in (
+    let q = question_of (g.R.Roads.network c.args.roads.now) c.args.asked.now in (
       λ e. labels_all q (used_in c.args.asked.now) c.args.table.now c.iter-rest.ensures.table
           (subst (λ (xs : Labels). LabelsSoFar q (used_in c.args.asked.now) c.args.table.now xs)
           c.in_default.ensures.steps.0 c.rest.invariant.2.covered),

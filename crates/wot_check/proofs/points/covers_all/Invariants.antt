@@ -9,5 +9,5 @@ invariant-rest g l =
     × (goal.iterator-rest g).is_finite l.rest
     × record {
       within : Within l.rest l.table;
-      covered : LabelsSoFar (question_of (g.R.Roads.told l.roads) l.asked) (used_in l.asked) l.table l.rest;
+      covered : LabelsSoFar (question_of (g.R.Roads.network l.roads) l.asked) (used_in l.asked) l.table l.rest;
     }

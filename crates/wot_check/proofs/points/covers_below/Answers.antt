@@ -10,7 +10,7 @@ returns-then-label-eq255 g c = (λ e lt. let n = c.if-label-eq255.true in absurd
 
 pub returns : goal.returns
 returns g c =
-    let q = question_of (g.R.Roads.told c.args.roads.now) c.args.asked.now in
+    let q = question_of (g.R.Roads.network c.args.roads.now) c.args.asked.now in
     let used = used_in c.args.asked.now in
     let small = c.ranges.label in
     let n = c.if-label-eq255.false in

@@ -9,16 +9,16 @@ use Rattle.wot_check.proofs.points.excludes.Goals as goal
 
 pub returns-then-not-roots_spent : goal.returns-then-not-roots_spent
 returns-then-not-roots_spent g c =
-    let told = g.R.Roads.told c.args.roads.now in
-    let q = question_of told c.args.asked.now in
+    let network = g.R.Roads.network c.args.roads.now in
+    let q = question_of network c.args.asked.now in
     let used = used_in c.args.asked.now in (
       λ e. absurd (false≢true e),
-      λ x. absurd (rooted_unspent q used c.args.table.now (c.if-not-roots_spent.ensures told) x.roots),
+      λ x. absurd (rooted_unspent q used c.args.table.now (c.if-not-roots_spent.ensures network) x.roots),
     )
 
 pub returns-then-not-branch : goal.returns-then-not-branch
 returns-then-not-branch g c =
-    let q = question_of (g.R.Roads.told c.args.roads.now) c.args.asked.now in
+    let q = question_of (g.R.Roads.network c.args.roads.now) c.args.asked.now in
     let used = used_in c.args.asked.now in (
       λ e. absurd (false≢true e),
       λ x. absurd (false≢true
@@ -27,15 +27,15 @@ returns-then-not-branch g c =
 
 pub returns : goal.returns
 returns g c =
-    let told = g.R.Roads.told c.args.roads.now in
-    let q = question_of told c.args.asked.now in
+    let network = g.R.Roads.network c.args.roads.now in
+    let q = question_of network c.args.asked.now in
     let used = used_in c.args.asked.now in
     let table = c.args.table.now in
     let P : Bool → Type 0 = λ meets. (meets ≡ true) ↔ OthersLabelled q used table in
     let Q : Bool → Type 0 = λ meets. (meets ≡ true) ↔ Excludes q used table in
     IfOk-weaker c.covers_all.result P Q
     (λ meets h. (
-      λ e. three_points q used table c.iter-labels.ensures.table (c.if-not-roots_spent.ensures told)
+      λ e. three_points q used table c.iter-labels.ensures.table (c.if-not-roots_spent.ensures network)
           (c.in_ok-covers.ensures.0 c.if-not-branch.false) (h.0 e),
       λ x. h.1 x.closes.others,
     ))

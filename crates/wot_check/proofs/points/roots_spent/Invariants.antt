@@ -12,6 +12,6 @@ invariant-rest l =
     × (goal.iterator-rest).is_finite l.rest
     × record {
       within : Within l.rest l.table;
-      spent : (told : List ℕ → Record) (fpr : Fpr) (label : ℕ) → Has l.table (fpr, label)
-          → (root_left (question_of told l.asked) (used_in l.asked) fpr ≡ 0) ⊎ Has l.rest (fpr, label);
+      spent : (network : List ℕ → Record) (fpr : Fpr) (label : ℕ) → Has l.table (fpr, label)
+          → (root_left (question_of network l.asked) (used_in l.asked) fpr ≡ 0) ⊎ Has l.rest (fpr, label);
     }

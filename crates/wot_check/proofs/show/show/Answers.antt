@@ -9,7 +9,7 @@ use Rattle.wot_check.proofs.show.show.Goals as goal
 
 pub returns-in-None : goal.returns-in-None
 returns-in-None g c =
-    let q = question_of (g.R.Roads.told c.args.roads.now) c.args.asked.now in
+    let q = question_of (g.R.Roads.network c.args.roads.now) c.args.asked.now in
     let used = used_in c.args.asked.now in
     let none : (steps : List Step) → Traces q used c.args.claim.now.steps steps → ⊥ =
     subst (λ (items : List ClaimedStep). IsTrace q used items None) c.steps-2.ensures.steps
@@ -19,8 +19,8 @@ returns-in-None g c =
 
 pub returns-in-Some : goal.returns-in-Some
 returns-in-Some g c =
-    let told = g.R.Roads.told c.args.roads.now in
-    let q = question_of told c.args.asked.now in
+    let network = g.R.Roads.network c.args.roads.now in
+    let q = question_of network c.args.asked.now in
     let used = used_in c.args.asked.now in
     let items = c.args.claim.now.steps in
     let t : Traces q used items c.in-Some.steps.items =
@@ -33,5 +33,5 @@ returns-in-Some g c =
     record {
       shown = subst (λ (n : ℕ). IsShown q used (record { amount = n; steps = items }) c.path_by.result)
           c.amount.ensures.amount
-          (c.path_by.ensures told c.requires.lawful c.requires.in_order (omega (arith, long, few, same)) items t);
+          (c.path_by.ensures network c.requires.lawful c.requires.in_order (omega (arith, long, few, same)) items t);
     }

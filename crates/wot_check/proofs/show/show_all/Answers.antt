@@ -8,7 +8,7 @@ use Rattle.wot_check.proofs.show.show_all.Goals as goal
 
 pub rest-init : goal.rest-init
 rest-init g c =
-    let q = asks (g.R.Roads.told c.args.roads.now c.args.uid.now) c.args.roots.now c.args.target.now in
+    let q = asks (g.R.Roads.network c.args.roads.now c.args.uid.now) c.args.roots.now c.args.target.now in
     record {
       paths = [];
       shown = shown_none q c.requires.lawful c.unused-used.result c.args.claims.now c.unused-used.ensures.none
@@ -17,7 +17,7 @@ rest-init g c =
 
 pub rest-preserved : goal.rest-preserved
 rest-preserved g c =
-    let q = asks (g.R.Roads.told c.args.roads.now c.args.uid.now) c.args.roots.now c.args.target.now in
+    let q = asks (g.R.Roads.network c.args.roads.now c.args.uid.now) c.args.roots.now c.args.target.now in
     let s = c.rest.invariant.shown in
     let paths = c.rest.invariant.paths in
     let claim = c.in-Some.claim.now in
@@ -33,7 +33,7 @@ rest-preserved g c =
 
 pub returns-in-None : goal.returns-in-None
 returns-in-None g c =
-    let q = asks (g.R.Roads.told c.args.roads.now c.args.uid.now) c.args.roots.now c.args.target.now in
+    let q = asks (g.R.Roads.network c.args.roads.now c.args.uid.now) c.args.roots.now c.args.target.now in
     let none = subst (λ (found : Option Path). IsShown q (use_in c.rest.used) c.in-Some.claim.now found) c.in-None.is
     c.in_ok-show.ensures.shown in
     record {
@@ -43,7 +43,7 @@ returns-in-None g c =
 
 pub returns : goal.returns
 returns g c =
-    let q = asks (g.R.Roads.told c.args.roads.now c.args.uid.now) c.args.roots.now c.args.target.now in
+    let q = asks (g.R.Roads.network c.args.roads.now c.args.uid.now) c.args.roots.now c.args.target.now in
     record {
       used = (
         c.rest.invariant.paths,

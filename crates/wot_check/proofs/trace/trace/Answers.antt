@@ -7,7 +7,7 @@ use Rattle.wot_check.proofs.trace.trace.Goals as goal
 
 pub rest-init : goal.rest-init
 rest-init g c =
-    let q = question_of (g.R.Roads.told c.args.roads.now) c.args.asked.now in
+    let q = question_of (g.R.Roads.network c.args.roads.now) c.args.asked.now in
     record {
       few = c.requires.few;
       traced = traced_none q (used_in c.args.asked.now) c.requires.lawful c.args.items.now c.new-steps.result.items
@@ -16,7 +16,7 @@ rest-init g c =
 
 pub rest-preserved : goal.rest-preserved
 rest-preserved g c =
-    let q = question_of (g.R.Roads.told c.args.roads.now) c.args.asked.now in
+    let q = question_of (g.R.Roads.network c.args.roads.now) c.args.asked.now in
     let used = used_in c.args.asked.now in
     let both = c.in-Some.ensures.cases.0 in
     let few = c.rest.invariant.few in
@@ -33,7 +33,7 @@ rest-preserved g c =
 
 pub returns-in-None : goal.returns-in-None
 returns-in-None g c =
-    let q = question_of (g.R.Roads.told c.args.roads.now) c.args.asked.now in
+    let q = question_of (g.R.Roads.network c.args.roads.now) c.args.asked.now in
     let used = used_in c.args.asked.now in
     let none = subst (λ (found : Option Step). IsFollower q used c.in-Some.item.now c.in-Some.later.now found)
     c.in-None.is c.in_ok-follow.ensures.found in
@@ -44,7 +44,7 @@ returns-in-None g c =
 
 pub returns : goal.returns
 returns g c =
-    let q = question_of (g.R.Roads.told c.args.roads.now) c.args.asked.now in
+    let q = question_of (g.R.Roads.network c.args.roads.now) c.args.asked.now in
     record {
       traced = traced_end q (used_in c.args.asked.now) c.requires.lawful c.args.items.now c.rest.steps.items
           c.rest.rest.now c.in_default.ensures.cases c.rest.invariant.traced;

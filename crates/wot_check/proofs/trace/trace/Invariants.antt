@@ -5,7 +5,7 @@ use Rattle.wot_check.proofs.trace.trace.Given as goal
 
 abbrev pub invariant-rest : goal.invariant-rest
 invariant-rest g l =
-    let q = question_of (g.R.Roads.told l.roads) l.asked in
+    let q = question_of (g.R.Roads.network l.roads) l.asked in
     record {
       few : length l.rest ≤ 255;
       traced : Traced q (used_in l.asked) l.items l.steps.items l.rest;

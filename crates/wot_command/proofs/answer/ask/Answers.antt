@@ -11,8 +11,8 @@ use Rattle.wot_plain.proofs.EdgesMadeByLine.{refreshed_as, same_state}
 use Rattle.wot_command.proofs.Short.{answer_asks, answer_short}
 use Rattle.wot_command.proofs.answer.ask.Goals as goal
 
-pub told-requires-clause-few : goal.told-requires-clause-few
-told-requires-clause-few c =
+pub amount_reply-requires-clause-few : goal.amount_reply-requires-clause-few
+amount_reply-requires-clause-few c =
     let asked = c.args.asked.now in
     answer_short (view_at c.args.engine.now.views asked.view.now)
     (λ (v : View). question_in (state_of c.args.engine.now) v asked.target.now asked.uid.now) asked.wanted
@@ -23,8 +23,8 @@ returns-in-Ok-clause-asks c =
     let asked = c.args.asked.now in
     answer_asks (state_of c.args.engine.now) (state_of c.ask.new.self)
     (view_at c.args.engine.now.views asked.view.now) asked.target.now asked.wanted asked.uid.now
-    c.in-Ok.answer.paths c.told.result c.in-Ok.ensures.open c.in-Ok.ensures.answer
-    (same_state c.args.engine.now c.ask.new.self c.ask.ensures.refreshed.stays) c.told.ensures.told
+    c.in-Ok.answer.paths c.amount_reply.result c.in-Ok.ensures.open c.in-Ok.ensures.answer
+    (same_state c.args.engine.now c.ask.new.self c.ask.ensures.refreshed.stays) c.amount_reply.ensures.reported
 
 pub returns-in-Ok-clause-keyring : goal.returns-in-Ok-clause-keyring
 returns-in-Ok-clause-keyring c = c.ask.ensures.refreshed.stays.keyring
@@ -35,7 +35,7 @@ returns-in-Ok-clause-views c = c.ask.ensures.refreshed.stays.views
 pub returns-in-Ok-clause-refreshed : goal.returns-in-Ok-clause-refreshed
 returns-in-Ok-clause-refreshed c =
     let asked = c.args.asked.now in
-    refreshed_as c.ask.result c.told.result (λ ok. ap is_ok c.in-Ok.is) asked.view.now c.args.engine.now c.ask.new.self
+    refreshed_as c.ask.result c.amount_reply.result (λ ok. ap is_ok c.in-Ok.is) asked.view.now c.args.engine.now c.ask.new.self
     c.args.steps.now.made
     c.ask.new.steps.made c.ask.ensures.refreshed
 

@@ -33,7 +33,7 @@ returns-in-Err-Told-clause-stores g c =
     rw c.in-Err-Told.field-0-is
     (stores_told c.args.fpr.now c.args.kept.now answer world (g.D.Shelf.world c.read.new.self)
     (g.D.Shelf.faults c.args.shelf.now)
-    (g.D.Shelf.faults c.read.new.self) c.in-Err-Told.reply (rw c.in-Err-Told.field-0-is at c.in-Err-Told.ensures.told)
+    (g.D.Shelf.faults c.read.new.self) c.in-Err-Told.reply (rw c.in-Err-Told.field-0-is at c.in-Err-Told.ensures.reported)
     (told_so world (Cert c.args.fpr.now) answer _ (λ a p. given_is c.in-Ok.given a p) c.in-Ok.ensures.answers)
     c.read.ensures.after
     (λ f. absurd (never_fault c.in-Ok.given f)))

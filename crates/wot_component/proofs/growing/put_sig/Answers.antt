@@ -8,8 +8,8 @@ use Rattle.wot_component.specs.Sizes.{sig_size}
 use Rattle.wot_component.proofs.Inserted.{set_same, put_back, follow_insert, sum_put}
 use Rattle.wot_component.proofs.growing.put_sig.Goals as goal
 
-pub settle-requires-clause-within : goal.settle-requires-clause-within
-settle-requires-clause-within g c =
+pub insert_judged-requires-clause-within : goal.insert_judged-requires-clause-within
+insert_judged-requires-clause-within g c =
     let within = (c.in-Err.ensures c.args.sig.now refl).0 in
     omega (arith, within, c.deref.ensures.value, c.deref.ensures.len, c.reserve.ensures.len)
 
@@ -27,9 +27,9 @@ returns-in_ok-copy-in-Err-clause-back g c =
     let y : Signature = judged_sig (rows_of c.args.policy.now) c.in_ok-copy-in-Err.copy in
     let range = (c.in-Err.ensures c.args.sig.now refl).0 in
     let within : at ≤ length xs = omega (arith, range, ap length c.deref.ensures.value) in
-    put_back c.args.log.now.items c.settle.new.log.items at xs c.settle.new.sigs.items y within
-    (c.settle.ensures.logged ∙ ap (λ (l : List ℕ). l ++ at ∷ []) c.reserve-in-Err.ensures.items)
-    (c.settle.ensures.put ∙ ap (λ (l : List Signature). insert l at y) c.reserve.ensures.items)
+    put_back c.args.log.now.items c.insert_judged.new.log.items at xs c.insert_judged.new.sigs.items y within
+    (c.insert_judged.ensures.logged ∙ ap (λ (l : List ℕ). l ++ at ∷ []) c.reserve-in-Err.ensures.items)
+    (c.insert_judged.ensures.put ∙ ap (λ (l : List Signature). insert l at y) c.reserve.ensures.items)
 
 pub returns-in_ok-copy-in-Err-clause-follow : goal.returns-in_ok-copy-in-Err-clause-follow
 returns-in_ok-copy-in-Err-clause-follow g c =
@@ -39,8 +39,8 @@ returns-in_ok-copy-in-Err-clause-follow g c =
     let range = (c.in-Err.ensures c.args.sig.now refl).0 in
     let within : at ≤ length xs = omega (arith, range, ap length c.deref.ensures.value) in
     follow_insert (λ _. 1) (λ _. 1) sig_size c.args.totals.now c.of_sig.result c.with.result c.args.sig.now y xs
-    c.settle.new.sigs.items at c.of_sig.ensures c.with.ensures within
-    (c.settle.ensures.put ∙ ap (λ (l : List Signature). insert l at y) c.reserve.ensures.items) refl refl
+    c.insert_judged.new.sigs.items at c.of_sig.ensures c.with.ensures within
+    (c.insert_judged.ensures.put ∙ ap (λ (l : List Signature). insert l at y) c.reserve.ensures.items) refl refl
     (ap sig_size c.in_ok-copy-in-Err.ensures.marked)
 
 pub returns-in_ok-copy-in-Err-clause-asked : goal.returns-in_ok-copy-in-Err-clause-asked
@@ -52,7 +52,7 @@ returns-in_ok-copy-in-Err-clause-asked g c =
     let range = (c.in-Err.ensures c.args.sig.now refl).0 in
     let within : at ≤ length xs = omega (arith, range, ap length c.deref.ensures.value) in (
       if_sound copy,
-      c.settle.ensures.asked,
-      sum_put if_sound xs c.settle.new.sigs.items at y (if_sound copy) within
-          (c.settle.ensures.put ∙ ap (λ (l : List Signature). insert l at y) c.reserve.ensures.items) refl,
+      c.insert_judged.ensures.asked,
+      sum_put if_sound xs c.insert_judged.new.sigs.items at y (if_sound copy) within
+          (c.insert_judged.ensures.put ∙ ap (λ (l : List Signature). insert l at y) c.reserve.ensures.items) refl,
     )

@@ -15,11 +15,11 @@ returns-in-Same-clause-goes c =
     let s : Session = session_of c.args.engine.now c.args.cursors.now in
     let view = c.in-Some.cursor.now.view in
     let shown : is_some (view_at c.args.engine.now.views view) ≡ true =
-    sym (rw c.view.ensures.view at c.in-Some-turn.ensures.open) in
-    let now : Stamps = record { keyring = c.changes.result; view = c.in-Some-turn.turn } in
+    sym (rw c.view.ensures.view at c.in-Some-revision.ensures.open) in
+    let now : Stamps = record { keyring = c.changes.result; view = c.in-Some-revision.revision } in
     let here : now ≡ stamps_in s view =
     stamps_now s view now (c.changes.ensures.changes ∙ ap (λ (k : Keyring). k.changes) c.keyring.ensures.keyring)
-    (rw c.view.ensures.view at c.in-Some-turn.ensures.turn) in
+    (rw c.view.ensures.view at c.in-Some-revision.ensures.revision) in
     let both : age_of c.stamps.result now ≡ age_of c.in-Some.cursor.now.stamps (stamps_in s view) =
     λ i. age_of (c.stamps.ensures.stamps i) (here i) in
     given_by (cursor_at c.args.cursors.now c.args.name.now) c.in-Some.cursor.now s c.args.name.now c.args.count

@@ -25,7 +25,7 @@ lines-preserved g c =
           c.lines.tally c.add_line.new.tally
           c.lines.invariant.plays c.first_line.ensures.first adds;
       changes = omega (arith, c.add_line.ensures.counted, c.first_line.ensures.shorter, c.lines.invariant.changes);
-      turns = omega (arith, c.add_line.ensures.turned, c.first_line.ensures.shorter, c.lines.invariant.turns);
+      revisions = omega (arith, c.add_line.ensures.turned, c.first_line.ensures.shorter, c.lines.invariant.revisions);
       amounts = omega (arith, c.add_line.ensures.amounts, c.first_line.ensures.shorter, c.lines.invariant.amounts);
       judged = subst (λ (r : PolicyRows). IsJudgedBy r c.add_line.new.machine.engine.keyring) c.lines.invariant.rows
           c.add_line.ensures.judged;
@@ -43,7 +43,7 @@ pub add_line-requires-clause-countable : goal.add_line-requires-clause-countable
 add_line-requires-clause-countable g c = omega (arith, c.lines.invariant.changes)
 
 pub add_line-requires-clause-turnable : goal.add_line-requires-clause-turnable
-add_line-requires-clause-turnable g c = omega (arith, c.lines.invariant.turns)
+add_line-requires-clause-turnable g c = omega (arith, c.lines.invariant.revisions)
 
 pub add_line-requires-clause-judged : goal.add_line-requires-clause-judged
 add_line-requires-clause-judged g c =
@@ -73,12 +73,12 @@ lines-init g c =
     let rows = rows_of c.args.policy.now in
     let none : c.args.machine.now.engine.keyring.changes ≡ 0 =
     ap (λ (x : Engine). x.keyring.changes) c.requires.engine in
-    let never : c.args.machine.now.engine.turns.count ≡ 0 = ap (λ (x : Engine). x.turns.count) c.requires.engine in
+    let never : c.args.machine.now.engine.revisions.count ≡ 0 = ap (λ (x : Engine). x.revisions.count) c.requires.engine in
     record {
       plays = starts_with rows c.args.text.now c.args.machine.now c.args.shelf.now.world c.args.tally.now
           c.requires.engine c.requires.cursors c.requires.watches c.requires.world c.requires.none;
       changes = omega (arith, none, c.requires.small);
-      turns = omega (arith, never, c.requires.small);
+      revisions = omega (arith, never, c.requires.small);
       amounts = omega (arith, c.requires.amounts, c.requires.small);
       judged = judged rows c.args.machine.now.engine c.requires.engine;
       rows = refl;

@@ -10,7 +10,7 @@ abbrev pub invariant-lines : goal.invariant-lines
 invariant-lines g l = record {
   plays : Plays (rows_of l.fn.policy) l.fn.text l.rest (over (kept l.machine) l.shelf.world) l.tally;
   changes : l.machine.engine.keyring.changes + length l.rest < 2 ^ 30;
-  turns : l.machine.engine.turns.count + length l.rest < 2 ^ 30;
+  revisions : l.machine.engine.revisions.count + length l.rest < 2 ^ 30;
   amounts : l.tally.amounts + 4294967296 * length l.rest < 2 ^ 62;
   judged : IsJudgedBy (rows_of l.fn.policy) l.machine.engine.keyring;
   rows : rows_of l.policy ≡ rows_of l.fn.policy;

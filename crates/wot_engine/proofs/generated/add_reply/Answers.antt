@@ -10,7 +10,7 @@ use Rattle.wot_engine.proofs.generated.add_reply.Goals as goal
 
 pub reply-requires : goal.reply-requires
 reply-requires g c = record {
-  countable = record { changes = c.requires.countable; turns = c.requires.turnable };
+  countable = record { changes = c.requires.countable; revisions = c.requires.turnable };
   judging = record { judged = c.requires.judged; faithful = c.requires.faithful };
 }
 
@@ -22,10 +22,10 @@ returns-in_ok-add-in-Some-clause-added g c =
       reply = Some c.in-Some.field-0.reply;
       replied = told_settled (rows_of c.args.policy.now) c.args.line.now (kept c.args.machine.now) before
           c.reply.new.self.engine c.reply.new.self.cursors c.reply.new.self.watches
-          c.settle.new.self.engine c.settle.new.self.cursors c.settle.new.self.watches after c.in-Some.field-0
+          c.move_cursor.new.self.engine c.move_cursor.new.self.cursors c.move_cursor.new.self.watches after c.in-Some.field-0
           c.in-Some.field-0.reply c.in-Some.field-0.moved refl refl
-          (rw c.in-Some.is at c.in_ok-reply.ensures.replied) c.settle.ensures.engine c.settle.ensures.settled
-          c.settle.ensures.watches;
+          (rw c.in-Some.is at c.in_ok-reply.ensures.replied) c.move_cursor.ensures.engine c.move_cursor.ensures.settled
+          c.move_cursor.ensures.watches;
       tells = c.in_ok-add-in-Some.ensures.added;
     }
 
@@ -41,7 +41,7 @@ returns-in-None-clause-added g c =
 
 pub returns-in_ok-add-in-Some-clause-judged : goal.returns-in_ok-add-in-Some-clause-judged
 returns-in_ok-add-in-Some-clause-judged g c =
-    subst (λ (e : Engine). IsJudgedBy (rows_of c.args.policy.now) e.keyring) (sym c.settle.ensures.engine)
+    subst (λ (e : Engine). IsJudgedBy (rows_of c.args.policy.now) e.keyring) (sym c.move_cursor.ensures.engine)
     c.reply.ensures.judging.judged
 
 pub returns-in_ok-add-in-Some-clause-faithful : goal.returns-in_ok-add-in-Some-clause-faithful

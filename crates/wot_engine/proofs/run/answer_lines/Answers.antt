@@ -14,7 +14,7 @@ use Rattle.wot_engine.specs.RunAsks.{MayAsk, command_by, done}
 use Rattle.wot_engine.specs.Ended.{Reached, IsBegun}
 use Rattle.wot_engine.specs.Contents.{OnContents}
 use Rattle.wot_engine.specs.Ends.{status_at}
-use Rattle.wot_engine.specs.Turn.{use_by}
+use Rattle.wot_engine.specs.LineReply.{use_by}
 use Rattle.wot_engine.specs.declared.run.Stop.TheVariants.{Memory, Read, TooMuch, Write}
 use Rattle.wot_engine.proofs.HasAsked.{HasAsked-line, asks_between, asks_cut, asks_end, asks_nothing}
 use Rattle.wot_engine.proofs.HasAsked.{asks_stop}
@@ -25,9 +25,9 @@ use Rattle.wot_engine.proofs.Held.{Held, Held-begun, Held-cut, Held-first, Held-
 use Rattle.wot_engine.proofs.Held.{Held-reached, Held-reached_cut, Held-reached_next, Held-reply, Held-written}
 use Rattle.wot_engine.proofs.Held.{nothing_held}
 use Rattle.wot_engine.proofs.Stops.{never, never_ok, rose_on, stopped}
-use Rattle.wot_engine.proofs.Turns.{Answered-end, Answered-stop, Begun-here}
-use Rattle.wot_engine.proofs.Turns.{First-reached}
-use Rattle.wot_engine.proofs.Turns.{Left-end, Most-end, Most-stop, Stood}
+use Rattle.wot_engine.proofs.Revisions.{Answered-end, Answered-stop, Begun-here}
+use Rattle.wot_engine.proofs.Revisions.{First-reached}
+use Rattle.wot_engine.proofs.Revisions.{Left-end, Most-end, Most-stop, Stood}
 use Rattle.wot_engine.proofs.Fresh.{answered, not_end, holds, no_fault, within, counted, turned, judged}
 use Rattle.wot_engine.proofs.TakesAtMost.{ends_at, has_most, took_none, took_nothing, took_both, takes_at_most}
 use Rattle.wot_engine.proofs.TakesAtMost.{takes_more}
@@ -323,13 +323,13 @@ lines-preserved g c =
         c.next.ensures.within,
         c.lines.invariant.within,
       );
-      turns = omega (
+      revisions = omega (
         arith,
         c.reply_to.ensures.turned,
         c.in-Ok.ensures.shorter (not_end (rows_of c.args.policy.now) c.in-Ok.line c.next.new.self.text
             (kept c.lines.machine) (g.D.Shelf.world c.lines.shelf) replies.octets (kept c.reply_to.new.machine)
             (g.D.Shelf.world c.reply_to.new.shelf) replies.replies),
-        c.lines.invariant.turns,
+        c.lines.invariant.revisions,
         c.next.ensures.within,
         c.lines.invariant.within,
       );
@@ -366,7 +366,7 @@ lines-smaller g c =
 pub reply_to-requires-clause-countable : goal.reply_to-requires-clause-countable
 reply_to-requires-clause-countable g c = record {
   changes = omega (arith, c.lines.invariant.changes);
-  turns = omega (arith, c.lines.invariant.turns);
+  revisions = omega (arith, c.lines.invariant.revisions);
 }
 
 pub reply_to-requires-clause-judging : goal.reply_to-requires-clause-judging
@@ -534,7 +534,7 @@ lines-init g c = record {
   source = omega arith;
   sink = omega arith;
   changes = counted c.args.lines.now c.args.machine.now.engine c.requires.unread c.requires.engine;
-  turns = turned c.args.lines.now c.args.machine.now.engine c.requires.unread c.requires.engine;
+  revisions = turned c.args.lines.now c.args.machine.now.engine c.requires.unread c.requires.engine;
   judged = judged (rows_of c.args.policy.now) c.args.machine.now.engine c.requires.engine;
   rows = refl;
   faithful = c.requires.faithful;

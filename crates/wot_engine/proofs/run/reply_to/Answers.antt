@@ -11,7 +11,7 @@ use Rattle.wot_cache.specs.State.{state_of}
 use Rattle.wot_plain.proofs.Results.{any_err}
 use Rattle.wot_command.proofs.DirectoryAfterFailure.{served_puts}
 use Rattle.wot_engine.specs.RunAsks.{command_by, done}
-use Rattle.wot_engine.specs.Turn.{RepliesBehind, SaidBehind, use_by}
+use Rattle.wot_engine.specs.LineReply.{RepliesBehind, SaidBehind, use_by}
 use Rattle.wot_engine.proofs.HasAsked.{asks_behind, asks_done, may_ask}
 use Rattle.wot_engine.proofs.Progress.{joined}
 use Rattle.wot_engine.proofs.run.reply_to.Goals as goal
@@ -27,7 +27,7 @@ both rows line text old mid new before after had said has s t = record {
     given = s.given;
     reply = s.reply;
     mid = mid;
-    told = t.lines;
+    reported = t.lines;
     does = s.does;
     tells = t.tells;
     served = s.served;

@@ -16,7 +16,7 @@ use Rattle.wot_cache.specs.State.{state_of}
 use Rattle.wot_plain.proofs.Results.{any_err}
 use Rattle.wot_command.proofs.DirectoryAfterFailure.{puts_still}
 use Rattle.wot_plain.proofs.StepsByKind.{one_reply, too_long}
-use Rattle.wot_engine.specs.Turn.{SaidBehind, use_by}
+use Rattle.wot_engine.specs.LineReply.{SaidBehind, use_by}
 use Rattle.wot_engine.proofs.HasAsked.{looked_at, passed_over}
 use Rattle.wot_engine.proofs.run.say.Goals as goal
 

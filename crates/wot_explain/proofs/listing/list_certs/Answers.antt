@@ -6,16 +6,16 @@ use Rattle.wot_explain.proofs.listing.list_certs.Goals as goal
 
 pub certs-preserved : goal.certs-preserved
 certs-preserved g c end h =
-    c.certs.invariant end (one_cert (g.R.Roads.told c.args.roads.now) c.args.sought.now.roots.now
+    c.certs.invariant end (one_cert (g.R.Roads.network c.args.roads.now) c.args.sought.now.roots.now
     c.args.sought.now.wanted c.in-Some.cert.now c.next.new.self c.certs.cert-iterator
     c.certs.out.items c.list_cert.new.out.items end c.in-Some.ensures.steps c.in_ok-list_cert.ensures h)
 
 pub returns : goal.returns
 returns g c =
-    let told = g.R.Roads.told c.args.roads.now in
+    let network = g.R.Roads.network c.args.roads.now in
     let out = c.certs.out.items in
     let none : c.certs.cert-iterator ≡ [] = c.in-None.ensures.steps.0 in
     c.certs.invariant out
-    (subst (λ (cs : List Certificate). AddsListed told c.args.sought.now.roots.now c.args.sought.now.wanted
-    (pairs_of_all cs) out out) (sym none) (none_added told c.args.sought.now.roots.now c.args.sought.now.wanted
+    (subst (λ (cs : List Certificate). AddsListed network c.args.sought.now.roots.now c.args.sought.now.wanted
+    (pairs_of_all cs) out out) (sym none) (none_added network c.args.sought.now.roots.now c.args.sought.now.wanted
     out))

@@ -35,7 +35,7 @@ pub returns-then-sum-sought : goal.returns-then-sum-sought
 returns-then-sum-sought g c =
     let pair : Pair = (c.args.fpr.now, c.args.uid.now) in
     let a = c.in_ok-sum.ensures.sum in
-    one_added (g.R.Roads.told c.args.roads.now) c.args.sought.now.roots.now c.args.sought.now.wanted pair a.paths
+    one_added (g.R.Roads.network c.args.roads.now) c.args.sought.now.roots.now c.args.sought.now.wanted pair a.paths
     c.args.out.now.items c.args.out.now.items a.answer a.one
     (without c.args.sought.now.wanted pair c.in_ok-sum.sum (amount_of a.paths) c.args.out.now.items a.sum
     c.if-sum-sought.true)
@@ -51,7 +51,7 @@ returns g c =
     let same : bind ≡ record { sum = sum; fpr = pair.0; uid = pair.1 } =
     ap (λ (u : List ℕ). (let b : Bind = record { sum = sum; fpr = c.args.fpr.now; uid = u } in b))
     c.in_ok-uid.ensures.copied in
-    one_added (g.R.Roads.told c.args.roads.now) c.args.sought.now.roots.now c.args.sought.now.wanted pair a.paths old
+    one_added (g.R.Roads.network c.args.roads.now) c.args.sought.now.roots.now c.args.sought.now.wanted pair a.paths old
     new a.answer a.one
     (with_it c.args.sought.now.wanted pair sum (amount_of a.paths) old new bind a.sum c.if-sum-sought.false same
     c.in_ok-push.ensures.items)

@@ -5,6 +5,6 @@ list_page-requires g c = record {
   sought = record {
     wanted = c.requires.wanted;
     few = c.requires.few;
-    reach = c.everywhere-reach.ensures.reach (g.R.Roads.told c.args.roads.now) c.args.roots.now;
+    reach = c.everywhere-reach.ensures.reach (g.R.Roads.network c.args.roads.now) c.args.roots.now;
   };
 }

@@ -7,10 +7,10 @@ use Rattle.wot_explain.proofs.piece.piece_user_ids.Given as goal
 
 abbrev pub invariant-rest : goal.invariant-rest
 invariant-rest g l = (end : List Bind)
-    → AddsPiece (g.R.Roads.told l.roads) l.page.sought.roots.now l.page.sought.wanted
+    → AddsPiece (g.R.Roads.network l.roads) l.page.sought.roots.now l.page.sought.wanted
     (option_copied l.page.after) l.page.count
     (map (pair_of l.fpr) l.rest) l.out.items end
-    → AddsPiece (g.R.Roads.told l.roads) l.page.sought.roots.now l.page.sought.wanted
+    → AddsPiece (g.R.Roads.network l.roads) l.page.sought.roots.now l.page.sought.wanted
     (option_copied l.page.after) l.page.count
     (map (pair_of l.fpr) l.user_ids) l.fn.out.items end
 

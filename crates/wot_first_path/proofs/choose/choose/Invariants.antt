@@ -6,6 +6,6 @@ use Rattle.wot_first_path.specs.Reached.{look}
 use Rattle.wot_first_path.proofs.choose.choose.Given as goal
 
 abbrev pub invariant-layer : goal.invariant-layer
-invariant-layer l = (told : List ℕ → Record) →
-    chosen (quest_of told l.quest) (look l.reached.nodes) l.best (drop l.fpr-index l.reached.layer.items)
-    ≡ chosen (quest_of told l.quest) (look l.reached.nodes) None l.reached.layer.items
+invariant-layer l = (network : List ℕ → Record) →
+    chosen (quest_of network l.quest) (look l.reached.nodes) l.best (drop l.fpr-index l.reached.layer.items)
+    ≡ chosen (quest_of network l.quest) (look l.reached.nodes) None l.reached.layer.items

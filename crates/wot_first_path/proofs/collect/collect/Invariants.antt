@@ -10,6 +10,6 @@ use Rattle.wot_first_path.proofs.collect.collect.Given as goal
 
 abbrev pub invariant-edges : goal.invariant-edges
 invariant-edges l =
-    (quest : Quest) → IsRecord quest.question.told → (steps : List Step) → Kept quest (look l.nodes) steps
+    (quest : Quest) → IsRecord quest.question.network → (steps : List Step) → Kept quest (look l.nodes) steps
     → length steps ≡ l.size → start quest.question.target steps ≡ l.fn.from
     → IsLeft quest (look l.nodes) l.steps.items l.at l._i steps

@@ -8,9 +8,9 @@ use Rattle.wot_first_path.proofs.consider.consider.Goals as goal
 
 pub returns-in-None-clause-all : goal.returns-in-None-clause-all
 returns-in-None-clause-all g c =
-    let quest = quest_of (g.R.Roads.told c.args.search.now.roads.now) c.args.search.now.quest.now in
+    let quest = quest_of (g.R.Roads.network c.args.search.now.roads.now) c.args.search.now.quest.now in
     let w = rw (c.facts.ensures.facts, c.requires.demand) at
-    (sym (c.wanted.ensures (g.R.Roads.told c.args.search.now.roads.now)) ∙ c.in-None.is) in
+    (sym (c.wanted.ensures (g.R.Roads.network c.args.search.now.roads.now)) ∙ c.in-None.is) in
     record {
       grows = λ rest r growing. advances_refl quest c.args.search.now.size c.args.reached.now growing;
       taken = taken_none quest c.args.search.now.size c.args.rest.width c.args.edge.now (c.requires.lawful c.args.search.now.quest.now.uid.now)
@@ -22,14 +22,14 @@ returns-in-None-clause-all g c =
 
 pub returns-in_ok-keep-in-Some-clause-all : goal.returns-in_ok-keep-in-Some-clause-all
 returns-in_ok-keep-in-Some-clause-all g c =
-    let quest = quest_of (g.R.Roads.told c.args.search.now.roads.now) c.args.search.now.quest.now in
+    let quest = quest_of (g.R.Roads.network c.args.search.now.roads.now) c.args.search.now.quest.now in
     let size = c.args.search.now.size in
     let width = c.args.rest.width in
     let edge = c.args.edge.now in
     let good = c.requires.lawful c.args.search.now.quest.now.uid.now in
     let has = c.requires.row c.args.search.now.quest.now.uid.now in
     let w = rw (c.facts.ensures.facts, c.requires.demand) at
-    (sym (c.wanted.ensures (g.R.Roads.told c.args.search.now.roads.now)) ∙ c.in-Some.is) in
+    (sym (c.wanted.ensures (g.R.Roads.network c.args.search.now.roads.now)) ∙ c.in-Some.is) in
     let kept = c.in_ok-keep-in-Some.ensures in
     let set = g.N.Notes.noted c.keep.new.notes in
     let it : set edge.issuer = subst (λ (f : Fpr). set f)
@@ -44,9 +44,9 @@ returns-in_ok-keep-in-Some-clause-all g c =
 
 pub returns-in_err-keep-in-Some-clause-gains : goal.returns-in_err-keep-in-Some-clause-gains
 returns-in_err-keep-in-Some-clause-gains g c fpr h =
-    let quest = quest_of (g.R.Roads.told c.args.search.now.roads.now) c.args.search.now.quest.now in
+    let quest = quest_of (g.R.Roads.network c.args.search.now.roads.now) c.args.search.now.quest.now in
     let w = rw (c.facts.ensures.facts, c.requires.demand) at
-    (sym (c.wanted.ensures (g.R.Roads.told c.args.search.now.roads.now)) ∙ c.in-Some.is) in
+    (sym (c.wanted.ensures (g.R.Roads.network c.args.search.now.roads.now)) ∙ c.in-Some.is) in
     elim (c.in_err-keep-in-Some.ensures.gains fpr h) [
       | inl k ↦ inl k
       | inr e ↦ inr
@@ -57,9 +57,9 @@ returns-in_err-keep-in-Some-clause-gains g c fpr h =
 
 pub returns-in_ok-keep-in-Some-clause-gains : goal.returns-in_ok-keep-in-Some-clause-gains
 returns-in_ok-keep-in-Some-clause-gains g c fpr h =
-    let quest = quest_of (g.R.Roads.told c.args.search.now.roads.now) c.args.search.now.quest.now in
+    let quest = quest_of (g.R.Roads.network c.args.search.now.roads.now) c.args.search.now.quest.now in
     let w = rw (c.facts.ensures.facts, c.requires.demand) at
-    (sym (c.wanted.ensures (g.R.Roads.told c.args.search.now.roads.now)) ∙ c.in-Some.is) in
+    (sym (c.wanted.ensures (g.R.Roads.network c.args.search.now.roads.now)) ∙ c.in-Some.is) in
     elim (c.in_ok-keep-in-Some.ensures.gains fpr h) [
       | inl k ↦ inl k
       | inr e ↦ inr

@@ -8,17 +8,17 @@ use Rattle.wot_first_path.proofs.OneEdgeConsidered.{and_not, none_if, some_if}
 use Rattle.wot_first_path.proofs.demand.candidate.Goals as goal
 
 pub returns-then-not-reaches : goal.returns-then-not-reaches
-returns-then-not-reaches c told =
-    let quest = quest_of told c.args.quest.now in
+returns-then-not-reaches c network =
+    let quest = quest_of network c.args.quest.now in
     none_if (is_met c.args.quest.now.target.now c.args.demand c.args.edge.now)
     (is_enough quest c.args.size c.args.edge.now) _
     (and_not (nat_le quest.least (step_left quest.used (step_of c.args.edge.now)))
     (nat_lt c.args.size (quest.reach c.args.edge.now.issuer))
-    (sym (c.reaches.ensures told) ∙ c.if-not-reaches.true))
+    (sym (c.reaches.ensures network) ∙ c.if-not-reaches.true))
 
 pub returns-then-not-suffices : goal.returns-then-not-suffices
-returns-then-not-suffices c told =
-    let quest = quest_of told c.args.quest.now in
+returns-then-not-suffices c network =
+    let quest = quest_of network c.args.quest.now in
     let left : c.left_of_step-left.result ≡ step_left quest.used (step_of c.args.edge.now) =
     c.left_of_step-left.ensures ∙ ap (step_left quest.used) c.step_from-step.ensures in
     let short = ap (nat_le quest.least) (sym left) ∙ sym c.suffices.ensures ∙ c.if-not-suffices.true in
@@ -27,8 +27,8 @@ returns-then-not-suffices c told =
     (ap (λ (b : _). b && nat_lt c.args.size (quest.reach c.args.edge.now.issuer)) short)
 
 pub returns : goal.returns
-returns c told =
-    let quest = quest_of told c.args.quest.now in
+returns c network =
+    let quest = quest_of network c.args.quest.now in
     let left : c.left_of_step-left.result ≡ step_left quest.used (step_of c.args.edge.now) =
     c.left_of_step-left.ensures ∙ ap (step_left quest.used) c.step_from-step.ensures in
     let wide : c.min.result ≡ min (step_left quest.used (step_of c.args.edge.now)) c.args.width =
@@ -36,7 +36,7 @@ returns c told =
     let enough = and_from (nat_le quest.least (step_left quest.used (step_of c.args.edge.now)))
     (nat_lt c.args.size (quest.reach c.args.edge.now.issuer))
     (ap (nat_le quest.least) (sym left) ∙ sym c.suffices.ensures ∙ c.if-not-suffices.false)
-    (sym (c.reaches.ensures told) ∙ c.if-not-reaches.false) in
+    (sym (c.reaches.ensures network) ∙ c.if-not-reaches.false) in
     some_if (is_met c.args.quest.now.target.now c.args.demand c.args.edge.now)
     (is_enough quest c.args.size c.args.edge.now) _ _
     (sym c.meets.ensures ∙ c.if-not-meets.false) enough

@@ -6,11 +6,11 @@ use Rattle.wot_first_path.proofs.extend.extend_all.Goals as goal
 
 pub extend_by-requires-clause-usable : goal.extend_by-requires-clause-usable
 extend_by-requires-clause-usable g c =
-    subst (AreUsableIf (g.R.Roads.told c.args.search.now.roads.now) c.args.usable)
+    subst (AreUsableIf (g.R.Roads.network c.args.search.now.roads.now) c.args.usable)
     (sym (c.rows-edges.ensures.rows c.args.search.now.quest.now.uid.now)) (c.requires.usable c.args.search.now.quest.now.uid.now)
 
-pub extend_by-requires-clause-matter : goal.extend_by-requires-clause-matter
-extend_by-requires-clause-matter g c = record {
+pub extend_by-requires-clause-needs : goal.extend_by-requires-clause-needs
+extend_by-requires-clause-needs g c = record {
   into = λ uid edge h. subst (λ (es : List EdgeFacts). Has es edge) (c.rows-edges.ensures.rows uid) h;
   all = λ uid edge h lead. subst (λ (es : List EdgeFacts). Has es edge) (sym (c.rows-edges.ensures.rows uid)) h;
 }

@@ -16,8 +16,8 @@ consider-requires-clause-row g c id =
     let x = c.edge-item.result in
     let has = subst (λ (e : EdgeFacts). Has edges e) (sym c.edge-item.is)
     (has_at edges c.edges.edge-index x c.edges-test.true) in
-    (edge_into (g.R.Roads.told c.args.search.now.roads.now id) (c.requires.lawful id) c.args.at.now x
-    (c.requires.matter.into id x has)).0
+    (edge_into (g.R.Roads.network c.args.search.now.roads.now id) (c.requires.lawful id) c.args.at.now x
+    (c.requires.needs.into id x has)).0
 
 pub consider-requires-clause-known : goal.consider-requires-clause-known
 consider-requires-clause-known g c known =
@@ -30,7 +30,7 @@ consider-requires-clause-known g c known =
 pub returns-in_err-consider-clause-gains : goal.returns-in_err-consider-clause-gains
 returns-in_err-consider-clause-gains g c fpr h =
     let uid = c.args.search.now.quest.now.uid.now in
-    let told = g.R.Roads.told c.args.search.now.roads.now uid in
+    let network = g.R.Roads.network c.args.search.now.roads.now uid in
     let edges = c.args.edges.now in
     let x = c.edge-item.result in
     let has = subst (λ (e : EdgeFacts). Has edges e) (sym c.edge-item.is)
@@ -38,21 +38,21 @@ returns-in_err-consider-clause-gains g c fpr h =
     elim (c.in_err-consider.ensures.gains fpr h) [
       | inl k ↦ c.edges.invariant.gains fpr k
       | inr e ↦ inr
-          (subst (λ (f : Fpr). IsNear told c.args.at.now f) (sym e)
-          (near_issuer told c.args.at.now x (c.requires.matter.into uid x has)))
+          (subst (λ (f : Fpr). IsNear network c.args.at.now f) (sym e)
+          (near_issuer network c.args.at.now x (c.requires.needs.into uid x has)))
     ]
 
 pub edges-preserved : goal.edges-preserved
 edges-preserved g c =
-    let told = g.R.Roads.told c.args.search.now.roads.now c.args.search.now.quest.now.uid.now in
-    let quest = quest_of (g.R.Roads.told c.args.search.now.roads.now) c.args.search.now.quest.now in
+    let network = g.R.Roads.network c.args.search.now.roads.now c.args.search.now.quest.now.uid.now in
+    let quest = quest_of (g.R.Roads.network c.args.search.now.roads.now) c.args.search.now.quest.now in
     let size = c.args.search.now.size in
     let edges = c.args.edges.now in
     let x = c.edge-item.result in
     let i = c.edges.edge-index in
     let has = subst (λ (e : EdgeFacts). Has edges e) (sym c.edge-item.is) (has_at edges i x c.edges-test.true) in
-    let into = c.requires.matter.into c.args.search.now.quest.now.uid.now x has in
-    let t = (edge_into told (c.requires.lawful c.args.search.now.quest.now.uid.now) c.args.at.now x into).1 in
+    let into = c.requires.needs.into c.args.search.now.quest.now.uid.now x has in
+    let t = (edge_into network (c.requires.lawful c.args.search.now.quest.now.uid.now) c.args.at.now x into).1 in
     let inv = c.edges.invariant in
     let ok = c.in_ok-consider.ensures in
     let one = ok.all in
@@ -79,15 +79,15 @@ edges-preserved g c =
       widens = λ f h. ok.grows f (inv.widens f h);
       gains = λ fpr h. elim (ok.gains fpr h) [
         | inl k ↦ inv.gains fpr k
-        | inr e ↦ inr (subst (λ (f : Fpr). IsNear told c.args.at.now f) (sym e) (near_issuer told c.args.at.now x into))
+        | inr e ↦ inr (subst (λ (f : Fpr). IsNear network c.args.at.now f) (sym e) (near_issuer network c.args.at.now x into))
       ];
     }
 
 pub returns-clause-all : goal.returns-clause-all
 returns-clause-all g c =
-    let quest = quest_of (g.R.Roads.told c.args.search.now.roads.now) c.args.search.now.quest.now in
+    let quest = quest_of (g.R.Roads.network c.args.search.now.roads.now) c.args.search.now.quest.now in
     let inv = c.edges.invariant in
-    let all = c.requires.matter.all c.args.search.now.quest.now.uid.now in
+    let all = c.requires.needs.all c.args.search.now.quest.now.uid.now in
     record {
       grows = inv.grows;
       taken = λ ready rest begins k.

@@ -10,8 +10,8 @@ use Rattle.wot_first_path.proofs.extend.extend_by.Given as goal
 
 abbrev pub invariant-edges : goal.invariant-edges
 invariant-edges g l =
-    let told = g.R.Roads.told l.search.roads.now in
-    let quest = quest_of told l.search.quest.now in
+    let network = g.R.Roads.network l.search.roads.now in
+    let quest = quest_of network l.search.quest.now in
     record {
       grows : IsReady quest l.search.size (Only l.at) l.fn.reached → Advances quest l.search.size l.fn.reached l.reached;
       taken : IsReady quest l.search.size (Only l.at) l.fn.reached → (rest : List Step)
@@ -24,5 +24,5 @@ invariant-edges g l =
           → NotedFrom quest (g.N.Notes.noted l.notes) l.edges l.edge-index rest;
       it : g.N.Notes.noted l.notes l.at;
       widens : Widens (g.N.Notes.noted l.fn.notes) (g.N.Notes.noted l.notes);
-      gains : Gains (IsNear (told l.search.quest.now.uid.now) l.at) (g.N.Notes.noted l.fn.notes) (g.N.Notes.noted l.notes);
+      gains : Gains (IsNear (network l.search.quest.now.uid.now) l.at) (g.N.Notes.noted l.fn.notes) (g.N.Notes.noted l.notes);
     }

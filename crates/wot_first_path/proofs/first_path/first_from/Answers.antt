@@ -11,7 +11,7 @@ use Rattle.wot_first_path.proofs.first_path.first_from.Goals as goal
 
 pub returns-then-is_empty-clause-first : goal.returns-then-is_empty-clause-first
 returns-then-is_empty-clause-first g c =
-    let quest = quest_of (g.R.Roads.told c.args.roads.now) c.args.quest.now in
+    let quest = quest_of (g.R.Roads.network c.args.roads.now) c.args.quest.now in
     let inv = c.layers.invariant in
     let ok = c.in_ok-advance.ensures in
     let empty = none_there c.advance.new.reached.layer.items
@@ -22,7 +22,7 @@ returns-then-is_empty-clause-first g c =
 
 pub returns-then-is_empty-clause-looked : goal.returns-then-is_empty-clause-looked
 returns-then-is_empty-clause-looked g c =
-    let quest = quest_of (g.R.Roads.told c.args.roads.now) c.args.quest.now in
+    let quest = quest_of (g.R.Roads.network c.args.roads.now) c.args.quest.now in
     let inv = c.layers.invariant in
     let ok = c.in_ok-advance.ensures in
     let empty = none_there c.advance.new.reached.layer.items
@@ -33,53 +33,53 @@ returns-then-is_empty-clause-looked g c =
 
 pub returns-in-Some-clause-first : goal.returns-in-Some-clause-first
 returns-in-Some-clause-first g c =
-    let quest = quest_of (g.R.Roads.told c.args.roads.now) c.args.quest.now in
+    let quest = quest_of (g.R.Roads.network c.args.roads.now) c.args.quest.now in
     let found = look c.advance.new.reached.nodes in
     let inv = c.layers.invariant in
     let ok = c.in_ok-advance.ensures in
     let after = ok.after inv.after in
-    let turn = turned quest c.layers.size c.advance.new.reached (g.N.Notes.noted c.advance.new.notes) _
+    let first_of_layer = turned quest c.layers.size c.advance.new.reached (g.N.Notes.noted c.advance.new.notes) _
     (c.requires.lawful c.args.quest.now.uid.now) c.requires.small after (ok.unrooted inv.after inv.unrooted)
-    (c.in_ok-turn.ensures (g.R.Roads.told c.args.roads.now)) in
+    (c.in_ok-first_of_layer.ensures (g.R.Roads.network c.args.roads.now)) in
     first_result quest (c.layers.size + 1) c.in-Some.path
-    (subst (λ (o : Option Path). IsTurn quest found (c.layers.size + 1) o) c.in-Some.is turn)
+    (subst (λ (o : Option Path). IsTurn quest found (c.layers.size + 1) o) c.in-Some.is first_of_layer)
 
 pub returns-in-Some-clause-looked : goal.returns-in-Some-clause-looked
 returns-in-Some-clause-looked g c =
-    let quest = quest_of (g.R.Roads.told c.args.roads.now) c.args.quest.now in
+    let quest = quest_of (g.R.Roads.network c.args.roads.now) c.args.quest.now in
     let found = look c.advance.new.reached.nodes in
     let inv = c.layers.invariant in
     let ok = c.in_ok-advance.ensures in
     let after = ok.after inv.after in
-    let turn = turned quest c.layers.size c.advance.new.reached (g.N.Notes.noted c.advance.new.notes) _
+    let first_of_layer = turned quest c.layers.size c.advance.new.reached (g.N.Notes.noted c.advance.new.notes) _
     (c.requires.lawful c.args.quest.now.uid.now) c.requires.small after (ok.unrooted inv.after inv.unrooted)
-    (c.in_ok-turn.ensures (g.R.Roads.told c.args.roads.now)) in
-    let f = subst (λ (o : Option Path). IsTurn quest found (c.layers.size + 1) o) c.in-Some.is turn in
+    (c.in_ok-first_of_layer.ensures (g.R.Roads.network c.args.roads.now)) in
+    let f = subst (λ (o : Option Path). IsTurn quest found (c.layers.size + 1) o) c.in-Some.is first_of_layer in
     let l = f.long in
     looked_fewer quest (length c.in-Some.path.steps) (suc c.layers.size) (g.N.Notes.noted c.advance.new.notes)
     (omega (arith, l)) after.looked
 
 pub layers-preserved : goal.layers-preserved
 layers-preserved g c =
-    let quest = quest_of (g.R.Roads.told c.args.roads.now) c.args.quest.now in
+    let quest = quest_of (g.R.Roads.network c.args.roads.now) c.args.quest.now in
     let found = look c.advance.new.reached.nodes in
     let inv = c.layers.invariant in
     let ok = c.in_ok-advance.ensures in
     let after = ok.after inv.after in
-    let turn = turned quest c.layers.size c.advance.new.reached (g.N.Notes.noted c.advance.new.notes) _
+    let first_of_layer = turned quest c.layers.size c.advance.new.reached (g.N.Notes.noted c.advance.new.notes) _
     (c.requires.lawful c.args.quest.now.uid.now) c.requires.small after (ok.unrooted inv.after inv.unrooted)
-    (c.in_ok-turn.ensures (g.R.Roads.told c.args.roads.now)) in
+    (c.in_ok-first_of_layer.ensures (g.R.Roads.network c.args.roads.now)) in
     record {
       after = subst (λ (m : ℕ). IsAfter quest m c.advance.new.reached (g.N.Notes.noted c.advance.new.notes))
           (let n : suc c.layers.size ≡ c.layers.size + 1 = omega arith in n) after;
-      unrooted = subst (λ (o : Option Path). IsTurn quest found (c.layers.size + 1) o) c.in-None.is turn;
+      unrooted = subst (λ (o : Option Path). IsTurn quest found (c.layers.size + 1) o) c.in-None.is first_of_layer;
       grows = λ fpr h. ok.grows fpr (inv.grows fpr h);
       leads = λ fpr h. elim (ok.leads inv.after fpr h) [ inl k ↦ inv.leads fpr k | inr l ↦ inr l ];
     }
 
 pub layers-init : goal.layers-init
 layers-init g c =
-    let quest = quest_of (g.R.Roads.told c.args.roads.now) c.args.quest.now in
+    let quest = quest_of (g.R.Roads.network c.args.roads.now) c.args.quest.now in
     let reached = c.args.reached.now in
     record {
       after = after_begin quest reached (g.N.Notes.noted c.args.notes.now) c.requires.nodes c.requires.layer;
@@ -90,13 +90,13 @@ layers-init g c =
 
 pub returns-clause-first : goal.returns-clause-first
 returns-clause-first g c =
-    let quest = quest_of (g.R.Roads.told c.args.roads.now) c.args.quest.now in
+    let quest = quest_of (g.R.Roads.network c.args.roads.now) c.args.quest.now in
     last_result quest c.layers.size c.layers.reached (g.N.Notes.noted c.layers.notes) c.layers-test.false
     c.layers.invariant.after c.layers.invariant.unrooted
 
 pub returns-clause-looked : goal.returns-clause-looked
 returns-clause-looked g c =
-    let quest = quest_of (g.R.Roads.told c.args.roads.now) c.args.quest.now in
+    let quest = quest_of (g.R.Roads.network c.args.roads.now) c.args.quest.now in
     looked_fewer quest 255 c.layers.size (g.N.Notes.noted c.layers.notes) c.layers-test.false
     c.layers.invariant.after.looked
 
@@ -122,11 +122,11 @@ returns-then-is_empty-clause-leads g c fpr h =
     elim (c.in_ok-advance.ensures.leads c.layers.invariant.after fpr h)
     [ inl k ↦ c.layers.invariant.leads fpr k | inr l ↦ inr l ]
 
-pub returns-in_err-turn-clause-grows : goal.returns-in_err-turn-clause-grows
-returns-in_err-turn-clause-grows g c fpr h = c.in_ok-advance.ensures.grows fpr (c.layers.invariant.grows fpr h)
+pub returns-in_err-first_of_layer-clause-grows : goal.returns-in_err-first_of_layer-clause-grows
+returns-in_err-first_of_layer-clause-grows g c fpr h = c.in_ok-advance.ensures.grows fpr (c.layers.invariant.grows fpr h)
 
-pub returns-in_err-turn-clause-leads : goal.returns-in_err-turn-clause-leads
-returns-in_err-turn-clause-leads g c fpr h =
+pub returns-in_err-first_of_layer-clause-leads : goal.returns-in_err-first_of_layer-clause-leads
+returns-in_err-first_of_layer-clause-leads g c fpr h =
     elim (c.in_ok-advance.ensures.leads c.layers.invariant.after fpr h)
     [ inl k ↦ c.layers.invariant.leads fpr k | inr l ↦ inr l ]
 
@@ -140,15 +140,15 @@ returns-in-Some-clause-leads g c fpr h =
 
 pub returns-in-Some-clause-after : goal.returns-in-Some-clause-after
 returns-in-Some-clause-after g c =
-    let quest = quest_of (g.R.Roads.told c.args.roads.now) c.args.quest.now in
+    let quest = quest_of (g.R.Roads.network c.args.roads.now) c.args.quest.now in
     let found = look c.advance.new.reached.nodes in
     let inv = c.layers.invariant in
     let ok = c.in_ok-advance.ensures in
     let after = ok.after inv.after in
-    let turn = turned quest c.layers.size c.advance.new.reached (g.N.Notes.noted c.advance.new.notes) _
+    let first_of_layer = turned quest c.layers.size c.advance.new.reached (g.N.Notes.noted c.advance.new.notes) _
     (c.requires.lawful c.args.quest.now.uid.now) c.requires.small after (ok.unrooted inv.after inv.unrooted)
-    (c.in_ok-turn.ensures (g.R.Roads.told c.args.roads.now)) in
-    let f = subst (λ (o : Option Path). IsTurn quest found (c.layers.size + 1) o) c.in-Some.is turn in
+    (c.in_ok-first_of_layer.ensures (g.R.Roads.network c.args.roads.now)) in
+    let f = subst (λ (o : Option Path). IsTurn quest found (c.layers.size + 1) o) c.in-Some.is first_of_layer in
     let l = f.long in
     let n : suc c.layers.size ≡ length c.in-Some.path.steps = omega (arith, l) in
     subst (λ (m : ℕ). IsAfter quest m c.advance.new.reached (g.N.Notes.noted c.advance.new.notes)) n after

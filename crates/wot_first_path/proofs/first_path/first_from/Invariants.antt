@@ -8,12 +8,12 @@ use Rattle.wot_first_path.proofs.first_path.first_from.Given as goal
 
 abbrev pub invariant-layers : goal.invariant-layers
 invariant-layers g l =
-    let told = g.R.Roads.told l.roads in
-    let quest = quest_of told l.quest in
+    let network = g.R.Roads.network l.roads in
+    let quest = quest_of network l.quest in
     record {
       after : IsAfter quest l.size l.reached (g.N.Notes.noted l.notes);
       unrooted : IsUnrooted quest (look l.reached.nodes) (suc l.size);
       grows : Widens (g.N.Notes.noted l.fn.notes) (g.N.Notes.noted l.notes);
-      leads : Gains (Leads (told l.quest.uid.now) l.quest.target.now) (g.N.Notes.noted l.fn.notes)
+      leads : Gains (Leads (network l.quest.uid.now) l.quest.target.now) (g.N.Notes.noted l.fn.notes)
           (g.N.Notes.noted l.notes);
     }

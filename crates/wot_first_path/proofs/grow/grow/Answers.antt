@@ -8,7 +8,7 @@ use Rattle.wot_first_path.proofs.grow.grow.Goals as goal
 
 pub layer-preserved : goal.layer-preserved
 layer-preserved g c =
-    let quest = quest_of (g.R.Roads.told c.args.search.now.roads.now) c.args.search.now.quest.now in
+    let quest = quest_of (g.R.Roads.network c.args.search.now.roads.now) c.args.search.now.quest.now in
     let layer = c.args.layer.now in
     let i = c.layer.at-index in
     let has = has_at layer i _ c.layer-test.true in
@@ -42,7 +42,7 @@ returns-in_err-extend-clause-gains g c fpr h =
 
 pub returns-clause-all : goal.returns-clause-all
 returns-clause-all g c =
-    let quest = quest_of (g.R.Roads.told c.args.search.now.roads.now) c.args.search.now.quest.now in
+    let quest = quest_of (g.R.Roads.network c.args.search.now.roads.now) c.args.search.now.quest.now in
     let inv = c.layer.invariant in
     record {
       grows = inv.grows;

@@ -8,8 +8,8 @@ use Rattle.wot_first_path.proofs.grow.grow.Given as goal
 
 abbrev pub invariant-layer : goal.invariant-layer
 invariant-layer g l =
-    let told = g.R.Roads.told l.search.roads.now in
-    let quest = quest_of told l.search.quest.now in
+    let network = g.R.Roads.network l.search.roads.now in
+    let quest = quest_of network l.search.quest.now in
     record {
       grows : IsReady quest l.search.size (Has l.layer) l.fn.reached → Advances quest l.search.size l.fn.reached l.reached;
       taken : IsReady quest l.search.size (Has l.layer) l.fn.reached
@@ -19,5 +19,5 @@ invariant-layer g l =
       seen : AreNoted (look l.fn.reached.nodes) (g.N.Notes.noted l.fn.notes)
           → SeenFrom quest l.search.size (g.N.Notes.noted l.notes) l.layer l.at-index;
       widens : Widens (g.N.Notes.noted l.fn.notes) (g.N.Notes.noted l.notes);
-      gains : Gains (IsNearOne (told l.search.quest.now.uid.now) l.layer) (g.N.Notes.noted l.fn.notes) (g.N.Notes.noted l.notes);
+      gains : Gains (IsNearOne (network l.search.quest.now.uid.now) l.layer) (g.N.Notes.noted l.fn.notes) (g.N.Notes.noted l.notes);
     }

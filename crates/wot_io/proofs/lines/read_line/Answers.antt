@@ -28,33 +28,33 @@ returns-in-Ok-End-clause-ok g c =
     (g.S.Source.left c.fill.new.from) c.fill.new.buffer.held c.give_last.result
     moves tells c.give_last.ensures.end c.give_last.ensures.text c.give_last.ensures.held
 
-pub returns-in-Err-pass-clause-took : goal.returns-in-Err-pass-clause-took
-returns-in-Err-pass-clause-took g c =
+pub returns-in-Err-skip_long-clause-took : goal.returns-in-Err-skip_long-clause-took
+returns-in-Err-skip_long-clause-took g c =
     let moves = rw c.give_none.ensures.held at c.in-Ok-Over.ensures.moves in
     Took-after c.args.buffer.now.held (g.S.Source.left c.args.from.now) c.args.intake.now.taken c.fill.new.buffer.held
-    (g.S.Source.left c.fill.new.from) c.fill.new.intake.taken (g.S.Source.left c.pass.new.from) c.pass.new.intake.taken
-    moves c.in-Err-pass.ensures.took
+    (g.S.Source.left c.fill.new.from) c.fill.new.intake.taken (g.S.Source.left c.skip_long.new.from) c.skip_long.new.intake.taken
+    moves c.in-Err-skip_long.ensures.took
 
-pub returns-in-Err-pass-clause-stops : goal.returns-in-Err-pass-clause-stops
-returns-in-Err-pass-clause-stops g c =
+pub returns-in-Err-skip_long-clause-stops : goal.returns-in-Err-skip_long-clause-stops
+returns-in-Err-skip_long-clause-stops g c =
     let moves = rw c.give_none.ensures.held at c.in-Ok-Over.ensures.moves in
     Stops-after c.args.buffer.now.held (g.S.Source.left c.args.from.now) c.args.intake.now.taken c.fill.new.buffer.held
-    (g.S.Source.left c.fill.new.from) c.fill.new.intake.taken (g.S.Source.left c.pass.new.from) c.pass.new.intake.taken
-    moves c.in-Err-pass.ensures.err
+    (g.S.Source.left c.fill.new.from) c.fill.new.intake.taken (g.S.Source.left c.skip_long.new.from) c.skip_long.new.intake.taken
+    moves c.in-Err-skip_long.ensures.err
 
 pub returns-in-Ok-clause-took : goal.returns-in-Ok-clause-took
 returns-in-Ok-clause-took g c =
     let moves = rw c.give_none.ensures.held at c.in-Ok-Over.ensures.moves in
     Took-after c.args.buffer.now.held (g.S.Source.left c.args.from.now) c.args.intake.now.taken c.fill.new.buffer.held
-    (g.S.Source.left c.fill.new.from) c.fill.new.intake.taken (g.S.Source.left c.pass.new.from) c.pass.new.intake.taken
+    (g.S.Source.left c.fill.new.from) c.fill.new.intake.taken (g.S.Source.left c.skip_long.new.from) c.skip_long.new.intake.taken
     moves c.in-Ok.ensures.took
 
 pub returns-in-Ok-clause-ok : goal.returns-in-Ok-clause-ok
 returns-in-Ok-clause-ok g c =
     let moves = rw c.give_none.ensures.held at c.in-Ok-Over.ensures.moves in
     long_after (reader_state c.args.buffer.now c.args.intake.now None)
-    (reader_state c.pass.new.buffer c.pass.new.intake None) (g.S.Source.left c.args.from.now) c.fill.new.buffer.held
-    (g.S.Source.left c.fill.new.from) c.fill.new.intake.taken (g.S.Source.left c.pass.new.from) moves c.in-Ok.ensures.ok
+    (reader_state c.skip_long.new.buffer c.skip_long.new.intake None) (g.S.Source.left c.args.from.now) c.fill.new.buffer.held
+    (g.S.Source.left c.fill.new.from) c.fill.new.intake.taken (g.S.Source.left c.skip_long.new.from) moves c.in-Ok.ensures.ok
 
 pub returns-in-Err-clause-took : goal.returns-in-Err-clause-took
 returns-in-Err-clause-took g c =

@@ -1,4 +1,4 @@
-use Rattle.wot_network.specs.Told.{record_of}
+use Rattle.wot_network.specs.Records.{record_of}
 use Rattle.wot_network.proofs.Lawful.{are_entries}
 use Rattle.wot_network.proofs.laws.record_is_lawful.Goals as goal
 

@@ -4,7 +4,7 @@ use Rattle.std.proofs.lemmas.Bool.{true≢false}
 use Rattle.wot_signature.specs.Signature.{scopes_of}
 use Rattle.wot_scope.specs.Deciding.{scope_holds}
 use Rattle.wot_scope.specs.Scope.{ScopeHolds}
-use Rattle.wot_network.specs.Told.{body_at}
+use Rattle.wot_network.specs.Records.{body_at}
 use Rattle.wot_network.proofs.laws.scopes_are_decided.Goals as goal
 
 either : (scoped holds : Bool) (P : Type 0) → (holds ≡ true) ↔ P
@@ -16,5 +16,5 @@ pub returns : goal.returns
 returns c = record {
   exact = λ user_ids u edge.
       let texts = scopes_of (body_at user_ids edge.uid edge.sig) in
-      either edge.scoped (scope_holds texts u) (ScopeHolds texts u) (c.scope_is_told.ensures.told texts u);
+      either edge.scoped (scope_holds texts u) (ScopeHolds texts u) (c.scope_is_told.ensures.reported texts u);
 }

@@ -1,6 +1,6 @@
 use Rattle.std.proofs.Common.{◌+◌, not, ap, sym, arith}
 use Rattle.wot_network.specs.Places.{is_first}
-use Rattle.wot_network.specs.Told.{is_user_id}
+use Rattle.wot_network.specs.Records.{is_user_id}
 use Rattle.wot_network.proofs.Places.{found_on, first_false, second_false}
 use Rattle.wot_network.proofs.user_ids.has_unrevoked.Goals.{else-not-is_first-via-then-not-is_first+else-is_user_id}
 use Rattle.wot_network.proofs.user_ids.has_unrevoked.Goals.{else-not-is_first-via-else-not-is_first}

@@ -1,6 +1,6 @@
 use Rattle.std.proofs.Common.{◌≡◌, ◌+◌, length, ℕ}
 use Rattle.std.specs.Option.{option_map}
-use Rattle.wot_network.specs.Told.{user_id_place}
+use Rattle.wot_network.specs.Records.{user_id_place}
 use Rattle.wot_network.proofs.user_ids.place_of.Given as goal
 
 -- What is found among the rest is that much further on.

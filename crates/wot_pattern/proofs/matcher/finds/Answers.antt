@@ -28,10 +28,10 @@ pub returns-then-through-clause-exactly : goal.returns-then-through-clause-exact
 returns-then-through-clause-exactly c = λ r e.
     let cs = chars (chars_rest c.places.rest) in
     let w = look_here (chars c.args.text.now) (tokens_of c.args.nodes.now) r e cs c.next-next.result c.places.first
-    c.is_none.result c.places.slots c.settle-through.new.slots c.settle-through.result
-    (c.places.invariant.walks r e) c.next-next.ensures.steps.2 c.is_none.ensures c.settle-through.ensures.slots
-    c.settle-through.ensures.through in (
-      λ _. found (chars c.args.text.now) r cs c.places.first c.settle-through.new.slots c.settle-through.result w
+    c.is_none.result c.places.slots c.closure-through.new.slots c.closure-through.result
+    (c.places.invariant.walks r e) c.next-next.ensures.steps.2 c.is_none.ensures c.closure-through.ensures.slots
+    c.closure-through.ensures.through in (
+      λ _. found (chars c.args.text.now) r cs c.places.first c.closure-through.new.slots c.closure-through.result w
           (elim c.then-through.branch [
             | goal.then-through-via-then-through x ↦ inl x.if-through.true
             | goal.then-through-via-else-through+then-through-2 x ↦ inr x.if-through-2.true
@@ -43,13 +43,13 @@ pub returns-in_default-clause-exactly : goal.returns-in_default-clause-exactly
 returns-in_default-clause-exactly c = λ r e.
     let cs = chars (chars_rest c.places.rest) in
     let w = look_here (chars c.args.text.now) (tokens_of c.args.nodes.now) r e cs c.next-next.result c.places.first
-    c.is_none.result c.places.slots c.settle-through.new.slots c.settle-through.result
-    (c.places.invariant.walks r e) c.next-next.ensures.steps.2 c.is_none.ensures c.settle-through.ensures.slots
-    c.settle-through.ensures.through in (
+    c.is_none.result c.places.slots c.closure-through.new.slots c.closure-through.result
+    (c.places.invariant.walks r e) c.next-next.ensures.steps.2 c.is_none.ensures c.closure-through.ensures.slots
+    c.closure-through.ensures.through in (
       λ h. absurd (false≢true h),
-      λ m. absurd (not_found (chars c.args.text.now) r c.places.first c.settle-through.new.slots c.settle-through.result
-          (subst (λ x. Looked (chars c.args.text.now) r x c.places.first c.settle-through.new.slots
-          c.settle-through.result) (none_left cs c.next-next.result c.next-next.ensures.steps.2 c.in_default.is) w)
+      λ m. absurd (not_found (chars c.args.text.now) r c.places.first c.closure-through.new.slots c.closure-through.result
+          (subst (λ x. Looked (chars c.args.text.now) r x c.places.first c.closure-through.new.slots
+          c.closure-through.result) (none_left cs c.next-next.result c.next-next.ensures.steps.2 c.in_default.is) w)
           c.if-through.false c.if-through-2.false m),
     )
 
@@ -67,12 +67,12 @@ places-preserved c =
       begins = omega arith;
       walks = λ r e.
           let w = look_here (chars c.args.text.now) (tokens_of c.args.nodes.now) r e cs c.next-next.result
-          c.places.first c.is_none.result c.places.slots c.settle-through.new.slots c.settle-through.result
-          (c.places.invariant.walks r e) c.next-next.ensures.steps.2 c.is_none.ensures c.settle-through.ensures.slots
-          c.settle-through.ensures.through in
+          c.places.first c.is_none.result c.places.slots c.closure-through.new.slots c.closure-through.result
+          (c.places.invariant.walks r e) c.next-next.ensures.steps.2 c.is_none.ensures c.closure-through.ensures.slots
+          c.closure-through.ensures.through in
           on_from_here (chars c.args.text.now) (tokens_of c.args.nodes.now) r e cs
           (chars (chars_rest c.next-next.new.self)) c.in-Some.character c.places.first
-          c.settle-through.new.slots c.advance.new.slots c.settle-through.result w
+          c.closure-through.new.slots c.advance.new.slots c.closure-through.result w
           (chars_past_char (chars_rest c.places.rest) (chars_rest c.next-next.new.self) c.in-Some.character
           c.places.invariant.utf8 bytes)
           c.if-through.false c.if-through-2.false c.advance.ensures.slots;

@@ -7,20 +7,20 @@ use Rattle.wot_reach.specs.declared.onward.Onward.{Onward}
 use Rattle.wot_reach.specs.Onward.{LeadsOnInto}
 use Rattle.wot_reach.proofs.onward.onward_at.Goals as goal
 
-given : (told : List ℕ → Record) (number : Fpr → ℕ) (fpr : Fpr) (one : Onward) (found : Option (Bor Onward))
-    → LeadsOnInto told number one.fpr one
+given : (network : List ℕ → Record) (number : Fpr → ℕ) (fpr : Fpr) (one : Onward) (found : Option (Bor Onward))
+    → LeadsOnInto network number one.fpr one
     → IfSome found (λ (x : Bor Onward). (x.now ≡ one) × (one.fpr ≡ fpr))
-    → IfSome found (λ (x : Bor Onward). LeadsOnInto told number fpr x.now)
-given told number fpr one None here same = record {}
-given told number fpr one (Some x) here same =
-    subst (LeadsOnInto told number fpr) (sym same.0) (subst (λ (f : Fpr). LeadsOnInto told number f one) same.1 here)
+    → IfSome found (λ (x : Bor Onward). LeadsOnInto network number fpr x.now)
+given network number fpr one None here same = record {}
+given network number fpr one (Some x) here same =
+    subst (LeadsOnInto network number fpr) (sym same.0) (subst (λ (f : Fpr). LeadsOnInto network number f one) same.1 here)
 
 pub returns : goal.returns
 returns c = record {
-  leads = λ number told are.
+  leads = λ number network are.
       let lt : c.args.place < length c.args.onward.now = omega (arith, c.if-place-onward.false) in
       let one = c.index-onward-place.result in
-      let here = subst (λ (x : Onward). LeadsOnInto told number x.fpr x) (sym c.index-onward-place.is)
+      let here = subst (λ (x : Onward). LeadsOnInto network number x.fpr x) (sym c.index-onward-place.is)
       (are c.args.place one lt) in
-      given told number c.args.fpr.now one c.of_fpr.result here c.of_fpr.ensures.same;
+      given network number c.args.fpr.now one c.of_fpr.result here c.of_fpr.ensures.same;
 }

@@ -3,4 +3,4 @@ use Rattle.wot_reach.proofs.EdgesThatLead.{LeadTo}
 use Rattle.wot_reach.proofs.onward.onward_of.Given as goal
 
 abbrev pub invariant-places : goal.invariant-places
-invariant-places g l = LeadTo (g.R.Roads.told l.roads) (number_of l.numbers.entries) l.fpr l.edges l.onward l.place
+invariant-places g l = LeadTo (g.R.Roads.network l.roads) (number_of l.numbers.entries) l.fpr l.edges l.onward l.place

@@ -14,25 +14,25 @@ allows-requires g c =
     (has_at edges c.edges.edge-index x c.edges-test.true) in
     record {
       row = λ id.
-          (edge_known (g.R.Roads.told c.args.roads.now) c.rows-edges.ensures.lawful c.args.fpr.now edges
+          (edge_known (g.R.Roads.network c.args.roads.now) c.rows-edges.ensures.lawful c.args.fpr.now edges
           c.rows-edges.ensures.rows x has id).0;
     }
 
 pub edges-preserved : goal.edges-preserved
 edges-preserved g c =
-    allowed_more (g.R.Roads.told c.args.roads.now) (number_at c.args.reach.now) c.get-number.result
+    allowed_more (g.R.Roads.network c.args.roads.now) (number_at c.args.reach.now) c.get-number.result
     c.rows-edges.result.now c.edges.edge-index c.edge-item.result
     c.edges-test.true c.edge-item.is c.edges.invariant (c.if-not-allows.ensures.allows refl)
 
 pub returns : goal.returns
 returns g c =
-    let told = g.R.Roads.told c.args.roads.now in
+    let network = g.R.Roads.network c.args.roads.now in
     let number = number_at c.args.reach.now in
     record {
       enough = λ yes.
-          all_allowed told c.args.roots.now number c.args.fpr.now c.get-number.result c.rows-edges.result.now
+          all_allowed network c.args.roots.now number c.args.fpr.now c.get-number.result c.rows-edges.result.now
           c.rows-edges.ensures.rows c.rows-edges.ensures.lawful
           c.get-number.ensures.number (λ some. sym c.get-number.ensures.number ∙ c.if-is_low_root.ensures.low refl some)
-          (allowed_end told number c.get-number.result c.rows-edges.result.now c.edges.edge-index c.edges-test.false
+          (allowed_end network number c.get-number.result c.rows-edges.result.now c.edges.edge-index c.edges-test.false
           c.edges.invariant);
     }

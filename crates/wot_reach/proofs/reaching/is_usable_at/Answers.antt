@@ -12,6 +12,6 @@ usable-requires g c =
     (has_at edges _ x c.if-row-edges.false) in
     record {
       row = λ id.
-          (edge_known (g.R.Roads.told c.args.roads.now) c.rows-edges.ensures.lawful c.args.fpr.now edges
+          (edge_known (g.R.Roads.network c.args.roads.now) c.rows-edges.ensures.lawful c.args.fpr.now edges
           c.rows-edges.ensures.rows x has id).0;
     }

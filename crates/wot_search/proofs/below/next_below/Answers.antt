@@ -14,7 +14,7 @@ use Rattle.wot_search.proofs.below.next_below.Goals as goal
 pub returns-in-Some-clause-next : goal.returns-in-Some-clause-next
 returns-in-Some-clause-next g c =
     let asked = c.args.asked.now in
-    let q = asks (g.R.Roads.told c.args.roads.now asked.uid.now) asked.roots.now asked.target.now in
+    let q = asks (g.R.Roads.network c.args.roads.now asked.uid.now) asked.roots.now asked.target.now in
     let used = use_in c.args.used.now in
     let offers = subst (AreOffers asked.roots.now q used) (sym c.as_slice.ensures.value)
     (c.drop_spent.ensures q c.requires.offers) in
@@ -23,29 +23,29 @@ returns-in-Some-clause-next g c =
 pub returns-in-Some-clause-offers : goal.returns-in-Some-clause-offers
 returns-in-Some-clause-offers g c =
     let asked = c.args.asked.now in
-    c.drop_spent.ensures (asks (g.R.Roads.told c.args.roads.now asked.uid.now) asked.roots.now asked.target.now)
+    c.drop_spent.ensures (asks (g.R.Roads.network c.args.roads.now asked.uid.now) asked.roots.now asked.target.now)
     c.requires.offers
 
 pub returns-in-None-clause-next : goal.returns-in-None-clause-next
 returns-in-None-clause-next g c =
-    subst (IsWidestOrSpent (g.R.Roads.told c.args.roads.now) c.args.asked.now c.args.used.now) c.in-None.is
+    subst (IsWidestOrSpent (g.R.Roads.network c.args.roads.now) c.args.asked.now c.args.used.now) c.in-None.is
     c.in_ok-widest.ensures.widest
 
 pub returns-in-None-clause-offers : goal.returns-in-None-clause-offers
 returns-in-None-clause-offers g c =
     let asked = c.args.asked.now in
-    c.drop_spent.ensures (asks (g.R.Roads.told c.args.roads.now asked.uid.now) asked.roots.now asked.target.now)
+    c.drop_spent.ensures (asks (g.R.Roads.network c.args.roads.now asked.uid.now) asked.roots.now asked.target.now)
     c.requires.offers
 
 pub returns-then-enough-from-clause-next : goal.returns-then-enough-from-clause-next
 returns-then-enough-from-clause-next g c =
-    let told = g.R.Roads.told c.args.roads.now in
+    let network = g.R.Roads.network c.args.roads.now in
     let asked = c.args.asked.now in
-    let q = asks (told asked.uid.now) asked.roots.now asked.target.now in
+    let q = asks (network asked.uid.now) asked.roots.now asked.target.now in
     let used = use_in c.args.used.now in
     let reach = number_at asked.reach.now in
-    let holds = reach_holds told asked.roots.now reach c.requires.reach.enough asked.uid.now asked.target.now used in
-    let wide = subst (IsWidestOrSpent told asked c.args.used.now) c.in-Some-2.is c.in_ok-widest.ensures.widest in
+    let holds = reach_holds network asked.roots.now reach c.requires.reach.enough asked.uid.now asked.target.now used in
+    let wide = subst (IsWidestOrSpent network asked c.args.used.now) c.in-Some-2.is c.in_ok-widest.ensures.widest in
     let e = c.from.ensures in
     let le = c.if-enough-from.true in (
       omega (arith, e, le),
@@ -56,18 +56,18 @@ returns-then-enough-from-clause-next g c =
 pub returns-then-enough-from-clause-offers : goal.returns-then-enough-from-clause-offers
 returns-then-enough-from-clause-offers g c =
     let asked = c.args.asked.now in
-    c.drop_spent.ensures (asks (g.R.Roads.told c.args.roads.now asked.uid.now) asked.roots.now asked.target.now)
+    c.drop_spent.ensures (asks (g.R.Roads.network c.args.roads.now asked.uid.now) asked.roots.now asked.target.now)
     c.requires.offers
 
 pub offers_after-requires-clause-widest : goal.offers_after-requires-clause-widest
 offers_after-requires-clause-widest g c =
-    subst (IsWidestOrSpent (g.R.Roads.told c.args.roads.now) c.args.asked.now c.args.used.now) c.in-Some-2.is
+    subst (IsWidestOrSpent (g.R.Roads.network c.args.roads.now) c.args.asked.now c.args.used.now) c.in-Some-2.is
     c.in_ok-widest.ensures.widest
 
 pub returns-in_ok-next-in-Some-2-clause-next : goal.returns-in_ok-next-in-Some-2-clause-next
 returns-in_ok-next-in-Some-2-clause-next g c =
     let asked = c.args.asked.now in
-    let q = asks (g.R.Roads.told c.args.roads.now asked.uid.now) asked.roots.now asked.target.now in
+    let q = asks (g.R.Roads.network c.args.roads.now asked.uid.now) asked.roots.now asked.target.now in
     let paths = c.in_ok-offers-in-Some-2.field-0.items in
     let first = c.in_ok-next-in-Some-2.ensures
     ∙ ap (λ (ps : List Path). next_of (first_path ps)) c.as_slice-in-Some-2.ensures.value in
@@ -77,6 +77,6 @@ returns-in_ok-next-in-Some-2-clause-next g c =
 pub returns-in_ok-next-in-Some-2-clause-offers : goal.returns-in_ok-next-in-Some-2-clause-offers
 returns-in_ok-next-in-Some-2-clause-offers g c =
     let asked = c.args.asked.now in
-    let q = asks (g.R.Roads.told c.args.roads.now asked.uid.now) asked.roots.now asked.target.now in
+    let q = asks (g.R.Roads.network c.args.roads.now asked.uid.now) asked.roots.now asked.target.now in
     next_offers asked.roots.now q (use_in c.args.used.now) c.in_ok-offers-in-Some-2.field-0.items
     c.in_ok-offers-in-Some-2.ensures.next

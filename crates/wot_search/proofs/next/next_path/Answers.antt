@@ -6,4 +6,4 @@ returns-clause-local g c other a =
 
 pub next_path_within-requires : goal.next_path_within-requires
 next_path_within-requires g c =
-    record { reach = c.everywhere-reach.ensures.reach (g.R.Roads.told c.args.roads.now) c.args.roots.now }
+    record { reach = c.everywhere-reach.ensures.reach (g.R.Roads.network c.args.roads.now) c.args.roots.now }

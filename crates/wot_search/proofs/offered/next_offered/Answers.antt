@@ -17,7 +17,7 @@ returns-clause-local g c all set has other a o =
 
 pub returns-in-Some-clause-next : goal.returns-in-Some-clause-next
 returns-in-Some-clause-next g c =
-    let q = asks (g.R.Roads.told c.args.roads.now c.args.asked.now.uid.now) c.args.asked.now.roots.now
+    let q = asks (g.R.Roads.network c.args.roads.now c.args.asked.now.uid.now) c.args.asked.now.roots.now
     c.args.asked.now.target.now in
     let used = use_in c.args.used.now in
     let offers = subst (AreOffers c.args.asked.now.roots.now q used) (sym c.as_slice.ensures.value)
@@ -26,7 +26,7 @@ returns-in-Some-clause-next g c =
 
 pub returns-in-Some-clause-offers : goal.returns-in-Some-clause-offers
 returns-in-Some-clause-offers g c =
-    let q = asks (g.R.Roads.told c.args.roads.now c.args.asked.now.uid.now) c.args.asked.now.roots.now
+    let q = asks (g.R.Roads.network c.args.roads.now c.args.asked.now.uid.now) c.args.asked.now.roots.now
     c.args.asked.now.target.now in
     let used = use_in c.args.used.now in
     c.drop_spent.ensures q c.requires.offers
@@ -46,7 +46,7 @@ returns-in-Some-clause-leads g c fpr h = inl h
 
 pub returns-clause-next : goal.returns-clause-next
 returns-clause-next g c =
-    let q = asks (g.R.Roads.told c.args.roads.now c.args.asked.now.uid.now) c.args.asked.now.roots.now
+    let q = asks (g.R.Roads.network c.args.roads.now c.args.asked.now.uid.now) c.args.asked.now.roots.now
     c.args.asked.now.target.now in
     let used = use_in c.args.used.now in
     let first = c.in_ok-found.ensures ∙ ap first_path c.as_slice-2.ensures.value in
@@ -55,7 +55,7 @@ returns-clause-next g c =
 
 pub returns-clause-offers : goal.returns-clause-offers
 returns-clause-offers g c =
-    let q = asks (g.R.Roads.told c.args.roads.now c.args.asked.now.uid.now) c.args.asked.now.roots.now
+    let q = asks (g.R.Roads.network c.args.roads.now c.args.asked.now.uid.now) c.args.asked.now.roots.now
     c.args.asked.now.target.now in
     let used = use_in c.args.used.now in
     next_offers c.args.asked.now.roots.now q used c.in_ok-offers.field-0.items c.in_ok-offers.ensures.next

@@ -17,11 +17,11 @@ use Rattle.wot_search.proofs.offers.next_paths_by_one.Goals as goal
 
 pub returns-in-None-clause-next : goal.returns-in-None-clause-next
 returns-in-None-clause-next g c =
-    let told = g.R.Roads.told c.args.roads.now in
-    let q = asks (told c.args.asked.now.uid.now) c.args.asked.now.roots.now c.args.asked.now.target.now in
+    let network = g.R.Roads.network c.args.roads.now in
+    let q = asks (network c.args.asked.now.uid.now) c.args.asked.now.roots.now c.args.asked.now.target.now in
     let used = use_in c.args.used.now in
     let reach = number_at c.args.asked.now.reach.now in
-    let holds = reach_holds told c.args.asked.now.roots.now reach c.requires.reach.enough c.args.asked.now.uid.now
+    let holds = reach_holds network c.args.asked.now.roots.now reach c.requires.reach.enough c.args.asked.now.uid.now
     c.args.asked.now.target.now used in
     subst (AreNext c.args.asked.now.roots.now q used) (sym c.new-in-None.ensures.items)
     (spent_next reach q used holds
@@ -31,11 +31,11 @@ returns-in-None-clause-next g c =
 
 pub returns-in-None-clause-local : goal.returns-in-None-clause-local
 returns-in-None-clause-local g c all set has other a =
-    let told = g.R.Roads.told c.args.roads.now in
-    let q = asks (told c.args.asked.now.uid.now) c.args.asked.now.roots.now c.args.asked.now.target.now in
+    let network = g.R.Roads.network c.args.roads.now in
+    let q = asks (network c.args.asked.now.uid.now) c.args.asked.now.roots.now c.args.asked.now.target.now in
     let used = use_in c.args.used.now in
     let reach = number_at c.args.asked.now.reach.now in
-    let holds = reach_holds told c.args.asked.now.roots.now reach c.requires.reach.enough c.args.asked.now.uid.now
+    let holds = reach_holds network c.args.asked.now.roots.now reach c.requires.reach.enough c.args.asked.now.uid.now
     c.args.asked.now.target.now used in
     let l = subst
     (λ (o : Option Path). IsLookedBy (least_quest reach q used 1) (g.N.Notes.noted c.first_from.new.notes) o)
@@ -50,11 +50,11 @@ returns-in-None-clause-local g c all set has other a =
 
 pub returns-clause-next : goal.returns-clause-next
 returns-clause-next g c =
-    let told = g.R.Roads.told c.args.roads.now in
-    let q = asks (told c.args.asked.now.uid.now) c.args.asked.now.roots.now c.args.asked.now.target.now in
+    let network = g.R.Roads.network c.args.roads.now in
+    let q = asks (network c.args.asked.now.uid.now) c.args.asked.now.roots.now c.args.asked.now.target.now in
     let used = use_in c.args.used.now in
     let reach = number_at c.args.asked.now.reach.now in
-    let holds = reach_holds told c.args.asked.now.roots.now reach c.requires.reach.enough c.args.asked.now.uid.now
+    let holds = reach_holds network c.args.asked.now.roots.now reach c.requires.reach.enough c.args.asked.now.uid.now
     c.args.asked.now.target.now used in
     let path = c.in-Some.path in
     let most = roots_left q used path.amount (c.serves.ensures.most c.if-not-serves.false) in
@@ -69,7 +69,7 @@ returns-clause-next g c =
     let offered =
     subst (λ (n : ℕ). AreOfferedBy (least_quest reach q used path.amount) (look c.first_from.new.reached.nodes) n
     c.args.asked.now.roots.now c.in_ok-paths-in-Some.paths.items) (ap length c.as_slice.ensures.items)
-    (c.in_ok-paths-in-Some.ensures told) in
+    (c.in_ok-paths-in-Some.ensures network) in
     found_next reach q (c.in_order.ensures.lawful c.args.asked.now.uid.now) used holds
     (sym c.in_order.ensures.in_order ∙ c.if-not-in_order.false) path (some_wide reach q used path most least)
     (look c.first_from.new.reached.nodes) more.entries more.complete
@@ -77,11 +77,11 @@ returns-clause-next g c =
 
 pub returns-clause-local : goal.returns-clause-local
 returns-clause-local g c all set has other a =
-    let told = g.R.Roads.told c.args.roads.now in
-    let q = asks (told c.args.asked.now.uid.now) c.args.asked.now.roots.now c.args.asked.now.target.now in
+    let network = g.R.Roads.network c.args.roads.now in
+    let q = asks (network c.args.asked.now.uid.now) c.args.asked.now.roots.now c.args.asked.now.target.now in
     let used = use_in c.args.used.now in
     let reach = number_at c.args.asked.now.reach.now in
-    let holds = reach_holds told c.args.asked.now.roots.now reach c.requires.reach.enough c.args.asked.now.uid.now
+    let holds = reach_holds network c.args.asked.now.roots.now reach c.requires.reach.enough c.args.asked.now.uid.now
     c.args.asked.now.target.now used in
     let path = c.in-Some.path in
     let most = roots_left q used path.amount (c.serves.ensures.most c.if-not-serves.false) in
@@ -99,7 +99,7 @@ returns-clause-local g c all set has other a =
     let offered =
     subst (λ (n : ℕ). AreOfferedBy (least_quest reach q used path.amount) (look c.first_from.new.reached.nodes) n
     c.args.asked.now.roots.now c.in_ok-paths-in-Some.paths.items) (ap length c.as_slice.ensures.items)
-    (c.in_ok-paths-in-Some.ensures told) in
+    (c.in_ok-paths-in-Some.ensures network) in
     found_there reach q (c.in_order.ensures.lawful c.args.asked.now.uid.now) used holds
     (sym c.in_order.ensures.in_order ∙ c.if-not-in_order.false) path (some_wide reach q used path most least)
     (look c.first_from.new.reached.nodes) more.entries more.complete
@@ -182,7 +182,7 @@ returns-clause-leads g c fpr h =
 
 pub returns-then-not-in_order-clause-next : goal.returns-then-not-in_order-clause-next
 returns-then-not-in_order-clause-next g c =
-    let q = asks (g.R.Roads.told c.args.roads.now c.args.asked.now.uid.now) c.args.asked.now.roots.now
+    let q = asks (g.R.Roads.network c.args.roads.now c.args.asked.now.uid.now) c.args.asked.now.roots.now
     c.args.asked.now.target.now in
     let used = use_in c.args.used.now in
     subst (AreNext c.args.asked.now.roots.now q used) (sym c.new.ensures.items)
@@ -190,7 +190,7 @@ returns-then-not-in_order-clause-next g c =
 
 pub returns-then-not-in_order-clause-local : goal.returns-then-not-in_order-clause-local
 returns-then-not-in_order-clause-local g c all set has other a =
-    let q = asks (g.R.Roads.told c.args.roads.now c.args.asked.now.uid.now) c.args.asked.now.roots.now
+    let q = asks (g.R.Roads.network c.args.roads.now c.args.asked.now.uid.now) c.args.asked.now.roots.now
     c.args.asked.now.target.now in
     let used = use_in c.args.used.now in
     subst (AreNext c.args.asked.now.roots.now other used) (sym c.new.ensures.items)

@@ -13,40 +13,40 @@ use Rattle.wot_search.proofs.offers.next_paths_within.Goals as goal
 
 pub offers_after-requires-clause-widest : goal.offers_after-requires-clause-widest
 offers_after-requires-clause-widest g c =
-    subst (IsWidestOrSpent (g.R.Roads.told c.args.roads.now) c.args.asked.now c.args.used.now) c.in-Some-2.is
+    subst (IsWidestOrSpent (g.R.Roads.network c.args.roads.now) c.args.asked.now c.args.used.now) c.in-Some-2.is
     c.in_ok-widest-in-None.ensures.widest
 
 pub returns-in-Some-clause-next : goal.returns-in-Some-clause-next
 returns-in-Some-clause-next g c =
-    subst (AreNextIfSome (g.R.Roads.told c.args.roads.now) c.args.asked.now c.args.used.now) c.in-Some.is
+    subst (AreNextIfSome (g.R.Roads.network c.args.roads.now) c.args.asked.now c.args.used.now) c.in-Some.is
     c.in_ok-paths.ensures.next
 
 pub returns-in-Some-clause-local : goal.returns-in-Some-clause-local
 returns-in-Some-clause-local g c =
     subst
-    (AreNextLocallyIfSome (g.R.Roads.told c.args.roads.now) c.args.asked.now c.args.used.now
+    (AreNextLocallyIfSome (g.R.Roads.network c.args.roads.now) c.args.asked.now c.args.used.now
     (g.N.Notes.noted c.next_paths_by_one.new.notes)) c.in-Some.is c.in_ok-paths.ensures.local
 
 pub returns-in-Some-clause-lawful : goal.returns-in-Some-clause-lawful
 returns-in-Some-clause-lawful g c =
     subst
     (λ (found : Option (Vec Path Global)). IfSome found
-    (λ (paths : Vec Path Global). IsRecord (g.R.Roads.told c.args.roads.now c.args.asked.now.uid.now))) c.in-Some.is
+    (λ (paths : Vec Path Global). IsRecord (g.R.Roads.network c.args.roads.now c.args.asked.now.uid.now))) c.in-Some.is
     c.in_ok-paths.ensures.lawful
 
 pub returns-in-None-2-clause-next : goal.returns-in-None-2-clause-next
 returns-in-None-2-clause-next g c =
     let asked = c.args.asked.now in
-    let told = g.R.Roads.told c.args.roads.now in
-    subst (AreNext asked.roots.now (asks (told asked.uid.now) asked.roots.now asked.target.now) (use_in c.args.used.now))
+    let network = g.R.Roads.network c.args.roads.now in
+    subst (AreNext asked.roots.now (asks (network asked.uid.now) asked.roots.now asked.target.now) (use_in c.args.used.now))
     (sym c.new.ensures.items)
-    (subst (IsWidestOrSpent told asked c.args.used.now) c.in-None-2.is c.in_ok-widest-in-None.ensures.widest)
+    (subst (IsWidestOrSpent network asked c.args.used.now) c.in-None-2.is c.in_ok-widest-in-None.ensures.widest)
 
 pub returns-in-None-2-clause-local : goal.returns-in-None-2-clause-local
 returns-in-None-2-clause-local g c all set has other a =
     subst (AreNext c.args.asked.now.roots.now other (use_in c.args.used.now)) (sym c.new.ensures.items)
     (subst
-    (IsWidestNoted (g.R.Roads.told c.args.roads.now) c.args.asked.now c.args.used.now
+    (IsWidestNoted (g.R.Roads.network c.args.roads.now) c.args.asked.now c.args.used.now
     (g.N.Notes.noted c.widest.new.notes)) c.in-None-2.is c.in_ok-widest-in-None.ensures.noted all set has other a)
 
 pub returns-in_ok-paths-in-Some-2-clause-next : goal.returns-in_ok-paths-in-Some-2-clause-next
@@ -54,11 +54,11 @@ returns-in_ok-paths-in-Some-2-clause-next g c = c.in_ok-paths-in-Some-2.ensures.
 
 pub returns-in_ok-paths-in-Some-2-clause-local : goal.returns-in_ok-paths-in-Some-2-clause-local
 returns-in_ok-paths-in-Some-2-clause-local g c all set has other a =
-    let told = g.R.Roads.told c.args.roads.now in
+    let network = g.R.Roads.network c.args.roads.now in
     let noted = g.N.Notes.noted c.widest.new.notes in
     c.in_ok-paths-in-Some-2.ensures.local all other set a
-    (looked_grows (widest_of told c.args.asked.now c.args.used.now) (length c.in-Some-2.path.steps) noted (Has set) has
-    (subst (IsWidestNoted told c.args.asked.now c.args.used.now noted) c.in-Some-2.is c.in_ok-widest-in-None.ensures.noted))
+    (looked_grows (widest_of network c.args.asked.now c.args.used.now) (length c.in-Some-2.path.steps) noted (Has set) has
+    (subst (IsWidestNoted network c.args.asked.now c.args.used.now noted) c.in-Some-2.is c.in_ok-widest-in-None.ensures.noted))
 
 pub returns-in_err-paths-clause-grows : goal.returns-in_err-paths-clause-grows
 returns-in_err-paths-clause-grows g c = c.in_err-paths.ensures.grows

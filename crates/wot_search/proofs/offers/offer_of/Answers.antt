@@ -2,14 +2,14 @@ use Rattle.std.proofs.Common.{sym, ◌∙◌, arith}
 use Rattle.wot_search.proofs.offers.offer_of.Goals as goal
 
 pub returns-then-left_of_root-quest : goal.returns-then-left_of_root-quest
-returns-then-left_of_root-quest c told le node at long =
-    let left = c.left_of_root.ensures told in
+returns-then-left_of_root-quest c network le node at long =
+    let left = c.left_of_root.ensures network in
     let few = c.if-left_of_root-quest.true in
     absurd (omega (arith, left, few, le))
 
 pub returns : goal.returns
-returns c told =
-    let left = c.left_of_root.ensures told in
+returns c network =
+    let left = c.left_of_root.ensures network in
     let enough = c.if-left_of_root-quest.false in
     record {
       left = omega (arith, left, enough);

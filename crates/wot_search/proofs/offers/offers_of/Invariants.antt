@@ -10,6 +10,6 @@ abbrev pub invariant-roots : goal.invariant-roots
 invariant-roots l =
     (goal.iterator-roots).can_next l.fpr-iterator
     × (goal.iterator-roots).is_finite l.fpr-iterator
-    × ((told : List ℕ → Record) (others : List Path)
-    → AreOfferedBy (quest_of told l.quest) (look l.nodes) l.size l.fpr-iterator others
-    → AreOfferedBy (quest_of told l.quest) (look l.nodes) l.size l.quest.roots.now (l.paths.items ++ others))
+    × ((network : List ℕ → Record) (others : List Path)
+    → AreOfferedBy (quest_of network l.quest) (look l.nodes) l.size l.fpr-iterator others
+    → AreOfferedBy (quest_of network l.quest) (look l.nodes) l.size l.quest.roots.now (l.paths.items ++ others))

@@ -9,20 +9,20 @@ use Rattle.wot_search.proofs.widest.widest.Goals as goal
 
 pub returns-clause-widest : goal.returns-clause-widest
 returns-clause-widest g c =
-    let told = g.R.Roads.told c.args.roads.now in
+    let network = g.R.Roads.network c.args.roads.now in
     let asked = c.args.asked.now in
-    let holds = reach_holds told asked.roots.now (number_at asked.reach.now) c.requires.enough asked.uid.now
+    let holds = reach_holds network asked.roots.now (number_at asked.reach.now) c.requires.enough asked.uid.now
     asked.target.now (use_in c.args.used.now) in
-    widest_is told asked c.args.used.now holds (sym c.in_order.ensures.in_order ∙ c.if-not-in_order.false)
+    widest_is network asked c.args.used.now holds (sym c.in_order.ensures.in_order ∙ c.if-not-in_order.false)
     c.in_ok-found.found c.in_ok-found.ensures.first
 
 pub returns-clause-noted : goal.returns-clause-noted
 returns-clause-noted g c =
-    let told = g.R.Roads.told c.args.roads.now in
+    let network = g.R.Roads.network c.args.roads.now in
     let asked = c.args.asked.now in
-    let holds = reach_holds told asked.roots.now (number_at asked.reach.now) c.requires.enough asked.uid.now
+    let holds = reach_holds network asked.roots.now (number_at asked.reach.now) c.requires.enough asked.uid.now
     asked.target.now (use_in c.args.used.now) in
-    widest_noted told asked c.args.used.now holds (g.N.Notes.noted c.first.new.notes) c.in_ok-found.found
+    widest_noted network asked c.args.used.now holds (g.N.Notes.noted c.first.new.notes) c.in_ok-found.found
     c.in_ok-found.ensures.first c.in_ok-found.ensures.looked
 
 pub returns-clause-grows : goal.returns-clause-grows
@@ -57,13 +57,13 @@ returns-in_err-found-clause-leads g c fpr h =
 
 pub returns-then-not-in_order-clause-widest : goal.returns-then-not-in_order-clause-widest
 returns-then-not-in_order-clause-widest g c =
-    let q = asks (g.R.Roads.told c.args.roads.now c.args.asked.now.uid.now) c.args.asked.now.roots.now
+    let q = asks (g.R.Roads.network c.args.roads.now c.args.asked.now.uid.now) c.args.asked.now.roots.now
     c.args.asked.now.target.now in
     unordered_next q (use_in c.args.used.now) (sym c.in_order.ensures.in_order ∙ c.if-not-in_order.true)
 
 pub returns-then-not-in_order-clause-noted : goal.returns-then-not-in_order-clause-noted
 returns-then-not-in_order-clause-noted g c all set has other a =
-    let q = asks (g.R.Roads.told c.args.roads.now c.args.asked.now.uid.now) c.args.asked.now.roots.now
+    let q = asks (g.R.Roads.network c.args.roads.now c.args.asked.now.uid.now) c.args.asked.now.roots.now
     c.args.asked.now.target.now in
     unordered_local q (use_in c.args.used.now) set (has _ c.in_ok-note.ensures.has)
     (sym c.in_order.ensures.in_order ∙ c.if-not-in_order.true) other a

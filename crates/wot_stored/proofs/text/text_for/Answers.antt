@@ -7,14 +7,14 @@ use Rattle.wot_stored.proofs.text.text_for.Goals as goal
 pub returns-in-Bytes-clause-text : goal.returns-in-Bytes-clause-text
 returns-in-Bytes-clause-text c = rw c.in-Bytes.is (rw c.deref.ensures.value at c.union_text.ensures.text)
 
-pub returns-in-Bytes-clause-told : goal.returns-in-Bytes-clause-told
-returns-in-Bytes-clause-told c = rw c.in-Bytes.is (rw c.deref.ensures.value at c.union_text.ensures.told)
+pub returns-in-Bytes-clause-reported : goal.returns-in-Bytes-clause-reported
+returns-in-Bytes-clause-reported c = rw c.in-Bytes.is (rw c.deref.ensures.value at c.union_text.ensures.reported)
 
 pub returns-in-Absent-clause-text : goal.returns-in-Absent-clause-text
 returns-in-Absent-clause-text c =
     let Text : List ℕ → Result (List ℕ) Reply = λ octets. Ok octets in
     rw c.in-Absent.is (if_ok c.cert_text.result _ _ (λ text e. ap Text (sym e)) c.cert_text.ensures.text)
 
-pub returns-in-Absent-clause-told : goal.returns-in-Absent-clause-told
-returns-in-Absent-clause-told c = if_err c.cert_text.result _ _ (λ why e. nothing_told _ why e)
+pub returns-in-Absent-clause-reported : goal.returns-in-Absent-clause-reported
+returns-in-Absent-clause-reported c = if_err c.cert_text.result _ _ (λ why e. nothing_told _ why e)
     c.cert_text.ensures.memory

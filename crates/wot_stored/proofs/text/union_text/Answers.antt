@@ -12,11 +12,11 @@ returns-in-Ok-clause-text c =
     let Text : List ℕ → Result (List ℕ) Reply = λ octets. Ok octets in
     if_ok c.cert_text.result _ _ (λ text e. c.in-Ok.ensures.union ∙ ap Text (sym e)) c.cert_text.ensures.text
 
-pub returns-in-Ok-clause-told : goal.returns-in-Ok-clause-told
-returns-in-Ok-clause-told c = if_err c.cert_text.result _ _ (λ why e. nothing_told _ why e) c.cert_text.ensures.memory
+pub returns-in-Ok-clause-reported : goal.returns-in-Ok-clause-reported
+returns-in-Ok-clause-reported c = if_err c.cert_text.result _ _ (λ why e. nothing_told _ why e) c.cert_text.ensures.memory
 
-pub returns-in-Ok-reply_to-clause-told : goal.returns-in-Ok-reply_to-clause-told
-returns-in-Ok-reply_to-clause-told c =
+pub returns-in-Ok-reply_to-clause-reported : goal.returns-in-Ok-reply_to-clause-reported
+returns-in-Ok-reply_to-clause-reported c =
     told_refused (merged_entry c.args.kept.now (entry_in (Cert c.args.fpr.now) c.args.octets.now)) c.in-Err.refusal
     c.in-Ok-reply_to.reply
     c.in-Err.ensures.union c.in-Ok-reply_to.ensures.reply

@@ -13,7 +13,7 @@ pub line-requires : goal.line-requires
 line-requires g c = record {
   countable = record {
     changes = omega (arith, c.loop-number.invariant.few);
-    turns = omega (arith, c.loop-number.invariant.turns);
+    revisions = omega (arith, c.loop-number.invariant.revisions);
   };
   judging = record { judged = c.loop-number.invariant.judged; faithful = c.loop-number.invariant.faithful };
 }
@@ -25,7 +25,7 @@ loop-number-preserved g c = record {
     one_more c.loop-number.machine.engine.keyring c.line.new.self.engine.keyring c.line.ensures.counted,
     c.loop-number.invariant.few,
   );
-  turns = omega (arith, c.line.ensures.turned, c.loop-number.invariant.turns);
+  revisions = omega (arith, c.line.ensures.turned, c.loop-number.invariant.revisions);
   judged = subst (λ (r : PolicyRows). IsJudgedBy r c.line.new.self.engine.keyring) (sym c.line.ensures.judging.rows)
       c.line.ensures.judging.judged;
   faithful = c.line.ensures.judging.faithful;

@@ -5,7 +5,7 @@ pub rest-preserved : goal.rest-preserved
 rest-preserved c =
     told_on c.rest.watches c.tell_one.new.watches c.args.watches.now c.in-Some.line.now c.rest.rest.now
     c.in-Some.others.now c.args.lines.now
-    c.rest.invariant c.in-Some.ensures.cases.0 c.tell_one.ensures.told
+    c.rest.invariant c.in-Some.ensures.cases.0 c.tell_one.ensures.reported
 
 pub returns : goal.returns
 returns c = record {

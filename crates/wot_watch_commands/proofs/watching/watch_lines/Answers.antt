@@ -35,7 +35,7 @@ rest-preserved-in-Continue-branch-3 c =
       record {
         keyring = c.watch_line.ensures.stays.keyring ∙ kept.4.keyring;
         views = c.watch_line.ensures.stays.views ∙ kept.4.views;
-        turns = c.watch_line.ensures.stays.turns ∙ kept.4.turns;
+        revisions = c.watch_line.ensures.stays.revisions ∙ kept.4.revisions;
       },
       omega (arith, kept.5, c.watch_line.ensures.never_less),
       present_grown c.args.engine.now c.rest.basis c.watch_line.new.basis c.watch_line.ensures.grown kept.6,
@@ -79,7 +79,7 @@ rest-preserved c =
       record {
         keyring = c.watch_line.ensures.stays.keyring ∙ kept.4.keyring;
         views = c.watch_line.ensures.stays.views ∙ kept.4.views;
-        turns = c.watch_line.ensures.stays.turns ∙ kept.4.turns;
+        revisions = c.watch_line.ensures.stays.revisions ∙ kept.4.revisions;
       },
       omega (arith, kept.5, c.watch_line.ensures.never_less),
       present_grown engine old new c.watch_line.ensures.grown kept.6,

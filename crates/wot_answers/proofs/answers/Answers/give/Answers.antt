@@ -8,7 +8,7 @@ give-requires c =
     let k = c.args.parts.now.keyring.now in
     let same = ap (λ (v : OfView). v.roots) c.self.view_is ∙ c.requires.settled.roots in
     record {
-      right = subst (λ (roots : Amounts). AreRight k roots c.self.inside.turn c.self.inside.table.entries) same
+      right = subst (λ (roots : Amounts). AreRight k roots c.self.inside.revision c.self.inside.table.entries) same
           (subst (λ (v : OfView). AreRightIn k v) (sym c.self.view_is) c.requires.settled.right).each;
     }
 
@@ -19,7 +19,7 @@ returns-clause-settled c =
     let before = subst (λ (v : OfView). AreRightIn k v) (sym c.self.view_is) c.requires.settled.right in
     record {
       right = record {
-        each = subst (λ (roots : Amounts). AreRight k roots c.self.inside.turn c.give.new.table.entries) (sym same)
+        each = subst (λ (roots : Amounts). AreRight k roots c.self.inside.revision c.give.new.table.entries) (sym same)
             c.give.ensures.right;
         reach = before.reach;
       };

@@ -8,7 +8,7 @@ returns c =
     let k = c.args.parts.now.keyring.now in
     let before = subst (λ (v : OfView). AreRightIn k v) (sym c.self.view_is) c.requires.settled.right in
     let same = ap (λ (v : OfView). v.roots) c.self.view_is ∙ c.requires.settled.roots in
-    let reaching = subst (λ (roots : Amounts). IsReaching k roots c.self.inside.turn c.new.result)
+    let reaching = subst (λ (roots : Amounts). IsReaching k roots c.self.inside.revision c.new.result)
     (sym same) c.new.ensures.reaching in
     record {
       settled = record { right = record { each = before.each; reach = reaching }; roots = same };

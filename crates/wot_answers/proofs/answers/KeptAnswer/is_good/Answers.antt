@@ -9,10 +9,10 @@ returns-clause-good c =
     let old = c.args.self.now in
     let here = right_now c.later_is_order.ensures.itself k roots old c.requires.right
     (c.all_still.ensures.still c.if-not-all_still.false) in
-    good_now k roots c.args.turn old (record old { count = c.changes-count.result; turn = c.args.turn }) refl
+    good_now k roots c.args.revision old (record old { count = c.changes-count.result; revision = c.args.revision }) refl
     c.changes-count.ensures.changes refl here
 
 pub returns-clause-now : goal.returns-clause-now
-returns-clause-now c told =
+returns-clause-now c network =
     right_now c.later_is_order.ensures.itself c.args.keyring.now c.args.roots.now c.args.self.now c.requires.right
     (c.all_still.ensures.still c.if-not-all_still.false)

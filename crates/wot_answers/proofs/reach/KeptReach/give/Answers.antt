@@ -1,4 +1,4 @@
-use Rattle.wot_network.specs.Net.{told_of}
+use Rattle.wot_network.specs.Net.{network_for}
 use Rattle.wot_answers.specs.Question.{present_in}
 use Rattle.wot_answers.proofs.reach.KeptReach.give.Goals as goal
 
@@ -6,5 +6,5 @@ pub returns-then-is_now : goal.returns-then-is_now
 returns-then-is_now c =
     let p = c.args.parts.now in
     record {
-      reach = c.reach.ensures.reach (told_of (present_in p)) p.roots.now (c.is_now.ensures.now c.if-is_now.true);
+      reach = c.reach.ensures.reach (network_for (present_in p)) p.roots.now (c.is_now.ensures.now c.if-is_now.true);
     }

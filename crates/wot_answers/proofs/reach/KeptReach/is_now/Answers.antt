@@ -7,7 +7,7 @@ pub returns : goal.returns
 returns c =
     let p = c.args.parts.now in
     record {
-      now = λ yes. reaching_now p.keyring.now p.roots.now p.roots.now c.args.turn p.t c.args.self.now
+      now = λ yes. reaching_now p.keyring.now p.roots.now p.roots.now c.args.revision p.t c.args.self.now
           c.requires.reaching (c.if-self-changes.false ∙ c.changes.ensures.changes)
-          c.if-self-turn.false (eqb-true c.args.self.now.time p.t yes) refl;
+          c.if-self-revision.false (eqb-true c.args.self.now.time p.t yes) refl;
     }

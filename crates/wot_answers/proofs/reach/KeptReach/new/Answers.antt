@@ -8,12 +8,12 @@ returns c =
     let p = c.args.parts.now in
     let made : KeptReach = record {
       count = c.changes.result;
-      turn = c.args.turn;
+      revision = c.args.revision;
       time = p.t;
       making =
           c.args.making;
     } in
     record {
-      reaching = reaching_made p.keyring.now p.roots.now c.args.turn made c.changes.ensures.changes refl
+      reaching = reaching_made p.keyring.now p.roots.now c.args.revision made c.changes.ensures.changes refl
           c.requires.making;
     }

@@ -40,8 +40,8 @@ returns-clause-answer c =
     c.self.inside.networked.views.entries
     c.refresh.new.self.views.entries name p c.self.view_is c.refresh.ensures.keyring c.refresh.ensures.views
     c.parts-parts.ensures.parts in
-    if_ok c.answer.result _ _ (λ a told. if_some (view_at c.args.self.now.views name) _ _ (λ v t. t.answer)
-    (told_seen c.args.self.now name p c.args.target.now c.args.uid.now c.args.wanted a seen told)) c.answer.ensures.told
+    if_ok c.answer.result _ _ (λ a network. if_some (view_at c.args.self.now.views name) _ _ (λ v t. t.answer)
+    (told_seen c.args.self.now name p c.args.target.now c.args.uid.now c.args.wanted a seen network)) c.answer.ensures.reported
 
 pub returns-clause-one : goal.returns-clause-one
 returns-clause-one c =
@@ -51,8 +51,8 @@ returns-clause-one c =
     c.self.inside.networked.views.entries
     c.refresh.new.self.views.entries name p c.self.view_is c.refresh.ensures.keyring c.refresh.ensures.views
     c.parts-parts.ensures.parts in
-    if_ok c.answer.result _ _ (λ a told. if_some (view_at c.args.self.now.views name) _ _ (λ v t. t.one)
-    (told_seen c.args.self.now name p c.args.target.now c.args.uid.now c.args.wanted a seen told)) c.answer.ensures.told
+    if_ok c.answer.result _ _ (λ a network. if_some (view_at c.args.self.now.views name) _ _ (λ v t. t.one)
+    (told_seen c.args.self.now name p c.args.target.now c.args.uid.now c.args.wanted a seen network)) c.answer.ensures.reported
 
 pub returns-clause-zero : goal.returns-clause-zero
 returns-clause-zero c =
@@ -62,8 +62,8 @@ returns-clause-zero c =
     c.self.inside.networked.views.entries
     c.refresh.new.self.views.entries name p c.self.view_is c.refresh.ensures.keyring c.refresh.ensures.views
     c.parts-parts.ensures.parts in
-    if_ok c.answer.result _ _ (λ a told. if_some (view_at c.args.self.now.views name) _ _ (λ v t. t.zero)
-    (told_seen c.args.self.now name p c.args.target.now c.args.uid.now c.args.wanted a seen told)) c.answer.ensures.told
+    if_ok c.answer.result _ _ (λ a network. if_some (view_at c.args.self.now.views name) _ _ (λ v t. t.zero)
+    (told_seen c.args.self.now name p c.args.target.now c.args.uid.now c.args.wanted a seen network)) c.answer.ensures.reported
 
 pub returns-clause-roots : goal.returns-clause-roots
 returns-clause-roots c =
@@ -73,14 +73,14 @@ returns-clause-roots c =
     c.self.inside.networked.views.entries
     c.refresh.new.self.views.entries name p c.self.view_is c.refresh.ensures.keyring c.refresh.ensures.views
     c.parts-parts.ensures.parts in
-    if_ok c.answer.result _ _ (λ a told. if_some (view_at c.args.self.now.views name) _ _ (λ v t. t.roots)
-    (told_seen c.args.self.now name p c.args.target.now c.args.uid.now c.args.wanted a seen told)) c.answer.ensures.told
+    if_ok c.answer.result _ _ (λ a network. if_some (view_at c.args.self.now.views name) _ _ (λ v t. t.roots)
+    (told_seen c.args.self.now name p c.args.target.now c.args.uid.now c.args.wanted a seen network)) c.answer.ensures.reported
 
 pub returns-clause-sum : goal.returns-clause-sum
-returns-clause-sum c = if_ok c.answer.result _ _ (λ a t. t.sum) c.answer.ensures.told
+returns-clause-sum c = if_ok c.answer.result _ _ (λ a t. t.sum) c.answer.ensures.reported
 
 pub returns-clause-pairs : goal.returns-clause-pairs
-returns-clause-pairs c = if_ok c.answer.result _ _ (λ a t. t.pairs) c.answer.ensures.told
+returns-clause-pairs c = if_ok c.answer.result _ _ (λ a t. t.pairs) c.answer.ensures.reported
 
 pub returns-clause-refreshed : goal.returns-clause-refreshed
 returns-clause-refreshed c =

@@ -3,7 +3,7 @@ use Rattle.std.specs.Option.{option_copied}
 use Rattle.std.proofs.lemmas.Bool.{eqb-true}
 use Rattle.wot_cache.specs.State.{Engine}
 use Rattle.wot_cache.specs.Views.{root_fault, view_at, with_root}
-use Rattle.wot_cache.proofs.TurnsOfViews.{roots_kept}
+use Rattle.wot_cache.proofs.RevisionsOfViews.{roots_kept}
 use Rattle.wot_cache.proofs.engine.Engine.has_root.Goals as goal
 
 pub returns-in-Some-clause-same : goal.returns-in-Some-clause-same

@@ -4,9 +4,9 @@ use Rattle.wot_cache.proofs.OpenViewsMarks.{closed_open, gone_itself, none_shown
 use Rattle.std.proofs.Common.{rules, ◌≡◌, true, subst, sym}
 use Rattle.std.specs.Prelude.{is_some}
 use Rattle.wot_cache.specs.State.{Engine}
-use Rattle.wot_cache.specs.Turns.{IsOneClosing, Turns}
+use Rattle.wot_cache.specs.Revisions.{IsOneClosing, Revisions}
 use Rattle.wot_cache.specs.Views.{view_at}
-use Rattle.wot_cache.proofs.TurnsOfViews.{closed_turns, closing}
+use Rattle.wot_cache.proofs.RevisionsOfViews.{closed_turns, closing}
 use Rattle.wot_cache.proofs.engine.Engine.view_close.Goals as goal
 
 pub invariant_of-self : goal.invariant_of-self
@@ -25,7 +25,7 @@ invariant_of-self c = record {
   answered = closed_open c.self.inside.networked.views.entries c.close.new.views.entries c.self.inside.answers.entries
       c.forget-2.new.answers.entries
       c.args.view.now c.close.ensures.gone c.forget-2.ensures.gone c.self.invariant.answered;
-  turned = closed_turns c.self.inside.networked.views.entries c.close.new.views.entries c.self.inside.turns
+  turned = closed_turns c.self.inside.networked.views.entries c.close.new.views.entries c.self.inside.revisions
       c.forget-3.new.self c.args.view.now c.close.ensures.gone c.forget-3.ensures.gone c.self.invariant.turned;
 }
 
@@ -48,8 +48,8 @@ pub returns-clause-turned : goal.returns-clause-turned
 returns-clause-turned c =
     let views = c.self.inside.networked.views.entries in
     let there : is_some (view_at views c.args.view.now) ≡ true = search rules in
-    subst (λ (e : Engine). IsOneClosing c.args.view.now e.views e.turns c.close.new.views.entries c.forget-3.new.self)
+    subst (λ (e : Engine). IsOneClosing c.args.view.now e.views e.revisions c.close.new.views.entries c.forget-3.new.self)
     c.self.view_is
-    (subst (λ (ts : Turns). IsOneClosing c.args.view.now views c.self.inside.turns c.close.new.views.entries ts)
+    (subst (λ (ts : Revisions). IsOneClosing c.args.view.now views c.self.inside.revisions c.close.new.views.entries ts)
     (sym c.forget-3.ensures.forgotten)
-    (closing views c.close.new.views.entries c.self.inside.turns c.args.view.now there c.close.ensures.gone))
+    (closing views c.close.new.views.entries c.self.inside.revisions c.args.view.now there c.close.ensures.gone))

@@ -3,11 +3,11 @@ use Rattle.std.specs.Map.{lookup}
 use Rattle.std.specs.Option.{unwrap_or, option_map}
 use Rattle.wot_cache.specs.declared.view.View.{View}
 use Rattle.wot_cache.specs.State.{Engine, ViewMarks}
-use Rattle.wot_cache.specs.Turns.{AreTurnsOf, IsOneTurn, Turns, turned}
+use Rattle.wot_cache.specs.Revisions.{AreRevisionsOf, IsOneRevision, Revisions, turned}
 use Rattle.wot_cache.specs.Views.{MovesTime, is_name, view_at}
 use Rattle.wot_cache.proofs.Inside.{moved_within}
 use Rattle.wot_cache.proofs.OpenViewsMarks.{moved_open, unmarked}
-use Rattle.wot_cache.proofs.TurnsOfViews.{equal_there, moved_turns, moving, other_there, time_kept}
+use Rattle.wot_cache.proofs.RevisionsOfViews.{equal_there, moved_turns, moving, other_there, time_kept}
 use Rattle.wot_cache.proofs.engine.Engine.view_time.Goals as goal
 
 pub invariant_of-self : goal.invariant_of-self
@@ -29,8 +29,8 @@ invariant_of-self c =
       answered = moved_open c.self.inside.networked.views.entries c.move_time.new.views.entries
           c.self.inside.answers.entries c.args.view.now c.args.t
           c.move_time.result c.move_time.ensures.moved c.self.invariant.answered;
-      turned = subst (λ (ts : Turns). AreTurnsOf c.move_time.new.views.entries ts) (sym c.raise.ensures.raised)
-          (moved_turns c.self.inside.networked.views.entries c.move_time.new.views.entries c.self.inside.turns
+      turned = subst (λ (ts : Revisions). AreRevisionsOf c.move_time.new.views.entries ts) (sym c.raise.ensures.raised)
+          (moved_turns c.self.inside.networked.views.entries c.move_time.new.views.entries c.self.inside.revisions
           c.args.view.now c.args.t moves c.self.invariant.turned);
     }
 
@@ -42,7 +42,7 @@ returns-then-eq-clause-timed c =
 pub returns-then-move_time-clause-turned : goal.returns-then-move_time-clause-turned
 returns-then-move_time-clause-turned c =
     let views = c.self.inside.networked.views.entries in
-    let turns = c.self.inside.turns in
+    let revisions = c.self.inside.revisions in
     let name = c.args.view.now in
     let moves : MovesTime true name c.args.t views c.move_time.new.views.entries =
     subst (λ b. MovesTime b name c.args.t views c.move_time.new.views.entries) c.if-move_time.true
@@ -50,20 +50,20 @@ returns-then-move_time-clause-turned c =
     let time : c.time.result ≡ option_map (λ (v : View). v.time) (view_at views name) =
     subst (λ (e : Engine). c.time.result ≡ option_map (λ (v : View). v.time) (view_at e.views name))
     (sym c.self.view_is) c.time.ensures.time in
-    subst (λ (e : Engine). IsOneTurn name e.views e.turns c.move_time.new.views.entries c.raise.new.self) c.self.view_is
-    (subst (λ (ts : Turns). IsOneTurn name views turns c.move_time.new.views.entries ts) (sym c.raise.ensures.raised)
-    (moving views c.move_time.new.views.entries turns name c.args.t (λ e. other_there c.time.result c.args.t
+    subst (λ (e : Engine). IsOneRevision name e.views e.revisions c.move_time.new.views.entries c.raise.new.self) c.self.view_is
+    (subst (λ (ts : Revisions). IsOneRevision name views revisions c.move_time.new.views.entries ts) (sym c.raise.ensures.raised)
+    (moving views c.move_time.new.views.entries revisions name c.args.t (λ e. other_there c.time.result c.args.t
     (sym c.if-eq.ensures) (time ∙ e)) moves))
 
 pub returns-then-limits-len-clause-unmarked : goal.returns-then-limits-len-clause-unmarked
 returns-then-limits-len-clause-unmarked c =
-    unmarked c.self.inside.turns c.args.self.now c.self.inside.networked.keyring c.self.inside.networked.views.entries
+    unmarked c.self.inside.revisions c.args.self.now c.self.inside.networked.keyring c.self.inside.networked.views.entries
     c.move_time.new.views.entries
     c.self.inside.networked.networks.entries c.args.view.now c.self.view_is c.self.invariant.of_open
 
 pub returns-clause-unmarked : goal.returns-clause-unmarked
 returns-clause-unmarked c none =
     ap (λ (marks : ViewMarks). unwrap_or (lookup (is_name c.args.view.now) marks) []) c.open.ensures.marks
-    ∙ unmarked c.self.inside.turns c.args.self.now c.self.inside.networked.keyring c.self.inside.networked.views.entries
+    ∙ unmarked c.self.inside.revisions c.args.self.now c.self.inside.networked.keyring c.self.inside.networked.views.entries
     c.move_time.new.views.entries
     c.self.inside.networked.networks.entries c.args.view.now c.self.view_is c.self.invariant.of_open none

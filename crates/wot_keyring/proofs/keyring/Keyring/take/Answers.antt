@@ -38,7 +38,7 @@ returns-in-Some-clause-answer g c =
     subst (λ (cs : List Certificate). AnswersUnited (Err c.in-Some.refusal) (rows_of c.args.policy.now) c.args.self.now
     cs c.args.read.skipped) c.into_vec-certs.ensures.items
     (same_refusal (rows_of c.args.policy.now) c.args.self.now c.lawful.ensures.keyring c.into_vec-certs.result.items
-    c.as_slice.result.now same c.in-Some.refusal c.args.read.skipped c.in-Some.ensures.told)
+    c.as_slice.result.now same c.in-Some.refusal c.args.read.skipped c.in-Some.ensures.reported)
 
 pub returns-in-Some-clause-kept : goal.returns-in-Some-clause-kept
 returns-in-Some-clause-kept g c = c.in-Some.ensures.same
@@ -61,7 +61,7 @@ accept-requires g c = record {
   may = subst (λ (k : Keyring). MayUnite k.limits (certificates_in k) c.in-Ok.list.items)
       (sym c.in_default.ensures.same)
       (subst (λ (cs : List Certificate). MayUnite c.args.self.now.limits (certificates_in c.args.self.now) cs)
-      c.as_slice.ensures.value c.in_default.ensures.told);
+      c.as_slice.ensures.value c.in_default.ensures.reported);
 }
 
 pub returns-clause-answer : goal.returns-clause-answer
@@ -78,7 +78,7 @@ pub returns-clause-united : goal.returns-clause-united
 returns-clause-united g c =
     let none : any_clash (alone (certificates_in c.args.self.now)) c.in-Ok.list.items ≡ false =
     ap (any_clash (alone (certificates_in c.args.self.now))) (sym c.as_slice.ensures.value)
-    ∙ c.in_default.ensures.told.clash in
+    ∙ c.in_default.ensures.reported.clash in
     subst (λ (k : Keyring). OnOk c.accept.result (c.accept.new.self ≡ k))
     (ap (λ (z : Keyring). holding z (with_certs (rows_of c.args.policy.now) (certificates_in z)
     c.in-Ok.list.items)) c.in_default.ensures.same
@@ -96,7 +96,7 @@ pub returns-clause-asked : goal.returns-clause-asked
 returns-clause-asked g c =
     let none : any_clash (alone (certificates_in c.args.self.now)) c.in-Ok.list.items ≡ false =
     ap (any_clash (alone (certificates_in c.args.self.now))) (sym c.as_slice.ensures.value)
-    ∙ c.in_default.ensures.told.clash in
+    ∙ c.in_default.ensures.reported.clash in
     subst (λ (n : ℕ). Asked c.accept.result n c.args.policy.now c.accept.new.policy)
     (ap (λ (z : Keyring). asked_for (rows_of c.args.policy.now) z c.in-Ok.list.items) c.in_default.ensures.same
     ∙ same_asked (rows_of c.args.policy.now) c.args.self.now c.lawful.ensures.keyring c.into_vec-certs.result.items

@@ -18,25 +18,25 @@ use Rattle.wot_machine.proofs.Unchanged.{runs_none}
 use Rattle.wot_machine.proofs.Worded.{obeys_worded}
 use Rattle.wot_machine.proofs.dispatch.Parts.answer.Goals as goal
 
-pub act-requires-clause-ready : goal.act-requires-clause-ready
-act-requires-clause-ready g c = c.requires.ready
+pub run_class-requires-clause-ready : goal.run_class-requires-clause-ready
+run_class-requires-clause-ready g c = c.requires.ready
 
-pub act-requires-clause-judging : goal.act-requires-clause-judging
-act-requires-clause-judging g c = c.requires.judging
+pub run_class-requires-clause-judging : goal.run_class-requires-clause-judging
+run_class-requires-clause-judging g c = c.requires.judging
 
 pub returns-in-Ok-clause-words : goal.returns-in-Ok-clause-words
 returns-in-Ok-clause-words g c =
-    if_ok c.act.result _ _ (λ told ran. obeys_worded (rows_of c.args.policy.now)
-    (watched (session_of c.args.self.now.engine c.args.self.now.cursors) c.args.self.now.watches) c.sort.result
-    ran.given told.reply
-    (watched (session_of c.act.new.self.engine (settled told.moved c.act.new.self.cursors)) c.act.new.self.watches)
-    ran.answers) c.act.ensures.ran
+    if_ok c.run_class.result _ _ (λ drafted ran. obeys_worded (rows_of c.args.policy.now)
+    (watched (session_of c.args.self.now.engine c.args.self.now.cursors) c.args.self.now.watches) c.classify.result
+    ran.given drafted.reply
+    (watched (session_of c.run_class.new.self.engine (settled drafted.moved c.run_class.new.self.cursors)) c.run_class.new.self.watches)
+    ran.answers) c.run_class.ensures.ran
 
 pub returns-in-Ok-clause-anew : goal.returns-in-Ok-clause-anew
 returns-in-Ok-clause-anew g c =
-    on_ok_weaker c.act.result (on_dump c.args.line.now c.in-Ok.command
+    on_ok_weaker c.run_class.result (on_dump c.args.line.now c.in-Ok.command
     ((rows : PolicyRows) → IsMadeAnew rows (state_of c.args.self.now.engine)) c.in-Ok.ensures.read)
-    (rw c.sort.ensures.class at c.act.ensures.anew)
+    (rw c.classify.ensures.class at c.run_class.ensures.anew)
 
 pub returns-in-Err-Line-clause-anew : goal.returns-in-Err-Line-clause-anew
 returns-in-Err-Line-clause-anew g c =
@@ -44,10 +44,10 @@ returns-in-Err-Line-clause-anew g c =
     ((rw c.in-Err-Line.field-0-is at c.in-Err-Line.ensures.line) refl)
 
 pub returns-in-Ok-clause-ran : goal.returns-in-Ok-clause-ran
-returns-in-Ok-clause-ran g c = rw c.in-Ok.ensures.read (rw c.sort.ensures.class at c.act.ensures.ran)
+returns-in-Ok-clause-ran g c = rw c.in-Ok.ensures.read (rw c.classify.ensures.class at c.run_class.ensures.ran)
 
 pub returns-in-Ok-clause-directory : goal.returns-in-Ok-clause-directory
-returns-in-Ok-clause-directory g c = rw c.in-Ok.ensures.read (rw c.sort.ensures.class at c.act.ensures.directory)
+returns-in-Ok-clause-directory g c = rw c.in-Ok.ensures.read (rw c.classify.ensures.class at c.run_class.ensures.directory)
 
 pub returns-in-Err-Line-clause-ran : goal.returns-in-Err-Line-clause-ran
 returns-in-Err-Line-clause-ran g c =
@@ -58,7 +58,7 @@ returns-in-Err-Line-clause-ran g c =
     ((rw c.in-Err-Line.field-0-is at c.in-Err-Line.ensures.line) refl)
 
 pub returns-in-Ok-clause-asked : goal.returns-in-Ok-clause-asked
-returns-in-Ok-clause-asked g c = rw c.in-Ok.ensures.read (rw c.sort.ensures.class at c.act.ensures.asked)
+returns-in-Ok-clause-asked g c = rw c.in-Ok.ensures.read (rw c.classify.ensures.class at c.run_class.ensures.asked)
 
 pub returns-in-Err-Line-clause-asked : goal.returns-in-Err-Line-clause-asked
 returns-in-Err-Line-clause-asked g c = asks_not _ (command_of c.args.line.now) (state_of c.args.self.now.engine)
@@ -69,7 +69,7 @@ returns-in-Err-Memory-clause-asked g c = asks_not _ (command_of c.args.line.now)
     c.args.policy.now
 
 pub returns-in-Ok-clause-edges : goal.returns-in-Ok-clause-edges
-returns-in-Ok-clause-edges g c = rw c.in-Ok.ensures.read (rw c.sort.ensures.class at c.act.ensures.edges)
+returns-in-Ok-clause-edges g c = rw c.in-Ok.ensures.read (rw c.classify.ensures.class at c.run_class.ensures.edges)
 
 pub returns-in-Err-Line-clause-edges : goal.returns-in-Err-Line-clause-edges
 returns-in-Err-Line-clause-edges g c =
@@ -77,13 +77,13 @@ returns-in-Err-Line-clause-edges g c =
     ((rw c.in-Err-Line.field-0-is at c.in-Err-Line.ensures.line) refl)
 
 pub returns-in-Ok-clause-makes : goal.returns-in-Ok-clause-makes
-returns-in-Ok-clause-makes g c = rw c.in-Ok.ensures.read (rw c.sort.ensures.class at c.act.ensures.makes)
+returns-in-Ok-clause-makes g c = rw c.in-Ok.ensures.read (rw c.classify.ensures.class at c.run_class.ensures.makes)
 
 pub returns-in-Ok-clause-once : goal.returns-in-Ok-clause-once
-returns-in-Ok-clause-once g c = c.act.ensures.once
+returns-in-Ok-clause-once g c = c.run_class.ensures.once
 
 pub returns-in-Ok-clause-judging : goal.returns-in-Ok-clause-judging
-returns-in-Ok-clause-judging g c = c.act.ensures.judging
+returns-in-Ok-clause-judging g c = c.run_class.ensures.judging
 
 -- ---- what is no command, and out of memory
 
@@ -95,7 +95,7 @@ returns-in-Err-Line-clause-directory g c =
 pub returns-in-Err-Line-clause-once : goal.returns-in-Err-Line-clause-once
 returns-in-Err-Line-clause-once g c =
     runs_none c.args.self.now.engine c.args.self.now.engine c.requires.ready
-    (record { keyring = refl; views = refl; turns = refl })
+    (record { keyring = refl; views = refl; revisions = refl })
 
 pub returns-in-Err-Line-clause-judging : goal.returns-in-Err-Line-clause-judging
 returns-in-Err-Line-clause-judging g c =
@@ -110,7 +110,7 @@ returns-in-Err-Memory-clause-directory g c =
 pub returns-in-Err-Memory-clause-once : goal.returns-in-Err-Memory-clause-once
 returns-in-Err-Memory-clause-once g c =
     runs_none c.args.self.now.engine c.args.self.now.engine c.requires.ready
-    (record { keyring = refl; views = refl; turns = refl })
+    (record { keyring = refl; views = refl; revisions = refl })
 
 pub returns-in-Err-Memory-clause-judging : goal.returns-in-Err-Memory-clause-judging
 returns-in-Err-Memory-clause-judging g c =

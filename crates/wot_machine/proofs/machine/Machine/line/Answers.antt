@@ -5,7 +5,7 @@ use Rattle.wot_machine.specs.Machine.{kept}
 use Rattle.wot_cache.specs.State.{Engine, state_of}
 use Rattle.wot_plain.specs.declared.draft.DraftReply.{DraftReply}
 use Rattle.wot_plain.specs.Entry.{use_of}
-use Rattle.wot_plain.specs.Lines.{heard}
+use Rattle.wot_plain.specs.Lines.{command_in_line}
 use Rattle.wot_plain.specs.Made.{LineMakes}
 use Rattle.wot_command.specs.CommandRun.{Seen}
 use Rattle.wot_command.specs.Asked.{LineAsks}
@@ -36,8 +36,8 @@ returns-in-Some-clause-step g c =
     told_step c.put.result (rows_of c.args.policy.now) c.args.line.now (kept c.args.self.now) before
     c.reply.new.self.engine c.reply.new.self.cursors
     c.reply.new.self.watches c.put.new.self.engine c.put.new.self.cursors c.put.new.self.watches after
-    c.args.out.now.items c.reserve.new.self.items c.put.new.out.items c.in-Some.told
-    (rw c.in-Some.is at c.in_ok-told.ensures.replied) c.put.ensures.engine c.put.ensures.watches c.put.ensures.settled
+    c.args.out.now.items c.reserve.new.self.items c.put.new.out.items c.in-Some.drafted
+    (rw c.in-Some.is at c.in_ok-drafted.ensures.replied) c.put.ensures.engine c.put.ensures.watches c.put.ensures.settled
     c.reserve.ensures.items c.put.ensures.appended
 
 pub returns-in-None-clause-step : goal.returns-in-None-clause-step
@@ -53,19 +53,19 @@ returns-in-None-clause-step g c =
           g.D.Shelf.faults c.reply.new.shelf;
     } in
     passed (rows_of c.args.policy.now) c.args.line.now (kept c.args.self.now) before (kept c.reply.new.self) after
-    c.args.out.now.items c.reserve.new.self.items (rw c.in-None.is at c.in_ok-told.ensures.replied)
+    c.args.out.now.items c.reserve.new.self.items (rw c.in-None.is at c.in_ok-drafted.ensures.replied)
     c.reserve.ensures.items
 
 pub returns-in-Some-clause-makes : goal.returns-in-Some-clause-makes
 returns-in-Some-clause-makes g c =
-    let done : Result (Option DraftReply) Memory = Ok c.in_ok-told.field-0 in
-    let line = heard c.args.line.now in
+    let done : Result (Option DraftReply) Memory = Ok c.in_ok-drafted.field-0 in
+    let line = command_in_line c.args.line.now in
     let made : LineMakes done line c.args.self.now.cursors c.args.self.now.engine c.put.new.self.engine
     c.args.self.now.made c.put.new.self.made =
     subst (λ (e : Engine). LineMakes done line c.args.self.now.cursors c.args.self.now.engine e c.args.self.now.made
     c.put.new.self.made) (sym c.put.ensures.engine)
     (subst (λ (n : ℕ). LineMakes done line c.args.self.now.cursors c.args.self.now.engine c.reply.new.self.engine
-    c.args.self.now.made n) (sym c.put.ensures.made) c.in_ok-told.ensures.makes) in
+    c.args.self.now.made n) (sym c.put.ensures.made) c.in_ok-drafted.ensures.makes) in
     line_makes_as done c.put.result (λ ok. refl) line c.args.self.now.cursors c.args.self.now.engine
     c.put.new.self.engine c.args.self.now.made c.put.new.self.made made
 
@@ -73,22 +73,22 @@ returns-in-Some-clause-makes g c =
 
 pub returns-in_err-reserve-clause-directory : goal.returns-in_err-reserve-clause-directory
 returns-in_err-reserve-clause-directory g c =
-    touches_none c.from_residual.result (state_of c.args.self.now.engine) (use_of (heard c.args.line.now))
+    touches_none c.from_residual.result (state_of c.args.self.now.engine) (use_of (command_in_line c.args.line.now))
     g.D.Shelf.world g.D.Shelf.faults c.args.shelf.now
 
-pub returns-in_err-told-clause-directory : goal.returns-in_err-told-clause-directory
-returns-in_err-told-clause-directory g c = record {
+pub returns-in_err-drafted-clause-directory : goal.returns-in_err-drafted-clause-directory
+returns-in_err-drafted-clause-directory g c = record {
   untouched = c.reply.ensures.directory.untouched;
-  entries = any_err c.from_residual-in_err-told.result _ c.in_err-told.ensures.directory.entries;
+  entries = any_err c.from_residual-in_err-drafted.result _ c.in_err-drafted.ensures.directory.entries;
   later = c.reply.ensures.directory.later;
 }
 
 pub returns-in-Some-clause-directory : goal.returns-in-Some-clause-directory
 returns-in-Some-clause-directory g c =
-    let replied = rw c.in-Some.is at c.in_ok-told.ensures.replied in
+    let replied = rw c.in-Some.is at c.in_ok-drafted.ensures.replied in
     record {
       untouched = c.reply.ensures.directory.untouched;
-      entries = any_err c.put.result _ (served_puts (state_of c.args.self.now.engine) (use_of (heard c.args.line.now))
+      entries = any_err c.put.result _ (served_puts (state_of c.args.self.now.engine) (use_of (command_in_line c.args.line.now))
           (g.D.Shelf.world c.args.shelf.now) replied.given (g.D.Shelf.world c.reply.new.shelf) replied.served);
       later = c.reply.ensures.directory.later;
     }
@@ -104,25 +104,25 @@ returns-in-None-clause-directory g c = record {
 
 pub returns-in-Some-clause-asked : goal.returns-in-Some-clause-asked
 returns-in-Some-clause-asked g c =
-    let done : Result (Option DraftReply) Memory = Ok c.in_ok-told.field-0 in
-    let line = heard c.args.line.now in
+    let done : Result (Option DraftReply) Memory = Ok c.in_ok-drafted.field-0 in
+    let line = command_in_line c.args.line.now in
     let asked : LineAsks done line (state_of c.args.self.now.engine) (state_of c.put.new.self.engine) c.args.policy.now
     c.reply.new.policy =
     subst (λ (e : Engine). LineAsks done line (state_of c.args.self.now.engine) (state_of e) c.args.policy.now
     c.reply.new.policy) (sym c.put.ensures.engine)
-    c.in_ok-told.ensures.asked in
+    c.in_ok-drafted.ensures.asked in
     asks_as done c.put.result (λ ok. refl) line (state_of c.args.self.now.engine) (state_of c.put.new.self.engine)
     c.args.policy.now c.reply.new.policy asked
 
 pub returns-in-None-clause-asked : goal.returns-in-None-clause-asked
 returns-in-None-clause-asked g c =
-    let done : Result (Option DraftReply) Memory = Ok c.in_ok-told.field-0 in
-    asks_as done _ (λ ok. refl) (heard c.args.line.now) (state_of c.args.self.now.engine)
+    let done : Result (Option DraftReply) Memory = Ok c.in_ok-drafted.field-0 in
+    asks_as done _ (λ ok. refl) (command_in_line c.args.line.now) (state_of c.args.self.now.engine)
     (state_of c.reply.new.self.engine) c.args.policy.now c.reply.new.policy
-    c.in_ok-told.ensures.asked
+    c.in_ok-drafted.ensures.asked
 
 pub returns-in_err-reserve-clause-asked : goal.returns-in_err-reserve-clause-asked
-returns-in_err-reserve-clause-asked g c = asks_not c.from_residual.result (heard c.args.line.now)
+returns-in_err-reserve-clause-asked g c = asks_not c.from_residual.result (command_in_line c.args.line.now)
     (state_of c.args.self.now.engine) c.args.policy.now
 
 pub returns-in_err-reserve-clause-judging : goal.returns-in_err-reserve-clause-judging
@@ -138,5 +138,5 @@ returns-in-Some-clause-judging g c =
 pub returns-in-None-clause-judging : goal.returns-in-None-clause-judging
 returns-in-None-clause-judging g c = c.reply.ensures.judging
 
-pub returns-in_err-told-clause-judging : goal.returns-in_err-told-clause-judging
-returns-in_err-told-clause-judging g c = c.reply.ensures.judging
+pub returns-in_err-drafted-clause-judging : goal.returns-in_err-drafted-clause-judging
+returns-in_err-drafted-clause-judging g c = c.reply.ensures.judging

@@ -4,7 +4,7 @@ use Rattle.wot_policy.specs.Kept.{rows_of}
 use Rattle.wot_script.specs.Grammar.{command_of}
 use Rattle.wot_script.specs.Replies.{is_short}
 use Rattle.wot_plain.specs.declared.draft.DraftReply.{DraftReply}
-use Rattle.wot_plain.specs.Lines.{heard, is_silent}
+use Rattle.wot_plain.specs.Lines.{command_in_line, is_silent}
 use Rattle.wot_machine.specs.Machine.{Machine, StaysKept, kept, machine_of}
 use Rattle.wot_plain.specs.Made.{LineMakes}
 use Rattle.wot_plain.specs.Pacing.{settled}
@@ -28,15 +28,15 @@ use Rattle.wot_machine.proofs.machine.Machine.reply.Goals as goal
 pub returns-clause-makes : goal.returns-clause-makes
 returns-clause-makes g c =
     let loud : is_silent c.args.line.now ≡ false = search rules in
-    let done : Result (Option DraftReply) Memory = Ok (Some c.in_ok-told.told) in
-    subst (λ (m : Machine). LineMakes done (heard c.args.line.now) m.cursors m.engine c.answer.new.self.engine m.made
+    let done : Result (Option DraftReply) Memory = Ok (Some c.in_ok-drafted.drafted) in
+    subst (λ (m : Machine). LineMakes done (command_in_line c.args.line.now) m.cursors m.engine c.answer.new.self.engine m.made
     c.answer.new.self.steps.made) c.self.view_is
     (makes_heard done c.args.line.now c.self.inside.parts.cursors c.self.inside.parts.engine c.answer.new.self.engine
     c.self.inside.parts.steps.made c.answer.new.self.steps.made
     c.if-line-gt-LONGEST.false loud
-    (line_makes_as (Ok c.in_ok-told.told) done (λ ok. refl) (command_of c.args.line.now) c.self.inside.parts.cursors
+    (line_makes_as (Ok c.in_ok-drafted.drafted) done (λ ok. refl) (command_of c.args.line.now) c.self.inside.parts.cursors
     c.self.inside.parts.engine c.answer.new.self.engine
-    c.self.inside.parts.steps.made c.answer.new.self.steps.made c.in_ok-told.ensures.makes))
+    c.self.inside.parts.steps.made c.answer.new.self.steps.made c.in_ok-drafted.ensures.makes))
 
 pub returns-then-line-gt-LONGEST-clause-replied : goal.returns-then-line-gt-LONGEST-clause-replied
 returns-then-line-gt-LONGEST-clause-replied g c =
@@ -63,16 +63,16 @@ pub invariant_of-self-2 : goal.invariant_of-self-2
 invariant_of-self-2 g c =
     let old = c.self.inside.parts.engine in
     let new = c.answer.new.self.engine in
-    let ran = c.in_ok-told.ensures.ran in (
+    let ran = c.in_ok-drafted.ensures.ran in (
       c.answer.ensures.once.standard,
       settled_told (rows_of c.args.policy.now) c.views_go_on.ensures.turned c.rests_on.ensures.later
           c.change_goes_on.ensures old new
-          c.self.inside.parts.cursors (settled c.in_ok-told.told.moved c.answer.new.self.cursors)
+          c.self.inside.parts.cursors (settled c.in_ok-drafted.drafted.moved c.answer.new.self.cursors)
           c.self.inside.parts.watches c.answer.new.self.watches
-          (command_of c.args.line.now) ran.given c.in_ok-told.told.reply c.take-basis.result c.kept_on.result
-          c.of-before.result.certificates c.of-before.result.changes c.of-before.result.turns ran.answers
+          (command_of c.args.line.now) ran.given c.in_ok-drafted.drafted.reply c.take-basis.result c.kept_on.result
+          c.of-before.result.certificates c.of-before.result.changes c.of-before.result.revisions ran.answers
           c.answer.ensures.once.counted
-          c.of-before.ensures.certificates c.of-before.ensures.changes c.of-before.ensures.turns
+          c.of-before.ensures.certificates c.of-before.ensures.changes c.of-before.ensures.revisions
           c.kept_on.ensures.same c.kept_on.ensures.more c.kept_on.ensures.none c.kept_on.ensures.counted
           (subst (AreSettled old c.self.inside.parts.watches) (sym c.take-basis.ensures.value) c.self.invariant.1),
     )
@@ -80,21 +80,21 @@ invariant_of-self-2 g c =
 pub returns-clause-asked : goal.returns-clause-asked
 returns-clause-asked g c =
     let loud : is_silent c.args.line.now ≡ false = search rules in
-    let done : Result (Option DraftReply) Memory = Ok (Some c.in_ok-told.told) in
-    subst (λ (m : Machine). LineAsks done (heard c.args.line.now) (state_of m.engine)
+    let done : Result (Option DraftReply) Memory = Ok (Some c.in_ok-drafted.drafted) in
+    subst (λ (m : Machine). LineAsks done (command_in_line c.args.line.now) (state_of m.engine)
     (state_of c.answer.new.self.engine) c.args.policy.now c.answer.new.policy) c.self.view_is
     (asks_heard done c.args.line.now (state_of c.self.inside.parts.engine) (state_of c.answer.new.self.engine)
     c.args.policy.now c.answer.new.policy
     c.if-line-gt-LONGEST.false loud
-    (asks_as (Ok c.in_ok-told.told) done (λ ok. refl) (command_of c.args.line.now) (state_of c.self.inside.parts.engine)
+    (asks_as (Ok c.in_ok-drafted.drafted) done (λ ok. refl) (command_of c.args.line.now) (state_of c.self.inside.parts.engine)
     (state_of c.answer.new.self.engine)
-    c.args.policy.now c.answer.new.policy c.in_ok-told.ensures.asked))
+    c.args.policy.now c.answer.new.policy c.in_ok-drafted.ensures.asked))
 
 pub returns-clause-edges : goal.returns-clause-edges
 returns-clause-edges g c =
     let loud : is_silent c.args.line.now ≡ false = search rules in
-    subst (λ (m : Machine). LineMarks m.engine (heard c.args.line.now)) c.self.view_is
-    (heard_marks c.self.inside.parts.engine c.args.line.now c.if-line-gt-LONGEST.false loud c.in_ok-told.ensures.edges)
+    subst (λ (m : Machine). LineMarks m.engine (command_in_line c.args.line.now)) c.self.view_is
+    (heard_marks c.self.inside.parts.engine c.args.line.now c.if-line-gt-LONGEST.false loud c.in_ok-drafted.ensures.edges)
 
 -- ---- what the parts are given
 
@@ -114,37 +114,37 @@ answer-requires-clause-judging g c =
 pub returns-clause-directory : goal.returns-clause-directory
 returns-clause-directory g c =
     let loud : is_silent c.args.line.now ≡ false = search rules in
-    let done : Result (Option DraftReply) Memory = Ok (Some c.in_ok-told.told) in
-    subst (λ (m : Machine). Touches done (state_of m.engine) (use_of (heard c.args.line.now)) g.D.Shelf.world
+    let done : Result (Option DraftReply) Memory = Ok (Some c.in_ok-drafted.drafted) in
+    subst (λ (m : Machine). Touches done (state_of m.engine) (use_of (command_in_line c.args.line.now)) g.D.Shelf.world
     g.D.Shelf.faults c.args.shelf.now c.answer.new.shelf) c.self.view_is
     (touches_ok c.args.line.now (state_of c.self.inside.parts.engine) g.D.Shelf.world g.D.Shelf.faults
-    c.args.shelf.now c.answer.new.shelf c.if-line-gt-LONGEST.false loud (Ok c.in_ok-told.told) (Some c.in_ok-told.told)
-    c.in_ok-told.ensures.directory)
+    c.args.shelf.now c.answer.new.shelf c.if-line-gt-LONGEST.false loud (Ok c.in_ok-drafted.drafted) (Some c.in_ok-drafted.drafted)
+    c.in_ok-drafted.ensures.directory)
 
-pub returns-in_err-told-clause-directory : goal.returns-in_err-told-clause-directory
-returns-in_err-told-clause-directory g c =
+pub returns-in_err-drafted-clause-directory : goal.returns-in_err-drafted-clause-directory
+returns-in_err-drafted-clause-directory g c =
     let loud : is_silent c.args.line.now ≡ false = search rules in
-    subst (λ (m : Machine). Touches c.from_residual.result (state_of m.engine) (use_of (heard c.args.line.now))
+    subst (λ (m : Machine). Touches c.from_residual.result (state_of m.engine) (use_of (command_in_line c.args.line.now))
     g.D.Shelf.world g.D.Shelf.faults c.args.shelf.now c.answer.new.shelf) c.self.view_is
     (touches_err c.args.line.now (state_of c.self.inside.parts.engine) g.D.Shelf.world g.D.Shelf.faults
     c.args.shelf.now c.answer.new.shelf c.if-line-gt-LONGEST.false loud _ c.from_residual.result
-    c.in_err-told.ensures.directory)
+    c.in_err-drafted.ensures.directory)
 
 pub returns-clause-judging : goal.returns-clause-judging
 returns-clause-judging g c = c.answer.ensures.judging
 
-pub returns-in_err-told-clause-judging : goal.returns-in_err-told-clause-judging
-returns-in_err-told-clause-judging g c = c.answer.ensures.judging
+pub returns-in_err-drafted-clause-judging : goal.returns-in_err-drafted-clause-judging
+returns-in_err-drafted-clause-judging g c = c.answer.ensures.judging
 
 pub returns-clause-quiet : goal.returns-clause-quiet
 returns-clause-quiet g c =
-    subst (λ (m : Machine). is_short c.in_ok-told.told.reply ≡ false → StaysKept m (machine_of c.answer.new.self))
-    c.self.view_is c.in_ok-told.ensures.quiet
+    subst (λ (m : Machine). is_short c.in_ok-drafted.drafted.reply ≡ false → StaysKept m (machine_of c.answer.new.self))
+    c.self.view_is c.in_ok-drafted.ensures.quiet
 
-pub returns-in_err-told-clause-kept : goal.returns-in_err-told-clause-kept
-returns-in_err-told-clause-kept g c =
+pub returns-in_err-drafted-clause-kept : goal.returns-in_err-drafted-clause-kept
+returns-in_err-drafted-clause-kept g c =
     any_err c.from_residual.result _ (subst (λ (m : Machine). StaysKept m (machine_of c.answer.new.self))
-    c.self.view_is c.in_err-told.ensures.kept)
+    c.self.view_is c.in_err-drafted.ensures.kept)
 
 pub returns-clause-unchanged : goal.returns-clause-unchanged
 returns-clause-unchanged g c =
@@ -159,30 +159,30 @@ returns-clause-counted g c =
 
 pub returns-clause-turned : goal.returns-clause-turned
 returns-clause-turned g c =
-    subst (λ (m : Machine). c.answer.new.self.engine.turns.count ≤ m.engine.turns.count + 1) c.self.view_is
+    subst (λ (m : Machine). c.answer.new.self.engine.revisions.count ≤ m.engine.revisions.count + 1) c.self.view_is
     c.answer.ensures.once.turned
 
-pub returns-in_err-told-clause-unchanged : goal.returns-in_err-told-clause-unchanged
-returns-in_err-told-clause-unchanged g c =
+pub returns-in_err-drafted-clause-unchanged : goal.returns-in_err-drafted-clause-unchanged
+returns-in_err-drafted-clause-unchanged g c =
     let new = c.answer.new.self.engine in
     subst (λ (m : Machine). state_of new ≡ state_of m.engine → StaysButMarks m.engine new) c.self.view_is
     (unchanged c.self.inside.parts.engine new c.answer.ensures.once.counted c.answer.ensures.once.still)
 
-pub returns-in_err-told-clause-counted : goal.returns-in_err-told-clause-counted
-returns-in_err-told-clause-counted g c =
+pub returns-in_err-drafted-clause-counted : goal.returns-in_err-drafted-clause-counted
+returns-in_err-drafted-clause-counted g c =
     subst (λ (m : Machine). IsOneChange m.engine.keyring c.answer.new.self.engine.keyring) c.self.view_is
     c.answer.ensures.once.counted
 
-pub returns-in_err-told-clause-turned : goal.returns-in_err-told-clause-turned
-returns-in_err-told-clause-turned g c =
-    subst (λ (m : Machine). c.answer.new.self.engine.turns.count ≤ m.engine.turns.count + 1) c.self.view_is
+pub returns-in_err-drafted-clause-turned : goal.returns-in_err-drafted-clause-turned
+returns-in_err-drafted-clause-turned g c =
+    subst (λ (m : Machine). c.answer.new.self.engine.revisions.count ≤ m.engine.revisions.count + 1) c.self.view_is
     c.answer.ensures.once.turned
 
 -- ---- a line that isn't read
 
 pub returns-then-line-gt-LONGEST-clause-directory : goal.returns-then-line-gt-LONGEST-clause-directory
 returns-then-line-gt-LONGEST-clause-directory g c =
-    touches_none _ (state_of c.args.self.now.engine) (use_of (heard c.args.line.now)) g.D.Shelf.world g.D.Shelf.faults
+    touches_none _ (state_of c.args.self.now.engine) (use_of (command_in_line c.args.line.now)) g.D.Shelf.world g.D.Shelf.faults
     c.args.shelf.now
 
 pub returns-then-line-gt-LONGEST-clause-judging : goal.returns-then-line-gt-LONGEST-clause-judging
@@ -192,7 +192,7 @@ returns-then-line-gt-LONGEST-clause-judging g c =
 
 pub returns-then-test_silent-clause-directory : goal.returns-then-test_silent-clause-directory
 returns-then-test_silent-clause-directory g c =
-    touches_none _ (state_of c.args.self.now.engine) (use_of (heard c.args.line.now)) g.D.Shelf.world g.D.Shelf.faults
+    touches_none _ (state_of c.args.self.now.engine) (use_of (command_in_line c.args.line.now)) g.D.Shelf.world g.D.Shelf.faults
     c.args.shelf.now
 
 pub returns-then-test_silent-clause-judging : goal.returns-then-test_silent-clause-judging

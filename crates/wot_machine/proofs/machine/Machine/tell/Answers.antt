@@ -18,17 +18,17 @@ returns-clause-tells c =
     let same = c.is_settled.ensures.same in
     let mid : Machine = c.is_settled.new.self in
     let old : Engine = mid.engine in
-    let new : Engine = c.told.new.self.engine in
+    let new : Engine = c.note_reported.new.self.engine in
     let stays : StaysButMarks old new = subst (λ (e : Engine). StaysButMarks old e)
-    (sym c.told.ensures.engine) c.in_ok-lines.ensures.stays in
+    (sym c.note_reported.ensures.engine) c.in_ok-lines.ensures.stays in
     let has = c.extend_from_slice.new.self.items in
-    subst (λ (m : Machine). TellsBehind (kept m) c.args.out.now.items (kept c.told.new.self) has) same
-    (tells_behind done old new mid.cursors c.told.new.self.cursors mid.watches
-    c.told.new.self.watches c.in_ok-lines.lines.items
+    subst (λ (m : Machine). TellsBehind (kept m) c.args.out.now.items (kept c.note_reported.new.self) has) same
+    (tells_behind done old new mid.cursors c.note_reported.new.self.cursors mid.watches
+    c.note_reported.new.self.watches c.in_ok-lines.lines.items
     c.args.out.now.items c.extend_from_slice.new.self.items (same_state old new stays)
-    (ap (λ (k : Keyring). k.changes) stays.keyring) stays.turns
-    (c.told.ensures.cursors ∙ c.in_ok-lines.ensures.cursors) c.in_ok-lines.ensures.lines
-    (c.told.ensures.told ∙ (λ i. told_all (c.in_ok-lines.ensures.watches i) (c.deref-3.ensures.value i)))
+    (ap (λ (k : Keyring). k.changes) stays.keyring) stays.revisions
+    (c.note_reported.ensures.cursors ∙ c.in_ok-lines.ensures.cursors) c.in_ok-lines.ensures.lines
+    (c.note_reported.ensures.reported ∙ (λ i. told_all (c.in_ok-lines.ensures.watches i) (c.deref-3.ensures.value i)))
     (cc (
       c.in_ok-extend_from_slice.ensures.items,
       c.deref-2.ensures.value,
@@ -48,8 +48,8 @@ pub returns-clause-makes : goal.returns-clause-makes
 returns-clause-makes c =
     let done : Result (Unit {0}) Memory = Ok tt in
     telling_made (Ok c.in_ok-lines.lines) done (λ ok. refl) c.args.self.now c.is_settled.new.self c.watch_lines.new.self
-    c.told.new.self
-    c.is_settled.ensures.same c.in_ok-lines.ensures.makes c.told.ensures.engine c.told.ensures.made
+    c.note_reported.new.self
+    c.is_settled.ensures.same c.in_ok-lines.ensures.makes c.note_reported.ensures.engine c.note_reported.ensures.made
 
 pub returns-then-is_settled-clause-makes : goal.returns-then-is_settled-clause-makes
 returns-then-is_settled-clause-makes c =

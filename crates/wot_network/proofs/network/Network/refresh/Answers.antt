@@ -19,35 +19,35 @@ pub invariant_of-self-2 : goal.invariant_of-self-2
 invariant_of-self-2 c =
     let k = c.args.keyring.now in
     let old = c.look_at_stale.new.lines.entries in
-    let new = c.settle.new.lines.entries in
+    let new = c.drop_absent.new.lines.entries in
     let kept = c.in_ok-look_at_stale.ensures.kept in (
-      λ q l f. kept.lawful q l (was k c.args.t old new c.settle.ensures.present q l f),
-      open_now k c.args.t old new c.settle.ensures.present c.look_at_stale.new.window kept.unbroken,
+      λ q l f. kept.lawful q l (was k c.args.t old new c.drop_absent.ensures.present q l f),
+      open_now k c.args.t old new c.drop_absent.ensures.present c.look_at_stale.new.window kept.unbroken,
     )
 
 pub returns-clause-right : goal.returns-clause-right
 returns-clause-right c =
     let e = c.in_ok-look_at_stale.ensures in
-    right_now c.args.keyring.now c.args.t c.look_at_stale.new.lines.entries c.settle.new.lines.entries
-    c.settle.ensures.present e.done e.kept.fit _ refl refl
+    right_now c.args.keyring.now c.args.t c.look_at_stale.new.lines.entries c.drop_absent.new.lines.entries
+    c.drop_absent.ensures.present e.done e.kept.fit _ refl refl
 
 pub returns-clause-fits : goal.returns-clause-fits
 returns-clause-fits c =
     let e = c.in_ok-look_at_stale.ensures in
-    fits_now c.args.keyring.now c.args.t c.look_at_stale.new.lines.entries c.settle.new.lines.entries
-    c.settle.ensures.present e.done e.kept.fit _ refl c.changes-self-inside.ensures.changes
+    fits_now c.args.keyring.now c.args.t c.look_at_stale.new.lines.entries c.drop_absent.new.lines.entries
+    c.drop_absent.ensures.present e.done e.kept.fit _ refl c.changes-self-inside.ensures.changes
 
 pub returns-clause-marks : goal.returns-clause-marks
 returns-clause-marks c =
-    marks_now c.args.keyring.now c.args.t c.look_at_stale.new.lines.entries c.settle.new.lines.entries
-    c.settle.ensures.present c.in_ok-look_at_stale.ensures.done
+    marks_now c.args.keyring.now c.args.t c.look_at_stale.new.lines.entries c.drop_absent.new.lines.entries
+    c.drop_absent.ensures.present c.in_ok-look_at_stale.ensures.done
 
 pub returns-clause-stay : goal.returns-clause-stay
 returns-clause-stay c =
     subst (λ (n : Net). StayCurrent c.args.keyring.now c.args.t (marks_of n.lines)
-    (marks_of c.settle.new.lines.entries)) c.self.view_is
-    (stays_on c.args.keyring.now c.args.t c.look_at_stale.new.lines.entries c.settle.new.lines.entries
-    c.settle.ensures.present c.self.inside.lines.entries c.in_ok-look_at_stale.ensures.progress.stay)
+    (marks_of c.drop_absent.new.lines.entries)) c.self.view_is
+    (stays_on c.args.keyring.now c.args.t c.look_at_stale.new.lines.entries c.drop_absent.new.lines.entries
+    c.drop_absent.ensures.present c.self.inside.lines.entries c.in_ok-look_at_stale.ensures.progress.stay)
 
 pub returns-clause-made_least : goal.returns-clause-made_least
 returns-clause-made_least c =

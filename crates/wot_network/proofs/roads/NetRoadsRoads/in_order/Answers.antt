@@ -5,7 +5,7 @@ use Rattle.wot_standing.specs.Standing.{standing_of}
 use Rattle.wot_standing.specs.Usable.{is_in_order}
 use Rattle.wot_keyring_spec.specs.Keyring.{certificates_in}
 use Rattle.wot_live.specs.Rows.{revoked_of}
-use Rattle.wot_network.specs.Told.{is_user_id}
+use Rattle.wot_network.specs.Records.{is_user_id}
 use Rattle.wot_network.proofs.Few.{user_ids_few}
 use Rattle.wot_network.proofs.Fprs.{named_certs}
 use Rattle.wot_network.proofs.LookupsAgree.{present, absent_line, absent_cert, standing_here, revoked_here}

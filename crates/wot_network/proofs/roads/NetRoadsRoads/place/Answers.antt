@@ -1,7 +1,7 @@
 use Rattle.std.proofs.Common.{◌∙◌, sym, ap, subst, List, length, ◌<◌, ◌^◌}
 use Rattle.wot_component.specs.Certificate.{Component}
 use Rattle.wot_edge.specs.Record.{Entry}
-use Rattle.wot_network.specs.Told.{user_id_place}
+use Rattle.wot_network.specs.Records.{user_id_place}
 use Rattle.wot_network.proofs.Few.{user_ids_few}
 use Rattle.wot_network.proofs.LookupsAgree.{present, absent_cert}
 use Rattle.wot_network.proofs.roads.NetRoadsRoads.place.Goals as goal

@@ -2,9 +2,9 @@ use Rattle.std.proofs.Common.{◌≡◌, ◌∙◌, sym, ap, subst, List}
 use Rattle.wot_component.specs.Certificate.{Component}
 use Rattle.wot_edge.specs.declared.edge.EdgeFacts.{EdgeFacts}
 use Rattle.wot_edge.specs.Record.{Has, Row, rows_into}
-use Rattle.wot_network.specs.Net.{told_of}
+use Rattle.wot_network.specs.Net.{network_for}
 use Rattle.wot_network.specs.Roads.{present_of}
-use Rattle.wot_network.specs.Told.{is_in_scope}
+use Rattle.wot_network.specs.Records.{is_in_scope}
 use Rattle.std.proofs.lemmas.Result.{IfOk-weaker}
 use Rattle.wot_network.proofs.LookupsAgree.{scope_open, scope_some, scope_none}
 use Rattle.wot_network.proofs.roads.NetRoadsRoads.scope.Goals as goal
@@ -14,13 +14,13 @@ returns-in-Some c = record {
   scope = IfOk-weaker c.holds_for.result (λ holds. holds ≡ is_in_scope c.user_ids.result.now c.args.uid.now
       c.facts-facts.result)
       (λ holds. (row : Row) →
-      Has (rows_into (told_of (present_of c.args.self.now) c.args.uid.now) c.args.edge.now.target) row →
+      Has (rows_into (network_for (present_of c.args.self.now) c.args.uid.now) c.args.edge.now.target) row →
       row.edge ≡ c.args.edge.now → row.scope ≡ holds)
       (λ holds is row h e.
       scope_some c.args.self.now.network.now c.args.self.now.keyring.now c.args.self.now.right c.args.uid.now row
       c.facts-facts.result c.in-Some.cert.now
       (sym c.in-Some.ensures.found)
-      (subst (λ (f : EdgeFacts). Has (rows_into (told_of (present_of c.args.self.now) c.args.uid.now) f.target) row)
+      (subst (λ (f : EdgeFacts). Has (rows_into (network_for (present_of c.args.self.now) c.args.uid.now) f.target) row)
       (sym c.facts-facts.ensures.facts) h) (e ∙ sym c.facts-facts.ensures.facts)
       ∙ ap (λ (uids : List Component). is_in_scope uids c.args.uid.now c.facts-facts.result)
       (sym c.user_ids.ensures.user_ids)
@@ -34,7 +34,7 @@ returns-in-None c = record {
       absurd (scope_none c.args.self.now.network.now c.args.self.now.keyring.now c.args.self.now.right c.args.uid.now
       row c.facts-facts.result
       (sym c.in-None.ensures.found)
-      (subst (λ (f : EdgeFacts). Has (rows_into (told_of (present_of c.args.self.now) c.args.uid.now) f.target) row)
+      (subst (λ (f : EdgeFacts). Has (rows_into (network_for (present_of c.args.self.now) c.args.uid.now) f.target) row)
       (sym c.facts-facts.ensures.facts) h));
 }
 
@@ -43,6 +43,6 @@ returns-then-not-facts c = record {
   scope = λ row h e.
       scope_open c.args.self.now.network.now c.args.self.now.keyring.now c.args.self.now.right c.args.uid.now row
       c.facts-facts.result c.if-not-facts.true
-      (subst (λ (f : EdgeFacts). Has (rows_into (told_of (present_of c.args.self.now) c.args.uid.now) f.target) row)
+      (subst (λ (f : EdgeFacts). Has (rows_into (network_for (present_of c.args.self.now) c.args.uid.now) f.target) row)
       (sym c.facts-facts.ensures.facts) h) (e ∙ sym c.facts-facts.ensures.facts);
 }

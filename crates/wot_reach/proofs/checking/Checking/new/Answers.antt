@@ -11,9 +11,9 @@ returns c =
     let numbers = c.args.table.entries in
     let fprs = c.args.fprs.items in
     record {
-      checking = λ told roots. record {
-        onward = none_onward told (number_at c.of.result) c.of.result.onward c.of.ensures.onward;
-        enough = subst (λ (ns : List (Fpr × ℕ)). HaveEnoughBut told roots (number_of ns) fprs)
-            (sym c.of.ensures.numbers) (none_checked told roots numbers fprs c.requires.keys);
+      checking = λ network roots. record {
+        onward = none_onward network (number_at c.of.result) c.of.result.onward c.of.ensures.onward;
+        enough = subst (λ (ns : List (Fpr × ℕ)). HaveEnoughBut network roots (number_of ns) fprs)
+            (sym c.of.ensures.numbers) (none_checked network roots numbers fprs c.requires.keys);
       };
     }

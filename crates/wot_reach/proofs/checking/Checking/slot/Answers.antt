@@ -5,8 +5,8 @@ use Rattle.wot_reach.proofs.checking.Checking.slot.Goals as goal
 
 pub returns : goal.returns
 returns c = record {
-  checking = λ told roots is.
-      subst (λ (table : Table). IsChecking told roots
+  checking = λ network roots is.
+      subst (λ (table : Table). IsChecking network roots
       (record c.args.self { reach = table; slotted = c.saturating_add.result })) (sym c.add_slot.ensures.same)
       (record { onward = is.onward; enough = is.enough });
 }

@@ -12,7 +12,7 @@ returns c =
     let lt : next < length fprs = omega (arith, c.if-self-len.false) in
     let has = subst (Has fprs) (sym c.index.ensures) (has_at fprs next c.index.result.now lt) in
     record {
-      making = λ told roots.
+      making = λ network roots.
           rw c.in_ok-put.ensures.entries
           (keys_inserted fpr_cmp fprs c.args.self.table c.index.result.now c.unwrap_or-number.result c.requires.keys
           has);

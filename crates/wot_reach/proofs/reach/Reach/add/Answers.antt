@@ -5,5 +5,5 @@ use Rattle.wot_reach.proofs.reach.Reach.add.Goals as goal
 
 pub put_onward-requires-clause-onward : goal.put_onward-requires-clause-onward
 put_onward-requires-clause-onward g c =
-    subst (λ (table : Table). AreOnward (g.R.Roads.told c.args.roads.now) (number_at table) table.onward)
+    subst (λ (table : Table). AreOnward (g.R.Roads.network c.args.roads.now) (number_at table) table.onward)
     (sym c.self.view_is) c.requires.onward
