@@ -1,6 +1,6 @@
 //! The calls for an answer: plain, metered, and within a table of reach.
 //!
-//! They use `take` and on `specs/Agreed.antt`. All three return the one answer of `wot_edge/specs/Answer.antt`;
+//! They use `take` and `specs/Agreed.antt`. All three return the one answer of `wot_edge/specs/Answer.antt`;
 //! they differ in cost and in what they note.
 ghost use Rattle.std.specs.Prelude.{◌≡◌, ◌≤◌, ◌↔◌, [], length, true, Err, None, is_some, IfOk};
 ghost use Rattle.wot_types.specs.declared.fpr.Fpr.{Fpr as TheFpr};

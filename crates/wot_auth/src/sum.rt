@@ -1,6 +1,6 @@
 //! The sum of an answer without its last path.
 //!
-//! It uses `next_below` of `wot_search` and on `specs/Sum.antt`. Lists and cursors, which print sums only, ask it
+//! It uses `next_below` of `wot_search` and `specs/Sum.antt`. Lists and cursors, which print sums only, ask it
 //! for each binding.
 ghost use Rattle.std.specs.Prelude.{◌≤◌, length, IfOk};
 ghost use Rattle.wot_search.specs.Asked.{HasItsReach, question_of};

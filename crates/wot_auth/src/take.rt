@@ -1,6 +1,6 @@
 //! The loop that takes next paths until an answer is complete.
 //!
-//! It uses `next_offered` of `wot_search` and on `Used` of `wot_edge`. `ask` wraps it for each kind of call.
+//! It uses `next_offered` of `wot_search` and `Used` of `wot_edge`. `ask` wraps it for each kind of call.
 ghost use Rattle.std.specs.Prelude.{◌≡◌, ◌≤◌, length, IfOk};
 ghost use Rattle.wot_edge.specs.Record.{IsRecord};
 ghost use Rattle.wot_edge.specs.Answer.{IsAnswer, amount_of};

@@ -165,6 +165,14 @@ impl Engine {
     /// How confident one can be that a user ID belongs to a target, from an open view: the next paths until their sum
     /// reaches `wanted`, or until no valid path of positive amount is left. Before that the view's network is refreshed
     /// for stale certificates, and each edge made is counted in `steps`. Only the view's marks and kept answers change.
+    ///
+    /// Alice, the root with 120, certified Carol with 40 and made Bob an introducer with 80, and Bob certified Carol:
+    ///
+    /// ```text
+    /// let answer = engine.ask(&me, &carol, 120, b"Carol <carol@example.org>", &mut steps)?;
+    /// answer.sum == 120
+    /// answer.paths: Alice ─40─▶ Carol, then Alice ─80─▶ Bob ─120─▶ Carol (80)
+    /// ```
     pub fn ask(
         &mut self,
         view: &ViewName,

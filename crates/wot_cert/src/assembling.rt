@@ -1,6 +1,6 @@
 //! `assemble`: the packets of a text to certificates.
 //!
-//! It uses `draft` for the packets after each key, on `first_fault` for errors, and on `specs/Assembly.antt` (RFC
+//! It uses `draft` for the packets after each key, `first_fault` for errors, and `specs/Assembly.antt` (RFC
 //! 9580, section 10.1). Imports, loads and dumps are assembled here.
 ghost use Rattle.std.specs.Prelude.{◌≡◌, ◌<◌, ◌≤◌, ◌^◌, ◌+◌, ◌++◌, OnOk, IfOk, length, take, drop};
 ghost use Rattle.std.specs.List.{AllByRecursion};

@@ -1,6 +1,6 @@
 //! From a draft to the lists of a certificate: every signature gets its number, since the key is known now.
 //!
-//! It uses `draft` and on `specs/Drafting.antt`. `places` calls it for each kind of component.
+//! It uses `draft` and `specs/Drafting.antt`. `places` calls it for each kind of component.
 ghost use Rattle.std.specs.Prelude.{◌≡◌, ◌<◌, ◌^◌, ◌++◌, ◌∷◌, [], OnOk, IfOk, map, length};
 ghost use Rattle.std.specs.List.{AllByRecursion};
 ghost use Rattle.wot_component.specs.Certificate.{fresh};

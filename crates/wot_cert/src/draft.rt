@@ -1,7 +1,7 @@
 //! A certificate before its key is known: sorted sets of signature bodies. Packets are read from the last to the first,
 //! so that the signatures after a component are there when it comes.
 //!
-//! It uses std's maps and on `specs/Drafting.antt`. `assembling` fills it.
+//! It uses std's maps and `specs/Drafting.antt`. `assembling` fills it.
 ghost use Rattle.std.specs.Prelude.{◌≡◌, [], OnOk};
 ghost use Rattle.wot_packet.specs.Spelling.{spelled_of};
 ghost use Rattle.wot_component.specs.Ranked.{put, IsRising};

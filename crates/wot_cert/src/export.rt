@@ -1,6 +1,6 @@
 //! The text of a certificate, appended packet by packet.
 //!
-//! It uses `write_packet` and on `specs/Text.antt`. `export` replies, dumps and directory entries are written
+//! It uses `write_packet` and `specs/Text.antt`. `export` replies, dumps and directory entries are written
 //! here.
 ghost use Rattle.std.specs.Prelude.{◌≡◌, ◌≤◌, ◌++◌, OnOk, OnErr};
 ghost use Rattle.std.specs.List.{AllByRecursion};

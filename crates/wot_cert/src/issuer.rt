@@ -1,6 +1,6 @@
 //! Whose a signature is, and whether it counts.
 //!
-//! It uses `sig` and the verdicts, and on `specs/Issuer.antt`. Every rule about certifications, revocations and
+//! It uses `sig` and the verdicts, and `specs/Issuer.antt`. Every rule about certifications, revocations and
 //! self-signatures above starts with it.
 ghost use Rattle.std.specs.Prelude.{◌≡◌, true, false};
 ghost use Rattle.std.specs.Option.{option_map_or};

@@ -1,6 +1,6 @@
 //! Certificates: assembled from packets, merged, marked by the policy, written, and their spans in time.
 //!
-//! It uses `wot_component`, which has the lists of signatures and components, and on `wot_packet`, `wot_key` and
+//! It uses `wot_component`, which has the lists of signatures and components, and `wot_packet`, `wot_key` and
 //! `wot_policy`. `wot_keyring` keeps certificates, and `wot_standing` and `wot_live` read them.
 #![tactic(auto)]
 

@@ -1,6 +1,6 @@
 //! Everything in a certificate but its key: the signatures on the key, and the three lists of components.
 //!
-//! It uses `wot_component` and `complete`, and on `specs/Parts.antt`. `Cert` forwards its calls to it.
+//! It uses `wot_component` and `complete`, and `specs/Parts.antt`. `Cert` forwards its calls to it.
 ghost use Rattle.std.specs.Prelude.{◌<◌, ◌^◌, [], OnOk, length};
 ghost use Rattle.wot_cert.specs.Drafting.{IsWholeSketch, seen};
 ghost use Rattle.wot_cert.specs.Growing.{AreUnited, AsksForCert, PlacesFollow, PlacesRise, StillLeadsBack, TakesBack};

@@ -1,7 +1,7 @@
 //! Files of a directory, read and replaced. The system's calls have no contract: which paths are read, replaced and
 //! removed is proved here, and what is done with them is tested over the built program (`tests/suites/directory`).
 //!
-//! It uses std's files, on the places of `name` and on the conditions of `changing`. A change here changes what a
+//! It uses std's files, the places of `name` and the conditions of `changing`. A change here changes what a
 //! crash can leave in a user's directory.
 ghost use Rattle.std.specs.Prelude.{◌≡◌, Some, IfOk, IfSome, OnErr, OnOk, length, string_bytes};
 ghost use Rattle.wot_certd.specs.Errors.{IsMissing};

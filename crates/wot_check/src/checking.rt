@@ -1,6 +1,6 @@
 //! `check`: claimed paths and a table are right or not.
 //!
-//! It uses `show` for the paths and on `points` for the table, and on `specs/Absence.antt`. It looks at nothing
+//! It uses `show` for the paths and `points` for the table, and `specs/Absence.antt`. It looks at nothing
 //! but the network and the roots, so a reply to `check` doesn't depend on how a path was found.
 ghost use Rattle.std.specs.Prelude.{◌≡◌, ◌<◌, ◌^◌, length, IfOk};
 ghost use Rattle.wot_edge.specs.Path.{asks};
@@ -76,6 +76,14 @@ fn check_claims<R: Roads>(
 
 /// Checks claimed paths, and a table that proves absence after them. Only the network and the roots are looked at;
 /// nothing is searched.
+///
+/// ```text
+/// paths: Alice ─40─▶ Carol        table: Bob 1, Dave 2
+/// ```
+///
+/// A label is the least number of edges from a key to the target, as far as depth, scope and what is left go. The proof
+/// is accepted if the paths are valid and have their amounts, every edge that could still be used comes from a key with
+/// a label, and no root with a label has anything left.
 pub fn check<R: Roads>(
     alloc: Global,
     roads: &R,

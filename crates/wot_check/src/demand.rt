@@ -1,6 +1,6 @@
 //! Whether an edge may come at a place on a path: its demand, usability, scope and residual amount.
 //!
-//! It uses `wot_edge`, which tests demands, and on `specs/Demand.antt`. It shares nothing else with the search.
+//! It uses `wot_edge`, which tests demands, and `specs/Demand.antt`. It shares nothing else with the search.
 ghost use Rattle.std.specs.Prelude.{◌≡◌, ℕ, List, IfOk};
 ghost use Rattle.wot_edge.specs.Demand.{demand_of};
 ghost use Rattle.wot_edge.specs.Record.{EachRow, Has, edges_into};

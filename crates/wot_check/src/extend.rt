@@ -1,6 +1,6 @@
 //! One layer more of the least table: labels for the issuers of edges into the last layer.
 //!
-//! It uses `demand` and `growth`, and on `specs/Growth.antt`. `making` calls `advance` until no label is added.
+//! It uses `demand` and `growth`, and `specs/Growth.antt`. `making` calls `advance` until no label is added.
 ghost use Rattle.std.specs.Prelude.{◌<◌, ◌+◌, ℕ, List, OnOk};
 ghost use Rattle.wot_edge.specs.Record.{Has, edges_into};
 ghost use Rattle.wot_check.specs.Asked.{Asking, EachAsked};

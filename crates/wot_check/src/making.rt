@@ -1,6 +1,6 @@
 //! `absence`: the least table after the paths of an answer.
 //!
-//! It uses `extend` and `points`, and on `specs/Absence.antt`. Its table is the one that the reply to `absence`
+//! It uses `extend` and `points`, and `specs/Absence.antt`. Its table is the one that the reply to `absence`
 //! prints.
 ghost use Rattle.std.specs.Prelude.{◌≡◌, ◌↔◌, ◌<◌, ◌^◌, [], ◌∷◌, None, length, IfOk};
 ghost use Rattle.wot_edge.specs.Path.{asks, use_of};

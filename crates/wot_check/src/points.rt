@@ -1,6 +1,6 @@
 //! The three points that make a table a proof of absence, tested edge by edge.
 //!
-//! It uses `demand` and `table`, and on `specs/Absence.antt`. A wrong test here would accept a false proof; the
+//! It uses `demand` and `table`, and `specs/Absence.antt`. A wrong test here would accept a false proof; the
 //! contract of `excludes` rules that out.
 ghost use Rattle.std.specs.Prelude.{◌≡◌, ◌↔◌, ◌<◌, ◌+◌, ℕ, List, Option, true, IfOk};
 ghost use Rattle.wot_edge.specs.Record.{Has, Record, edges_into};

@@ -1,6 +1,6 @@
 //! From claims to paths: whether each claimed path is valid and has its residual amount.
 //!
-//! It uses `trace` for the steps and on `using` for what earlier paths use, and on `specs/Claim.antt`. `check`
+//! It uses `trace` for the steps and `using` for what earlier paths use, and `specs/Claim.antt`. `check`
 //! calls it first.
 ghost use Rattle.std.specs.Prelude.{◌≡◌, ◌↔◌, ◌<◌, ◌^◌, ℕ, List, true, length, IfOk};
 ghost use Rattle.wot_edge.specs.Path.{asks, Distinct, issuers};

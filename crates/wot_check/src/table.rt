@@ -1,6 +1,6 @@
 //! Tables of labels by fingerprint.
 //!
-//! They use std's map and on `specs/Table.antt`. `making` makes one, `wot_command` reads one from the fields of
+//! They use std's map and `specs/Table.antt`. `making` makes one, `wot_command` reads one from the fields of
 //! `check`, and `points` tests it.
 ghost use Rattle.std.specs.Prelude.{◌≡◌, ◌≤◌, [], OnOk, OnErr};
 ghost use Rattle.std.specs.BTreeMap.{insert_entry};

@@ -1,6 +1,6 @@
 //! From claimed steps to steps: the edge that each claimed step names, if that edge may come there.
 //!
-//! It uses `demand` and on `specs/Trace.antt`. `show` makes paths of the steps.
+//! It uses `demand` and `specs/Trace.antt`. `show` makes paths of the steps.
 ghost use Rattle.std.specs.Prelude.{◌≡◌, ◌≤◌, ◌<◌, length, IfOk, MatchOption};
 ghost use Rattle.wot_edge.specs.Record.{IsRecord};
 ghost use Rattle.wot_check.specs.Asked.{question_of, used_in};

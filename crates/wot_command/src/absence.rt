@@ -1,5 +1,5 @@
 //! The reply to `absence`: the paths of the answer, and the least table that proves that no path is left. It uses
-//! wot_cache for the parts and on wot_check for the table. `checking` has to accept what is printed here.
+//! wot_cache for the parts and wot_check for the table. `checking` has to accept what is printed here.
 ghost use Rattle.std.specs.Prelude.{◌≡◌, ◌≤◌, length, map, IfOk};
 ghost use Rattle.wot_edge.specs.Answer.{amount_of};
 ghost use Rattle.wot_cache.specs.Marks.{IsRefreshed};

@@ -1,5 +1,5 @@
 //! What each command that changes something does to the engine, and its reply: imports, removals, verdicts and views.
-//! It uses wot_cache's calls and on `Refused` of wot_plain for their errors.
+//! It uses wot_cache's calls and `Refused` of wot_plain for their errors.
 ghost use Rattle.std.specs.Prelude.{◌≡◌, ◌<◌, ◌-◌, ◌^◌, [], length, None, true, IfOk, OnErr};
 ghost use Rattle.wot_types.specs.Limits.{standard_limits};
 ghost use Rattle.wot_policy.specs.Kept.{rows_of};

@@ -1,5 +1,5 @@
 //! Replies with one line for each certificate or command: `keys`, `export` and `dump`. It uses the iterators of
-//! wot_keyring and on `Engine::dump`.
+//! wot_keyring and `Engine::dump`.
 ghost use Rattle.std.specs.Prelude.{◌≡◌, ◌≤◌, map, IfOk, OnOk};
 ghost use Rattle.std.specs.List.{AllByRecursion};
 ghost use Rattle.std.specs.Option.{option_copied};

@@ -1,5 +1,5 @@
 //! The reply to `load NAME`: an entry of the certificate directory is read and merged with what is held. It uses
-//! wot_certd for the entry and on `Keyring::load` for the rest.
+//! wot_certd for the entry and `Keyring::load` for the rest.
 ghost use Rattle.std.specs.Prelude.{◌≡◌, ◌≤◌, ◌<◌, ◌^◌, length, true, IfOk, OnErr};
 ghost use Rattle.wot_policy.specs.Kept.{rows_of};
 ghost use Rattle.wot_script.specs.Replies.{is_short};

@@ -1,5 +1,5 @@
 //! The reply to `store FPR`: a kept certificate is merged with its entry of the certificate directory, and written
-//! back. The keyring doesn't change. It uses wot_certd, and on wot_stored for what is written.
+//! back. The keyring doesn't change. It uses wot_certd, and wot_stored for what is written.
 ghost use Rattle.std.specs.Prelude.{◌≡◌, ◌≤◌, None, Some, true, IfOk, OnErr};
 ghost use Rattle.wot_policy.specs.declared.rows.PolicyRows.{PolicyRows};
 ghost use Rattle.wot_keyring_spec.specs.Held.{cert_in};

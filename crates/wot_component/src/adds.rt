@@ -1,6 +1,6 @@
 //! What a merge of lists would add, without merging: how many components, signatures and octets.
 //!
-//! It uses the order of both lists and on `specs/Sizes.antt`. `wot_cert` adds it up for a certificate; the program
+//! It uses the order of both lists and `specs/Sizes.antt`. `wot_cert` adds it up for a certificate; the program
 //! itself learns from the log of a merge what it added.
 ghost use Rattle.std.specs.Prelude.{◌<◌, ◌^◌, ◌+◌};
 ghost use Rattle.std.specs.List.{AllByRecursion};

@@ -1,6 +1,6 @@
 //! Asking the policy about new signatures: one question for each signature that the old certificate doesn't have.
 //!
-//! It uses `sig` and on `specs/New.antt` and `specs/Judged.antt`. `Cert::merge` calls it after both are merged,
+//! It uses `sig` and `specs/New.antt` and `specs/Judged.antt`. `Cert::merge` calls it after both are merged,
 //! and `Cert::judge` for a certificate that is kept as it was read.
 ghost use Rattle.std.specs.Prelude.{◌≡◌};
 ghost use Rattle.wot_policy.specs.Kept.{IsFaithful, rows_of};

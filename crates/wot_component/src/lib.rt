@@ -1,6 +1,6 @@
 //! Signatures and components of certificates, and sorted lists of both: merged, marked, counted and weighed.
 //!
-//! It uses `wot_kept_signature` for a signature by itself, and on `wot_packet`, `wot_verdict` and `wot_policy`.
+//! It uses `wot_kept_signature` for a signature by itself, and `wot_packet`, `wot_verdict` and `wot_policy`.
 //! `wot_cert` makes certificates of these lists, and hands on the public types.
 #![tactic(auto)]
 

@@ -1,6 +1,6 @@
 //! The totals of a certificate: octets, components and signatures, counted up to `u64::MAX`.
 //!
-//! It uses `sizes` and on `specs/Totals.antt`. Limits of `wot_keyring` are compared with them.
+//! It uses `sizes` and `specs/Totals.antt`. Limits of `wot_keyring` are compared with them.
 ghost use Rattle.std.specs.Prelude.{◌<◌, ◌^◌, [], length};
 ghost use Rattle.std.specs.List.{AllByRecursion};
 ghost use Rattle.wot_component.specs.Fitting.{SigFits, PartFits};

@@ -1,6 +1,6 @@
 //! A component of a certificate: a user ID, a user attribute or a subkey, with the signatures on it.
 //!
-//! It uses `sig`, and on `specs/Certificate.antt`. `places` keeps three sorted lists of them.
+//! It uses `sig`, and `specs/Certificate.antt`. `places` keeps three sorted lists of them.
 ghost use Rattle.std.specs.Prelude.{◌≡◌, ◌<◌, OnOk, OnErr, IfOk, [], ◌∷◌, ◌++◌, map};
 ghost use Rattle.wot_component.specs.Asking.{Asks};
 ghost use Rattle.wot_component.specs.Certificate.{sig_cmp, part_cmp, part_with, unite_part, unite_parts};

@@ -1,6 +1,6 @@
 //! Undoing a merge in place. Nothing here takes memory, so it can't fail.
 //!
-//! It uses `growth` and on `specs/Growing.antt`. `wot_keyring` calls it, through `Cert::shrink`, if a later part
+//! It uses `growth` and `specs/Growing.antt`. `wot_keyring` calls it, through `Cert::shrink`, if a later part
 //! of an import fails.
 ghost use Rattle.std.specs.Prelude.{◌≡◌};
 ghost use Rattle.std.specs.List.{remove};

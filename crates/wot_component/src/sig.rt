@@ -1,6 +1,6 @@
 //! Signatures as a list has them: in order, copied with their marks or without, marked by a policy, and merged.
 //!
-//! It uses `Sig` of `wot_kept_signature`, on `wot_policy`, and on `specs/Certificate.antt`, `specs/Copied.antt`
+//! It uses `Sig` of `wot_kept_signature`, `wot_policy`, and `specs/Certificate.antt`, `specs/Copied.antt`
 //! and `specs/Judged.antt`.
 ghost use Rattle.std.specs.Prelude.{◌≡◌, OnOk, IfOk, [], ◌∷◌, ◌++◌, map, if◌then◌else◌};
 ghost use Rattle.wot_component.specs.Certificate.{kept, sig_cmp, unite_sigs};

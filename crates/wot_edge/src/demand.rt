@@ -1,7 +1,7 @@
 //! What is demanded of an edge by its place on a path: the wanted user ID, or a depth and another issuer than the
 //! target.
 //!
-//! It uses `roads` and on `specs/Demand.antt`. Usability and scopes are asked for in `wot_search` and `wot_check`,
+//! It uses `roads` and `specs/Demand.antt`. Usability and scopes are asked for in `wot_search` and `wot_check`,
 //! which both use these tests.
 ghost use Rattle.std.specs.Prelude.{◌≡◌, ◌↔◌, true};
 ghost use Rattle.wot_types.specs.Fpr.{same_fpr};

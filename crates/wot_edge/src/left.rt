@@ -1,6 +1,6 @@
 //! Residual amounts: what is left of an edge after what earlier paths use.
 //!
-//! It uses `used` and on `specs/Path.antt`. `wot_search` and `wot_check` compare with them.
+//! It uses `used` and `specs/Path.antt`. `wot_search` and `wot_check` compare with them.
 ghost use Rattle.std.specs.Prelude.{◌≡◌, ◌-◌};
 ghost use Rattle.wot_edge.specs.Path.{step_left, step_of};
 ghost use Rattle.wot_edge.specs.Sums.{use_in};

@@ -1,6 +1,6 @@
 //! Maps keyed by fingerprints, in the order of `wot_types`.
 //!
-//! They use std's map and on `specs/Sums.antt`. `used` keeps the sums of roots in one, and `roots` and `plain`
+//! They use std's map and `specs/Sums.antt`. `used` keeps the sums of roots in one, and `roots` and `plain`
 //! their entries.
 ghost use Rattle.std.specs.Prelude.{◌≡◌, ◌+◌, ◌<◌, ◌^◌, OnOk, OnErr, IsSome, Some, None};
 ghost use Rattle.std.specs.BTreeMap.{insert_entry, is_at};

@@ -1,7 +1,7 @@
 //! What a path uses of its pairs of issuer and target: its amount once for each pair, however many of its steps are of
 //! it.
 //!
-//! It uses `sums` and on `specs/Sums.antt`. `Used::add` calls it.
+//! It uses `sums` and `specs/Sums.antt`. `Used::add` calls it.
 ghost use Rattle.std.specs.Prelude.{◌≡◌, ◌+◌, ◌<◌, ◌^◌, OnOk};
 ghost use Rattle.std.specs.List.{list_any};
 ghost use Rattle.wot_types.specs.Fpr.{same_fpr};

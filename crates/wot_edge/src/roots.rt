@@ -1,6 +1,6 @@
 //! The trust roots and their amounts.
 //!
-//! It uses std's map and on `specs/Roots.antt`. Each view of `wot_cache` has its own; paths begin at them.
+//! It uses std's map and `specs/Roots.antt`. Each view of `wot_cache` has its own; paths begin at them.
 ghost use Rattle.std.specs.Prelude.{◌≡◌, ◌<◌, [], length, OnOk, OnErr, if◌then◌else◌, Ok};
 ghost use Rattle.std.specs.BTreeMap.{insert_entry, is_at};
 ghost use Rattle.std.specs.Map.{remove_entry};

@@ -1,6 +1,6 @@
 //! What the paths of an answer use of each pair and each root, so that later paths get only what is left.
 //!
-//! It uses `pairs` and `maps`, and on `specs/Path.antt`. `wot_auth` adds each path to it before it asks for the
+//! It uses `pairs` and `maps`, and `specs/Path.antt`. `wot_auth` adds each path to it before it asks for the
 //! next.
 ghost use Rattle.std.specs.Prelude.{◌≡◌, ◌<◌, ◌+◌, ◌^◌, OnOk, OnErr};
 ghost use Rattle.wot_types.specs.declared.fpr.Fpr.{Fpr as TheFpr};

@@ -1,6 +1,6 @@
 //! A run: the lines of a source are answered by one machine, and their replies are written to a sink.
 //!
-//! It uses the reader of lines of `wot_io` and on `Machine::line` and `Machine::tell`. Replies are buffered until
+//! It uses the reader of lines of `wot_io` and `Machine::line` and `Machine::tell`. Replies are buffered until
 //! more input would be read. `run_words` hands its clauses on (`specs/RunDoes.antt`, `specs/Ended.antt`).
 ghost use Rattle.std.specs.Prelude.{◌≡◌, ◌≢◌, ◌<◌, ◌≤◌, ◌+◌, [], length};
 ghost use Rattle.std.specs.Prelude.{IfSome, OnErr, OnOk, IsErrOf, None, vec_items};

@@ -1,5 +1,5 @@
 //! Which bindings are authenticated to an amount, and why a certification is or isn't a usable edge. It uses
-//! wot_network and wot_search for the list, and on wot_standing for the reasons. wot_machine prints what it returns as
+//! wot_network and wot_search for the list, and wot_standing for the reasons. wot_machine prints what it returns as
 //! the replies to `list` and `explain`, and as the pieces of cursors.
 #![tactic(auto)]
 

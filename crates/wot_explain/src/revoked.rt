@@ -1,5 +1,5 @@
 //! Whether an issuer revoked a certification: the rule about revocations that `words` uses. It uses the tests of
-//! one signature in wot_standing, and on `is_unrevoked` of `wot_cert/specs/Revoked.antt`, which the rule for edges in
+//! one signature in wot_standing, and `is_unrevoked` of `wot_cert/specs/Revoked.antt`, which the rule for edges in
 //! wot_standing uses too.
 ghost use Rattle.std.specs.Prelude.{◌≡◌, ◌||◌, not, nat_lt};
 ghost use Rattle.std.specs.List.{list_all};

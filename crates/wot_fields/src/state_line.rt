@@ -1,6 +1,6 @@
 //! The lines that set what is held and from what is asked: `import`, `verdict` and `view`.
 //!
-//! It uses `piece`, `fields` and `decimal`, and on `specs/StateLine.antt`. A dump is printed of these lines by
+//! It uses `piece`, `fields` and `decimal`, and `specs/StateLine.antt`. A dump is printed of these lines by
 //! wot_keyring and wot_cache, and wot_script reads and prints its commands of these words through this file.
 ghost use Rattle.std.specs.Prelude.{◌≡◌, ◌++◌, IfOk, OnOk, OnErr};
 ghost use Rattle.std.specs.Option.{option_map};

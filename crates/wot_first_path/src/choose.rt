@@ -1,6 +1,6 @@
 //! Which root of the last layer a path is taken from.
 //!
-//! It uses `reached` and on `specs/Choice.antt`. `turn` makes the path from the chosen root.
+//! It uses `reached` and `specs/Choice.antt`. `first_of_layer` makes the path from the chosen root.
 ghost use Rattle.std.specs.Prelude.{◌≡◌, ℕ, List, None, Option};
 ghost use Rattle.wot_edge.specs.Record.{Record};
 ghost use Rattle.wot_first_path.specs.Quest.{quest_of};

@@ -1,6 +1,6 @@
 //! The steps of a suffix, collected from one node to the next.
 //!
-//! It uses `reached`. `turn` turns what a search found into paths with it.
+//! It uses `reached`. `first_of_layer` makes paths of what a search found with it.
 ghost use Rattle.std.specs.Prelude.{IfOk};
 ghost use Rattle.wot_first_path.specs.Growth.{IsFoundFrom};
 ghost use Rattle.wot_first_path.specs.Reached.{look};

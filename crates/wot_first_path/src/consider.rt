@@ -1,6 +1,6 @@
 //! One edge in the search: whether it may come before a suffix, and whether it is kept for its issuer.
 //!
-//! It uses `demand` and `reached`, and on `specs/Growth.antt`. `extend` calls it for each edge, so most of a
+//! It uses `demand` and `reached`, and `specs/Growth.antt`. `extend` calls it for each edge, so most of a
 //! search's time is spent here.
 ghost use Rattle.std.specs.Prelude.{◌≡◌, ◌<◌, ℕ, List, true, IfOk, OnOk};
 ghost use Rattle.wot_edge.specs.Demand.{demand_of};

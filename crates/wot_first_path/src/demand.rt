@@ -1,6 +1,6 @@
 //! What the search demands of an edge, and which of two suffixes it keeps.
 //!
-//! It uses `wot_edge`, where the rules of depth and user ID are, on `wot_reach`, and on `specs/Demand.antt`.
+//! It uses `wot_edge`, where the rules of depth and user ID are, `wot_reach`, and `specs/Demand.antt`.
 //! Usability and scopes are in `consider`.
 ghost use Rattle.std.specs.Prelude.{◌≡◌, ◌<◌, ℕ, List, nat_le, nat_lt};
 ghost use Rattle.wot_edge.specs.Demand.{demand_of};

@@ -1,6 +1,6 @@
 //! The edges into one fingerprint of a layer, considered one after another.
 //!
-//! It uses `consider`, and on `wot_reach` for the edges that lead on. `grow` calls it for each fingerprint.
+//! It uses `consider`, and `wot_reach` for the edges that lead on. `grow` calls it for each fingerprint.
 ghost use Rattle.std.specs.Prelude.{◌≡◌, ◌<◌, ℕ, List, OnOk};
 ghost use Rattle.wot_edge.specs.Record.{IsRecord};
 ghost use Rattle.wot_reach.specs.Onward.{AreAllUsableIf, AreUsableIf, LeadsOnInto, MatterBefore};

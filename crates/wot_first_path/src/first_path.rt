@@ -1,6 +1,6 @@
 //! The first path: layer after layer from the target, up to the first layer with a root.
 //!
-//! It uses `grow` and `turn`, and on `specs/Growth.antt`. `wot_search` runs it twice, first for the greatest
+//! It uses `grow` and `first_of_layer`, and `specs/Growth.antt`. `wot_search` runs it twice, first for the greatest
 //! amount and then for the least list.
 ghost use Rattle.std.specs.Prelude.{◌≡◌, ℕ, List, [], ◌∷◌, IfOk};
 ghost use Rattle.wot_edge.specs.Leads.{Leads};

@@ -1,6 +1,6 @@
 //! One layer more: the edges into every fingerprint of the last layer.
 //!
-//! It uses `extend` and on `specs/Growth.antt`. `first_path` calls it until it finds a root,
+//! It uses `extend` and `specs/Growth.antt`. `first_path` calls it until it finds a root,
 //! and `wot_search` for a number of layers.
 ghost use Rattle.std.specs.Prelude.{◌<◌, ℕ, List, OnOk};
 ghost use Rattle.wot_edge.specs.Record.{IsRecord};

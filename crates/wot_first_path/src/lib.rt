@@ -1,6 +1,6 @@
 //! One search: backwards from the target, in layers of shortest suffixes, up to the first layer with a root.
 //!
-//! It uses `wot_edge` and on the tables of `wot_reach`. `wot_search` makes next paths of such searches, and hands
+//! It uses `wot_edge` and the tables of `wot_reach`. `wot_search` makes next paths of such searches, and hands
 //! on what is noted of them. `docs/SEARCH.md` explains how it works.
 #![tactic(auto)]
 

@@ -1,5 +1,5 @@
 //! The generated script: a workload that anyone can reproduce, from a start and a count. It uses wot_random for
-//! certificates and on wot_script for lines. wot_engine runs it for `wot_cli`'s generating form. The text is fixed for
+//! certificates and wot_script for lines. wot_engine runs it for `wot_cli`'s generating form. The text is fixed for
 //! each start and count: any change shows in its digest.
 #![tactic(auto)]
 

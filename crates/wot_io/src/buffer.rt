@@ -1,4 +1,4 @@
-//! The octets that were read and aren't part of a line yet, and the current line. `fill` appends to it, `pass` and
+//! The octets that were read and aren't part of a line yet, and the current line. `fill` appends to it, `skip_long` and
 //! `Lines::next` take from it. The longest line is set here; `docs/PROTOCOL.md` states that limit.
 ghost use Rattle.std.specs.Prelude.{◌≡◌, ◌+◌, ◌<◌, ◌≤◌, [], ◌++◌, length, take, drop, IfOk};
 

@@ -1,6 +1,6 @@
 //! The facts of a signature in its octets: what octets they are, and how they are read again.
 //!
-//! It uses `read_signature`, on `octets` and `issuer_place`, and on `specs/KeptFacts.antt`. `single_facts` reads
+//! It uses `read_signature`, `octets` and `issuer_place`, and `specs/KeptFacts.antt`. `single_facts` reads
 //! one fact without the others. A keyring may hold a million signatures, so most of them keep 10 octets of facts: what
 //! stands at a known place in the body isn't kept again.
 ghost use Rattle.std.specs.Prelude.{◌≡◌, ◌≤◌, ◌<◌, ◌+◌, length};

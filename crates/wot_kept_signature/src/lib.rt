@@ -1,7 +1,7 @@
 //! A signature as it is kept in a certificate: its body, its number, what it says, and the policy's mark, in one piece
 //! of memory.
 //!
-//! It uses `wot_signature`, which reads what a body says, and on `wot_verdict` for the number. `wot_component` has
+//! It uses `wot_signature`, which reads what a body says, and `wot_verdict` for the number. `wot_component` has
 //! sorted lists of these signatures.
 #![tactic(auto)]
 

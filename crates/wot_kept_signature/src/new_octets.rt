@@ -1,6 +1,6 @@
 //! The octets of a new signature.
 //!
-//! It uses `read_signature`, on `issuer_place` and `shape`, and on `specs/KeptFacts.antt`. `kept_facts` reads what
+//! It uses `read_signature`, `issuer_place` and `shape`, and `specs/KeptFacts.antt`. `kept_facts` reads what
 //! is written here.
 ghost use Rattle.std.specs.Prelude.{◌≡◌, ◌<◌, ◌≤◌, ◌^◌, ◌+◌, ◌++◌, IfOk, Some, true, length};
 ghost use Rattle.wot_signature.specs.Signature.{facts_of};

@@ -1,6 +1,6 @@
 //! The octets of a signature: its mark, the shape of its facts, the facts, its number and its body.
 //!
-//! It uses `shape` and on `specs/KeptOctets.antt`. `new_octets` makes them, and `kept_facts` reads the facts. The
+//! It uses `shape` and `specs/KeptOctets.antt`. `new_octets` makes them, and `kept_facts` reads the facts. The
 //! mark comes first, so that the rest is as it was when the mark is set.
 ghost use Rattle.std.specs.Prelude.{◌≡◌, ◌≤◌, ◌+◌, ◌==◌, drop, set, length, slice_index, vec_len};
 ghost use Rattle.wot_kept_signature.specs.KeptFacts.{flag};

@@ -1,6 +1,6 @@
 //! A signature of a certificate: its body, its number, what it says, and the policy's mark.
 //!
-//! It uses `octets`, `new_octets`, `kept_facts` and `single_facts`, and on `specs/Signature.antt` and
+//! It uses `octets`, `new_octets`, `kept_facts` and `single_facts`, and `specs/Signature.antt` and
 //! `specs/KeptFacts.antt`.
 ghost use Rattle.std.specs.Prelude.{◌≡◌, ◌<◌, ◌^◌, IfOk, false, length};
 ghost use Rattle.std.specs.Option.{option_map, option_map_or};

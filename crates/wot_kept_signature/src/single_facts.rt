@@ -1,6 +1,6 @@
 //! Single facts of a signature in its octets.
 //!
-//! It uses `kept_facts`, which reads all of them, and on `specs/SingleFacts.antt`. A question asks each signature
+//! It uses `kept_facts`, which reads all of them, and `specs/SingleFacts.antt`. A question asks each signature
 //! for one fact after another, and shouldn't copy all of them each time.
 ghost use Rattle.std.specs.Prelude.{◌≡◌, ◌≤◌, false, length};
 ghost use Rattle.std.specs.Option.{option_map, option_map_or};

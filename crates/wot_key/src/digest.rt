@@ -1,6 +1,6 @@
 //! Fingerprints and key IDs (RFC 9580, sections 5.5.4.2 and 5.5.4.3).
 //!
-//! It uses the contracts of `sha1` and `sha2` and on `specs/Key.antt`. Certificates are kept by the fingerprint
+//! It uses the contracts of `sha1` and `sha2` and `specs/Key.antt`. Certificates are kept by the fingerprint
 //! that is made here.
 ghost use Rattle.std.specs.Prelude.{◌≡◌, ◌≤◌, ◌<◌, ◌^◌, drop, take, length};
 ghost use Rattle.wot_key.specs.Key.{fingerprint_of, key_id_of, v4_digest, v6_digest};

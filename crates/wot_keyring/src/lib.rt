@@ -1,5 +1,5 @@
 //! The keyring: certificates by fingerprint, verdicts by signature number, limits, stamps, and the dump. It uses
-//! its three rooms, wot_keyring_spec, wot_index and wot_merge, and on the lines of wot_fields for the dump. wot_network
+//! its three rooms, wot_keyring_spec, wot_index and wot_merge, and the lines of wot_fields for the dump. wot_network
 //! reads certificates and stamps, and wot_cache owns the keyring, so a changed contract of `Keyring` reaches both.
 #![tactic(auto)]
 

@@ -1,6 +1,6 @@
 //! The merge of an accepted import: all certificates are merged with the kept ones, their signatures are noted in the
 //! index, and the change is logged. A certificate that comes alone and is new is kept itself, so nothing of it is
-//! copied. It uses wot_merge, whose log of steps undoes the merge if memory runs out, and on wot_index.
+//! copied. It uses wot_merge, whose log of steps undoes the merge if memory runs out, and wot_index.
 //! `Keyring::accept` calls it.
 ghost use Rattle.std.specs.Prelude.{◌≡◌, ◌≤◌, ◌+◌, ◌∷◌, [], None, IfOk, IfNone, OnOk, OnErr};
 ghost use Rattle.std.specs.Option.{IfSome};

@@ -1,6 +1,6 @@
 //! Reads a line as a command, and runs it by its class, in wot_command, wot_cursor_commands or wot_watch_commands. A
-//! further class needs an arm of `act`. Both functions work on the parts of a machine, whose invariant need not hold
-//! meanwhile.
+//! further class needs an arm of `run_class`. Both functions work on the parts of a machine, whose invariant need not
+//! hold meanwhile.
 ghost use Rattle.std.specs.Prelude.{◌≡◌, ◌≤◌, length, false, true, IfOk, OnOk, OnErr, is_ok};
 ghost use Rattle.wot_policy.specs.declared.rows.PolicyRows.{PolicyRows};
 ghost use Rattle.wot_policy.specs.Kept.{rows_of};

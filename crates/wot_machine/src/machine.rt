@@ -2,8 +2,8 @@
 //! certificate directory, and its reply is printed. `tell` then prints the watch lines.
 //! `specs/Outcome.antt` and `specs/LineStep.antt` of wot_plain define the outcome of each command. A further command of
 //! a class gets its arm where the class is run, in wot_command, wot_cursor_commands or wot_watch_commands. A further
-//! class needs an arm of `act` in `dispatch`, and `goes_on` in `counts` says whether watches are still up to date after
-//! it.
+//! class needs an arm of `run_class` in `dispatch`, and `goes_on` in `counts` says whether watches are still up to date
+//! after it.
 ghost use Rattle.std.specs.Prelude.{◌≡◌, ◌≤◌, ◌+◌, [], ◌++◌};
 ghost use Rattle.std.specs.Prelude.{vec_items, vec_len, vec_capacity};
 ghost use Rattle.std.specs.Prelude.{Some, None, false, true, IfOk, IfSome, IsOk, OnOk, OnErr};
@@ -102,6 +102,13 @@ impl Machine {
     /// machine except for marks and the count of made edges; an entry that a `store` line writes may be there already.
     /// Room for 128 octets is reserved in `out` before anything changes. A `load` line makes one call to the
     /// certificate directory, a `store` line at most two, and any other line none.
+    ///
+    /// ```text
+    /// view me time 1764547200               ok
+    /// view me root FPR 120                  ok
+    /// ask me FPR 120 Bob <bob@example.org>  amount 80 paths 1, and lines with the path
+    /// view you close                        refused view (it isn't open; nothing changed)
+    /// ```
     #[tactic(auto, using(crate::proofs::Unchanged::unchanged))]
     pub fn line<D: Shelf, F: Fn(Ask) -> bool>(
         &mut self,

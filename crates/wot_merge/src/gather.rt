@@ -1,6 +1,6 @@
 //! Merges the certificates of one import that have the same key, before they reach the keyring. A kept certificate is
 //! then merged once, however often its key occurs in the input. The list is split in halves, so that each certificate
-//! is visited a logarithmic number of times. `Keyring::take` uses this, and on the law that the order doesn't
+//! is visited a logarithmic number of times. `Keyring::take` uses this, and the law that the order doesn't
 //! matter.
 ghost use Rattle.std.specs.Prelude.{◌≡◌, ◌++◌, ◌∷◌, [], None, true, IfOk, IfNone, OnOk};
 ghost use Rattle.std.specs.BTreeMap.{insert_entry};

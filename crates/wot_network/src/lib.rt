@@ -1,5 +1,5 @@
 //! The certification network of a keyring at a time: the edges into each certificate, kept between questions. It uses
-//! wot_live for the edges of one certificate and on the stamps of wot_keyring to know which are stale. wot_cache
+//! wot_live for the edges of one certificate and the stamps of wot_keyring to know which are stale. wot_cache
 //! keeps one network for each view, and wot_search walks over it through `NetRoads`.
 #![tactic(auto)]
 

@@ -1,6 +1,6 @@
 //! `read_packets`: a text as a list of packets, or its first fault.
 //!
-//! It uses `header` and on the definitions of what a text spells (`specs/Spelling.antt`). Imports, loads and dumps
+//! It uses `header` and the definitions of what a text spells (`specs/Spelling.antt`). Imports, loads and dumps
 //! read certificates through it.
 ghost use Rattle.std.specs.Prelude.{◌≡◌, ◌<◌, ◌≤◌, ◌*◌, ◌^◌, List, length, IfOk, IfErr};
 ghost use Rattle.std.specs.List.{All};

@@ -1,6 +1,6 @@
 //! The matcher's second pass at a position: which atoms take the character there.
 //!
-//! It uses `leaf` and `stack`, and on `specs/Passes.antt`. `matcher` calls it after `closure`.
+//! It uses `leaf` and `stack`, and `specs/Passes.antt`. `matcher` calls it after `closure`.
 ghost use Rattle.std.specs.Prelude.{◌≡◌, ◌+◌, ◌<◌, ◌≤◌, [], ◌∷◌, true, length, max, reverse, vec_len, vec_capacity};
 ghost use Rattle.wot_pattern.specs.Nodes.{token_of, tokens_of};
 ghost use Rattle.wot_pattern.specs.Passes.{advanced_one, advanced};

@@ -1,6 +1,6 @@
 //! Builds the nodes of an expression while it is read, one piece after another, with a level for each open parenthesis.
 //!
-//! It uses `node` and on `specs/Steps.antt`. `parser` calls it; the limit on nesting is set here.
+//! It uses `node` and `specs/Steps.antt`. `parser` calls it; the limit on nesting is set here.
 ghost use Rattle.std.specs.Prelude.{◌≡◌, [], IfErr, IfOk, OnOk};
 ghost use Rattle.wot_pattern.specs.Reading.{Reading, single};
 ghost use Rattle.wot_pattern.specs.Nodes.{atom_of};

@@ -1,6 +1,6 @@
 //! The matcher's first pass at a position: which matches of each part end there.
 //!
-//! It uses `flow`, `leaf` and `stack`, and on `specs/Passes.antt`. `matcher` calls it before `advance`.
+//! It uses `flow`, `leaf` and `stack`, and `specs/Passes.antt`. `matcher` calls it before `advance`.
 ghost use Rattle.std.specs.Prelude.{◌≡◌, ◌+◌, ◌<◌, ◌≤◌, true, [], ◌∷◌, length, reverse, vec_len, vec_capacity};
 ghost use Rattle.wot_pattern.specs.Nodes.{token_of, tokens_of};
 ghost use Rattle.wot_pattern.specs.Passes.{settled_one, settled, top};

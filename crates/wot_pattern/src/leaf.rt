@@ -1,6 +1,6 @@
 //! Single atoms: which characters they take, and where they match nothing at all.
 //!
-//! It uses `item` and on `specs/Meaning.antt`. Both passes of the matcher use it.
+//! It uses `item` and `specs/Meaning.antt`. Both passes of the matcher use it.
 ghost use Rattle.std.specs.Prelude.{◌≡◌};
 ghost use Rattle.wot_pattern.specs.Nodes.{atom_of};
 ghost use Rattle.wot_pattern.specs.MeaningTest.{in_items, takes};

@@ -1,6 +1,6 @@
 //! `Matcher`: whether an expression matches a text, in one walk along the text without backtracking.
 //!
-//! It uses `closure` and `advance`, and on `specs/Meaning.antt`. `wot_scope` makes one for each regular expression
+//! It uses `closure` and `advance`, and `specs/Meaning.antt`. `wot_scope` makes one for each regular expression
 //! and user ID.
 ghost use Rattle.std.specs.Prelude.{◌≡◌, ◌+◌, ◌≤◌, ◌↔◌, IsTrue, IfOk, length, vec_capacity};
 ghost use Rattle.std.specs.Str.{chars};

@@ -1,6 +1,6 @@
 //! `parse`: a text to a parsed expression (RFC 9580, section 8).
 //!
-//! It uses `mark`, `range` and `builder`, and on `specs/Grammar.antt`. The limit on length is set here; a change
+//! It uses `mark`, `range` and `builder`, and `specs/Grammar.antt`. The limit on length is set here; a change
 //! of the grammar changes which scopes match, and `docs/PROFILE.md`.
 ghost use Rattle.std.specs.Prelude.{◌≡◌, ℕ, ◌+◌, ◌<◌, ◌≤◌, List, [], length, IfOk, IfErr};
 ghost use Rattle.std.specs.Str.{chars};

@@ -1,6 +1,6 @@
 //! Reads bracket expressions: their items, a dash, and the negating caret.
 //!
-//! It uses `item` and on `specs/Grammar.antt`. `parser` calls `read_range` at each opening bracket.
+//! It uses `item` and `specs/Grammar.antt`. `parser` calls `read_range` at each opening bracket.
 ghost use Rattle.std.specs.Prelude.{◌≡◌, ℕ, ◌+◌, ◌<◌, ◌≤◌, List, Some, None, length, drop, IfOk, IfErr, IfSome, IsNone};
 ghost use Rattle.wot_pattern.specs.Reading.{Atom};
 ghost use Rattle.wot_pattern.specs.Nodes.{atom_of};

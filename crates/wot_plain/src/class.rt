@@ -1,6 +1,6 @@
-//! Commands by what they may do. `sort` gives each command a class, and the types of the classes say what every command
-//! of a class can change. `specs/Classes.antt` defines the classes; wot_command, wot_cursor_commands and
-//! wot_watch_commands run them. A new command is a variant here, an arm of `sort` and a case of `class_of`.
+//! Commands by what they may do. `classify` gives each command a class, and the types of the classes say what every
+//! command of a class can change. `specs/Classes.antt` defines the classes; wot_command, wot_cursor_commands and
+//! wot_watch_commands run them. A new command is a variant here, an arm of `classify` and a case of `class_of`.
 ghost use Rattle.std.specs.Prelude.{◌≡◌};
 ghost use Rattle.wot_script.specs.Spelling.{HasSpelling, FitsLine};
 ghost use Rattle.wot_plain.specs.Classes.{IsFit, IsSmall, class_of};

@@ -1,6 +1,6 @@
 //! A policy: a closure that says which signatures count, and how often it was asked.
 //!
-//! It uses `rows` and on `specs/Kept.antt`. `wot_cert` asks it once about each new well-formed signature, so
+//! It uses `rows` and `specs/Kept.antt`. `wot_cert` asks it once about each new well-formed signature, so
 //! a change here proves everything that imports again.
 ghost use Rattle.std.specs.Prelude.{◌≡◌};
 ghost use Rattle.wot_policy.specs.Admits.{admits};

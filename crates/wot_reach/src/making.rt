@@ -1,6 +1,6 @@
 //! A table of reach, made in steps, so that many questions share its cost.
 //!
-//! It uses `reaching`, which finds the numbers, and on `checking`, which checks them. `wot_answers` takes some
+//! It uses `reaching`, which finds the numbers, and `checking`, which checks them. `wot_answers` takes some
 //! steps with each question to a view.
 ghost use Rattle.std.specs.Prelude.{ℕ, List, IfOk};
 ghost use Rattle.wot_types.specs.declared.fpr.Fpr.{Fpr as Print};

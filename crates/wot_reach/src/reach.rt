@@ -1,6 +1,6 @@
 //! A table of reach: how far before a target each key may come on a path from the current roots.
 //!
-//! It uses `slots`, `rows` and `onward`, and on `specs/Reach.antt`. It serves every question of a view and changes
+//! It uses `slots`, `rows` and `onward`, and `specs/Reach.antt`. It serves every question of a view and changes
 //! no answer, only the time; `docs/SEARCH.md` explains it.
 ghost use Rattle.std.specs.Prelude.{◌≡◌, ◌<◌, ℕ, List, [], true, false, IfOk, OnOk};
 ghost use Rattle.wot_types.specs.declared.fpr.Fpr.{Fpr as Print};

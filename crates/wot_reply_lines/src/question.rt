@@ -1,6 +1,6 @@
 //! What is asked in a line: FPR N UID, as in `ask`, `absence` and `watch`, and a number after a name, as in `list`.
 //!
-//! It uses `wot_fields` and on `specs/Question.antt`. A further field of a question changes both, `laws`, and
+//! It uses `wot_fields` and `specs/Question.antt`. A further field of a question changes both, `laws`, and
 //! every command that asks one.
 ghost use Rattle.std.specs.Prelude.{◌≡◌, ◌∷◌, [], IfOk};
 ghost use Rattle.std.specs.Fmt.{decimal};

@@ -1,6 +1,6 @@
 //! `in_scope`: whether one of a signature's regular expressions matches a user ID.
 //!
-//! It uses `scopes` of `wot_signature`, on `parse` and `Matcher`, and on `specs/Scope.antt`. A change here changes
+//! It uses `scopes` of `wot_signature`, `parse` and `Matcher`, and `specs/Scope.antt`. A change here changes
 //! which edges a path may use.
 ghost use Rattle.std.specs.Prelude.{◌≡◌, ◌↔◌, ◌∷◌, IsTrue, IfOk};
 ghost use Rattle.wot_signature.specs.Signature.{scopes_of};

@@ -1,7 +1,7 @@
 //! `read_line`: a line to its command.
 //!
-//! It uses `wot_fields`, which reads the lines that set a part of the state, on `wot_reply_lines`, which reads
-//! questions and claims, on `one_word`, and on `specs/Grammar.antt`, which it follows function by function. A new
+//! It uses `wot_fields`, which reads the lines that set a part of the state, `wot_reply_lines`, which reads
+//! questions and claims, `one_word`, and `specs/Grammar.antt`, which it follows function by function. A new
 //! command with fields is a function here and a clause there.
 ghost use Rattle.std.specs.Prelude.{◌≡◌, length, Some, None, IfOk, IsErrOf};
 ghost use Rattle.std.specs.Option.{option_map};

@@ -1,6 +1,6 @@
 //! `print_command`: a command to its line.
 //!
-//! It uses `wot_fields`, `wot_reply_lines` and `one_word`, and on `specs/Spelling.antt`. Generated scripts are
+//! It uses `wot_fields`, `wot_reply_lines` and `one_word`, and `specs/Spelling.antt`. Generated scripts are
 //! printed through it, and its contract says that `read_line` reads each line back.
 ghost use Rattle.std.specs.Prelude.{◌≡◌, ◌++◌, true, OnOk, OnErr};
 ghost use Rattle.wot_fields.specs.Appends.{Appends};

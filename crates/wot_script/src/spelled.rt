@@ -1,5 +1,5 @@
 //! Laws: the line of a command is read back as that command. `spell` uses the last one. They use the laws of
-//! fields in `wot_fields` and `wot_reply_lines`, on `specs/Spelling.antt` and on `specs/Grammar.antt`, and a change of
+//! fields in `wot_fields` and `wot_reply_lines`, `specs/Spelling.antt` and `specs/Grammar.antt`, and a change of
 //! either shows here first.
 ghost use Rattle.std.specs.Prelude.{◌≡◌, true};
 ghost use Rattle.wot_script.specs.Grammar.{command_of};

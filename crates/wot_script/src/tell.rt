@@ -1,7 +1,7 @@
 //! `print_reply`: a reply to its octets.
 //!
 //! It uses `wot_fields`, `numbered` and `wot_reply_lines`, which prints refusals and the lines after a first one,
-//! and on `specs/Replies.antt`. Whatever a client reads is printed here; `docs/PROTOCOL.md` specifies it.
+//! and `specs/Replies.antt`. Whatever a client reads is printed here; `docs/PROTOCOL.md` specifies it.
 ghost use Rattle.std.specs.Prelude.{◌≡◌, ◌<◌, ◌≤◌, ◌+◌, ◌++◌, length, vec_len, vec_capacity, true};
 ghost use Rattle.std.specs.Prelude.{OnOk, OnErr, IsOk};
 ghost use Rattle.wot_fields.specs.Appends.{Appends};

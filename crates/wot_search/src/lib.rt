@@ -1,6 +1,6 @@
 //! The search for the next path: one search for the greatest amount, one for the least list, and offers that save both.
 //!
-//! It uses `wot_first_path`, which does one search, and on `wot_edge`, whose definition of the next path it meets.
+//! It uses `wot_first_path`, which does one search, and `wot_edge`, whose definition of the next path it meets.
 //! `wot_auth` takes paths from it, and `wot_cache` keeps what was consulted. `docs/SEARCH.md` explains how it works.
 #![tactic(auto)]
 

@@ -1,6 +1,6 @@
 //! `next_path`: the next path after what earlier paths use.
 //!
-//! It uses `widest` and on the searches of `wot_first_path`, and its contract is the definition in
+//! It uses `widest` and the searches of `wot_first_path`, and its contract is the definition in
 //! `wot_edge/specs/Path.antt`. `wot_auth` makes answers of it; a faster search has to keep these clauses.
 ghost use Rattle.std.specs.Prelude.{◌≤◌, IfOk};
 ghost use Rattle.wot_types.specs.declared.fpr.Fpr.{Fpr as Print};
@@ -31,6 +31,17 @@ pub(crate) fn bound_amounts(roots: &Roots)
 
 /// Finds the next path after what earlier ones use. Returns `None` if and only if no valid path of positive amount is
 /// left. Every fingerprint whose rows, validity or root amount was looked at is added to `consulted`.
+///
+/// The search goes backwards from the target, a layer for each further edge, and stops at the first layer with a root:
+///
+/// ```text
+///   layer 2         layer 1         the target
+///   Alice ────80───▶ Bob ────120──┐
+///   (a root: 120)                 ├──▶ Carol, user ID U
+///   Dave  ────60───▶ Eve ─────40──┘
+/// ```
+///
+/// The next path is Alice, Bob, Carol with 80, the least of 120 (Alice's own), 80 and 120.
 pub fn next_path<R: Roads>(
     alloc: Global,
     roads: &R,

@@ -1,6 +1,6 @@
 //! Next paths from offers: which offer of an earlier search is the next path now.
 //!
-//! It uses `offers` and on `specs/Offers.antt`. `wot_auth` asks it for each path after the first, which saves a
+//! It uses `offers` and `specs/Offers.antt`. `wot_auth` asks it for each path after the first, which saves a
 //! search most of the time.
 ghost use Rattle.std.specs.Prelude.{◌≡◌, nat_le, IfOk, OnOk};
 ghost use Rattle.wot_edge.specs.Answer.{IsNextOrSpent};

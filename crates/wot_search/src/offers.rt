@@ -1,6 +1,6 @@
 //! Offers: the next paths of several roots, found by one search.
 //!
-//! It uses `widest`, on the searches of `wot_first_path`, and on `specs/Offers.antt`. `offered` takes paths from
+//! It uses `widest`, the searches of `wot_first_path`, and `specs/Offers.antt`. `offered` takes paths from
 //! them while their amounts last.
 ghost use Rattle.std.specs.Prelude.{◌≡◌, ℕ, List, nat_le, true, IfOk, IfSome, OnOk};
 ghost use Rattle.std.specs.List.{list_all};

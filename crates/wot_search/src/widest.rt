@@ -1,6 +1,6 @@
 //! A path of the greatest amount. A search for next paths begins with it, unless one search finds both.
 //!
-//! It uses the searches of `wot_first_path` and on `specs/Widest.antt`. `next`, `offers` and `below` call it.
+//! It uses the searches of `wot_first_path` and `specs/Widest.antt`. `next`, `offers` and `below` call it.
 ghost use Rattle.std.specs.Prelude.{ℕ, List, IfOk};
 ghost use Rattle.wot_edge.specs.Record.{IsRecord};
 ghost use Rattle.wot_first_path.specs.Looked.{Gains, Widens};

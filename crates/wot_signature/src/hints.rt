@@ -1,6 +1,6 @@
 //! The key ID that a signature names as its issuer.
 //!
-//! It uses `read_body` and on `specs/Signature.antt`. It is a hint for verifiers: `pending` replies name it, and
+//! It uses `read_body` and `specs/Signature.antt`. It is a hint for verifiers: `pending` replies name it, and
 //! no answer depends on it.
 ghost use Rattle.std.specs.Prelude.{◌≡◌, length, if◌then◌else◌, Some, None};
 ghost use Rattle.wot_subpacket.specs.Seen.{seen};

@@ -1,6 +1,6 @@
 //! The walk over the hashed subpackets that collects the facts of a signature.
 //!
-//! It uses `known` and on `specs/Notes.antt`, which says what each further subpacket changes. `read_signature`
+//! It uses `known` and `specs/Notes.antt`, which says what each further subpacket changes. `read_signature`
 //! returns what it collects.
 ghost use Rattle.std.specs.Prelude.{◌≡◌, drop, length, [], true};
 ghost use Rattle.wot_subpacket.specs.Seen.{seen};

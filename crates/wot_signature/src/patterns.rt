@@ -1,6 +1,6 @@
 //! The regular expressions of a signature, as texts in place (RFC 9580, section 5.2.3.22).
 //!
-//! It uses `read_body` and on `texts`. `wot_scope` parses and matches them.
+//! It uses `read_body` and `texts`. `wot_scope` parses and matches them.
 ghost use Rattle.std.specs.Prelude.{◌≡◌, IfSome};
 ghost use Rattle.std.specs.Option.{option_map};
 ghost use Rattle.std.specs.List.{AllByRecursion};

@@ -1,6 +1,6 @@
 //! `read_signature`: a signature body to its facts.
 //!
-//! It uses `read_body` and `notes`, and on `specs/Signature.antt`. Everything above that decides by a signature
+//! It uses `read_body` and `notes`, and `specs/Signature.antt`. Everything above that decides by a signature
 //! starts here.
 ghost use Rattle.std.specs.Prelude.{◌≡◌, is_some};
 ghost use Rattle.wot_signature.specs.Signature.{facts_of, is_readable};

@@ -1,6 +1,6 @@
 //! A signature body with its hashed area parsed.
 //!
-//! It uses `parts` and on `Area` of `wot_subpacket`. Facts, hints and regular expressions are read from it; which
+//! It uses `parts` and `Area` of `wot_subpacket`. Facts, hints and regular expressions are read from it; which
 //! bodies can be parsed is decided here.
 ghost use Rattle.std.specs.Prelude.{IfSome};
 ghost use Rattle.wot_subpacket.specs.Slice.{HaveSlicesOf};

@@ -1,6 +1,6 @@
 //! Which number comes next above another one, in a row of slots and in a tree.
 //!
-//! It uses `near`, on `row`, on std's map and on `specs/Above.antt`. Slots rise with the numbers, so a search in
+//! It uses `near`, `row`, std's map and `specs/Above.antt`. Slots rise with the numbers, so a search in
 //! the row begins at the place of the last number. It ends eight slots from the place of the best number so far, which
 //! is at first the next one in the tree. So a walk over all numbers reads the row once, and some eight slots more for
 //! each number, whatever the numbers are. Nothing here allocates, and nothing is kept from one search to the next.

@@ -1,7 +1,7 @@
 //! Moves what a row of slots has into a longer row, or into the tree if there is no empty slot, and what is in the tree
 //! into empty slots. `slots` calls it when its row is full. The old row stays whole until the caller replaces it.
 //!
-//! It uses `row`, on `near` and on std's map. It walks over the entries of the old row, so that they stand in the
+//! It uses `row`, `near` and std's map. It walks over the entries of the old row, so that they stand in the
 //! longer one in the order in which they came. The places of entries that were removed aren't taken over.
 ghost use Rattle.std.specs.Prelude.{◌≡◌, None, IfOk, OnOk, OnErr};
 ghost use Rattle.std.specs.Option.{IfNone, IfSome};

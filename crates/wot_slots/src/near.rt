@@ -1,6 +1,6 @@
 //! A row of slots, each with a number and its value, so that most lookups need no walk over the tree.
 //!
-//! It uses `row` and on `specs/Near.antt`. The first octets of a number say in which eight slots it may be.
+//! It uses `row` and `specs/Near.antt`. The first octets of a number say in which eight slots it may be.
 //! `slots` keeps in its tree what finds no empty slot there. Only `keep_near` allocates, if an entry needs memory.
 ghost use Rattle.std.specs.Prelude.{◌≡◌, ◌<◌, ◌≤◌, ◌+◌, ℕ, length, true, Some, None, MatchBool};
 ghost use Rattle.std.specs.List.{slice_index_or};

@@ -1,6 +1,6 @@
 //! A row of slots: each slot has the place of its entry, and the entries stand in the order in which they came.
 //!
-//! It uses std's `Vec` and on `specs/{Live,Row}.antt`. Whoever asks for values in the order in which they were
+//! It uses std's `Vec` and `specs/{Live,Row}.antt`. Whoever asks for values in the order in which they were
 //! put, as for the signatures of one certificate, reads memory from its beginning to its end, and needs no slots for
 //! it: an entry that is there is what a lookup of its number finds. A slot takes four octets, so a row can have many
 //! empty ones.

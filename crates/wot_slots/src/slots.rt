@@ -1,6 +1,6 @@
 //! A value for each signature number: most in a row of slots, others in a tree.
 //!
-//! It uses `row`, on `near`, on `above`, on `moving` and on std's map. Whoever chooses numbers can't make a lookup
+//! It uses `row`, `near`, `above`, `moving` and std's map. Whoever chooses numbers can't make a lookup
 //! slow: it reads eight slots, and if the number isn't there, the tree. Whoever looks numbers up in the order in which
 //! they came can begin each lookup after the entry of the last one, and then mostly reads one entry.
 ghost use Rattle.std.specs.Prelude.{◌≡◌, true, None, Some, is_some, OnOk, OnErr};

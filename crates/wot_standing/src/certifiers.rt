@@ -1,6 +1,6 @@
 //! The newest valid certification of every issuer on each user ID, found in one walk over its signatures.
 //!
-//! It uses `latest`, `newest`, `kinds` and `places`, and on `specs/Certifiers.antt`. `wot_live` makes one edge of
+//! It uses `latest`, `newest`, `kinds` and `places`, and `specs/Certifiers.antt`. `wot_live` makes one edge of
 //! each.
 ghost use Rattle.std.specs.Prelude.{◌≡◌, ◌<◌, ◌≤◌, ◌+◌, ◌^◌, [], length, map, Some, OnOk, IfOk};
 ghost use Rattle.std.specs.List.{slice_get};

@@ -1,6 +1,6 @@
 //! `standing`: which signature governs a key at a time, when the key ends, and whether it is revoked.
 //!
-//! It uses `newest` and `revoked`, and on `specs/Standing.antt`. Usable edges and valid targets are decided by the
+//! It uses `newest` and `revoked`, and `specs/Standing.antt`. Usable edges and valid targets are decided by the
 //! result.
 ghost use Rattle.std.specs.Prelude.{◌≡◌};
 ghost use Rattle.std.specs.Option.{option_copied};

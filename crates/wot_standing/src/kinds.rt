@@ -1,6 +1,6 @@
 //! What one signature is: its type, when it was created, whether it is live, whose it is, and whether it revokes.
 //!
-//! It uses the facts of `wot_signature` and on `specs/Kinds.antt`. Everything else in this crate asks it.
+//! It uses the facts of `wot_signature` and `specs/Kinds.antt`. Everything else in this crate asks it.
 ghost use Rattle.std.specs.Prelude.{◌≡◌, ◌==◌, ◌&&◌, false};
 ghost use Rattle.std.specs.Option.{option_map_or};
 ghost use Rattle.wot_signature.specs.declared.facts.SigFacts.{SigFacts};

@@ -1,6 +1,6 @@
 //! The latest revocation of an issuer: one moment decides which of its signatures are revoked.
 //!
-//! It uses `kinds` and on `specs/Latest.antt`. `newest` and `certifiers` compare with it.
+//! It uses `kinds` and `specs/Latest.antt`. `newest` and `certifiers` compare with it.
 ghost use Rattle.std.specs.Prelude.{◌≡◌, max};
 ghost use Rattle.std.specs.Option.{option_map_or};
 ghost use Rattle.wot_standing.specs.Latest.{revoked_at, outlives as outlives_spec};

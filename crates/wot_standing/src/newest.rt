@@ -1,6 +1,6 @@
 //! Which of several valid signatures is the newest, and which self-certification is primary.
 //!
-//! It uses `kinds` and `latest`, and on `specs/Valid.antt` and `specs/Standing.antt`. `governing` and `certifiers`
+//! It uses `kinds` and `latest`, and `specs/Valid.antt` and `specs/Standing.antt`. `governing` and `certifiers`
 //! decide by it.
 ghost use Rattle.std.specs.Prelude.{◌≡◌, ◌&&◌, filter, Some, if◌then◌else◌};
 ghost use Rattle.std.specs.Option.{option_copied};

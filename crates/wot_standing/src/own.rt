@@ -1,4 +1,4 @@
-//! Whether a user ID is revoked by its own key. It uses `kinds` and `newest`, and on `specs/Own.antt`. Such a user
+//! Whether a user ID is revoked by its own key. It uses `kinds` and `newest`, and `specs/Own.antt`. Such a user
 //! ID is no valid target.
 ghost use Rattle.std.specs.Prelude.{◌≡◌};
 ghost use Rattle.std.specs.List.{list_any};

@@ -1,6 +1,6 @@
 //! Revocations of a key: hard ones, which count at every time, and the first soft one.
 //!
-//! It uses `kinds` and on `specs/Standing.antt`. `governing` puts the result into the standing.
+//! It uses `kinds` and `specs/Standing.antt`. `governing` puts the result into the standing.
 ghost use Rattle.std.specs.Prelude.{◌≡◌, min};
 ghost use Rattle.std.specs.List.{list_any};
 ghost use Rattle.std.specs.Option.{option_map_or};

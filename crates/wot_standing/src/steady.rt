@@ -1,6 +1,6 @@
 //! The span of times throughout which the same signatures of a certificate are live.
 //!
-//! It uses `Cert::span` and on the law in `proofs/SpanLaw.antt`. `wot_network` keeps edges for as long as the time
+//! It uses `Cert::span` and the law in `proofs/SpanLaw.antt`. `wot_network` keeps edges for as long as the time
 //! stays in it.
 ghost use Rattle.std.specs.Prelude.{ℕ, ◌≡◌};
 ghost use Rattle.wot_types.specs.declared.fpr.Fpr.{Fpr};

@@ -1,6 +1,6 @@
 //! Usable edges and valid targets, by the standing of a key.
 //!
-//! It uses `status` and on `specs/Usable.antt`. `wot_network` asks it for each edge and target; `docs/PROFILE.md`
+//! It uses `status` and `specs/Usable.antt`. `wot_network` asks it for each edge and target; `docs/PROFILE.md`
 //! states the rules.
 ghost use Rattle.std.specs.Prelude.{◌≡◌, true};
 ghost use Rattle.wot_standing.specs.Usable.{is_usable as is_usable_spec, is_key_in_order as is_key_in_order_spec};

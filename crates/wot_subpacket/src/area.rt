@@ -1,6 +1,6 @@
 //! An area of a signature: checked once as a list of subpackets, and then read as often as needed.
 //!
-//! It uses `first` and on `specs/Area.antt`. `wot_signature` reads facts, hints and regular expressions through
+//! It uses `first` and `specs/Area.antt`. `wot_signature` reads facts, hints and regular expressions through
 //! `Area::iter`.
 ghost use Rattle.std.specs.Prelude.{◌≡◌, ◌<◌, ◌^◌, length, IfOk, IsOk, MatchResult};
 ghost use Rattle.wot_subpacket.specs.Area.{subpackets_of};

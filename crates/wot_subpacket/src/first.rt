@@ -1,6 +1,6 @@
 //! The first subpacket of some octets: its length, its type with the critical bit, and its body.
 //!
-//! It uses `size` and on `specs/Subpacket.antt`. All of `area` depends on it.
+//! It uses `size` and `specs/Subpacket.antt`. All of `area` depends on it.
 ghost use Rattle.std.specs.Prelude.{◌≡◌, ◌<◌, length};
 ghost use Rattle.wot_subpacket.specs.Area.{first_of};
 ghost use Rattle.wot_subpacket.specs.Seen.{seen, GivesFirst};

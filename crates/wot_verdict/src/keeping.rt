@@ -1,6 +1,6 @@
 //! Changes what is noted for a number: a verdict, and how many there are, or a certificate of version 4.
 //!
-//! It uses `wot_slots`, on `noted` and on `specs/Kept.antt`. `verdicts` calls it. A change of one of the two
+//! It uses `wot_slots`, `noted` and `specs/Kept.antt`. `verdicts` calls it. A change of one of the two
 //! leaves the other alone.
 ghost use Rattle.std.specs.Prelude.{◌≡◌, ◌<◌, ◌+◌, ◌-◌, ◌^◌, OnOk, OnErr, Some, None, is_some, cond, true};
 ghost use Rattle.std.specs.Option.{IfNone, IfSome};

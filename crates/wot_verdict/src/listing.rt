@@ -1,6 +1,6 @@
 //! Finds the next number that has a verdict: numbers that only have a certificate are passed over.
 //!
-//! It uses `wot_slots` and on `noted`. `verdicts` lists with it.
+//! It uses `wot_slots` and `noted`. `verdicts` lists with it.
 ghost use Rattle.wot_slots.specs.Above.{AreNumbers, IsNextEntry};
 ghost use Rattle.wot_verdict.specs.Kept.{said_in};
 

@@ -1,6 +1,6 @@
 //! The number of a signature: a digest of the signature and of what it is on.
 //!
-//! It uses the contract of `sha2` and on `specs/Number.antt`. Verifiers compute it too (`docs/PROTOCOL.md`), so a
+//! It uses the contract of `sha2` and `specs/Number.antt`. Verifiers compute it too (`docs/PROTOCOL.md`), so a
 //! change breaks every kept verdict.
 ghost use Rattle.std.specs.Prelude.{◌≡◌, ◌<◌, ◌^◌, ◌++◌, ℕ, List, length};
 ghost use Rattle.sha2.specs.Hashers.{Holds256};

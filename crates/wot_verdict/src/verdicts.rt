@@ -1,6 +1,6 @@
 //! Verdicts by signature number, and on which certificate each signature is.
 //!
-//! It uses `wot_slots`, on std's map, on `keeping` and `listing`, and on `specs/{Kept,Verdicts}.antt`.
+//! It uses `wot_slots`, std's map, `keeping` and `listing`, and `specs/{Kept,Verdicts}.antt`.
 //! `wot_keyring` keeps one such map for all certificates, within the limit on verdicts, and a dump prints it.
 //! `wot_index` notes the certificates.
 ghost use Rattle.std.specs.Prelude.{◌≡◌, ◌≢◌, ◌<◌, ◌^◌, ◌↔◌, [], length, IsTrue, IfOk, OnOk, OnErr, Some, None};
