@@ -16,8 +16,8 @@ abbrev pub is_pending : verdicts.Entries → Signature → Bool
 is_pending said s = is_sound s && is_none (verdicts.verdict_at said s.number)
 
 -- what a verifier gets to know of a signature on the certificate of this fingerprint
-abbrev pub pending_in : Fpr → Signature → Pending
-pending_in fpr s = record {
+abbrev pub pending_entry : Fpr → Signature → Pending
+pending_entry fpr s = record {
   number = s.number;
   fpr = fpr;
   issuer = option_and_then (λ f. f.issuer) (said_by s);
@@ -26,7 +26,7 @@ pending_in fpr s = record {
 
 -- the entries of those signatures that have no verdict
 abbrev pub pending_among : verdicts.Entries → Fpr → List Signature → List Pending
-pending_among said fpr sigs = map (pending_in fpr) (filter (is_pending said) sigs)
+pending_among said fpr sigs = map (pending_entry fpr) (filter (is_pending said) sigs)
 
 -- the entries of a certificate's signatures, in the order of its text
 abbrev pub pending_on : verdicts.Entries → Fpr × Certificate → List Pending

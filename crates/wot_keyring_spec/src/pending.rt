@@ -5,7 +5,7 @@ ghost use Rattle.std.specs.Prelude.{◌≡◌, ◌++◌, ◌∷◌, [], IfOk, On
 ghost use Rattle.std.specs.List.{flat_map};
 ghost use Rattle.wot_component.specs.Counts.{sigs_on};
 ghost use Rattle.wot_keyring_spec.specs.Keyring.{stripped};
-ghost use Rattle.wot_keyring_spec.specs.Pending.{is_pending, pending_among, pending_on, pending_in};
+ghost use Rattle.wot_keyring_spec.specs.Pending.{is_pending, pending_among, pending_entry, pending_on};
 
 use crate::kept::Kept;
 use std::alloc::Global;
@@ -40,7 +40,7 @@ fn waits(sig: &Sig, verdicts: &Verdicts) -> bool
 
 /// The entry of a signature on the certificate of this fingerprint.
 fn pending_from(sig: &Sig, fpr: Fpr) -> Pending
-    ensures { result ≡ pending_in fpr sig.now }
+    ensures { result ≡ pending_entry fpr sig.now }
 {
     let issuer = match sig.facts() {
         Some(facts) => facts.issuer,
