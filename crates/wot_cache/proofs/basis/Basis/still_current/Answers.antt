@@ -1,7 +1,7 @@
 use Rattle.std.proofs.Common.{◌≡◌, ap, arith}
 use Rattle.wot_cache.specs.Basis.{Basis}
 use Rattle.wot_answers.specs.RightLaws.{stamp_past}
-use Rattle.wot_cache.proofs.basis.Basis.stands.Goals as goal
+use Rattle.wot_cache.proofs.basis.Basis.still_current.Goals as goal
 
 pub returns-then-self-changes-clause-calm : goal.returns-then-self-changes-clause-calm
 returns-then-self-changes-clause-calm c = λ network fpr there.

@@ -1,6 +1,6 @@
 use Rattle.std.proofs.Common.{◌∙◌}
 use Rattle.wot_cache.proofs.BasisStaysTrue.{carried_on, moved_now, stands_now, still_now}
-use Rattle.wot_cache.proofs.engine.Engine.stands.Goals as goal
+use Rattle.wot_cache.proofs.engine.Engine.still_current.Goals as goal
 
 pub returns : goal.returns
 returns c =
@@ -11,7 +11,7 @@ returns c =
     let old = c.args.basis.now in
     let new = c.still_current.new.self in
     record {
-      stands = λ is.
+      current = λ is.
           stands_now c.args.self.now k views networks revisions c.self.view_is old new (c.still_current.ensures.revisions is
           ∙ c.count.ensures.count)
           (c.still_current.ensures.calm is) (c.still_current.ensures.whole is);
