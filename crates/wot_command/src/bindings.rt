@@ -1,7 +1,7 @@
 //! The reply to `list`: the bindings that are authenticated to an amount, as a view sees them. It uses
 //! wot_explain; wot_cursor_commands prints the same lines in pieces.
 ghost use Rattle.std.specs.Prelude.{◌≡◌, ◌≤◌, length, IfOk};
-ghost use Rattle.wot_network.specs.Net.{amount_reply_of};
+ghost use Rattle.wot_network.specs.Net.{network_for};
 ghost use Rattle.wot_network.specs.Roads.{present_of};
 ghost use Rattle.wot_cache.specs.Marks.{IsRefreshed};
 ghost use Rattle.wot_cache.specs.State.{state_of};
@@ -39,7 +39,7 @@ pub fn list(
 fn list_from(alloc: Global, parts: &Parts<'_>, wanted: u32) -> Result<Reply, Memory>
     requires wanted { 1 ≤ wanted }
     requires few { length parts.now.roots.now ≤ 64 }
-    ensures lists { IfOk result (ListsBy (amount_reply_of (present_of parts.now.roads)) parts.now.roots.now wanted
+    ensures lists { IfOk result (ListsBy (network_for (present_of parts.now.roads)) parts.now.roots.now wanted
         parts.now.keyring.now) }
 {
     let binds = wot_explain::list(alloc, parts.keyring, &parts.roads, parts.roots, wanted)?;

@@ -2,7 +2,7 @@
 //! wot_explain over the parts that a view sees. `specs/Listing.antt` of wot_plain defines what its lines say,
 //! and `specs/EdgeLines.antt` which of them say `edge`.
 ghost use Rattle.std.specs.Prelude.{◌≡◌, map, IfOk, OnOk};
-ghost use Rattle.wot_network.specs.Net.{amount_reply_of};
+ghost use Rattle.wot_network.specs.Net.{network_for};
 ghost use Rattle.wot_network.specs.Roads.{present_of};
 ghost use Rattle.wot_cache.specs.Marks.{IsRefreshed};
 ghost use Rattle.wot_cache.specs.State.{state_of};
@@ -44,7 +44,7 @@ pub fn explain(
 
 /// The reply over the parts of the view.
 fn explain_from(alloc: Global, parts: &Parts<'_>, fpr: &Fpr, uid: &[u8]) -> Result<Reply, Memory>
-    requires present { AreRoadsOf (amount_reply_of (present_of parts.now.roads)) parts.now.keyring.now parts.now.t }
+    requires present { AreRoadsOf (network_for (present_of parts.now.roads)) parts.now.keyring.now parts.now.t }
     ensures explains { IfOk result (Explains parts.now.keyring.now parts.now.t fpr.now uid.now) }
     ensures edges { OnOk result (EdgesAreTold parts.now.keyring.now parts.now.t fpr.now uid.now) }
 {

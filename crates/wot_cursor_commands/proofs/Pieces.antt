@@ -10,7 +10,7 @@ use Rattle.wot_script.specs.declared.reply.Reply.{Reply}
 use Rattle.wot_script.specs.declared.reply.Reply.TheVariants as replies
 use Rattle.wot_edge.specs.Record.{Record}
 use Rattle.wot_keyring_spec.specs.Keyring.{certificates_in}
-use Rattle.wot_network.specs.Net.{told_of}
+use Rattle.wot_network.specs.Net.{network_for}
 use Rattle.wot_network.specs.Roads.{present_of}
 use Rattle.wot_answers.specs.declared.parts.Parts.{Parts}
 use Rattle.wot_cache.specs.declared.view.View.{View}
@@ -104,11 +104,11 @@ gives_piece (Ok drafted) engine cursors name count cursor parts some are has giv
     by None are = absurd are
     by (Some view) are =
         let pairs = pairs_in (certificates_in engine.keyring) in
-        let record_at : List ℕ → Record = told_of (present_from engine.keyring view) in
-        let here : IsThePiece (told_of (present_of parts.roads)) parts.roots.now cursor.wanted
+        let record_at : List ℕ → Record = network_for (present_from engine.keyring view) in
+        let here : IsThePiece (network_for (present_of parts.roads)) parts.roots.now cursor.wanted
         (pairs_in (certificates_in parts.keyring.now)) cursor.place count gives.0
         ≡ IsThePiece record_at view.roots cursor.wanted pairs cursor.place count gives.0 =
-        λ i. IsThePiece (told_of (are.roads i)) (are.roots i) cursor.wanted (pairs_in (certificates_in (are.keyring i)))
+        λ i. IsThePiece (network_for (are.roads i)) (are.roots i) cursor.wanted (pairs_in (certificates_in (are.keyring i)))
         cursor.place count gives.0 in
         let the : IsThePiece record_at view.roots cursor.wanted pairs cursor.place count gives.0 =
         subst (λ (P : Type 0). P) here gives.1 in

@@ -43,7 +43,7 @@ use Rattle.wot_plain.specs.Classes.{view_change_of}
 use Rattle.wot_laws.proofs.Fit.{fit_of}
 use Rattle.wot_plain.specs.Lines.{is_silent, longest}
 use Rattle.wot_plain.specs.Absent.{Checks, Misses, TellsAbsence, claim_in, table_in, verdict_on}
-use Rattle.wot_plain.specs.Answer.{Asks, told}
+use Rattle.wot_plain.specs.Answer.{Asks, amount_reply}
 use Rattle.wot_plain.specs.Listing.{Lists, bindings, explained_from}
 use Rattle.wot_plain.specs.Outcome.{Outcome, only}
 use Rattle.wot_plain.specs.LineStep.{LineStep, HasReply, ReadLineStep, DoesTo, ComesTo, CommandStep, Stays}
@@ -132,14 +132,14 @@ module _
     Asks-one old (Some view) target wanted uid r s p a b =
         let same = answer_one (question_in old view target uid) wanted a.0 b.0
         (lawful old.held.certs old.held.verdicts view.time uid p) a.1 b.1 in
-        a.2 ∙ ap (told old) same ∙ sym b.2
+        a.2 ∙ ap (amount_reply old) same ∙ sym b.2
 
     Asks-some : (old : State) (view : Option View) (target : Fpr) (wanted : ℕ) (uid : List ℕ) → 1 ≤ wanted →
         (r : Reply) × Asks old view target wanted uid r
     Asks-some old None target wanted uid h = (replies.View, refl)
     Asks-some old (Some view) target wanted uid h =
         let paths = answer_some (question_in old view target uid) wanted h in
-        (told old paths.0, (paths.0, paths.1, refl))
+        (amount_reply old paths.0, (paths.0, paths.1, refl))
 
     Lists-one : (old : State) (view : Option View) (wanted : ℕ) (r s : Reply) → IsState old → Lists old view wanted r →
         Lists old view wanted s → r ≡ s

@@ -31,7 +31,7 @@ use Rattle.wot_cache.specs.Question.{question_in}
 use Rattle.wot_cache.specs.State.{State}
 use Rattle.wot_cache.specs.Views.{view_at}
 use Rattle.wot_plain.specs.Classes.{class_of}
-use Rattle.wot_plain.specs.Answer.{Asks, path_lines, step_line, told, uid_at, uid_in}
+use Rattle.wot_plain.specs.Answer.{Asks, path_lines, step_line, amount_reply, uid_at, uid_in}
 use Rattle.wot_laws.specs.OneLine.{OneOutcome}
 use Rattle.wot_plain.specs.LineStep.{StateStep, LineStep}
 use Rattle.wot_plain.specs.Served.{Served}
@@ -138,7 +138,7 @@ module _ (laws : Laws) (view : View) (target : Fpr) (one other : State) (both : 
         (path_lines one) paths) steps
         ∙ ap (λ (xs : List AnswerLine). path_lines other path ++ xs) (paths_same (earlier ++ path ∷ []) paths e.1)
 
-    told_same : (wanted : ℕ) (paths : List Path) → IsAnswer q wanted paths → told one paths ≡ told other paths
+    told_same : (wanted : ℕ) (paths : List Path) → IsAnswer q wanted paths → amount_reply one paths ≡ amount_reply other paths
     told_same wanted paths a = ap (replies.Amount (amount_of paths) (length paths)) (paths_same [] paths a.each)
 
     pub asks_there : (wanted : ℕ) (reply : Reply) → Asks one (Some view) target wanted uid reply →

@@ -24,7 +24,7 @@ use Rattle.wot_reply_lines.specs.declared.claims.ClaimLine.{ClaimLine}
 use Rattle.wot_reply_lines.specs.declared.claims.LabelLine.{LabelLine}
 use Rattle.wot_script.specs.declared.reply.Reply.{Reply}
 use Rattle.wot_script.specs.declared.reply.Reply.TheVariants as replies
-use Rattle.wot_network.specs.Net.{amount_reply_of}
+use Rattle.wot_network.specs.Net.{network_for}
 use Rattle.wot_network.specs.Roads.{present_of}
 use Rattle.wot_answers.specs.declared.parts.Parts.{Parts}
 use Rattle.wot_cache.specs.declared.view.View.{View}
@@ -179,13 +179,13 @@ told_misses q wanted sum paths shown made table (Ok reply) answer e lt same m so
 pub checks_shown : (engine : Engine) (o : Option View) (parts : Parts) (target : Fpr) (claims : List ClaimLine)
     (labels : List LabelLine) (uid : List ℕ)
     (result : Result Reply Memory) → IsSomeAnd o (λ v. ArePartsOf engine.keyring v parts)
-    → IfOk result (λ reply. (checked : Checked) × IsChecked (asks (amount_reply_of (present_of parts.roads) uid) parts.roots.now
+    → IfOk result (λ reply. (checked : Checked) × IsChecked (asks (network_for (present_of parts.roads) uid) parts.roots.now
     target) (map claim_in claims) (table_in labels) checked × (reply ≡ verdict_on claims checked))
     → IfOk result (λ reply. Checks (state_of engine) o target claims labels uid reply)
 checks_shown engine None parts target claims labels uid result are checks = absurd are
 checks_shown engine (Some v) parts target claims labels uid result are checks =
-    let same : asks (amount_reply_of (present_of parts.roads) uid) parts.roots.now target ≡ question_in (state_of engine) v
+    let same : asks (network_for (present_of parts.roads) uid) parts.roots.now target ≡ question_in (state_of engine) v
     target uid =
-    λ i. asks (amount_reply_of (are.roads i) uid) (are.roots i) target in
+    λ i. asks (network_for (are.roads i) uid) (are.roots i) target in
     subst (λ (q : Question). IfOk result (λ reply. (checked : Checked) × IsChecked q (map claim_in claims)
     (table_in labels) checked × (reply ≡ verdict_on claims checked))) same checks

@@ -5,7 +5,7 @@ use Rattle.wot_edge.specs.declared.path.Path.{Path}
 use Rattle.wot_edge.specs.declared.path.Step.{Step}
 use Rattle.wot_edge.specs.Answer.{IsAnswer, amount_of}
 use Rattle.wot_edge.specs.Path.{Question, asks, use_of}
-use Rattle.wot_network.specs.Net.{amount_reply_of}
+use Rattle.wot_network.specs.Net.{network_for}
 use Rattle.wot_network.specs.Roads.{present_of}
 use Rattle.wot_reply_lines.specs.declared.claims.ClaimLine.{ClaimLine}
 use Rattle.wot_reply_lines.specs.declared.claims.ClaimStepLine.{ClaimStepLine}
@@ -25,7 +25,7 @@ use Rattle.wot_cache.specs.State.{State, IsState}
 
 -- the question over the parts of a view
 abbrev pub asked_from : Parts → Fpr → List ℕ → Question
-asked_from parts target uid = asks (amount_reply_of (present_of parts.roads) uid) parts.roots.now target
+asked_from parts target uid = asks (network_for (present_of parts.roads) uid) parts.roots.now target
 
 -- ---- `absence`
 

@@ -32,11 +32,11 @@ abbrev pub path_lines : State → Path → List AnswerLine
 path_lines s path = lines.Path path.amount (length path.steps) path.root ∷ map (step_line s) path.steps
 
 -- the sum of the amounts, the number of paths, and each path with its steps
-abbrev pub amount_of_paths : State → List Path → Reply
-amount_of_paths s paths = replies.Amount (amount_of paths) (length paths) (flat_map (path_lines s) paths)
+abbrev pub amount_reply : State → List Path → Reply
+amount_reply s paths = replies.Amount (amount_of paths) (length paths) (flat_map (path_lines s) paths)
 
 -- `ask`: the reply from an open view, for the paths that are the answer in this state
 abbrev pub Asks : State → Option View → Fpr → ℕ → List ℕ → Reply → Type 0
 Asks s None target wanted uid reply = reply ≡ replies.View
 Asks s (Some view) target wanted uid reply =
-    (paths : List Path) × IsAnswer (question_in s view target uid) wanted paths × (reply ≡ amount_of_paths s paths)
+    (paths : List Path) × IsAnswer (question_in s view target uid) wanted paths × (reply ≡ amount_reply s paths)

@@ -10,7 +10,7 @@ use Rattle.wot_plain.specs.declared.class.CursorCommand.TheVariants as paces
 use Rattle.wot_script.specs.declared.reply.Reply.{Reply}
 use Rattle.wot_script.specs.declared.reply.Reply.TheVariants as replies
 use Rattle.wot_keyring_spec.specs.Keyring.{certificates_in}
-use Rattle.wot_network.specs.Net.{amount_reply_of}
+use Rattle.wot_network.specs.Net.{network_for}
 use Rattle.wot_network.specs.Roads.{present_of}
 use Rattle.wot_answers.specs.declared.parts.Parts.{Parts}
 use Rattle.wot_cache.specs.declared.view.View.{View}
@@ -112,7 +112,7 @@ ReturnsPiece s name count cursor reply cursors =
 abbrev pub TellsPiece : Parts → List ℕ → ℕ → Cursor → DraftReply → Type 0
 TellsPiece parts name count cursor drafted =
     (binds : List Bind)
-    × IsThePiece (amount_reply_of (present_of parts.roads)) parts.roots.now cursor.wanted
+    × IsThePiece (network_for (present_of parts.roads)) parts.roots.now cursor.wanted
     (pairs_in (certificates_in parts.keyring.now)) cursor.place count binds
     × (drafted.reply ≡ piece binds) × ((cursors : Cursors) → settled drafted.moved cursors ≡ behind cursors name binds)
 

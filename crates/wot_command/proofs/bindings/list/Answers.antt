@@ -4,7 +4,7 @@ use Rattle.wot_types.specs.declared.fpr.Fpr.{Fpr}
 use Rattle.wot_types.specs.declared.memory.Memory.{Memory}
 use Rattle.wot_edge.specs.Record.{Record}
 use Rattle.wot_keyring_spec.specs.Keyring.{Keyring}
-use Rattle.wot_network.specs.Net.{amount_reply_of}
+use Rattle.wot_network.specs.Net.{network_for}
 use Rattle.wot_network.specs.Roads.{present_of}
 use Rattle.wot_script.specs.declared.reply.Reply.{Reply}
 use Rattle.wot_answers.specs.declared.parts.Parts.{Parts}
@@ -20,16 +20,16 @@ use Rattle.wot_command.proofs.bindings.list.Goals as goal
 -- a list over the parts of a view is the list from that view
 lists_shown : (engine : Engine) (o : Option View) (parts : Parts) (wanted : ℕ) (result : Result Reply Memory)
     → IsSomeAnd o (λ v. ArePartsOf engine.keyring v parts)
-    → IfOk result (λ reply. ListsBy (amount_reply_of (present_of parts.roads)) parts.roots.now wanted parts.keyring.now reply)
+    → IfOk result (λ reply. ListsBy (network_for (present_of parts.roads)) parts.roots.now wanted parts.keyring.now reply)
     → IfOk result (λ reply. Lists (state_of engine) o wanted reply)
 lists_shown engine None parts wanted result are lists = absurd are
 lists_shown engine (Some v) parts wanted result are lists =
-    let on_roots = subst (λ (roots : List (Fpr × ℕ)). IfOk result (λ reply. ListsBy (amount_reply_of (present_of parts.roads))
+    let on_roots = subst (λ (roots : List (Fpr × ℕ)). IfOk result (λ reply. ListsBy (network_for (present_of parts.roads))
     roots wanted parts.keyring.now reply)) are.roots lists in
-    let on_keyring = subst (λ (k : Keyring). IfOk result (λ reply. ListsBy (amount_reply_of (present_of parts.roads)) v.roots
+    let on_keyring = subst (λ (k : Keyring). IfOk result (λ reply. ListsBy (network_for (present_of parts.roads)) v.roots
     wanted k reply)) are.keyring on_roots in
     subst (λ (told : List ℕ → Record). IfOk result (λ reply. ListsBy told v.roots wanted engine.keyring reply))
-    (λ i. amount_reply_of (are.roads i)) on_keyring
+    (λ i. network_for (are.roads i)) on_keyring
 
 pub returns-in-Ok-clause-lists : goal.returns-in-Ok-clause-lists
 returns-in-Ok-clause-lists c =
