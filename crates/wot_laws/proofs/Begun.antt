@@ -123,7 +123,7 @@ module _
         let w = was.whole in
         let from = began_from w name view wanted since.begins.mid.cursors (view_at w.state.views view) refl
         obeys.paces in
-        let network = record_of w.state.held.certs w.state.held.verdicts from.shown.time in
+        let told = record_of w.state.held.certs w.state.held.verdicts from.shown.time in
         let pairs = pairs_in w.state.held.certs in
         let list = some told from.shown.roots wanted pairs wants in
         let can = reached_can_be rows since.world since.lines since.reported was since.reached in

@@ -98,7 +98,7 @@ missed_spelled q wanted sum claims labels paths answer = by (nat_le wanted (amou
 module _
     (accepted : AreClaimsAccepted)
     (lawful : (s : State) (view : View) (uid : List ℕ) (target : Fpr) → IsState s
-    → IsRecord (question_in s view target uid).told)
+    → IsRecord (question_in s view target uid).network)
     (one : (q : Question) (claims : List Claim) (table : Labels) (a b : Checked) → IsRecord q.network
     → AreOne q claims table a b)
   where

@@ -23,7 +23,7 @@ use Rattle.wot_laws.specs.Numbers.{amount_in}
 
 -- all amounts that were reported for it, in order
 abbrev pub amounts_in : List ℕ → List Reply → List ℕ
-amounts_in name told = flat_map (amount_in name) reported
+amounts_in name reported = flat_map (amount_in name) reported
 
 -- the last of these amounts
 abbrev pub IsLast : List ℕ → ℕ → Type 0

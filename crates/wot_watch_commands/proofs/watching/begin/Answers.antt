@@ -13,7 +13,7 @@ returns-in-Ok-clause-begins c =
     let a = c.args in
     let old : Watches = a.watches.now in
     begins_new old a.name.now asked.view.now asked.target.now asked.wanted asked.uid.now a.amount
-    (replies.WatchAmount c.in_ok-shown.told a.amount) c.put.new.self
+    (replies.WatchAmount c.in_ok-shown.shown a.amount) c.put.new.self
     (rw c.in_ok-key.ensures.equal at c.in-Ok.ensures.full)
     (ap (λ (n : List ℕ). replies.WatchAmount n a.amount) c.in_ok-shown.ensures.equal)
     (c.in-Ok.ensures.put

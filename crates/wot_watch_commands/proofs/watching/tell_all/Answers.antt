@@ -9,7 +9,7 @@ rest-preserved c =
 
 pub returns : goal.returns
 returns c = record {
-  told =
+  reported =
       told_end c.rest.watches c.args.watches.now c.rest.rest.now c.args.lines.now c.in_default.ensures.cases
       c.rest.invariant;
 }
