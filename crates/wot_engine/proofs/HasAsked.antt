@@ -37,7 +37,7 @@ use Rattle.wot_engine.proofs.Reached.{done_all, has_taken}
 use Rattle.wot_engine.specs.Contents.{Contents, OnContents}
 use Rattle.wot_engine.proofs.Contents.{is_now, uncalled}
 use Rattle.wot_engine.proofs.Fresh.{fresh}
-use Rattle.wot_engine.proofs.Revisions.{turned, wrote}
+use Rattle.wot_engine.proofs.LineReplies.{turned, wrote}
 
 -- ---- one line
 

@@ -25,7 +25,7 @@ use Rattle.wot_engine.specs.LineReply.{Replies, use_by}
 use Rattle.wot_engine.proofs.Contents.{is_now, uncalled}
 use Rattle.wot_engine.proofs.Progress.{Stands, starts, took_on}
 use Rattle.wot_engine.proofs.Reached.{puts_nothing, reaches, takes_more}
-use Rattle.wot_engine.proofs.Revisions.{First-here, Stood, cut_by, cut_most, turned, wrote}
+use Rattle.wot_engine.proofs.LineReplies.{First-here, Stood, cut_by, cut_most, turned, wrote}
 
 -- ---- the buffer
 

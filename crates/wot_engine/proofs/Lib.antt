@@ -2,7 +2,7 @@ mod Contents
 mod ByCases
 mod Progress
 mod Reached
-mod Revisions
+mod LineReplies
 mod Held
 mod TakesAtMost
 mod Does

@@ -19,7 +19,7 @@ use Rattle.wot_engine.proofs.Statuses.{WritesAlone, any_status, generated_begun,
 use Rattle.wot_engine.proofs.Statuses.{generated_whole, is_done, is_memory, is_much, is_read, is_write, much_or_memory}
 use Rattle.wot_engine.proofs.Statuses.{never_read, not_two, run_complete}
 use Rattle.wot_engine.proofs.TakesAtMost.{takes_nothing}
-use Rattle.wot_engine.proofs.Revisions.{Most-untouched}
+use Rattle.wot_engine.proofs.LineReplies.{Most-untouched}
 
 -- what isn't changed
 abbrev pub same : {A : Type 0} → A → Ends A

@@ -25,9 +25,9 @@ use Rattle.wot_engine.proofs.Held.{Held, Held-begun, Held-cut, Held-first, Held-
 use Rattle.wot_engine.proofs.Held.{Held-reached, Held-reached_cut, Held-reached_next, Held-reply, Held-written}
 use Rattle.wot_engine.proofs.Held.{nothing_held}
 use Rattle.wot_engine.proofs.Stops.{never, never_ok, rose_on, stopped}
-use Rattle.wot_engine.proofs.Revisions.{Answered-end, Answered-stop, Begun-here}
-use Rattle.wot_engine.proofs.Revisions.{First-reached}
-use Rattle.wot_engine.proofs.Revisions.{Left-end, Most-end, Most-stop, Stood}
+use Rattle.wot_engine.proofs.LineReplies.{Answered-end, Answered-stop, Begun-here}
+use Rattle.wot_engine.proofs.LineReplies.{First-reached}
+use Rattle.wot_engine.proofs.LineReplies.{Left-end, Most-end, Most-stop, Stood}
 use Rattle.wot_engine.proofs.Fresh.{answered, not_end, holds, no_fault, within, counted, turned, judged}
 use Rattle.wot_engine.proofs.TakesAtMost.{ends_at, has_most, took_none, took_nothing, took_both, takes_at_most}
 use Rattle.wot_engine.proofs.TakesAtMost.{takes_more}

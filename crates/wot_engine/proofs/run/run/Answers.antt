@@ -7,8 +7,8 @@ use Rattle.wot_engine.proofs.HasAsked.{HasAsked-init, asks_between}
 use Rattle.wot_engine.proofs.Does.{does_memory}
 use Rattle.wot_engine.proofs.Does.{takes_some}
 use Rattle.wot_engine.proofs.Stops.{never, stopped}
-use Rattle.wot_engine.proofs.Revisions.{Begun-nothing, First-nothing}
-use Rattle.wot_engine.proofs.Revisions.{Reached-nothing}
+use Rattle.wot_engine.proofs.LineReplies.{Begun-nothing, First-nothing}
+use Rattle.wot_engine.proofs.LineReplies.{Reached-nothing}
 use Rattle.wot_engine.proofs.TakesAtMost.{takes_nothing}
 use Rattle.wot_engine.proofs.run.run.Goals as goal
 
