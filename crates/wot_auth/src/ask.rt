@@ -9,6 +9,7 @@ ghost use Rattle.wot_edge.specs.Path.{asks, use_of, IsSpent};
 ghost use Rattle.wot_edge.specs.Answer.{IsAnswer, amount_of};
 ghost use Rattle.wot_edge.specs.Capacity.{AllFit};
 ghost use Rattle.wot_edge.specs.Leads.{Grows, GainsLeads};
+ghost use Rattle.wot_first_path.specs.Metered.{looks_in};
 ghost use Rattle.wot_search.specs.Asked.{HasItsReach, question_of};
 ghost use Rattle.wot_auth.specs.Agreed.{IsOnlyAnswer, IsAnswerOfAgreeing, IsOnlyOfAgreeing, asks_for};
 
@@ -94,6 +95,9 @@ pub fn authenticate_metered<R: Roads>(
     // An error is `Spent` if and only if the search asked for one look too many.
     ensures spent { result ≡ Err LookFault.Spent → metered.new.left ≡ None }
     ensures wanting { result ≡ Err LookFault.Memory → is_some metered.new.left ≡ true }
+
+    // The looks that are left never become more.
+    ensures falls { looks_in metered.new.left ≤ looks_in metered.old.left }
     ensures grows { Grows metered.old.consulted metered.new.consulted }
     ensures leads { GainsLeads (R.network roads.now binding.now.uid.now) binding.now.target.now
         metered.old.consulted metered.new.consulted }

@@ -2,7 +2,7 @@
 //!
 //! It uses `demand` and `reached`, and `specs/Growth.antt`. `extend` calls it for each edge, so most of a
 //! search's time is spent here.
-ghost use Rattle.std.specs.Prelude.{◌≡◌, ◌<◌, ℕ, List, true, IfOk, OnOk};
+ghost use Rattle.std.specs.Prelude.{◌≡◌, ◌≤◌, ◌<◌, ℕ, List, true, IfOk, OnOk};
 ghost use Rattle.wot_edge.specs.Demand.{demand_of};
 ghost use Rattle.wot_edge.specs.Record.{Has, IsRecord, EachRow, edges_into};
 ghost use Rattle.wot_first_path.specs.Quest.{WhateverTold};
@@ -102,6 +102,7 @@ fn keep<R: Roads, N: Notes>(
         reached.old reached.new node) }
     ensures has { OnOk result (N.noted notes.new node.step.issuer) }
     ensures grows { Widens (N.noted notes.old) (N.noted notes.new) }
+    ensures falls { N.budget notes.new ≤ N.budget notes.old }
     ensures gains { Gains (λ fpr. fpr ≡ node.step.issuer) (N.noted notes.old) (N.noted notes.new) }
 {
     notes.note(&node.step.issuer)?;
@@ -129,6 +130,7 @@ pub fn consider<R: Roads, N: Notes>(
     ensures all { OnOk result (TriesEdge N.noted R.network search.now rest.width edge.now
         reached.old reached.new notes.old notes.new) }
     ensures grows { Widens (N.noted notes.old) (N.noted notes.new) }
+    ensures falls { N.budget notes.new ≤ N.budget notes.old }
     ensures gains { Gains (λ fpr. fpr ≡ edge.now.issuer) (N.noted notes.old) (N.noted notes.new) }
 {
     match wanted(search, rest, hint.place, &edge.facts(), &reached.nodes) {

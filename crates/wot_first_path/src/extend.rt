@@ -1,7 +1,7 @@
 //! The edges into one fingerprint of a layer, considered one after another.
 //!
 //! It uses `consider`, and `wot_reach` for the edges that lead on. `grow` calls it for each fingerprint.
-ghost use Rattle.std.specs.Prelude.{◌≡◌, ◌<◌, ℕ, List, OnOk};
+ghost use Rattle.std.specs.Prelude.{◌≡◌, ◌≤◌, ◌<◌, ℕ, List, OnOk};
 ghost use Rattle.wot_edge.specs.Record.{IsRecord};
 ghost use Rattle.wot_reach.specs.Onward.{AreAllUsableIf, AreUsableIf, LeadsOnInto, MatterBefore};
 ghost use Rattle.wot_first_path.specs.Quest.{LeadsOn};
@@ -57,6 +57,7 @@ pub fn extend<R: Roads, N: Notes>(
     ensures all { OnOk result (ConsidersInto N.noted R.network search.now at.now
         reached.old reached.new notes.old notes.new) }
     ensures grows { Widens (N.noted notes.old) (N.noted notes.new) }
+    ensures falls { N.budget notes.new ≤ N.budget notes.old }
     ensures gains { Gains (IsNear (record_in R.network search.now) at.now) (N.noted notes.old) (N.noted notes.new) }
 {
     let place = search.quest.reach.place_known(known, at);
@@ -90,6 +91,7 @@ fn extend_onward<R: Roads, N: Notes>(
     ensures all { OnOk result (ConsidersInto N.noted R.network search.now at.now
         reached.old reached.new notes.old notes.new) }
     ensures grows { Widens (N.noted notes.old) (N.noted notes.new) }
+    ensures falls { N.budget notes.new ≤ N.budget notes.old }
     ensures gains { Gains (IsNear (record_in R.network search.now) at.now) (N.noted notes.old) (N.noted notes.new) }
 {
     let edges = onward.edges.as_slice();
@@ -117,6 +119,7 @@ fn extend_all<R: Roads, N: Notes>(
     ensures all { OnOk result (ConsidersInto N.noted R.network search.now at.now
         reached.old reached.new notes.old notes.new) }
     ensures grows { Widens (N.noted notes.old) (N.noted notes.new) }
+    ensures falls { N.budget notes.new ≤ N.budget notes.old }
     ensures gains { Gains (IsNear (record_in R.network search.now) at.now) (N.noted notes.old) (N.noted notes.new) }
 {
     let edges = search.roads.rows(at);
@@ -145,6 +148,7 @@ fn extend_by<R: Roads, N: Notes>(
     ensures all { OnOk result (ConsidersInto N.noted R.network search.now at.now
         reached.old reached.new notes.old notes.new) }
     ensures grows { Widens (N.noted notes.old) (N.noted notes.new) }
+    ensures falls { N.budget notes.new ≤ N.budget notes.old }
     ensures gains { Gains (IsNear (record_in R.network search.now) at.now) (N.noted notes.old) (N.noted notes.new) }
 {
     let demand = demand(search.roads, search.quest, search.size);

@@ -2,7 +2,7 @@
 //!
 //! It uses `grow` and `first_of_layer`, and `specs/Growth.antt`. `wot_search` runs it twice, first for the greatest
 //! amount and then for the least list.
-ghost use Rattle.std.specs.Prelude.{◌≡◌, ℕ, List, [], ◌∷◌, IfOk};
+ghost use Rattle.std.specs.Prelude.{◌≡◌, ◌≤◌, ℕ, List, [], ◌∷◌, IfOk};
 ghost use Rattle.wot_edge.specs.Leads.{Leads};
 ghost use Rattle.wot_edge.specs.Record.{IsRecord};
 ghost use Rattle.wot_first_path.specs.Growth.{IsAfterPath, IsSmall, IsResult, IsLookedBy};
@@ -47,6 +47,7 @@ pub fn first<R: Roads, N: Notes>(
     ensures first { IfOk result (λ found. IsResult (quest_of (R.network roads.now) quest.now) found) }
     ensures looked { IfOk result (IsLookedBy (quest_of (R.network roads.now) quest.now) (N.noted notes.new)) }
     ensures grows { Widens (N.noted notes.old) (N.noted notes.new) }
+    ensures falls { N.budget notes.new ≤ N.budget notes.old }
     ensures leads { Gains (Leads (R.network roads.now quest.now.uid.now) quest.now.target.now)
         (N.noted notes.old) (N.noted notes.new) }
 {
@@ -73,6 +74,7 @@ pub fn first_from<R: Roads, N: Notes>(
         (N.noted notes.new)) }
     ensures looked { IfOk result (IsLookedBy (quest_of (R.network roads.now) quest.now) (N.noted notes.new)) }
     ensures grows { Widens (N.noted notes.old) (N.noted notes.new) }
+    ensures falls { N.budget notes.new ≤ N.budget notes.old }
     ensures leads { Gains (Leads (R.network roads.now quest.now.uid.now) quest.now.target.now)
         (N.noted notes.old) (N.noted notes.new) }
 {

@@ -2,7 +2,7 @@
 //!
 //! It uses `extend` and `specs/Growth.antt`. `first_path` calls it until it finds a root,
 //! and `wot_search` for a number of layers.
-ghost use Rattle.std.specs.Prelude.{◌<◌, ℕ, List, OnOk};
+ghost use Rattle.std.specs.Prelude.{◌≤◌, ◌<◌, ℕ, List, OnOk};
 ghost use Rattle.wot_edge.specs.Record.{IsRecord};
 ghost use Rattle.wot_first_path.specs.Quest.{LeadsOn};
 ghost use Rattle.wot_first_path.specs.Looked.{Gains, IsNearOne, Widens};
@@ -33,6 +33,7 @@ fn grow<R: Roads, N: Notes>(
     ensures all { OnOk result (ConsidersLayer N.noted R.network search.now layer.now
         reached.old reached.new notes.old notes.new) }
     ensures grows { Widens (N.noted notes.old) (N.noted notes.new) }
+    ensures falls { N.budget notes.new ≤ N.budget notes.old }
     ensures gains { Gains (IsNearOne (record_in R.network search.now) layer.now) (N.noted notes.old)
         (N.noted notes.new) }
 {
@@ -62,6 +63,7 @@ pub fn advance<R: Roads, N: Notes>(
     ensures unrooted { OnOk result (StaysUnrooted (R.network roads.now) quest.now size reached.old reached.new
         (N.noted notes.old)) }
     ensures grows { Widens (N.noted notes.old) (N.noted notes.new) }
+    ensures falls { N.budget notes.new ≤ N.budget notes.old }
     ensures leads { GainsAfter (R.network roads.now) quest.now size reached.old (N.noted notes.old)
         (N.noted notes.new) }
 {

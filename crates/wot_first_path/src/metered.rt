@@ -2,11 +2,11 @@
 //!
 //! Searches are generic over `Notes`; a caller reads from `left` why one ended. `wot_auth` bounds the cost of a
 //! question by it.
-ghost use Rattle.std.specs.Prelude.{◌≡◌, ◌⊎◌, [], Some, OnOk};
+ghost use Rattle.std.specs.Prelude.{◌≡◌, ◌≤◌, ◌⊎◌, [], Some, OnOk};
 ghost use Rattle.wot_types.specs.declared.fpr.Fpr.{Fpr as Print};
 ghost use Rattle.wot_edge.specs.Record.{Has};
 ghost use Rattle.wot_first_path.specs.Looked.{Widens};
-ghost use Rattle.wot_first_path.specs.Metered.{looks_after};
+ghost use Rattle.wot_first_path.specs.Metered.{looks_after, looks_in};
 
 use crate::consulted::Consulted;
 use crate::notes::Notes;
@@ -46,10 +46,13 @@ impl Metered {
 impl Notes for Metered {
     ghost noted = { λ metered fpr. Has metered.consulted fpr };
 
+    ghost budget = { λ metered. looks_in metered.left };
+
     /// Refused if no look is left, or one was refused before.
     fn note(&mut self, fpr: &Fpr) -> Result<(), Memory>
         ensures has { OnOk result (Has self.new.consulted fpr.now) }
         ensures grows { Widens (Has self.old.consulted) (Has self.new.consulted) }
+        ensures falls { looks_in self.new.left ≤ looks_in self.old.left }
         ensures only { (other : Print) → Has self.new.consulted other
             → Has self.old.consulted other ⊎ (other ≡ fpr.now) }
         ensures left { self.new.left ≡ looks_after self.old.left }

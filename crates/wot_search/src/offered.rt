@@ -2,7 +2,7 @@
 //!
 //! It uses `offers` and `specs/Offers.antt`. `wot_auth` asks it for each path after the first, which saves a
 //! search most of the time.
-ghost use Rattle.std.specs.Prelude.{◌≡◌, nat_le, IfOk, OnOk};
+ghost use Rattle.std.specs.Prelude.{◌≡◌, ◌≤◌, nat_le, IfOk, OnOk};
 ghost use Rattle.wot_edge.specs.Answer.{IsNextOrSpent};
 ghost use Rattle.wot_edge.specs.Path.{step_left};
 ghost use Rattle.wot_edge.specs.Sums.{use_in};
@@ -106,6 +106,7 @@ pub fn next_offered<R: Roads, N: Notes>(
     ensures offers { OnOk result (AreOffersFor (question_of (R.network roads.now) asked.now) (use_in used.now)
         offers.new.items) }
     ensures grows { Widens (N.noted notes.old) (N.noted notes.new) }
+    ensures falls { N.budget notes.new ≤ N.budget notes.old }
     ensures leads { Gains (LeadsToAsked (R.network roads.now) asked.now) (N.noted notes.old) (N.noted notes.new) }
 
     // If the table leaves nothing out, this holds for every question that agrees on a set that contains what was noted

@@ -2,7 +2,7 @@
 //!
 //! It uses `widest`, the searches of `wot_first_path`, and `specs/Offers.antt`. `offered` takes paths from
 //! them while their amounts last.
-ghost use Rattle.std.specs.Prelude.{◌≡◌, ℕ, List, nat_le, true, IfOk, IfSome, OnOk};
+ghost use Rattle.std.specs.Prelude.{◌≡◌, ◌≤◌, ℕ, List, nat_le, true, IfOk, IfSome, OnOk};
 ghost use Rattle.std.specs.List.{list_all};
 ghost use Rattle.std.specs.Map.{values_of};
 ghost use Rattle.wot_edge.specs.Record.{IsRecord};
@@ -206,6 +206,7 @@ fn next_paths_by_one<R: Roads, N: Notes>(
     ensures next { IfOk result (AreNextIfSome (R.network roads.now) asked.now used.now) }
     ensures local { IfOk result (AreNextLocallyIfSome (R.network roads.now) asked.now used.now (N.noted notes.new)) }
     ensures grows { Widens (N.noted notes.old) (N.noted notes.new) }
+    ensures falls { N.budget notes.new ≤ N.budget notes.old }
     ensures leads { Gains (LeadsToAsked (R.network roads.now) asked.now) (N.noted notes.old) (N.noted notes.new) }
     ensures lawful { IfOk result (λ found. IfSome found (λ paths. IsRecord (R.network roads.now asked.now.uid.now))) }
 {
@@ -260,6 +261,7 @@ pub fn next_paths_within<R: Roads, N: Notes>(
     ensures next { IfOk result (λ paths. AreNextFor (question_of (R.network roads.now) asked.now) (use_in used.now)
         paths.items) }
     ensures grows { Widens (N.noted notes.old) (N.noted notes.new) }
+    ensures falls { N.budget notes.new ≤ N.budget notes.old }
     ensures leads { Gains (LeadsToAsked (R.network roads.now) asked.now) (N.noted notes.old) (N.noted notes.new) }
 
     // If the table leaves nothing out, every question that agrees on a set with all that was noted has them too.

@@ -1,7 +1,7 @@
 //! A path of the greatest amount. A search for next paths begins with it, unless one search finds both.
 //!
 //! It uses the searches of `wot_first_path` and `specs/Widest.antt`. `next`, `offers` and `below` call it.
-ghost use Rattle.std.specs.Prelude.{ℕ, List, IfOk};
+ghost use Rattle.std.specs.Prelude.{◌≤◌, ℕ, List, IfOk};
 ghost use Rattle.wot_edge.specs.Record.{IsRecord};
 ghost use Rattle.wot_first_path.specs.Looked.{Gains, Widens};
 ghost use Rattle.wot_search.specs.Asked.{HasItsReach, LeadsToAsked};
@@ -27,6 +27,7 @@ pub(crate) fn widest<R: Roads, N: Notes>(
     ensures widest { IfOk result (IsWidestOrSpent (R.network roads.now) asked.now used.now) }
     ensures noted { IfOk result (IsWidestNoted (R.network roads.now) asked.now used.now (N.noted notes.new)) }
     ensures grows { Widens (N.noted notes.old) (N.noted notes.new) }
+    ensures falls { N.budget notes.new ≤ N.budget notes.old }
     ensures leads { Gains (LeadsToAsked (R.network roads.now) asked.now) (N.noted notes.old) (N.noted notes.new) }
     ensures lawful { IfOk result (λ found. (id : List ℕ) → IsRecord (R.network roads.now id)) }
 {

@@ -1,4 +1,4 @@
-use Rattle.std.proofs.Common.{◌≡◌, ◌<◌, ◌-◌, [], List}
+use Rattle.std.proofs.Common.{◌≤◌, ◌≡◌, ◌<◌, ◌-◌, [], List}
 use Rattle.wot_types.specs.declared.fpr.Fpr.{Fpr}
 use Rattle.wot_edge.specs.Record.{Has}
 use Rattle.wot_edge.specs.Path.{Question, asks, use_of}
@@ -22,6 +22,7 @@ invariant-paths g l =
       sum : l.sum ≡ amount_of l.paths.items;
       offers : AreOffers l.asked.roots.now q (use_in l.used) l.offers.items;
       grows : Widens (g.N.Notes.noted l.fn.notes) (g.N.Notes.noted l.notes);
+      falls : g.N.Notes.budget l.notes ≤ g.N.Notes.budget l.fn.notes;
       leads : Gains (Leads network l.asked.target.now) (g.N.Notes.noted l.fn.notes) (g.N.Notes.noted l.notes);
       local : ((fpr : Fpr) → number_at l.asked.reach.now fpr ≡ 255) → (set : List Fpr)
           → Widens (g.N.Notes.noted l.notes) (Has set)

@@ -1,4 +1,4 @@
-use Rattle.std.proofs.Common.{inl, inr, refl, sym, subst, ◌∙◌}
+use Rattle.std.proofs.Common.{inl, inr, refl, sym, subst, ◌∙◌, arith}
 use Rattle.wot_types.specs.declared.fpr.Fpr.{Fpr}
 use Rattle.wot_edge.specs.declared.edge.EdgeFacts.{EdgeFacts}
 use Rattle.wot_edge.specs.Record.{Has}
@@ -77,6 +77,7 @@ edges-preserved g c =
           (one.seen (inv.noted n) rest begins.long);
       it = ok.grows c.args.at.now inv.it;
       widens = λ f h. ok.grows f (inv.widens f h);
+      falls = let now = ok.falls in let before = inv.falls in omega (arith, now, before);
       gains = λ fpr h. elim (ok.gains fpr h) [
         | inl k ↦ inv.gains fpr k
         | inr e ↦ inr (subst (λ (f : Fpr). IsNear network c.args.at.now f) (sym e) (near_issuer network c.args.at.now x into))

@@ -1,4 +1,4 @@
-use Rattle.std.proofs.Common.{List}
+use Rattle.std.proofs.Common.{◌≤◌, List}
 use Rattle.wot_edge.specs.declared.path.Step.{Step}
 use Rattle.wot_first_path.specs.Quest.{quest_of}
 use Rattle.wot_first_path.specs.Reached.{look}
@@ -24,5 +24,6 @@ invariant-edges g l =
           → NotedFrom quest (g.N.Notes.noted l.notes) l.edges l.edge-index rest;
       it : g.N.Notes.noted l.notes l.at;
       widens : Widens (g.N.Notes.noted l.fn.notes) (g.N.Notes.noted l.notes);
+      falls : g.N.Notes.budget l.notes ≤ g.N.Notes.budget l.fn.notes;
       gains : Gains (IsNear (network l.search.quest.now.uid.now) l.at) (g.N.Notes.noted l.fn.notes) (g.N.Notes.noted l.notes);
     }

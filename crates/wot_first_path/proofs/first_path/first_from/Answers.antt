@@ -74,6 +74,7 @@ layers-preserved g c =
           (let n : suc c.layers.size ≡ c.layers.size + 1 = omega arith in n) after;
       unrooted = subst (λ (o : Option Path). IsTurn quest found (c.layers.size + 1) o) c.in-None.is first_of_layer;
       grows = λ fpr h. ok.grows fpr (inv.grows fpr h);
+      falls = let now = ok.falls in let before = inv.falls in omega (arith, now, before);
       leads = λ fpr h. elim (ok.leads inv.after fpr h) [ inl k ↦ inv.leads fpr k | inr l ↦ inr l ];
     }
 
@@ -85,6 +86,7 @@ layers-init g c =
       after = after_begin quest reached (g.N.Notes.noted c.args.notes.now) c.requires.nodes c.requires.layer;
       unrooted = unrooted_begin quest (look reached.nodes);
       grows = λ fpr h. h;
+      falls = omega arith;
       leads = λ fpr h. inl h;
     }
 

@@ -1,4 +1,4 @@
-use Rattle.std.proofs.Common.{suc}
+use Rattle.std.proofs.Common.{◌≤◌, suc}
 use Rattle.wot_edge.specs.Leads.{Leads}
 use Rattle.wot_first_path.specs.Looked.{Gains, Widens}
 use Rattle.wot_first_path.specs.Quest.{quest_of}
@@ -14,6 +14,7 @@ invariant-layers g l =
       after : IsAfter quest l.size l.reached (g.N.Notes.noted l.notes);
       unrooted : IsUnrooted quest (look l.reached.nodes) (suc l.size);
       grows : Widens (g.N.Notes.noted l.fn.notes) (g.N.Notes.noted l.notes);
+      falls : g.N.Notes.budget l.notes ≤ g.N.Notes.budget l.fn.notes;
       leads : Gains (Leads (network l.quest.uid.now) l.quest.target.now) (g.N.Notes.noted l.fn.notes)
           (g.N.Notes.noted l.notes);
     }

@@ -29,6 +29,7 @@ layer-preserved g c =
           i _ c.layer-test.true (inv.seen n) ok.grows
           (λ rest l there. one.seen (inv.noted n) rest (record { long = l; there = there }));
       widens = λ f h. ok.grows f (inv.widens f h);
+      falls = let now = ok.falls in let before = inv.falls in omega (arith, now, before);
       gains = λ fpr h. elim (ok.gains fpr h) [ inl k ↦ inv.gains fpr k | inr near ↦ inr (_, has, near) ];
     }
 

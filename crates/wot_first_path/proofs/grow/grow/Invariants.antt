@@ -1,3 +1,4 @@
+use Rattle.std.proofs.Common.{◌≤◌}
 use Rattle.wot_edge.specs.Record.{Has}
 use Rattle.wot_first_path.specs.Quest.{quest_of}
 use Rattle.wot_first_path.specs.Reached.{look}
@@ -19,5 +20,6 @@ invariant-layer g l =
       seen : AreNoted (look l.fn.reached.nodes) (g.N.Notes.noted l.fn.notes)
           → SeenFrom quest l.search.size (g.N.Notes.noted l.notes) l.layer l.at-index;
       widens : Widens (g.N.Notes.noted l.fn.notes) (g.N.Notes.noted l.notes);
+      falls : g.N.Notes.budget l.notes ≤ g.N.Notes.budget l.fn.notes;
       gains : Gains (IsNearOne (network l.search.quest.now.uid.now) l.layer) (g.N.Notes.noted l.fn.notes) (g.N.Notes.noted l.notes);
     }
