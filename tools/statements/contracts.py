@@ -2,20 +2,23 @@
 
 import re
 from dataclasses import dataclass
+from itertools import pairwise
 from pathlib import Path
 
 from .definitions import Place, imports_of, resolve, words_of
 
 FUNCTION = r"^\s*(?:pub(?:\([^)]*\))? )?(?:final )?fn {name}\b"
 CLAUSE = re.compile(r"^\s*(?:requires|ensures)\b")
+NAMED = re.compile(r"^\s*(?:requires|ensures) (\w+) \{")
 
 
 @dataclass(frozen=True)
 class Call:
-    """A function: its name, and the file that has it, relative to the checkout."""
+    """A function: its name, and the file that has it, relative to the checkout; and one of its clauses, or all."""
 
     name: str
     file: str
+    clause: str = ""
 
 
 def clauses_of(text: str, name: str) -> str:
@@ -32,11 +35,23 @@ def clauses_of(text: str, name: str) -> str:
     return "\n".join(found)
 
 
+def clause_of(clauses: str, name: str) -> str:
+    """The clause of this name, as it is written; the empty text if there is none."""
+    lines = clauses.splitlines()
+    begins = [at for at, line in enumerate(lines) if CLAUSE.match(line)] + [len(lines)]
+    for begin, end in pairwise(begins):
+        named = NAMED.match(lines[begin])
+        if named and named[1] == name:
+            return "\n".join(line for line in lines[begin:end] if not line.strip().startswith("//"))
+    return ""
+
+
 def named_by(root: Path, call: Call) -> set[Place]:
-    """The definitions that a call's contract names."""
+    """The definitions that a call's contract names, or one of its clauses."""
     text = (root / call.file).read_text(encoding="utf-8")
     names, files = imports_of(text.replace(";\n", "\n"))
-    return resolve(words_of(clauses_of(text, call.name)), {}, names, files)
+    clauses = clauses_of(text, call.name)
+    return resolve(words_of(clause_of(clauses, call.clause) if call.clause else clauses), {}, names, files)
 
 
 def files_with(root: Path, name: str) -> list[str]:

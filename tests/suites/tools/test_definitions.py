@@ -27,6 +27,24 @@ class Definitions(unittest.TestCase):
         self.assertEqual(HEAD.findall(said), ["last_count", "Rose", "Becomes", "GainsPrefix"])
         self.assertEqual(said.splitlines()[-1], "4 definitions in 9 lines")
 
+    def test_those_of_one_clause(self) -> None:
+        """Of the four definitions of `write_all`, its clause on success reaches one. A wrong name is refused."""
+        self.assertEqual(HEAD.findall(self.said("write_all", "ok")), ["Becomes"])
+        self.assertEqual(self.said("write_all", "ok", "crates/wot_io/src/sink.rt"), self.said("write_all", "ok"))
+        ended = subprocess.run([TOOL, "write_all", "send"], capture_output=True, text=True, check=False)
+        self.assertEqual((ended.returncode, ended.stdout), (2, ""))
+        self.assertIn("write_all has no clause send", ended.stderr)
+
+    def test_the_headline_and_the_whole_contract(self) -> None:
+        """`--count` prints both. The headline is one clause, so it rests on fewer definitions than the contract."""
+        headline, contract = self.said("--count").splitlines()[-3:-1]
+        self.assertEqual(headline, f"the headline, clause whole of run_words: {self.last_line('run_words', 'whole')}")
+        self.assertEqual(contract, f"run_words, all clauses: {self.last_line('run_words')}")
+        self.assertLess(*(int(line.rpartition(": ")[2].split()[0]) for line in (headline, contract)))
+
+    def last_line(self, *words: str) -> str:
+        return self.said(*words).splitlines()[-1]
+
     def test_each_stands_after_what_it_uses(self) -> None:
         """Except in a circle: two definitions that use each other have no such order."""
         library = Library(plain.ROOT)
