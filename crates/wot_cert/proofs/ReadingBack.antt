@@ -2,13 +2,15 @@
 use Rattle.std.proofs.Common.{◌≡◌, ℕ, ◌+◌, ◌<◌, ◌≤◌, ◌^◌, Bool, true, false, cond, List, [], ◌∷◌, ◌++◌, map, length}
 use Rattle.std.proofs.Common.{None, refl, sym, ap, ◌∙◌, arith, append_assoc}
 use Rattle.std.specs.Prelude.{◌&&◌, ◌||◌, ◌==◌, count_by, filter, nat_le, nat_lt, not}
+use Rattle.std.specs.Prelude.{drop, take}
+use Rattle.std.specs.Int.{w32, from_be_bytes}
 use Rattle.std.specs.List.{All, AllByRecursion}
 use Rattle.std.specs.Cmp.Lexicographic.{on_texts}
 use Rattle.std.specs.Cmp.{IsTotalOrder}
 use Rattle.std.proofs.lemmas.Bool.{and_parts, leb-true, ltb-true}
 use Rattle.std.proofs.lemmas.Cmp.{nat_list_cmp_total}
 use Rattle.std.proofs.lemmas.List.Elements.{All-from_recursion}
-use Rattle.wot_key.specs.Key.{is_readable, is_v4, is_v6, material_in, version_in}
+use Rattle.wot_key.specs.Key.{is_readable, is_v4, is_v6, version_in}
 use Rattle.wot_packet.specs.Spelling.{AreShort, Spelled}
 use Rattle.wot_packet.specs.Writing.{CanBeWritten, placed, written, written_all}
 use Rattle.wot_cert.specs.Assembly.{Section, cut_at, certificate_of, certificates_of, has_readable_key, skipped_in}
@@ -145,7 +147,7 @@ key-short key e = by (is_v4 key) refl e
     of_v6 : is_v6 key ≡ true → length key < 2 ^ 32
     of_v6 f =
         let three = and_parts (nat_le 10 (length key) && nat_lt (length key) (2 ^ 32) && (version_in key == 6))
-        (material_in key + 10 == length key) f in
+        (from_be_bytes w32 (take 4 (drop 6 key)) + 10 == length key) f in
         let two = and_parts (nat_le 10 (length key) && nat_lt (length key) (2 ^ 32)) (version_in key == 6) three.0 in
         ltb-true (length key) (2 ^ 32) (and_parts (nat_le 10 (length key)) (nat_lt (length key) (2 ^ 32)) two.0).1
 

@@ -12,13 +12,9 @@ use Rattle.wot_certd.specs.Names.{name_cmp}
 abbrev pub Entries : Type 0
 Entries = List (Name × List ℕ)
 
--- whether this is the name
-abbrev pub is_name : Name → Name → Bool
-is_name name = is_at (name_cmp name)
-
 -- the entry under a name
 abbrev pub entry_at : Entries → Name → Option (List ℕ)
-entry_at entries name = lookup (is_name name) entries
+entry_at entries name = lookup (is_at (name_cmp name)) entries
 
 -- these octets under the name, and all other entries unchanged
 abbrev pub with_entry : Entries → Name → List ℕ → Entries

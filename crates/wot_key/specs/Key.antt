@@ -17,16 +17,12 @@ version_in body = slice_index body 0
 abbrev pub is_v4 : List ℕ → Bool
 is_v4 body = nat_le 6 (length body) && nat_le (length body) 65535 && (version_in body == 4)
 
--- how many octets of material a body of version 6 says it has: four octets after the algorithm
-abbrev pub material_in : List ℕ → ℕ
-material_in body = from_be_bytes w32 (take 4 (drop 6 body))
-
 -- A body of version 6: the octet 6, four octets of creation time, an algorithm octet, four octets with the number of
 -- octets of material, and that many octets; fewer than 2^32 octets in all.
 abbrev pub is_v6 : List ℕ → Bool
 is_v6 body =
     nat_le 10 (length body) && nat_lt (length body) (2 ^ 32) && (version_in body == 6)
-    && (material_in body + 10 == length body)
+    && (from_be_bytes w32 (take 4 (drop 6 body)) + 10 == length body)
 
 abbrev pub is_readable : List ℕ → Bool
 is_readable body = is_v4 body || is_v6 body
@@ -42,21 +38,13 @@ key_of body =
     then Some (record { version = version_in body; created = created_in body; algorithm = slice_index body 5 })
     else None
 
--- of version 4: the octet 0x99, the two octets of the length, and the body
-abbrev pub hashed_text : List ℕ → List ℕ
-hashed_text body = 153 ∷ to_be_bytes w16 (length body) ++ body
-
--- the digest that is a version 4 fingerprint
+-- a version 4 fingerprint: the digest of the octet 0x99, the two octets of the length, and the body
 unfoldable pub v4_digest : List ℕ → List ℕ
-v4_digest body = sha1 (hashed_text body)
+v4_digest body = sha1 (153 ∷ to_be_bytes w16 (length body) ++ body)
 
--- of version 6: the octet 0x9B, the four octets of the length, and the body
-abbrev pub hashed_text_v6 : List ℕ → List ℕ
-hashed_text_v6 body = 155 ∷ to_be_bytes w32 (length body) ++ body
-
--- the digest that is a version 6 fingerprint
+-- a version 6 fingerprint: the digest of the octet 0x9B, the four octets of the length, and the body
 unfoldable pub v6_digest : List ℕ → List ℕ
-v6_digest body = sha256 (hashed_text_v6 body)
+v6_digest body = sha256 (155 ∷ to_be_bytes w32 (length body) ++ body)
 
 -- the fingerprint of the key with this body
 unfoldable pub fpr_of : List ℕ → Fpr
