@@ -13,6 +13,7 @@ NAME = re.compile(r"^(?:(?:abbrev|unfoldable|pub|record|data)\s+)+(?!use\b|mod\b
 IMPORT = re.compile(r"^\s*(?:ghost )?use Rattle\.(wot_\w+)\.specs\.([\w.]+?)\.\{([^}]*)\}", re.MULTILINE)
 WHOLE = re.compile(r"^\s*(?:ghost )?use Rattle\.(wot_\w+)\.specs\.([\w.]+)(?: as (\w+))?;?$", re.MULTILINE)
 WORD = re.compile(r"(?<![\w.])[A-Za-z_][\w\-']*(?:\.[A-Za-z_][\w\-']*)*")
+DO = re.compile(r"= do$", re.MULTILINE)
 OPERATOR = re.compile(r"(?<=\s)[^\w\s()\[\]{}.,;:λ→]+(?=\s)")
 
 
@@ -64,9 +65,14 @@ def without_comments(text: str) -> str:
 
 
 def words_of(text: str) -> set[str]:
-    """The words of a definition or a clause, those before each dot, and the operators with their places."""
+    """The words of a definition or a clause, those before each dot, and the operators with their places.
+
+    A `do` stands for the operators between its lines, which it doesn't show.
+    """
     plain = without_comments(text)
     found = {f"◌{operator}◌" for operator in OPERATOR.findall(plain)}
+    if DO.search(plain):
+        found |= {"◌>>=◌", "◌>>◌"}
     for word in WORD.findall(plain):
         found |= {word, word.split(".")[0]}
     return found

@@ -59,10 +59,6 @@ AreDoneBut k t lines left =
 abbrev pub AreDone : Keyring → ℕ → Lines → Type 0
 AreDone k t lines = (fpr : Fpr) → IsDone k t lines fpr
 
--- No line is of a certificate that isn't kept.
-abbrev pub NoneAbsent : Keyring → Lines → Type 0
-NoneAbsent k lines = (fpr : Fpr) → kept_at k fpr ≡ None → line_at lines fpr ≡ None
-
 -- The lines of kept certificates are unchanged, and there are no others.
 abbrev pub KeepsPresent : Keyring → Lines → Lines → Type 0
 KeepsPresent k old new = (fpr : Fpr) → line_at new fpr ≡ (if is_some (kept_at k fpr) then line_at old fpr else None)

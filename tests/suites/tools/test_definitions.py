@@ -45,6 +45,12 @@ class Definitions(unittest.TestCase):
     def last_line(self, *words: str) -> str:
         return self.said(*words).splitlines()[-1]
 
+    def test_operators_of_a_do(self) -> None:
+        """An import binds and refuses between the lines of a `do`: the definitions of both operators are printed."""
+        said = self.said("run_words", "whole")
+        for operator in ("◌>>=◌", "◌>>◌"):
+            self.assertIn(f"abbrev pub {operator} : ", said)
+
     def test_each_stands_after_what_it_uses(self) -> None:
         """Except in a circle: two definitions that use each other have no such order."""
         library = Library(plain.ROOT)
