@@ -9,8 +9,8 @@ use Rattle.std.specs.Str.Parse.{digits_value}
 use Rattle.std.proofs.lemmas.Bool.{and_parts, leb-true, ltb-true}
 use Rattle.std.proofs.lemmas.Option.{cond_some}
 use Rattle.wot_types.specs.Fpr.{fpr_of_digits}
-use Rattle.wot_reply_lines.specs.Claims.{all_of, claim_of, claim_with, field_of, IsLabelSpelled, IsPathSpelled, is_rising}
-use Rattle.wot_reply_lines.specs.Claims.{items_of, label_of, labels_of, rising, step_of}
+use Rattle.wot_reply_lines.specs.Claims.{all_of, claim_of, field_of, IsLabelSpelled, IsPathSpelled, is_rising}
+use Rattle.wot_reply_lines.specs.Claims.{items_of, label_of, labels_of, step_of}
 use Rattle.wot_reply_lines.specs.declared.claims.ClaimStepLine.{ClaimStepLine}
 use Rattle.wot_reply_lines.specs.declared.claims.LabelLine.{LabelLine}
 use Rattle.wot_fields.specs.Decimal.{is_decimal, positive_up_to}
@@ -121,7 +121,8 @@ claim_spelled text =
       (so _ (items_of 47 step_of parts.1) steps i (all_of_keeps _ step_of any_step (parts_of 47 parts.1))).1,
     )))))
   where
-    few : (n : ℕ) (steps : List ClaimStepLine) → 1 ≤ n → 1 ≤ length steps → IfSome (claim_with n steps) IsPathSpelled
+    few : (n : ℕ) (steps : List ClaimStepLine) → 1 ≤ n → 1 ≤ length steps
+        → IfSome (if nat_le (length steps) 255 then Some (record { 0 = n; 1 = steps }) else None) IsPathSpelled
     few n steps some many = by (nat_le (length steps) 255) refl
       where
         by : (b : Bool) → nat_le (length steps) 255 ≡ b
@@ -135,7 +136,8 @@ labels_rise text = by (field_of label_of text) (field_keeps _ label_of label_pos
   where
     by : (o : Option (List LabelLine))
         → IfSome o (λ labels. AllByRecursion IsLabelSpelled labels × (length labels ≤ 1 + length text))
-        → IfSome (o >>= rising) (λ labels. AllByRecursion IsLabelSpelled labels × (is_rising labels ≡ true))
+        → IfSome (o >>= (λ labels. if is_rising labels then Some labels else None))
+        (λ labels. AllByRecursion IsLabelSpelled labels × (is_rising labels ≡ true))
     by None h = tt
     by (Some labels) h = up (is_rising labels) refl
       where

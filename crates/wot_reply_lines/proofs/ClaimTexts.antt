@@ -1,7 +1,7 @@
 -- Claimed paths and labels are printed and read back.
 use Rattle.std.proofs.Common.{◌≡◌, ℕ, ◌+◌, ◌*◌, ◌<◌, ◌≤◌, ◌^◌, true, List, [], ◌∷◌, ◌++◌, length, Option, Some, refl}
 use Rattle.std.proofs.Common.{◌∙◌, arith, length-append}
-use Rattle.std.specs.Prelude.{nat_le}
+use Rattle.std.specs.Prelude.{nat_le, if◌then◌else◌, None}
 use Rattle.std.specs.Fmt.{decimal}
 use Rattle.std.specs.List.{AllByRecursion, flat_map}
 use Rattle.std.proofs.lemmas.Bool.{le-leb}
@@ -10,9 +10,9 @@ use Rattle.hex.specs.Hex.{lower_digits}
 use Rattle.wot_types.specs.Fpr.{digits_of, fpr_of_digits, octets_of}
 use Rattle.wot_types.specs.declared.fpr.Fpr.{Fpr}
 use Rattle.wot_reply_lines.specs.ClaimLaws.{IsClaimPrinted, IsLabelPrinted, IsStepPrinted}
-use Rattle.wot_reply_lines.specs.Claims.{claim_of, claim_text, claim_with, claims_of, field_of, field_text, IsPathSpelled}
+use Rattle.wot_reply_lines.specs.Claims.{claim_of, claim_text, claims_of, field_of, field_text, IsPathSpelled}
 use Rattle.wot_reply_lines.specs.Claims.{is_rising, items_of, items_text, label_of, label_text, labels_of, most_paths}
-use Rattle.wot_reply_lines.specs.Claims.{rising, step_of, step_text}
+use Rattle.wot_reply_lines.specs.Claims.{step_of, step_text}
 use Rattle.wot_fields.specs.Decimal.{decimal_up_to, positive_up_to}
 use Rattle.wot_fields.specs.Fields.{◌>>=◌, cut_at}
 use Rattle.wot_reply_lines.specs.declared.claims.ClaimLine.{ClaimLine}
@@ -134,6 +134,9 @@ claim_reads claim spelled amount small all =
     (steps_read claim.1 spelled.1 all)
     ∙ with_steps claim (le-leb (length claim.1) 255 spelled.2)
   where
+    claim_with : ℕ → List ClaimStepLine → Option ClaimLine
+    claim_with n steps = if nat_le (length steps) 255 then Some (record { 0 = n; 1 = steps }) else None
+
     with_steps : (c : ClaimLine) → nat_le (length c.1) 255 ≡ true → claim_with c.0 c.1 ≡ Some c
     with_steps c h = rw h refl
 
@@ -243,7 +246,7 @@ pub labels_field : (labels : List LabelLine) → AllByRecursion IsLabelPrinted l
     → IsField labels_of (1 + 128 * length labels) (field_text label_text labels) labels
 labels_field labels all rises = record {
   back =
-      bound (field_of label_of (field_text label_text labels)) labels rising
+      bound (field_of label_of (field_text label_text labels)) labels (λ ls. if is_rising ls then Some ls else None)
       (field_read label_of label_text labels
       (all_follow IsLabelPrinted (IsItem 44 label_of label_text) labels
       (λ l is. record { back = is.back; free = is.free.1.1.0 }) all)

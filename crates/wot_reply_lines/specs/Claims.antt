@@ -50,16 +50,13 @@ step_of text = do
 abbrev pub step_text : ClaimStepLine → List ℕ
 step_text step = digits_of step.0 ++ 46 ∷ decimal step.1
 
--- 1 to 255 steps
-abbrev pub claim_with : ℕ → List ClaimStepLine → Option ClaimLine
-claim_with amount steps = if nat_le (length steps) 255 then Some (record { 0 = amount; 1 = steps }) else None
-
+-- an amount, `/` and at most 255 steps with `/` between them
 unfoldable pub claim_of : List ℕ → Option ClaimLine
 claim_of text = do
   parts ← cut_at 47 text
   amount ← positive_up_to 255 parts.0
   steps ← items_of 47 step_of parts.1
-  claim_with amount steps
+  if nat_le (length steps) 255 then Some (record { 0 = amount; 1 = steps }) else None
 
 abbrev pub claim_text : ClaimLine → List ℕ
 claim_text claim = decimal claim.0 ++ 47 ∷ items_text 47 step_text claim.1
@@ -88,11 +85,8 @@ is_rising (label ∷ []) = true
 is_rising (label ∷ next ∷ labels) = is_lt (fpr_cmp label.0 next.0) && is_rising (next ∷ labels)
 
 -- TABLE: labels in strictly ascending order of fingerprints
-abbrev pub rising : List LabelLine → Option (List LabelLine)
-rising labels = if is_rising labels then Some labels else None
-
 abbrev pub labels_of : List ℕ → Option (List LabelLine)
-labels_of text = field_of label_of text >>= rising
+labels_of text = field_of label_of text >>= (λ labels. if is_rising labels then Some labels else None)
 
 -- ---- both
 

@@ -1,7 +1,7 @@
 -- A question that was read wants at least 1, and an import that was read is short.
 use Rattle.std.proofs.Common.{◌≡◌, ℕ, ◌≤◌, Bool, true, false, List, [], ◌∷◌, length, Option, Some, None, refl, arith}
 use Rattle.std.specs.Prelude.{codes, IfSome, if◌then◌else◌}
-use Rattle.std.specs.Option.{option_map}
+use Rattle.std.specs.Option.{option_map, option_or}
 use Rattle.std.specs.List.{list_all}
 use Rattle.std.specs.Str.{bytes_eq}
 use Rattle.std.proofs.lemmas.Bool.{and_parts}
@@ -21,9 +21,9 @@ use Rattle.wot_reply_lines.specs.declared.question.Question.{Question}
 use Rattle.wot_reply_lines.proofs.ClaimBounds.{claim_spelled, field_keeps, labels_rise, positive_wanted}
 use Rattle.wot_reply_lines.proofs.Questions.{question_wants}
 use Rattle.wot_script.proofs.WordLines.{When, when}
-use Rattle.wot_script.specs.Grammar.{about_of, asked_of, checked_of, command_for, command_of, drop_of}
-use Rattle.wot_script.specs.Grammar.{explained_of, export_of, listed_of, load_of, missed_of, other_of, over_of}
-use Rattle.wot_script.specs.Grammar.{paced_of, set_or, single_of, store_of, view_of, watch_of, watched_of}
+use Rattle.wot_script.specs.Grammar.{about_of, checked_of, command_for, command_of, drop_of}
+use Rattle.wot_script.specs.Grammar.{explained_of, export_of, listed_of, load_of, other_of, over_of}
+use Rattle.wot_script.specs.Grammar.{paced_of, single_of, store_of, view_of, watch_of, watched_of}
 use Rattle.wot_script.specs.OneWord.{has_word, named_among, one_words, word_of}
 use Rattle.wot_script.specs.Spelling.{HasSpelling, FitsLine}
 use Rattle.wot_fields.specs.Uid.{unescaped}
@@ -99,11 +99,11 @@ module _ (size : ℕ) where
   unfolding single_of
   single_spelled line = among_spelled one_words line refl
 
-  asked_spelled : (view text : List ℕ) → Spelled (asked_of view text)
+  asked_spelled : (view text : List ℕ) → Spelled (about_of Asked view text)
   asked_spelled view text =
       mapped (λ (q : Question). Ask view q.fpr q.wanted q.uid) (question_of text) (λ q e. (question_wants text q e, tt))
 
-  missed_spelled : (view text : List ℕ) → Spelled (missed_of view text)
+  missed_spelled : (view text : List ℕ) → Spelled (about_of Missed view text)
   missed_spelled view text =
       mapped (λ (q : Question). Absence view q.fpr q.wanted q.uid) (question_of text)
       (λ q e. (question_wants text q e, tt))
@@ -237,7 +237,7 @@ module _ (size : ℕ) where
   line_spelled _ within = (tt, tt)
 
   set_spelled : (o : Option StateLine) (other : Option Command) → IfSome o (IsWithin size) → Spelled other
-      → Spelled (set_or o other)
+      → Spelled (option_or (option_map command_for o) other)
   set_spelled None other within h = h
   set_spelled (Some line) other within h = line_spelled line within
 

@@ -1,7 +1,7 @@
 -- The command that a line spells.
 use Rattle.std.specs.Prelude.{ℕ, if◌then◌else◌, List, Option, Some, None, codes}
 use Rattle.std.specs.Str.{bytes_eq}
-use Rattle.std.specs.Option.{option_map}
+use Rattle.std.specs.Option.{option_map, option_or}
 use Rattle.wot_types.specs.Fpr.{fpr_of_digits}
 use Rattle.wot_types.specs.ViewName.{view_name_of}
 use Rattle.wot_reply_lines.specs.Claims.{claims_of, labels_of}
@@ -34,11 +34,6 @@ command_for (lines.Time view t) = Time view t
 command_for (lines.Root view fpr amount) = Root view fpr amount
 command_for (lines.Close view) = Close view
 
--- the command of such a line, and otherwise the other
-abbrev pub set_or : Option StateLine → Option Command → Option Command
-set_or (Some line) other = Some (command_for line)
-set_or None other = other
-
 -- after `load `: NAME
 unfoldable pub load_of : List ℕ → Option Command
 load_of text = option_map Load (entry_of text)
@@ -50,14 +45,6 @@ store_of digits = option_map Store (fpr_of_digits digits)
 -- after `drop `: FPR
 unfoldable pub drop_of : List ℕ → Option Command
 drop_of digits = option_map Remove (fpr_of_digits digits)
-
--- after `ask V `: a question
-abbrev pub asked_of : List ℕ → List ℕ → Option Command
-asked_of view text = option_map (λ question. Ask view question.fpr question.wanted question.uid) (question_of text)
-
--- after `absence V `: a question
-abbrev pub missed_of : List ℕ → List ℕ → Option Command
-missed_of view text = option_map (λ question. Absence view question.fpr question.wanted question.uid) (question_of text)
 
 -- after `list V `: N
 unfoldable pub listed_of : List ℕ → List ℕ → Option Command
@@ -113,12 +100,13 @@ watched_of watch text =
     read_behind (behind (codes "on ") text) (watch_of watch) (
     if bytes_eq text (codes "off") then Some (WatchOff watch) else None)
 
--- what follows the name of a view, a cursor or a watch, by what the line is about
+-- what follows the name of a view, a cursor or a watch, by what the line is about; `ask V ` and `absence V ` are
+-- followed by a question
 abbrev pub about_of : About → List ℕ → List ℕ → Option Command
-about_of Asked view text = asked_of view text
+about_of Asked view text = option_map (λ q. Ask view q.fpr q.wanted q.uid) (question_of text)
 about_of Listed view text = listed_of view text
 about_of Explained view text = explained_of view text
-about_of Missed view text = missed_of view text
+about_of Missed view text = option_map (λ q. Absence view q.fpr q.wanted q.uid) (question_of text)
 about_of Checked view text = checked_of view text
 about_of Paced cursor text = paced_of cursor text
 about_of Watched watch text = watched_of watch text
@@ -156,4 +144,4 @@ other_of line =
 
 -- the command that a line spells; None if it isn't a command
 unfoldable pub command_of : List ℕ → Option Command
-command_of line = set_or (state_line_of line) (other_of line)
+command_of line = option_or (option_map command_for (state_line_of line)) (other_of line)

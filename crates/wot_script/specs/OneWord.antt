@@ -24,11 +24,8 @@ is_word (octet ∷ octets) = true
 abbrev pub has_word : Command → Bool
 has_word command = is_word (word_of command)
 
--- the command if the line is its word, and otherwise the other
-abbrev pub named_or : Command → List ℕ → Option Command → Option Command
-named_or command line other = if bytes_eq line (word_of command) then Some command else other
-
 -- the first of these commands whose word is the line
 abbrev pub named_among : List Command → List ℕ → Option Command
 named_among [] line = None
-named_among (command ∷ commands) line = named_or command line (named_among commands line)
+named_among (command ∷ commands) line =
+    if bytes_eq line (word_of command) then Some command else named_among commands line

@@ -5,9 +5,10 @@
 //! command with fields is a function here and a clause there.
 ghost use Rattle.std.specs.Prelude.{◌≡◌, length, Some, None, IfOk, IsErrOf};
 ghost use Rattle.std.specs.Option.{option_map};
-ghost use Rattle.wot_script.specs.Grammar.{about_of, asked_of, checked_of, command_for, command_of, drop_of, view_of};
-ghost use Rattle.wot_script.specs.Grammar.{explained_of, export_of, listed_of, load_of, missed_of, other_of, over_of};
+ghost use Rattle.wot_script.specs.Grammar.{about_of, checked_of, command_for, command_of, drop_of, view_of};
+ghost use Rattle.wot_script.specs.Grammar.{explained_of, export_of, listed_of, load_of, other_of, over_of};
 ghost use Rattle.wot_script.specs.Grammar.{paced_of, store_of, watch_of, watched_of};
+ghost use Rattle.wot_script.specs.declared.read.About.TheVariants.{Asked, Missed};
 ghost use Rattle.wot_script.specs.Spelling.{HasSpelling, FitsLine};
 ghost use Rattle.wot_fields.specs.Decimal.{positive_up_to};
 
@@ -76,7 +77,7 @@ fn read_export(digits: &[u8]) -> Option<Command>
 }
 
 fn read_asked(alloc: Global, view: ViewName, text: &[u8]) -> Result<Option<Command>, Memory>
-    ensures { IfOk result (λ command. command ≡ asked_of view text.now) }
+    ensures { IfOk result (λ command. command ≡ about_of Asked view text.now) }
 {
     let Some(question) = read_question(alloc, text)? else {
         return Ok(None);
@@ -86,7 +87,7 @@ fn read_asked(alloc: Global, view: ViewName, text: &[u8]) -> Result<Option<Comma
 }
 
 fn read_missed(alloc: Global, view: ViewName, text: &[u8]) -> Result<Option<Command>, Memory>
-    ensures { IfOk result (λ command. command ≡ missed_of view text.now) }
+    ensures { IfOk result (λ command. command ≡ about_of Missed view text.now) }
 {
     let Some(question) = read_question(alloc, text)? else {
         return Ok(None);
