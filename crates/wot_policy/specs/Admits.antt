@@ -1,5 +1,5 @@
 -- Which signatures a policy admits.
-use Rattle.std.specs.Prelude.{ℕ, ◌<◌, ◌^◌, Bool, true, false, ◌||◌, if◌then◌else◌, List, nat_eq, nat_lt, slice_index_or}
+use Rattle.std.specs.Prelude.{ℕ, ◌<◌, ◌^◌, Bool, true, false, ◌||◌, if◌then◌else◌, nat_eq, nat_lt, slice_index_or}
 use Rattle.wot_policy.specs.declared.rows.Ask.{Ask}
 use Rattle.wot_policy.specs.declared.rows.Row.{Row}
 use Rattle.wot_policy.specs.declared.rows.Row.TheVariants.{Never, Before, Always}
@@ -18,13 +18,9 @@ is_revoking kind =
     || (nat_eq kind 40  -- a subkey revocation, 0x28
     || nat_eq kind 48)  -- a certification revocation, 0x30
 
--- the rows for a signature type
-abbrev pub rows_for : PolicyRows → ℕ → List Row
-rows_for rows kind = if is_revoking kind then rows.revoking else rows.plain
-
--- the row of what is asked: that of its hash number, among the rows for its type
+-- the row of what is asked: that of its hash number, among the rows for revocations or for other signature types
 abbrev pub row_of : PolicyRows → Ask → Row
-row_of rows ask = slice_index_or (rows_for rows ask.kind) ask.hash Never
+row_of rows ask = slice_index_or (if is_revoking ask.kind then rows.revoking else rows.plain) ask.hash Never
 
 -- whether the rows admit what is asked
 abbrev pub admits : PolicyRows → Ask → Bool

@@ -47,17 +47,11 @@ areas field_at ends kind hash octets = do
   unhashed ← field_at hashed.1
   if ends unhashed.1 then Some (record { kind = kind; hash = hash; hashed = hashed.0; unhashed = unhashed.0 }) else None
 
-abbrev pub areas_v4 : ℕ → ℕ → List ℕ → Option Parts
-areas_v4 kind hash octets = areas short_field_at ends_v4 kind hash octets
-
-abbrev pub areas_v6 : ℕ → ℕ → List ℕ → Option Parts
-areas_v6 kind hash octets = areas long_field_at ends_v6 kind hash octets
-
 -- The parts of a body: the version, the signature type, the key algorithm, the hash algorithm, and the areas of its
 -- version. None if a part is missing or the version is neither 4 nor 6. The salt's length isn't compared with the hash.
 abbrev pub parts_of : List ℕ → Option Parts
 parts_of (version ∷ kind ∷ algorithm ∷ hash ∷ rest) =
-    if version == 4 then areas_v4 kind hash rest
-    else if version == 6 then areas_v6 kind hash rest
+    if version == 4 then areas short_field_at ends_v4 kind hash rest
+    else if version == 6 then areas long_field_at ends_v6 kind hash rest
     else None
 parts_of _ = None

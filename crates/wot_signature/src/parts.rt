@@ -5,8 +5,9 @@
 ghost use Rattle.std.specs.Prelude.{IfSome};
 ghost use Rattle.wot_subpacket.specs.Slice.{IsSliceOf};
 ghost use Rattle.wot_signature.specs.Body.{
-  areas_v4 as areas_v4_spec,
-  areas_v6 as areas_v6_spec,
+  areas,
+  ends_v4,
+  ends_v6,
   long_field_at,
   short_field_at,
   parts_of as parts_of_spec,
@@ -39,7 +40,7 @@ pub(crate) fn parts_of(body: &[u8]) -> Option<Parts<'_>>
 
 /// The areas of version 4. Two octets of the hash and the material follow them.
 fn areas_v4(kind: u8, hash: u8, octets: &[u8]) -> Option<Parts<'_>>
-    ensures parts { Lends (areas_v4_spec kind hash octets.now) result lent_parts }
+    ensures parts { Lends (areas short_field_at ends_v4 kind hash octets.now) result lent_parts }
     ensures slice { IfSome result (λ parts. IsSliceOf parts.hashed.now octets.now) }
 {
     let (hashed, rest) = short_field(octets)?;
@@ -58,7 +59,7 @@ fn areas_v4(kind: u8, hash: u8, octets: &[u8]) -> Option<Parts<'_>>
 /// The areas of version 6. Two octets of the hash, an octet with the salt's length, the salt and the material follow
 /// them.
 fn areas_v6(kind: u8, hash: u8, octets: &[u8]) -> Option<Parts<'_>>
-    ensures parts { Lends (areas_v6_spec kind hash octets.now) result lent_parts }
+    ensures parts { Lends (areas long_field_at ends_v6 kind hash octets.now) result lent_parts }
     ensures slice { IfSome result (λ parts. IsSliceOf parts.hashed.now octets.now) }
 {
     let (hashed, rest) = long_field(octets)?;
