@@ -21,17 +21,13 @@ begun view wanted stamps = record { view = view; wanted = wanted; stamps = stamp
 abbrev pub Cursors : Type 0
 Cursors = Table Cursor
 
--- the limit on the number of cursors
-abbrev pub most : ℕ
-most = 16
-
 -- the cursor of a name; none if it isn't there
 abbrev pub cursor_at : Cursors → List ℕ → Option Cursor
 cursor_at cursors name = entry_at cursors name
 
--- whether a cursor of this name would exceed the limit
+-- whether a cursor of this name would exceed the limit of 16 cursors
 abbrev pub is_full : Cursors → List ℕ → Bool
-is_full cursors name = tables.is_full most cursors name
+is_full cursors name = tables.is_full 16 cursors name
 
 -- with this cursor, in place of an earlier one of the name
 abbrev pub with_cursor : Cursors → List ℕ → Cursor → Cursors
