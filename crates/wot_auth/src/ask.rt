@@ -2,7 +2,7 @@
 //!
 //! They use `take` and `specs/Agreed.antt`. All three return the one answer of `wot_edge/specs/Answer.antt`;
 //! they differ in cost and in what they note.
-ghost use Rattle.std.specs.Prelude.{◌≡◌, ◌≤◌, ◌↔◌, [], length, true, Err, None, is_some, IfOk};
+ghost use Rattle.std.specs.Prelude.{◌≡◌, ◌≤◌, ◌↔◌, ◌+◌, [], length, true, Err, None, is_some, IfOk};
 ghost use Rattle.wot_types.specs.declared.fpr.Fpr.{Fpr as TheFpr};
 ghost use Rattle.wot_edge.specs.Roots.{root_amount};
 ghost use Rattle.wot_edge.specs.Path.{asks, use_of, IsSpent};
@@ -96,8 +96,10 @@ pub fn authenticate_metered<R: Roads>(
     ensures spent { result ≡ Err LookFault.Spent → metered.new.left ≡ None }
     ensures wanting { result ≡ Err LookFault.Memory → is_some metered.new.left ≡ true }
 
-    // The looks that are left never become more.
+    // The looks that are left never become more, and each fingerprint that is new among the noted took one of them.
     ensures falls { looks_in metered.new.left ≤ looks_in metered.old.left }
+    ensures paid { length metered.new.consulted + looks_in metered.new.left
+        ≤ length metered.old.consulted + looks_in metered.old.left }
     ensures grows { Grows metered.old.consulted metered.new.consulted }
     ensures leads { GainsLeads (R.network roads.now binding.now.uid.now) binding.now.target.now
         metered.old.consulted metered.new.consulted }

@@ -32,6 +32,7 @@ pub fn take<R: Roads, N: Notes>(
     ensures lawful { IfOk result (λ answer. IsRecord (R.network roads.now asked.now.uid.now)) }
     ensures grows { Widens (N.noted notes.old) (N.noted notes.new) }
     ensures falls { N.budget notes.new ≤ N.budget notes.old }
+    ensures paid { N.total notes.new ≤ N.total notes.old }
     ensures leads { Gains (LeadsToAsked (R.network roads.now) asked.now) (N.noted notes.old) (N.noted notes.new) }
     ensures local { IfOk result (IsAnswerLocally asked.now.reach.now
         (question_of (R.network roads.now) asked.now) wanted

@@ -1,5 +1,5 @@
 -- Membership in a set in order.
-use Rattle.std.proofs.Common.{◌≡◌, ◌⊎◌, inl, inr, Bool, true, false, List, [], ◌∷◌, Ordering, refl, sym, subst}
+use Rattle.std.proofs.Common.{◌≡◌, ◌≤◌, ◌+◌, ◌⊎◌, inl, inr, Bool, true, false, List, [], ◌∷◌, length, Ordering, refl, sym, subst, arith}
 use Rattle.std.specs.Prelude.{◌||◌}
 use Rattle.std.specs.declared.cmp.Ordering.TheVariants.{Less, Equal, Greater}
 use Rattle.std.specs.Ordering.{match_ordering}
@@ -40,6 +40,16 @@ insert_has (y ∷ xs) x = by (insert_has xs x) (fpr_cmp x y) refl
     by ih Less e = inl refl
     by ih Equal e = inl (fpr_exact x y e)
     by ih Greater e = inr ih
+
+pub insert_one : (xs : List Fpr) (x : Fpr) → length (insert_key fpr_cmp xs x) ≤ length xs + 1
+insert_one [] x = omega arith
+insert_one (y ∷ xs) x = by (insert_one xs x) (fpr_cmp x y)
+  where
+    by : length (insert_key fpr_cmp xs x) ≤ length xs + 1 → (o : Ordering)
+        → length (match_ordering o (x ∷ y ∷ xs) (y ∷ xs) (y ∷ insert_key fpr_cmp xs x)) ≤ length (y ∷ xs) + 1
+    by ih Less = omega arith
+    by ih Equal = omega arith
+    by ih Greater = omega (arith, ih)
 
 pub insert_grows : (xs : List Fpr) (x other : Fpr) → Has xs other → Has (insert_key fpr_cmp xs x) other
 insert_grows [] x other h = absurd h

@@ -103,6 +103,7 @@ fn keep<R: Roads, N: Notes>(
     ensures has { OnOk result (N.noted notes.new node.step.issuer) }
     ensures grows { Widens (N.noted notes.old) (N.noted notes.new) }
     ensures falls { N.budget notes.new ≤ N.budget notes.old }
+    ensures paid { N.total notes.new ≤ N.total notes.old }
     ensures gains { Gains (λ fpr. fpr ≡ node.step.issuer) (N.noted notes.old) (N.noted notes.new) }
 {
     notes.note(&node.step.issuer)?;
@@ -131,6 +132,7 @@ pub fn consider<R: Roads, N: Notes>(
         reached.old reached.new notes.old notes.new) }
     ensures grows { Widens (N.noted notes.old) (N.noted notes.new) }
     ensures falls { N.budget notes.new ≤ N.budget notes.old }
+    ensures paid { N.total notes.new ≤ N.total notes.old }
     ensures gains { Gains (λ fpr. fpr ≡ edge.now.issuer) (N.noted notes.old) (N.noted notes.new) }
 {
     match wanted(search, rest, hint.place, &edge.facts(), &reached.nodes) {

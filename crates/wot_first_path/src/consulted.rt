@@ -2,7 +2,7 @@
 //!
 //! It uses std's map. An answer depends on nothing else, so `wot_cache` keeps an answer for as long as none of
 //! these changed.
-ghost use Rattle.std.specs.Prelude.{◌≡◌, ◌⊎◌, ◌↔◌, [], IsTrue, OnOk, OnErr};
+ghost use Rattle.std.specs.Prelude.{◌≡◌, ◌≤◌, ◌⊎◌, ◌↔◌, ◌+◌, [], length, IsTrue, OnOk, OnErr};
 ghost use Rattle.std.specs.Iterator.{YieldsFirst, item_count};
 ghost use Rattle.std.specs.List.Sorted.{IsStrictlySortedBy};
 ghost use Rattle.wot_types.specs.declared.fpr.Fpr.{Fpr as Print};
@@ -53,6 +53,7 @@ impl Consulted {
         ensures has { OnOk result (Has self.new fpr.now) }
         ensures grows { Grows self.old self.new }
         ensures only { (other : Print) → Has self.new other → Has self.old other ⊎ (other ≡ fpr.now) }
+        ensures one { length self.new ≤ length self.old + 1 }
         ensures kept { OnErr result (self.new ≡ self.old) }
     {
         self.fprs.insert(*fpr)?;

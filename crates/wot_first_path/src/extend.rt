@@ -58,6 +58,7 @@ pub fn extend<R: Roads, N: Notes>(
         reached.old reached.new notes.old notes.new) }
     ensures grows { Widens (N.noted notes.old) (N.noted notes.new) }
     ensures falls { N.budget notes.new ≤ N.budget notes.old }
+    ensures paid { N.total notes.new ≤ N.total notes.old }
     ensures gains { Gains (IsNear (record_in R.network search.now) at.now) (N.noted notes.old) (N.noted notes.new) }
 {
     let place = search.quest.reach.place_known(known, at);
@@ -92,6 +93,7 @@ fn extend_onward<R: Roads, N: Notes>(
         reached.old reached.new notes.old notes.new) }
     ensures grows { Widens (N.noted notes.old) (N.noted notes.new) }
     ensures falls { N.budget notes.new ≤ N.budget notes.old }
+    ensures paid { N.total notes.new ≤ N.total notes.old }
     ensures gains { Gains (IsNear (record_in R.network search.now) at.now) (N.noted notes.old) (N.noted notes.new) }
 {
     let edges = onward.edges.as_slice();
@@ -120,6 +122,7 @@ fn extend_all<R: Roads, N: Notes>(
         reached.old reached.new notes.old notes.new) }
     ensures grows { Widens (N.noted notes.old) (N.noted notes.new) }
     ensures falls { N.budget notes.new ≤ N.budget notes.old }
+    ensures paid { N.total notes.new ≤ N.total notes.old }
     ensures gains { Gains (IsNear (record_in R.network search.now) at.now) (N.noted notes.old) (N.noted notes.new) }
 {
     let edges = search.roads.rows(at);
@@ -149,6 +152,7 @@ fn extend_by<R: Roads, N: Notes>(
         reached.old reached.new notes.old notes.new) }
     ensures grows { Widens (N.noted notes.old) (N.noted notes.new) }
     ensures falls { N.budget notes.new ≤ N.budget notes.old }
+    ensures paid { N.total notes.new ≤ N.total notes.old }
     ensures gains { Gains (IsNear (record_in R.network search.now) at.now) (N.noted notes.old) (N.noted notes.new) }
 {
     let demand = demand(search.roads, search.quest, search.size);

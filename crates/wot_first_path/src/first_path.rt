@@ -48,6 +48,7 @@ pub fn first<R: Roads, N: Notes>(
     ensures looked { IfOk result (IsLookedBy (quest_of (R.network roads.now) quest.now) (N.noted notes.new)) }
     ensures grows { Widens (N.noted notes.old) (N.noted notes.new) }
     ensures falls { N.budget notes.new ≤ N.budget notes.old }
+    ensures paid { N.total notes.new ≤ N.total notes.old }
     ensures leads { Gains (Leads (R.network roads.now quest.now.uid.now) quest.now.target.now)
         (N.noted notes.old) (N.noted notes.new) }
 {
@@ -75,6 +76,7 @@ pub fn first_from<R: Roads, N: Notes>(
     ensures looked { IfOk result (IsLookedBy (quest_of (R.network roads.now) quest.now) (N.noted notes.new)) }
     ensures grows { Widens (N.noted notes.old) (N.noted notes.new) }
     ensures falls { N.budget notes.new ≤ N.budget notes.old }
+    ensures paid { N.total notes.new ≤ N.total notes.old }
     ensures leads { Gains (Leads (R.network roads.now quest.now.uid.now) quest.now.target.now)
         (N.noted notes.old) (N.noted notes.new) }
 {

@@ -34,6 +34,7 @@ fn grow<R: Roads, N: Notes>(
         reached.old reached.new notes.old notes.new) }
     ensures grows { Widens (N.noted notes.old) (N.noted notes.new) }
     ensures falls { N.budget notes.new ≤ N.budget notes.old }
+    ensures paid { N.total notes.new ≤ N.total notes.old }
     ensures gains { Gains (IsNearOne (record_in R.network search.now) layer.now) (N.noted notes.old)
         (N.noted notes.new) }
 {
@@ -64,6 +65,7 @@ pub fn advance<R: Roads, N: Notes>(
         (N.noted notes.old)) }
     ensures grows { Widens (N.noted notes.old) (N.noted notes.new) }
     ensures falls { N.budget notes.new ≤ N.budget notes.old }
+    ensures paid { N.total notes.new ≤ N.total notes.old }
     ensures leads { GainsAfter (R.network roads.now) quest.now size reached.old (N.noted notes.old)
         (N.noted notes.new) }
 {

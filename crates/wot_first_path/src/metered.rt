@@ -2,7 +2,7 @@
 //!
 //! Searches are generic over `Notes`; a caller reads from `left` why one ended. `wot_auth` bounds the cost of a
 //! question by it.
-ghost use Rattle.std.specs.Prelude.{◌≡◌, ◌≤◌, ◌⊎◌, [], Some, OnOk};
+ghost use Rattle.std.specs.Prelude.{◌≡◌, ◌≤◌, ◌⊎◌, ◌+◌, [], length, Some, OnOk};
 ghost use Rattle.wot_types.specs.declared.fpr.Fpr.{Fpr as Print};
 ghost use Rattle.wot_edge.specs.Record.{Has};
 ghost use Rattle.wot_first_path.specs.Looked.{Widens};
@@ -48,11 +48,15 @@ impl Notes for Metered {
 
     ghost budget = { λ metered. looks_in metered.left };
 
+    ghost total = { λ metered. length metered.consulted + looks_in metered.left };
+
     /// Refused if no look is left, or one was refused before.
     fn note(&mut self, fpr: &Fpr) -> Result<(), Memory>
         ensures has { OnOk result (Has self.new.consulted fpr.now) }
         ensures grows { Widens (Has self.old.consulted) (Has self.new.consulted) }
         ensures falls { looks_in self.new.left ≤ looks_in self.old.left }
+        ensures paid { length self.new.consulted + looks_in self.new.left
+            ≤ length self.old.consulted + looks_in self.old.left }
         ensures only { (other : Print) → Has self.new.consulted other
             → Has self.old.consulted other ⊎ (other ≡ fpr.now) }
         ensures left { self.new.left ≡ looks_after self.old.left }

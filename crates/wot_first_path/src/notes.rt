@@ -17,11 +17,15 @@ pub trait Notes {
     // how much it may still look at, if that is limited
     ghost budget: { Self → ℕ };
 
+    // the same and how much it looked at, together
+    ghost total: { Self → ℕ };
+
     /// Notes a look at a fingerprint.
     fn note(&mut self, fpr: &Fpr) -> Result<(), Memory>
         ensures has { OnOk result (noted self.new fpr.now) }
         ensures grows { Widens (noted self.old) (noted self.new) }
         ensures falls { budget self.new ≤ budget self.old }
+        ensures paid { total self.new ≤ total self.old }
         ensures only { (other : Print) → noted self.new other → noted self.old other ⊎ (other ≡ fpr.now) };
 }
 
@@ -29,6 +33,8 @@ impl Notes for Consulted {
     ghost noted = { λ set fpr. Has set fpr };
 
     ghost budget = { λ set. 0 };
+
+    ghost total = { λ set. 0 };
 
     fn note(&mut self, fpr: &Fpr) -> Result<(), Memory> {
         self.add(fpr)
@@ -43,6 +49,8 @@ impl Notes for Unnoted {
     ghost noted = { λ nothing fpr. Unit {0} };
 
     ghost budget = { λ nothing. 0 };
+
+    ghost total = { λ nothing. 0 };
 
     fn note(&mut self, fpr: &Fpr) -> Result<(), Memory> {
         Ok(())

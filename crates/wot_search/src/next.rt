@@ -88,6 +88,7 @@ pub fn next_path_within<R: Roads, N: Notes>(
     ensures next { IfOk result (IsNextOrSpent (question_of (R.network roads.now) asked.now) (use_in used.now)) }
     ensures grows { Widens (N.noted notes.old) (N.noted notes.new) }
     ensures falls { N.budget notes.new ≤ N.budget notes.old }
+    ensures paid { N.total notes.new ≤ N.total notes.old }
     ensures leads { Gains (LeadsToAsked (R.network roads.now) asked.now) (N.noted notes.old) (N.noted notes.new) }
 
     // If the table leaves nothing out, it is also the next path of every question that agrees on a set that contains

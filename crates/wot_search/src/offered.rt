@@ -107,6 +107,7 @@ pub fn next_offered<R: Roads, N: Notes>(
         offers.new.items) }
     ensures grows { Widens (N.noted notes.old) (N.noted notes.new) }
     ensures falls { N.budget notes.new ≤ N.budget notes.old }
+    ensures paid { N.total notes.new ≤ N.total notes.old }
     ensures leads { Gains (LeadsToAsked (R.network roads.now) asked.now) (N.noted notes.old) (N.noted notes.new) }
 
     // If the table leaves nothing out, this holds for every question that agrees on a set that contains what was noted

@@ -207,6 +207,7 @@ fn next_paths_by_one<R: Roads, N: Notes>(
     ensures local { IfOk result (AreNextLocallyIfSome (R.network roads.now) asked.now used.now (N.noted notes.new)) }
     ensures grows { Widens (N.noted notes.old) (N.noted notes.new) }
     ensures falls { N.budget notes.new ≤ N.budget notes.old }
+    ensures paid { N.total notes.new ≤ N.total notes.old }
     ensures leads { Gains (LeadsToAsked (R.network roads.now) asked.now) (N.noted notes.old) (N.noted notes.new) }
     ensures lawful { IfOk result (λ found. IfSome found (λ paths. IsRecord (R.network roads.now asked.now.uid.now))) }
 {
@@ -262,6 +263,7 @@ pub fn next_paths_within<R: Roads, N: Notes>(
         paths.items) }
     ensures grows { Widens (N.noted notes.old) (N.noted notes.new) }
     ensures falls { N.budget notes.new ≤ N.budget notes.old }
+    ensures paid { N.total notes.new ≤ N.total notes.old }
     ensures leads { Gains (LeadsToAsked (R.network roads.now) asked.now) (N.noted notes.old) (N.noted notes.new) }
 
     // If the table leaves nothing out, every question that agrees on a set with all that was noted has them too.

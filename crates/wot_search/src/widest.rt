@@ -28,6 +28,7 @@ pub(crate) fn widest<R: Roads, N: Notes>(
     ensures noted { IfOk result (IsWidestNoted (R.network roads.now) asked.now used.now (N.noted notes.new)) }
     ensures grows { Widens (N.noted notes.old) (N.noted notes.new) }
     ensures falls { N.budget notes.new ≤ N.budget notes.old }
+    ensures paid { N.total notes.new ≤ N.total notes.old }
     ensures leads { Gains (LeadsToAsked (R.network roads.now) asked.now) (N.noted notes.old) (N.noted notes.new) }
     ensures lawful { IfOk result (λ found. (id : List ℕ) → IsRecord (R.network roads.now id)) }
 {

@@ -22,6 +22,7 @@ paths-init g c =
       offers = subst (AreOffers c.args.asked.now.roots.now q (use_in c.new-used.result)) (sym c.new-offers.ensures.items) tt;
       grows = λ fpr h. h;
       falls = omega arith;
+      paid = omega arith;
       leads = λ fpr h. inl h;
       local = λ all set has other a. (
         subst (EachNext other []) none tt,
@@ -99,6 +100,7 @@ paths-preserved g c =
           c.next_offered.new.offers.items later c.in_ok-next.ensures.offers;
       grows = λ fpr h. c.in_ok-next.ensures.grows fpr (c.paths.invariant.grows fpr h);
       falls = let now = c.in_ok-next.ensures.falls in let before = c.paths.invariant.falls in omega (arith, now, before);
+      paid = let now = c.in_ok-next.ensures.paid in let before = c.paths.invariant.paid in omega (arith, now, before);
       leads = λ fpr h. elim (c.in_ok-next.ensures.leads fpr h)
           [ inl k ↦ c.paths.invariant.leads fpr k | inr l ↦ inr l ];
       local = λ all set has other a.

@@ -23,6 +23,7 @@ invariant-paths g l =
       offers : AreOffers l.asked.roots.now q (use_in l.used) l.offers.items;
       grows : Widens (g.N.Notes.noted l.fn.notes) (g.N.Notes.noted l.notes);
       falls : g.N.Notes.budget l.notes ≤ g.N.Notes.budget l.fn.notes;
+      paid : g.N.Notes.total l.notes ≤ g.N.Notes.total l.fn.notes;
       leads : Gains (Leads network l.asked.target.now) (g.N.Notes.noted l.fn.notes) (g.N.Notes.noted l.notes);
       local : ((fpr : Fpr) → number_at l.asked.reach.now fpr ≡ 255) → (set : List Fpr)
           → Widens (g.N.Notes.noted l.notes) (Has set)

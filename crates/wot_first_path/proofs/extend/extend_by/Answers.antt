@@ -78,6 +78,7 @@ edges-preserved g c =
       it = ok.grows c.args.at.now inv.it;
       widens = λ f h. ok.grows f (inv.widens f h);
       falls = let now = ok.falls in let before = inv.falls in omega (arith, now, before);
+      paid = let now = ok.paid in let before = inv.paid in omega (arith, now, before);
       gains = λ fpr h. elim (ok.gains fpr h) [
         | inl k ↦ inv.gains fpr k
         | inr e ↦ inr (subst (λ (f : Fpr). IsNear network c.args.at.now f) (sym e) (near_issuer network c.args.at.now x into))

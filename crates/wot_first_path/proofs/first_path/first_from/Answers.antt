@@ -75,6 +75,7 @@ layers-preserved g c =
       unrooted = subst (λ (o : Option Path). IsTurn quest found (c.layers.size + 1) o) c.in-None.is first_of_layer;
       grows = λ fpr h. ok.grows fpr (inv.grows fpr h);
       falls = let now = ok.falls in let before = inv.falls in omega (arith, now, before);
+      paid = let now = ok.paid in let before = inv.paid in omega (arith, now, before);
       leads = λ fpr h. elim (ok.leads inv.after fpr h) [ inl k ↦ inv.leads fpr k | inr l ↦ inr l ];
     }
 
@@ -87,6 +88,7 @@ layers-init g c =
       unrooted = unrooted_begin quest (look reached.nodes);
       grows = λ fpr h. h;
       falls = omega arith;
+      paid = omega arith;
       leads = λ fpr h. inl h;
     }
 

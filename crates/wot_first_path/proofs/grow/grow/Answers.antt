@@ -30,6 +30,7 @@ layer-preserved g c =
           (λ rest l there. one.seen (inv.noted n) rest (record { long = l; there = there }));
       widens = λ f h. ok.grows f (inv.widens f h);
       falls = let now = ok.falls in let before = inv.falls in omega (arith, now, before);
+      paid = let now = ok.paid in let before = inv.paid in omega (arith, now, before);
       gains = λ fpr h. elim (ok.gains fpr h) [ inl k ↦ inv.gains fpr k | inr near ↦ inr (_, has, near) ];
     }
 

@@ -21,5 +21,6 @@ invariant-layer g l =
           → SeenFrom quest l.search.size (g.N.Notes.noted l.notes) l.layer l.at-index;
       widens : Widens (g.N.Notes.noted l.fn.notes) (g.N.Notes.noted l.notes);
       falls : g.N.Notes.budget l.notes ≤ g.N.Notes.budget l.fn.notes;
+      paid : g.N.Notes.total l.notes ≤ g.N.Notes.total l.fn.notes;
       gains : Gains (IsNearOne (network l.search.quest.now.uid.now) l.layer) (g.N.Notes.noted l.fn.notes) (g.N.Notes.noted l.notes);
     }
