@@ -1,5 +1,5 @@
-//! The commands that don't change cursors or watches: each is run on the engine and the certificate directory, and gets
-//! its reply. One file for each family. It uses wot_plain for what each does, and the layers below for how.
+//! Commands: each one, but for those of cursors and watches, is run on the engine and the certificate directory, and
+//! gets its reply. One file for each family. It uses wot_plain for what each does, and the layers below for how.
 //! wot_machine calls `run_state_command` for them.
 #![tactic(auto)]
 
