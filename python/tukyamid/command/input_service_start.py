@@ -51,8 +51,7 @@ def begin(entry: str, socket: str) -> Begun:
 
 
 def has_room(socket: str) -> bool:
-    """Whether another service of an input may be started: not so many run. It may also be that the last one at this
-    socket is just ending."""
+    """Whether another service of an input may be started. The last one at this socket may be just ending."""
     held = set(Path(socket).parent.glob("*.socket")) - {Path(socket)}
     return sum(is_locked(beside(one, ".lock")) for one in held) < _MOST_SERVICES
 
