@@ -84,6 +84,7 @@ class BesideTheOwners(Calls):
         found = self.same("network", {**alice, "open": []})
         people = {self.fpr[name] for name in ("Alice", "Bob", "Carol", "Dave")}
         self.assertEqual(people - {one["id"] for one in found["nodes"]}, set())
+        self.assertGreater(len(found["nodes"]), len(people))
         self.same("others", {**alice, "begin": 0})
 
     def test_a_proof_holds(self):

@@ -1,9 +1,11 @@
 #!/usr/bin/python3
 """A stand-in for the verifier, for keyrings that the tests know: takes each signature as good by the issuer that it
-names, if that is there. It verifies nothing. TRUSTING_LOG names a file that gets a line for each run: its words."""
+names, if that is there or in a file after --with. It verifies nothing. TRUSTING_LOG names a file that gets a line for
+each run: its words."""
 
 import os
 import sys
+from itertools import takewhile
 from pathlib import Path
 
 sys.path.insert(0, str(Path(__file__).resolve().parents[3] / "python"))
@@ -40,6 +42,12 @@ def judge(octets, there, wanted):
             print(f"verdict {signature.number} good {issuer}")
 
 
+def beside(options):
+    """The files that have further keys of issuers: what follows `--with`."""
+    names = options[options.index("--with") + 1:] if "--with" in options else []
+    return list(takewhile(lambda name: not name.startswith("--"), names))
+
+
 def main(words):
     if os.environ.get("TRUSTING_LOG"):
         with open(os.environ["TRUSTING_LOG"], "a", encoding="utf-8") as log:
@@ -49,7 +57,8 @@ def main(words):
         return
     options, paths = words[:words.index("--")], words[words.index("--") + 1:]
     whole = list(read(paths))
-    fprs = [key_fingerprint(body) for octets in whole for kind, body in packets(octets) if kind == KEY]
+    fprs = [key_fingerprint(body) for octets in (*whole, *read(beside(options))) for kind, body in packets(octets)
+            if kind == KEY]
     there = {name: fpr for fpr in fprs for name in (fpr, key_id(fpr))}
     wanted = {line.split()[1] for line in sys.stdin if line.startswith("sig ")} if "--pending" in options else None
     for octets in whole:
