@@ -1,7 +1,7 @@
 //! The plain machine: what one line does to what is kept between lines, and what it replies, by the class of its
-//! command. The definitions are in `specs/`; the code here sorts commands into classes, replies to refusals, and holds a
-//! reply until it is written. wot_command, wot_cursor_commands and wot_watch_commands run commands by these definitions,
-//! and wot_laws speaks of them, so all of these use this crate and not one another.
+//! command. The definitions are in `specs/`; the code here sorts commands into classes, replies to refusals, and holds
+//! a reply until it is written. wot_command, wot_cursor_commands and wot_watch_commands run commands by these
+//! definitions, and wot_laws speaks of them, so all of these use this crate and not one another.
 #![tactic(auto)]
 
 mod asked;
