@@ -49,7 +49,6 @@ class Framing(unittest.TestCase):
             Path(40, B, (Step(B, A, 0, 40, b"Alice"),)),
             Path(80, B, (Step(B, B, 1, 80, b""), Step(B, A, 0, 120, b"Alice and more"))))))
         self.assertEqual(list(engine.dump()), [b"import ", b"verdict " + N.encode() + b" bad"])
-        self.assertEqual(b"".join(engine.dump().octets()), b"import \nverdict " + N.encode() + b" bad\n")
         self.assertEqual(engine.do(commands.Export(A)), Exported(b"\xaa" * 20))
 
     def test_claims_of_absence(self):
@@ -188,6 +187,14 @@ class Framing(unittest.TestCase):
         for thread in threads:
             thread.join()
         self.assertEqual(wrong, [])
+
+
+class Octets(unittest.TestCase):
+    """What only the plain client has: a dump as the octets that the program wrote, not cut into lines."""
+
+    def test_a_dump_in_pieces(self):
+        with Engine(FAKE_ENGINE) as engine:
+            self.assertEqual(b"".join(engine.dump().octets()), b"import \nverdict " + N.encode() + b" bad\n")
 
 
 class End(unittest.TestCase):

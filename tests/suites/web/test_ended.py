@@ -7,6 +7,7 @@ from friends import friends
 from page import Page, needs_page
 from test_browser import CAROL
 from test_places import Places
+from tukyamid.web.browser_opening import leading
 
 
 @needs_page
@@ -28,6 +29,9 @@ class Ended(Places):
         asked = self.browser.driver.current_url
         self.browser.driver.refresh()  # As long as the command runs, the page is there.
         self.at_key(CAROL)
+        self.led_here_by_a_file()
+        self.browser.open(asked)
+        self.at_key(CAROL)
         self.page.process.send_signal(signal.SIGINT)
         self.assertEqual(self.page.process.wait(60), 0)
         self.browser.driver.refresh()
@@ -35,3 +39,10 @@ class Ended(Places):
         self.browser.wait_text("main", "Start it again: it opens the page at a new address.")
         self.assertEqual(self.browser.driver.current_url, asked)
         self.assertIn("#key?key=", asked)
+
+    def led_here_by_a_file(self):
+        """Also while the worker runs: a file is of another origin, and the user goes from it to the page."""
+        path = self.page.own / "leads.html"
+        path.write_text(leading(self.page.address))
+        self.browser.open(path.as_uri())
+        self.browser.wait("return document.querySelector('#held')?.innerText.includes('user IDs')")

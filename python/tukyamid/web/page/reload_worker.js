@@ -25,5 +25,9 @@ const ended = () => new Response(WORDS, { status: 503, headers: {
 self.addEventListener("install", () => self.skipWaiting());
 self.addEventListener("activate", (event) => event.waitUntil(self.clients.claim()));
 self.addEventListener("fetch", (event) => {
-  if (event.request.mode === "navigate") event.respondWith(fetch(event.request).catch(ended));
+  const { method, mode, destination, url } = event.request;
+  if (method !== "GET" || mode !== "navigate" || destination !== "document") return;
+  // Asked for by the address alone: of a page of another origin that led here, the server would learn its origin, but
+  // not that the user went there, and would refuse.
+  event.respondWith(fetch(url, { cache: "no-store", redirect: "manual" }).catch(ended));
 });
