@@ -42,6 +42,11 @@ def commands_for_git():
     return re.search(r"```sh\n(.*?)```", part, re.DOTALL)[1].replace(" FINGERPRINT", ' "$FINGERPRINT"')
 
 
+def plain_environment():
+    """This process's environment without the programs that it may name: the root has its own."""
+    return {name: value for name, value in os.environ.items() if not name.startswith("TUKYAMID_")}
+
+
 def tried(results):
     """Makes a root and runs the trial in it; the reason why that can't be done, or None."""
     if os.environ.get("WOT_NO_ROOT"):
@@ -64,7 +69,7 @@ def tried(results):
          f"--customize-hook=copy-in {packages} /", f"--customize-hook=upload {HERE / 'trial.sh'} /trial.sh",
          '--customize-hook=chroot "$1" /bin/sh /trial.sh', f"--customize-hook=copy-out /results {results}",
          "bookworm", "/dev/null", *sources()],
-        stdin=subprocess.DEVNULL, capture_output=True, text=True, timeout=SECONDS, check=False)
+        stdin=subprocess.DEVNULL, capture_output=True, text=True, timeout=SECONDS, check=False, env=plain_environment())
     if not (results / "results" / "steps").is_file():
         return f"no root can be made here: {made.stderr.strip().splitlines()[-1] if made.stderr else made.returncode}"
     return None

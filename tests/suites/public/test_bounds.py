@@ -22,9 +22,10 @@ def workers():
     """The processes that answer questions for a server within this process."""
     found = []
     for children in Path("/proc/self/task").glob("*/children"):
-        for child in children.read_text().split():
-            if b"tukyamid.public.worker" in Path(f"/proc/{child}/cmdline").read_bytes():
-                found.append(int(child))
+        with contextlib.suppress(OSError):  # Threads and processes come and go.
+            for child in children.read_text().split():
+                if b"tukyamid.public.worker" in Path(f"/proc/{child}/cmdline").read_bytes():
+                    found.append(int(child))
     return found
 
 

@@ -38,7 +38,7 @@ class Ending(unittest.TestCase):
 
     def ends(self):
         """The service ends in time, and with it its engines and its socket. The database has all changes."""
-        children = self.children()
+        children = self.server.engines()
         self.assertTrue(children)
         begun = time.monotonic()
         self.server.process.send_signal(signal.SIGTERM)
@@ -55,10 +55,6 @@ class Ending(unittest.TestCase):
             self.assertEqual(database.check(), [])
             self.assertEqual(script_of(database).count(b"\n"), len(self.world.fprs) + len(self.world.verdicts))
 
-    def children(self):
-        tasks = Path(f"/proc/{self.server.process.pid}/task").iterdir()
-        return [int(pid) for task in tasks for pid in (task / "children").read_text().split()]
-
     @staticmethod
     def is_alive(pid):
         try:
@@ -71,7 +67,7 @@ class Ending(unittest.TestCase):
         with Client(self.server.path) as other:
             (self.folder / "pubring.kbx").write_bytes(b"there is one")
             other.send(b"service keyring add gpg:" + os.fsencode(self.folder))
-            self.server.wait_for(lambda: len(self.children()) > 1)
+            self.server.wait_for(lambda: len(self.server.engines()) > 1)
             self.ends()
 
     def test_while_the_verifier_hangs(self):
@@ -80,7 +76,7 @@ class Ending(unittest.TestCase):
         self.begin("--verifier", self.sleeper)
         self.client.tell(b"verdict %s none" % self.world.verdicts[0][0])
         self.client.send(b"service keyring add " + os.fsencode(keyring))
-        self.server.wait_for(lambda: len(self.children()) > 1)
+        self.server.wait_for(lambda: len(self.server.engines()) > 1)
         self.world.verdicts.pop(0)
         self.ends()
 

@@ -14,6 +14,7 @@ from tukyamid.service.storage.database import Actor, Change, DatabaseFault, PutC
 
 LONGEST = 2.0 + 1.0  # Seconds: a turn's bound, and some for a busy machine.
 LONGEST_WAIT = 15.0  # For three changes of others, however busy the machine is.
+LONGEST_HELD = 8.0  # For eight turns at once, however busy it is. After 10 a lock that nobody gives back is given up.
 
 
 class Frozen(OneServer):
@@ -153,4 +154,4 @@ class Moments(OneServer):
         self.assertGreater(moment.count, 10)
         with ThreadPoolExecutor(self.AT_ONCE) as pool:
             waits = list(pool.map(self.wait_at, range(1, moment.count + 1)))
-        self.assertLess(max(waits), LONGEST, waits)
+        self.assertLess(max(waits), LONGEST_HELD, waits)
