@@ -10,8 +10,9 @@ from typing import TypeVar
 from .engine_capacity import Room
 from .sliced.shared_sliced_keyring import SharedSliced
 from .sliced.sliced_keyring import Sliced
-from .storage.database import Database, Finder
+from .storage.database import Actor, Database, DatabaseFault, Finder
 from .storage.database_threads import Access
+from .storage.journal import Verdicts
 from .storage.shared_database import Shared
 from .storage.unlooked import Looked
 from .whole.engine_pool import Hub
@@ -127,6 +128,26 @@ class Holding:
 
     async def write(self, call: Callable[[], _R]) -> _R:
         return await self._access.write(call)
+
+    @property
+    def takes_verdicts(self) -> bool:
+        """Whether many verdicts can be made at once: no engine of this service or of another holds everything."""
+        return isinstance(self._held, Sliced) and not isinstance(self.database, Shared)
+
+    async def judge(self, verdicts: Sequence[tuple[bytes, bytes]], looked: Sequence[Looked], targets: Sequence[bytes],
+                    actor: Actor) -> None:
+        """Makes verdicts, each by a signature's number, on these certificates, and notes that the verifier has looked
+        at some. DatabaseFault if that can't be committed."""
+        assert isinstance(self._held, Sliced)
+        answer: asyncio.Future[bytes | None] = asyncio.get_running_loop().create_future()
+
+        def done(reply: bytes | None, _: int) -> None:
+            if not answer.done():
+                answer.set_result(reply)
+
+        self._held.judge(Verdicts(verdicts, looked, targets, actor, done))
+        if await answer != b"ok\n":
+            raise DatabaseFault(f"{len(verdicts)} verdicts couldn't be committed")
 
     async def put_looked(self, looked: Sequence[Looked]) -> None:
         """Notes what the verifier has looked at."""

@@ -11,7 +11,7 @@ from collections.abc import Sequence
 from dataclasses import dataclass
 
 from ..started_program import start_program
-from .verification import PIECE, NotVerified, lines_with
+from .verifier_program import PIECE, NotVerified, lines_with
 from .watched_files import Unreadable
 
 # Nothing is verified meanwhile: half a gigabyte takes some seconds.

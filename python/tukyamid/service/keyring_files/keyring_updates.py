@@ -21,8 +21,9 @@ from .keyring_records import LEFT_OVER, Records
 from .large_keyrings import is_large
 from .large_updates import LargeUpdates
 from .progress import Progress, Say, make_changes
-from .verification import NotVerified, Verification
+from .verification import Verification
 from .verification_rounds import BEGUN, SEEN, WORTH_A_GO, Rounds, itself
+from .verifier_program import NotVerified
 from .watched_files import Unreadable
 
 

@@ -54,7 +54,7 @@ def _spelled(seconds: float) -> str:
     return f"{seconds / 60:.0f} min" if seconds < 6000 else f"{seconds / 3600:.1f} h"
 
 
-async def make_changes(hub: Desk, lines: Iterable[bytes], actor: Actor, progress: Progress) -> int:
+async def make_changes(hub: Desk, lines: Iterable[bytes], actor: Actor, progress: Progress | None = None) -> int:
     """Has these changes made, some of them ahead of their replies; returns the number of refused ones. DatabaseFault if
     the database couldn't take some of them."""
     return len(await _refused(hub, ((line, 1) for line in lines), actor, progress))
@@ -86,7 +86,8 @@ def _grouped(certificates: Iterable[bytes]) -> Iterator[list[bytes]]:
         yield group
 
 
-async def _refused(hub: Desk, lines: Iterable[tuple[bytes, int]], actor: Actor, progress: Progress) -> list[int]:
+async def _refused(hub: Desk, lines: Iterable[tuple[bytes, int]], actor: Actor,
+                   progress: Progress | None) -> list[int]:
     """Has these changes made, each of which advances the progress; returns the places of the refused ones."""
     room, refused, failed = asyncio.Semaphore(_AHEAD), list[int](), 0
 
@@ -100,7 +101,8 @@ async def _refused(hub: Desk, lines: Iterable[tuple[bytes, int]], actor: Actor, 
     for place, (line, weight) in enumerate(lines):
         await room.acquire()
         hub.change(line, actor, partial(done, place))
-        progress.advance(weight)
+        if progress is not None:
+            progress.advance(weight)
     for _ in range(_AHEAD):
         await room.acquire()
     if failed:

@@ -10,8 +10,9 @@ from ..storage.database import Actor, Source
 from .fault_texts import why_of
 from .keyring_records import LEFT_OVER, Records
 from .progress import Say
-from .verification import NotVerified, OutOfTime, Verification
+from .verification import OutOfTime, Verification
 from .verifier_attempts import Attempts
+from .verifier_program import NotVerified
 
 BEGUN = "they are being verified"
 SEEN = b"\0"  # The digest of what was verified and can't be read any more.

@@ -4,7 +4,8 @@ from __future__ import annotations
 
 import asyncio
 
-from .verification import NotVerified, OutOfTime, Verification
+from .verification import OutOfTime, Verification
+from .verifier_program import NotVerified
 
 _AGAIN_SECONDS = 10.0
 _MOST_SECONDS = 640.0

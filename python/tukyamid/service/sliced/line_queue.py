@@ -7,7 +7,7 @@ import asyncio
 from collections import deque
 from collections.abc import Awaitable, Callable, Iterator
 
-from ..storage.journal import Change, Done
+from ..storage.journal import Change, Done, Verdicts
 from .merging_engine import dropped
 
 _MOST_CHANGES = 512
@@ -109,10 +109,11 @@ class Lane:
 
 class Group:
     """Changes that are made together, up to a bound. One that brings what another drops begins others: it has to meet
-    it dropped."""
+    it dropped. The verifier's verdicts are made alone."""
 
     def __init__(self) -> None:
         self._gone: set[bytes] = set()
+        self._is_full = False
         self._count = self._octets = self._certificates = 0
 
     def takes(self, change: Change) -> bool:
@@ -120,8 +121,10 @@ class Group:
         self._octets += len(change.line or b"")
         self._certificates += len(change.fprs)
         is_much = self._count >= _MOST_CHANGES or self._octets > _MOST_OCTETS or self._certificates > _MOST_CERTIFICATES
-        if self._count and is_much or not self._gone.isdisjoint(change.fprs):
+        is_alone = isinstance(change, Verdicts)
+        if self._is_full or self._count and (is_much or is_alone) or not self._gone.isdisjoint(change.fprs):
             return False
+        self._is_full = is_alone
         self._count += 1
         if (fpr := dropped(change)) is not None:
             self._gone.add(fpr)

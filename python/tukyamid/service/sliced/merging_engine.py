@@ -10,7 +10,7 @@ from functools import partial
 
 from ..engines.attempts import Attempts
 from ..engines.conversation import CannotStart, EngineGone, KilledByLine, Talk
-from ..storage.journal import Change
+from ..storage.journal import Change, Verdicts
 from ..storage.partial_reads import Parts
 from .partial_engine import REFUSED_BUDGET
 
@@ -51,6 +51,9 @@ def touched_by(changes: Sequence[Change], parts: Parts) -> set[bytes]:
     """The certificates that these changes bring or drop, or on whose signatures they set a verdict."""
     touched = {fpr for change in changes for fpr in change.fprs}
     for change in changes:
+        if isinstance(change, Verdicts):
+            touched.update(change.targets)
+            continue
         number = judged(change)
         touched.update(fpr for fpr in (dropped(change), number and parts.certificate_of(number)) if fpr)
     return touched
@@ -76,6 +79,8 @@ class Merging:
         for change in changes:
             if change.reply is not None and change.reply.startswith(b"ok"):
                 kept.certificates.update((fpr, True) for fpr in change.fprs)
+            elif isinstance(change, Verdicts):
+                change.reply = _OK
             elif _word(change) == b"drop":
                 change.reply = self._drop(change, kept)
             elif _word(change) == b"verdict":

@@ -17,7 +17,7 @@ from ..storage.certificate_rows import brought
 from ..storage.database import Actor, DatabaseFault, Snapshot
 from ..storage.database_threads import Access
 from ..storage.group_commit import FAULT, Barrier
-from ..storage.journal import Change, Done
+from ..storage.journal import Change, Done, Verdicts
 from ..storage.partial_reads import HasParts, Parts
 from ..storage.turn_taking import Begun
 from .line_queue import Lane, Once, Turn
@@ -104,6 +104,13 @@ class Sliced:
         else:
             self._lane.add(Change(line, 0, set(), actor, brought(line), done))
         begun()
+
+    def judge(self, verdicts: Verdicts) -> None:
+        """Has the verifier's verdicts made."""
+        if self._committer.refuses():
+            verdicts.finish(FAULT, self.count)
+        else:
+            self._lane.add(verdicts)
 
     def ask(self, line: bytes, done: Done) -> None:
         """A line that is no view's, and changes nothing."""

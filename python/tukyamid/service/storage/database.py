@@ -55,7 +55,13 @@ class SetVerdict:
     issuer: bytes | None
 
 
-Effect = PutCertificate | DropCertificate | SetVerdict
+@dataclass(frozen=True)
+class HaveLooked:
+    """The verifier has looked at these certificates. That alone is no change."""
+    looked: tuple[Looked, ...]
+
+
+Effect = PutCertificate | DropCertificate | SetVerdict | HaveLooked
 
 
 @dataclass(frozen=True)

@@ -3,11 +3,12 @@
 from __future__ import annotations
 
 from collections import deque
-from collections.abc import Callable, Iterator
+from collections.abc import Callable, Iterator, Sequence
 from typing import TYPE_CHECKING
 
 from . import database
 from .database import Actor, PutCertificate
+from .unlooked import Looked
 
 if TYPE_CHECKING:
     from ..engines.supervised_engine import Engine
@@ -86,6 +87,23 @@ class Change(Point):
         issuer = database.BAD if said == "bad" else bytes.fromhex(said[5:]) if said != "none" else None
         return database.Change(f"verdict {number} {said}", self.actor,
                                (database.SetVerdict(bytes.fromhex(number), issuer),), self.line)
+
+
+class Verdicts(Change):
+    """What the verifier says of some certificates, by their fingerprints: verdicts, and that it has looked at them. It
+    is no client's line, and no engine hears it."""
+    __slots__ = ("verdicts", "looked", "targets")
+
+    def __init__(self, verdicts: Sequence[tuple[bytes, bytes]], looked: Sequence[Looked], targets: Sequence[bytes],
+                 actor: Actor, done: Done) -> None:
+        super().__init__(b"verdicts", 0, set(), actor, (), done)
+        self.verdicts, self.looked, self.targets = verdicts, looked, targets
+
+    def entry(self) -> database.Change:
+        what = " ".join([f"verdicts {len(self.verdicts)} on", *(fpr.hex() for fpr in self.targets)])
+        return database.Change(what, self.actor, (
+            *(database.SetVerdict(number, issuer) for number, issuer in self.verdicts),
+            database.HaveLooked(tuple(self.looked))))
 
 
 class Journal:

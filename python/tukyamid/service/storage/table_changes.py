@@ -6,8 +6,8 @@ from collections.abc import Iterable, Sequence
 from typing import Any, Protocol
 
 from .certificate_rows import Described, describe
-from .database import Change, DropCertificate, Effect, PutCertificate, SetVerdict
-from .unlooked import LOOK, UNLOOK_ALL_JUDGED, WAKE
+from .database import Change, DropCertificate, Effect, HaveLooked, PutCertificate, SetVerdict
+from .unlooked import LOOK, UNLOOK_ALL_JUDGED, WAKE, put_looked
 
 NOBODY = 0  # The key of this number has no octets: the issuer of a signature that is bad.
 COUNTED = ("certificates", "octets", "user_ids", "signatures", "verdicts", "pending")
@@ -97,6 +97,10 @@ class Writing:
                 return self._drop(fpr)
             case SetVerdict(number, issuer):
                 return self._judge(number, issuer)
+            case HaveLooked(looked):
+                put_looked(lambda query, *values: self._connection.execute(query, values).fetchall(),
+                           self._connection.executemany, looked)
+                return False
 
     def _one(self, statement: str, *values: object) -> Any:
         """The first row, or None."""
