@@ -27,7 +27,8 @@ class Link(NamedTuple):
 
 @dataclass
 class Reached:
-    """A key that is authenticated: the user ID of the greatest amount, and how many of its user IDs are."""
+    """A key that is authenticated: the user ID of the greatest amount, with a name rather than an address alone, and
+    how many of its user IDs are."""
     amount: int
     user_id: bytes
     count: int = 1
@@ -78,7 +79,7 @@ class Network:
             self.keys[binding.fpr] = Reached(answer.amount, binding.user_id)
         else:
             known.count += 1
-            if answer.amount > known.amount:
+            if (answer.amount, _has_name(binding.user_id)) > (known.amount, _has_name(known.user_id)):
                 known.amount, known.user_id = answer.amount, binding.user_id
         for issuer in {step.issuer for path in answer.paths for step in path.steps}:
             self.carried.setdefault(issuer, []).append((binding.fpr, binding.user_id))
@@ -97,3 +98,8 @@ class Network:
         """How many keys are authenticated fully, partly and not at all."""
         amounts = Counter("full" if one.amount >= FULL else "part" for one in list(self.keys.values()))
         return {"full": amounts["full"], "part": amounts["part"], "none": len(self.others)}
+
+
+def _has_name(user_id: bytes) -> bool:
+    """Whether there is more than an address."""
+    return not user_id.lstrip().startswith(b"<")

@@ -6,7 +6,6 @@ import asyncio
 from collections.abc import Collection
 from typing import Any
 
-from ..command.exit_statuses import reason_of
 from ..keyrings.keyring import Keyring
 from .names import Names
 from .network import Network
@@ -37,8 +36,8 @@ class Networks:
             await asyncio.wait([self._task], timeout=LATER_PATIENCE if network.asked > MANY else PATIENCE)
         if self._task is not None and self._task.done() and not network.is_done:
             self._kept = None
-            if isinstance(failure := self._task.exception(), Exception):
-                raise ValueError(f"the network wasn't gathered: {reason_of(failure)}")
+            if (failure := self._task.exception()) is not None:
+                raise failure
         drawn = await asyncio.to_thread(lambda: Picture(self._tree(network), opened).drawn())
         return {**drawn, **network.counts(), "asked": network.asked, "total": network.total, "done": network.is_done}
 

@@ -12,6 +12,7 @@ from pathlib import Path
 from typing import Any
 
 from ..process_end import ended
+from ..protocol.refusals import ServiceEnded
 from .page_requests import Standpoint
 from .service_connections import Desk
 
@@ -73,7 +74,8 @@ class Surveys:
         self._last: _Survey | None = None
 
     async def ask(self, standpoint: Standpoint, **more: object) -> dict[str, Any]:
-        """How far the overview is, or all of it. One of another question, or of an earlier keyring, is given up."""
+        """How far the overview is, or all of it. One of another question, or of an earlier keyring, is given up. Raises
+        ServiceEnded if the service has ended meanwhile."""
         async with self._desk.talking() as client:
             change = max([one.number async for one in await client.log(1)], default=0)
         roots = dict(sorted(standpoint.roots.items()))
@@ -83,6 +85,8 @@ class Surveys:
             state = await last.news()
             if "error" in state and self._last is last:
                 self._last = None  # Who asks again after an error tries again.
+            if state.get("lost"):
+                raise ServiceEnded(state["error"])
             return state
         await self.close()
         words = [sys.executable, "-m", f"tukyamid.web.{self._module}", self._desk.socket]

@@ -5,14 +5,14 @@ import json
 import os
 import sys
 from collections import defaultdict
-from collections.abc import Iterable, Iterator
+from collections.abc import Callable, Iterable, Iterator
 from time import monotonic as clock
 from typing import Any, BinaryIO, cast
 
 from ..client import connect
 from ..client.engine import Engine
 from ..client.listing import Listing
-from ..protocol.refusals import ServiceEnded, TukyamidError
+from ..protocol.refusals import ServiceEnded, ServiceMissing, TukyamidError
 from . import overview_tables
 from .facts_summary import Counts, FactsProcess
 
@@ -173,14 +173,19 @@ def _table_of_introducers(rows: list[tuple[str, str, int, int, int, str]]) -> ov
 
 
 def main(words: list[str]) -> int:
-    os.nice(5)
     asked = json.loads(sys.stdin.read())
+    return saying(lambda: _survey(words[0], asked["time"], asked["roots"]))
+
+
+def saying(work: Callable[[], None]) -> int:
+    """Does what takes long, and says it if it fails; with `lost`, if the service has ended meanwhile."""
+    os.nice(5)
     try:
-        _survey(words[0], asked["time"], asked["roots"])
+        work()
     except BrokenPipeError:
-        os.dup2(os.open(os.devnull, os.O_WRONLY), 1)  # The page has ended, so nobody wants the overview.
+        os.dup2(os.open(os.devnull, os.O_WRONLY), 1)  # The page has ended, so nobody wants the answer.
     except TukyamidError as error:
-        say(error=str(error))
+        say(error=str(error), lost=isinstance(error, ServiceEnded | ServiceMissing))
     return 0
 
 

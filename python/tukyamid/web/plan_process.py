@@ -2,7 +2,6 @@
 is asked as JSON on standard input. Writes lines of JSON: how far it is, and at last the answer."""
 
 import json
-import os
 import sys
 from typing import Any
 
@@ -14,21 +13,17 @@ from ..planning import meeting_sheet, meeting_text
 from ..planning.fragile_making import fragile_in
 from ..planning.fragile_tables import tables
 from ..planning.meeting_making import meeting_of
-from ..protocol.refusals import TukyamidError
-from .overview_process import say
+from .overview_process import say, saying
 
 
 def main(words: list[str]) -> int:
-    os.nice(5)
     asked = json.loads(sys.stdin.read())
-    try:
-        with connect(words[0]) as client:
-            say(**_answer(served_keyring(client), asked))
-    except BrokenPipeError:
-        os.dup2(os.open(os.devnull, os.O_WRONLY), 1)  # The page has ended, so nobody wants the answer.
-    except TukyamidError as error:
-        say(error=str(error))
-    return 0
+    return saying(lambda: _say_answer(words[0], asked))
+
+
+def _say_answer(socket: str, asked: dict[str, Any]) -> None:
+    with connect(socket) as client:
+        say(**_answer(served_keyring(client), asked))
 
 
 def _answer(keyring: Keyring, asked: dict[str, Any]) -> dict[str, Any]:

@@ -6,6 +6,7 @@ import json
 import os
 import signal
 import subprocess
+import sys
 import tempfile
 import unittest
 from pathlib import Path
@@ -14,7 +15,7 @@ from urllib.parse import urlsplit
 
 from friends import friends
 from made import Made, trust
-from outside import COMMAND, TRUSTING, folder, needs_engine, needs_gpg, run
+from outside import CLIENT, COMMAND, TRUSTING, folder, needs_engine, needs_gpg, run
 from test_service import server_of
 
 DECEMBER = 1764547200  # 2025-12-01
@@ -132,6 +133,21 @@ class Served(unittest.TestCase):
         strange.write_bytes(b"".join(one.octets for one in cls.hostile))
         cls.page = Page([cls.friends.keyring, strange], [cls.fpr["Alice"]])
         cls.addClassCleanup(cls.page.close)
+
+    def served_by(self, program, *words):
+        """A second page over the same service, by a program in Python that changes the command before it begins.
+        Returns the process and the page's address."""
+        words = [sys.executable, "-c", program, *words, "--no-browser", "--time", f"@{DECEMBER}",
+                 f"--root={self.fpr['Alice']}"]
+        process = subprocess.Popen(words, env={**self.page.environment, "PYTHONPATH": str(CLIENT)},
+                                   stdout=subprocess.PIPE, stdin=subprocess.DEVNULL)
+
+        def end():
+            process.send_signal(signal.SIGCONT)
+            process.send_signal(signal.SIGINT)
+            process.communicate(timeout=PATIENCE)
+        self.addCleanup(end)
+        return process, process.stdout.readline().decode().strip()
 
     def subject(self, name, user_id, time=DECEMBER, roots=None, **more):
         amounts = {"Alice": 120} if roots is None else roots

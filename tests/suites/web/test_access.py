@@ -99,8 +99,10 @@ class Access(InBrowser):
         self.assertEqual(self.browser.run("return document.querySelector('a[href], button, input').className"), "skip")
 
     def test_names_and_roles(self):
-        for view in "ask", "overview":
-            self.open("Carol", CAROL) if view == "ask" else self.open(view="overview")
+        for view in "start", "ask", "overview":
+            self.open("Carol", CAROL) if view == "ask" else self.open(view=view)
+            if view == "start":
+                self.browser.wait("return document.querySelector('.tree a') && document.querySelector('#unreached a')")
             if view == "overview":
                 self.whole_overview()
             tree = self.browser.driver.execute_cdp_cmd("Accessibility.getFullAXTree", {})["nodes"]

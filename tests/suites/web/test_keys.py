@@ -41,7 +41,7 @@ class Key(Places):
         """Carol gets 60 from Bob. Dave isn't within Bob's scope, what he says of Frank has expired, and Erin's key is
         revoked. Alice gives Bob, and those with hostile names, 120 and makes them introducers, and Carol 60."""
         self.open_key("Bob", BOB)
-        self.assertEqual(self.browser.text("#for-worth"), "1 of 4 get an amount through this key; these come first.")
+        self.assertEqual(self.browser.text("#for-worth"), "1 of 4 gets an amount through this key; it comes first.")
         vouched = self.lines("#vouches-for > ul > li")
         self.assertTrue(vouched[0].startswith(f"{CAROL} ✓ 120 of 120\n✓ adds 60"), vouched)
         said = "\n".join(vouched[1:])
@@ -56,6 +56,12 @@ class Key(Places):
         first = [text.split("\n")[1].split(" for ")[0] for text in self.lines("#vouches-for > ul > li")]
         self.assertEqual([text[:10].strip() for text in first],
                          ["✓ adds 120"] * (1 + len(HOSTILE)) + ["✓ adds 60", "○ adds not"])
+
+    def test_what_adds_nothing_at_all(self):
+        """Erin's key is revoked, so nobody who vouches for it adds anything, and it leads nowhere."""
+        self.open_key("Erin", ERIN)
+        self.assertEqual((self.browser.text("#by-worth"), self.browser.text("#for-worth")),
+                         ("None of them adds to the amount.", "None of them gets an amount through this key."))
 
     def test_if_it_were_gone(self):
         self.open_key("Bob", BOB)

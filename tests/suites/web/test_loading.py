@@ -1,12 +1,7 @@
 """A page of which a part doesn't come, or whose service says nothing: it says so, and can be loaded again."""
 
-import signal
-import subprocess
-import sys
-
 from browser import needs_browser
-from outside import CLIENT
-from page import DECEMBER, PATIENCE, needs_page
+from page import needs_page
 from test_browser import CAROL
 from test_places import Places
 
@@ -39,16 +34,7 @@ sys.exit(web_command.run(sys.argv[2:]))
 class Loading(Places):
     def serve(self, refused):
         """The page of the six people once more, by a server that refuses this. Returns its address."""
-        words = [sys.executable, "-c", REFUSING, refused, "--no-browser", "--time", f"@{DECEMBER}",
-                 f"--root={self.fpr['Alice']}"]
-        process = subprocess.Popen(words, env={**self.page.environment, "PYTHONPATH": str(CLIENT)},
-                                   stdout=subprocess.PIPE, stdin=subprocess.DEVNULL)
-
-        def end():
-            process.send_signal(signal.SIGINT)
-            process.communicate(timeout=PATIENCE)
-        self.addCleanup(end)
-        return process.stdout.readline().decode().strip()
+        return self.served_by(REFUSING, refused)[1]
 
     def load_again(self):
         self.browser.click("#load-again")

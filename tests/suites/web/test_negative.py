@@ -1,8 +1,6 @@
 """Answers that aren't reached: how far they get, where they break, and what would be enough. And answers with many
-paths, and a server or a service that is lost meanwhile."""
+paths."""
 
-import os
-import signal
 from types import SimpleNamespace
 from urllib.parse import quote_plus
 
@@ -12,7 +10,6 @@ from outside import folder
 from page import Page, Served, needs_page
 from test_browser import CAROL, DAVE
 from test_places import ALICE, ERIN, FRANK, OVERLAPS, Places
-from test_service import server_of
 
 MADE = 1_700_000_000
 PATHS = 50
@@ -26,6 +23,11 @@ class Negative(Places):
         self.browser.wait("return document.querySelector('.verdict') && document.querySelector('#moments li')"
                           "&& !document.querySelector('#ask .waiting')")
 
+    def drawn(self):
+        """What the boxes of the drawing say, in the order of the letters."""
+        return sorted(self.browser.run(
+            "return [...document.querySelectorAll('#reach .tree a')].map((one) => one.getAttribute('aria-label'))"))
+
     def test_where_it_breaks(self):
         """Erin, whose key is revoked, and Bob, for 30 days, have certified Frank."""
         self.open_answer("Frank", FRANK)
@@ -35,9 +37,7 @@ class Negative(Places):
         for why in ("Erin says of Frank doesn’t count: the issuer’s key is revoked, with effect at all times.",
                     "Bob says of Frank doesn’t count: it has expired."):
             self.assertIn(f"✗ What {why}", ways[0] + ways[1])
-        drawn = self.browser.run(
-            "return [...document.querySelectorAll('#reach .tree a')].map((one) => one.getAttribute('aria-label'))")
-        self.assertEqual(sorted(drawn), sorted([
+        self.assertEqual(self.drawn(), sorted([
             "Alice: root, amount 120", "Bob: ✓ so far", "Erin: ✓ so far", "Frank: ✗ it has expired",
             "Frank: ✗ the issuer’s key is revoked, with effect at all times"]))
         self.assertEqual(self.browser.run("return document.querySelectorAll('#reach .line.broken').length"), 2)
@@ -48,6 +48,8 @@ class Negative(Places):
         self.browser.wait_text("#reach", "60 are missing.")
         (way,) = self.lines("#reach .breaks li")
         self.assertIn(f"✗ Alice relies on Bob only for anyone at example.org, and {DAVE} isn’t.", way)
+        self.assertEqual(self.drawn(),
+                         ["Alice: root, amount 120", "Bob: ✗ outside of the scope", "Dave: ○ not reached"])
 
     def test_what_would_be_enough_is_supposed_by_one_click(self):
         """Alice can vouch for Dave herself. It is drawn dashed, and the keyring stays as it is."""
@@ -78,46 +80,29 @@ class Negative(Places):
         self.browser.wait_text(".verdict", "120 of 120")
         self.assertFalse(self.browser.element("#reach-box").is_displayed())
 
+    def test_names_of_others_are_text_alone(self):
+        """Where an answer breaks, in what would be enough, and in what would be lost without Alice."""
+        for one in self.hostile:
+            found = self.page.call("search", text=one.fpr)["found"][0]["user_id"]
+            self.browser.open(f"{self.page.address}#ask?key={one.fpr}&uid={quote_plus(found)}"
+                              f"&roots={self.fpr['Frank']}:120")
+            self.browser.wait("return document.querySelector('#reach .tree a')"
+                              "&& document.querySelector('#enough .cards li')")
+            self.nothing_runs(found)
+        self.browser.open(f"{self.page.address}#key?key={self.fpr['Alice']}")
+        self.at_key(ALICE)
+        self.browser.click("#if-gone")
+        self.browser.wait_text("#key-gone", found)
+        self.nothing_runs(found)
+
+    def nothing_runs(self, shown):
+        self.assertIn(shown, self.browser.run("return document.querySelector('main').textContent"))
+        self.assertEqual(self.browser.run("return [window.owned ?? null, document.querySelectorAll("
+                                          "'main img, main script, [onerror]').length]"), [None, 0])
+
     def test_an_answer_that_is_reached_has_none_of_it(self):
         self.open_answer("Carol", CAROL)
         self.assertFalse(self.browser.element("#reach-box").is_displayed())
-
-
-@needs_page
-@needs_browser
-class Lost(Places):
-    def test_a_killed_service_is_started_again(self):
-        self.start()
-        for path in self.page.runtime.rglob("*.socket"):
-            os.kill(server_of(path), signal.SIGKILL)
-        self.follow(CAROL, ".tree")
-        self.at_key(CAROL)
-        self.browser.wait_text("#key-user-ids", "120 of 120")
-        self.assertEqual(self.browser.text("#trouble"), "")
-
-    def test_a_lost_connection_is_said_and_the_question_kept(self):
-        self.start()
-        offline = {"offline": True, "latency": 0, "downloadThroughput": -1, "uploadThroughput": -1}
-        self.browser.driver.execute_cdp_cmd("Network.enable", {})
-        self.browser.driver.execute_cdp_cmd("Network.emulateNetworkConditions", offline)
-        try:
-            self.follow(CAROL, ".tree")
-            self.browser.wait_text("#trouble", "The connection to the command tukyamid web is lost.")
-        finally:
-            self.browser.driver.execute_cdp_cmd("Network.emulateNetworkConditions", {**offline, "offline": False})
-        self.at_key(CAROL)
-        self.browser.wait("return !document.querySelector('#trouble').innerText")
-
-    def test_a_late_answer_is_said(self):
-        self.start()
-        os.kill(self.page.process.pid, signal.SIGSTOP)
-        try:
-            self.follow(CAROL, ".tree")
-            self.browser.wait_text("#trouble", "Still waiting for the answer…")
-        finally:
-            os.kill(self.page.process.pid, signal.SIGCONT)
-        self.at_key(CAROL)
-        self.browser.wait("return !document.querySelector('#trouble').innerText")
 
 
 @needs_page

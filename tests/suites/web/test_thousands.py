@@ -11,15 +11,17 @@ from test_places import OVERLAPS, Places
 MADE = 1_700_000_000
 INTRODUCERS, OF_EACH, DOMAINS, STRANGERS = 3, 600, 4, 70
 NAMELESS = b" <no@example.org>"
-REACHED = INTRODUCERS * OF_EACH + INTRODUCERS + 2
+REACHED = INTRODUCERS * OF_EACH + INTRODUCERS + 3
 
 
 def thousands():
     """A root, three introducers, 600 keys of four domains that each of them has certified, somebody whose user ID is an
-    address alone, and 70 strangers."""
+    address alone, somebody who has a name as well as such a one, and 70 strangers."""
     made = [Made(1).direct(MADE)]
     root = made[0].certified(b"Root <root@example.org>", made[0], MADE)
     made.append(Made(999).direct(MADE).certified(NAMELESS, root, MADE + 2))
+    made.append(Made(998).direct(MADE).certified(b"<both@example.org>", root, MADE + 2)
+                .certified(b"Both <both@example.org>", root, MADE + 2))
     for number in range(INTRODUCERS):
         introducer = Made(2 + number).direct(MADE).certified(
             b"Introducer %d <i%d@example.org>" % (number, number), root, MADE + 1, trust(1, 120))
@@ -86,6 +88,7 @@ class Thousands(Places):
         self.open_start()
         names = self.browser.run("return [...document.querySelectorAll('.tree .main')].map((one) => one.textContent)")
         self.assertIn("<no@example.org>", names)
+        self.assertIn("Both", names)
         self.assertTrue(all(names), names)
         counts = self.browser.run("return [...document.querySelectorAll('.tree .group .small')]"
                                   ".map((one) => one.textContent)")

@@ -6,13 +6,15 @@ import { addressOfCall } from "./everyone.js";
 import { isPublic } from "./state.js";
 
 const LATE = 4000;
-const PATIENCE = 30000;
+const PATIENCE = 30000;  // Twice as long at each further try.
+const MOST_PATIENCE = 480000;
 const MAY_TAKE_LONG = new Set(["add", "plan", "gone", "reach", "proof"]);
 const PAUSES = [300, 1000, 2000, 4000];  // Before each further try; the last one again and again.
 const FOREIGN = "what answers at this page’s address isn’t the command that opened it: close this page";
 const TRIES_OF_SERVICE = 3;
 const MAY_PASS = new Set([429, 502]);
 const SERVER = isPublic ? "this page’s server" : "the command tukyamid web";
+const WAITING = "This takes longer than usual. Still waiting for the answer…";
 const LOST = `The connection to ${SERVER} is lost. Trying again; your question stays in the address.`
   + (isPublic ? "" : " If you ended the command, start it again.");
 // A secret of this page and its server, for when the server has ended and another user's program listens at its port.
@@ -27,13 +29,14 @@ export async function call(what, asked = {}, sort = what) {
   underWay.set(sort, control);
   try {
     for (let tries = 1; ; tries += 1) {
-      const reply = await once(what, asked, control.signal, MAY_TAKE_LONG.has(what) ? 0 : PATIENCE * 2 ** (tries - 1));
+      const patience = MAY_TAKE_LONG.has(what) ? 0 : Math.min(PATIENCE * 2 ** (tries - 1), MOST_PATIENCE);
+      const reply = await once(what, asked, control, patience);
       if (reply.value) return reply.value;
       // Without an answer nobody knows whether it was done, so what changes something isn't tried again.
       if (what === "add" || (!reply.lost && (!MAY_PASS.has(reply.status) || tries >= TRIES_OF_SERVICE))) {
         throw Object.assign(new Error(reply.error), { status: reply.status });
       }
-      tell(control, reply.lost ? LOST : `Trying again: ${reply.error}.`);
+      tell(control, reply.lost ?? `Trying again: ${reply.error}.`);
       await pause(PAUSES[Math.min(tries, PAUSES.length) - 1], control.signal);
     }
   } catch (failure) {
@@ -45,13 +48,15 @@ export async function call(what, asked = {}, sort = what) {
   }
 }
 
-/** One try: its value, or why there is none. If no answer comes within the patience, it counts as lost; 0 waits. */
-async function once(what, asked, signal, patience) {
+/** One try: its value, or why there is none; `lost` is what to say if no answer comes, at all or within the patience.
+ * A patience of 0 waits for ever. */
+async function once(what, asked, control, patience) {
+  const { signal } = control;
   const own = new AbortController();
   const giveUp = () => own.abort();
   signal.addEventListener("abort", giveUp);
   const over = patience ? setTimeout(giveUp, patience) : 0;
-  const late = setTimeout(() => tell(signal, "This takes longer than usual. Still waiting for the answer…"), LATE);
+  const late = setTimeout(() => troubles.has(control) || tell(control, WAITING), LATE);
   try {
     const nonce = SECRET && crypto.randomUUID();
     const reply = await (isPublic ? fetch(addressOfCall(what, asked), { signal: own.signal }) : fetch(`call/${what}`, {
@@ -64,12 +69,13 @@ async function once(what, asked, signal, patience) {
     return value.error ? { error: value.error, status: reply.status } : { value };
   } catch (failure) {
     if (signal.aborted || !(failure instanceof TypeError || own.signal.aborted)) throw failure;
-    return { error: `${SERVER} can’t be reached`, lost: true };
+    const silent = `No answer has come for ${patience / 1000} seconds. Asking again; your question stays in the `
+      + "address.";
+    return { error: `${SERVER} can’t be reached`, lost: own.signal.aborted ? silent : LOST };
   } finally {
     signal.removeEventListener("abort", giveUp);
     clearTimeout(over);
     clearTimeout(late);
-    tell(signal, null);
   }
 }
 

@@ -2,7 +2,10 @@
 
 import { call } from "./asking.js";
 import { byId, count, fill, make, name } from "./dom.js";
+import { bindingLink, keyLink } from "./links.js";
+import { introduction } from "./scopes.js";
 import { change, learn, nameOf, state, subject } from "./state.js";
+import { word } from "./words.js";
 
 const SHOWN = 5;
 
@@ -42,10 +45,19 @@ function proposalOf(proposal) {
   const said = proposal.certifications.map((one) => one.said).join("; and ");
   const isEnough = proposal.amount >= state.wanted;
   return make("li", { class: isEnough ? "yes" : "part" },
-    name(said), make("br"), make("span", { class: "badge" }, `${isEnough ? "✓" : "◐"} ${proposal.amount} of `
-      + `${state.wanted}`), " ",
+    proposal.certifications.flatMap((one, at) => [at ? "; and " : "", ...sentenceOf(one)]), make("br"),
+    make("span", { class: "badge" }, `${isEnough ? "✓" : "◐"} ${proposal.amount} of ${state.wanted}`), " ",
     make("button", { type: "button", class: "small", "aria-label": `Suppose it: ${said}`,
       onclick: () => suppose(proposal.certifications) }, "Suppose it"));
+}
+
+/** "Alice certifies Bob, and makes it an introducer for anyone at example.org". */
+function sentenceOf(one) {
+  const target = nameOf(one.target) === one.user_id ? [] : [" of ", keyLink(one.target)];
+  const whom = one.domains.map((domain) => domain && `anyone at ${domain}`);
+  return [keyLink(one.issuer), " certifies ", bindingLink(one.target, one.user_id_spelled, one.user_id), ...target,
+    ...one.depth ? [", and ", ...introduction({ ...one, scope_words: whom })] : [],
+    ...one.amount < 120 ? [", with ", word("amount"), ` ${one.amount}`] : []];
 }
 
 function suppose(certifications) {

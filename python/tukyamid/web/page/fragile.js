@@ -40,7 +40,8 @@ async function look() {
 }
 
 function show(reply) {
-  fill(byId("fragile-state"), `${count(reply.reached, "binding")} are authenticated, as of ${day(reply.time)}.`);
+  fill(byId("fragile-state"), `${count(reply.reached, "binding")} ${reply.reached === 1 ? "is" : "are"} `
+    + `authenticated, as of ${day(reply.time)}.`);
   fill(byId("fragile-tables"), reply.tables.map((table) => tableOf({ ...table, cells: {
     "safer with": (row, cell) => saferOf(table.safer?.[table.rows.indexOf(row)], cell) } })));
 }

@@ -6,7 +6,7 @@ import { your } from "./everyone.js";
 import { offerGone } from "./gone.js";
 import { bindingLink, issuerLink } from "./links.js";
 import { showLife } from "./life.js";
-import { scopeNodes } from "./scopes.js";
+import { introduction } from "./scopes.js";
 import { addressOf, isPublic, learn, nameOf, standpoint, state } from "./state.js";
 import { explained, word } from "./words.js";
 
@@ -45,7 +45,8 @@ function show(reply) {
   for (const part of document.querySelectorAll("#key .known")) part.hidden = !reply.there;
   fill(byId("key-summary"),
     make("p", { class: reply.word === "ok" ? "soft" : "warn" }, !reply.there ? "This key isn’t in the keyring."
-      : reply.word === "ok" ? `A key in order, created ${day(reply.created)}.` : explained(`${reply.meaning}.`)),
+      : reply.word === "ok" ? `Created ${day(reply.created)}, neither expired nor revoked.`
+        : explained(`${reply.meaning}.`)),
     reply.root && make("p", {}, make("span", { class: "badge rooted" }, `${your} root`),
       isPublic ? " This is seen from this key, with " : " You trust this key yourself, with ", word("amount"),
       ` ${reply.root}.`),
@@ -60,12 +61,13 @@ function show(reply) {
 function userIdOf(reply, one) {
   const sort = one.reached ? "yes" : one.amount ? "part" : "no";
   const said = { yes: "✓ authenticated", part: "◐ partly authenticated", no: "✗ not authenticated" }[sort];
+  const [how, short] = one.reached ? ["How", "How?"] : ["Why not, and what would help", "Why not? What would help?"];
   return make("li", { class: sort }, bindingLink(reply.fingerprint, one.spelled, one.user_id), " ",
     make("span", { class: "badge" }, said), " ", make("span", {}, `${one.amount} of ${one.wanted}`), " ",
     make("span", { class: "soft" }, one.word === "ok" ? "" : explained(`${one.meaning}. `)),
     make("a", { class: "why", href: addressOf({ view: "ask", binding: {
       fingerprint: reply.fingerprint, spelled: one.spelled, user_id: one.user_id }, without: [], suppose: [] }),
-    "aria-label": `${one.reached ? "How" : "Why not"}: ${one.user_id}` }, one.reached ? "How?" : "Why not?"));
+    "aria-label": `${how}: ${one.user_id}` }, short));
 }
 
 /** The digits in groups, and the code once it is opened. */
@@ -124,10 +126,13 @@ async function more(side, list, asked, begin, most) {
 /** How many of them matter to an answer, and so come first. */
 function worthOf(side, reply) {
   if (!reply.count) return [];
-  const [number, all] = [reply.worth.toLocaleString("en"), reply.ranked.toLocaleString("en")];
-  const said = side === "by" ? `${number} of ${all} add to the `
-    : `${number} of ${reply.ranked < reply.count ? `the first ${all}` : all} get an `;
-  return [said, word("amount"), side === "by" ? "; these come first." : " through this key; these come first."];
+  const all = `${reply.ranked < reply.count ? "the first " : ""}${reply.ranked.toLocaleString("en")}`;
+  const s = reply.worth > 1 ? "" : "s";
+  const verb = side === "by" ? `add${s} to the ` : `get${s} an `;
+  const first = !reply.worth || reply.count === 1 ? "." : s ? "; it comes first." : "; these come first.";
+  const whole = reply.worth || reply.ranked < reply.count ? all : "them";
+  return [`${reply.worth ? reply.worth.toLocaleString("en") : "None"} of ${whole} ${verb}`, word("amount"),
+    `${side === "by" ? "" : " through this key"}${first}`];
 }
 
 function furtherOf(side, list, asked, begin, left) {
@@ -163,12 +168,4 @@ function aboutCertification(side, one, called) {
   if (one.amount < 120) parts.push(", ", word("amount"), ` ${one.amount}`);
   if (one.depth) parts.push(make("br"), ...introduction(one));
   return parts;
-}
-
-/** "makes it an introducer for anyone at example.org". */
-export function introduction(one) {
-  const whom = one.scopes.length ? scopeNodes(one) : ["everyone"];
-  const further = one.depth === 1 ? "" : one.depth >= 255 ? ", who may make others introducers without end"
-    : `, who may make others introducers, ${count(one.depth - 1, "step")} further`;
-  return ["makes it an ", word("introducer"), " for ", ...whom, further];
 }

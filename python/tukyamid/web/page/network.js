@@ -67,7 +67,8 @@ const countOf = (sort, sign, number, ...said) => make("p", { class: `count ${sor
 /** How to read the picture, for somebody who sees one for the first time. */
 const aboutPicture = () => [
   `Each box is a key. Lines begin at ${your} `, word("root"), ", and lead from left to right or downwards, from a key ",
-  "to one that it vouches for. The ", word("amount"), " says how much trust arrives. Choose a box to see whose it is."];
+  "to one that it vouches for. The ", word("amount"), " says how much trust arrives. Choose a box to see whose key it "
+  + "is, who vouches for it, and whom it vouches for."];
 
 function drawNetwork(reply) {
   const element = byId("network");

@@ -39,7 +39,7 @@ function shownOf(reply) {
       : "These are the ways that come nearest. Each breaks somewhere:"),
     make("div", { id: "reach-picture", class: "frame" }),
     make("ol", { class: "breaks" }, reply.chains.map((chain) => make("li", {}, ...sentenceOf(chain)))),
-    reply.more > 0 && make("p", { class: "soft" }, `And ${count(reply.more, "way")} more.`)].filter(Boolean);
+    reply.more > 0 && make("p", { class: "soft" }, `And ${count(reply.more, "more way")}.`)].filter(Boolean);
 }
 
 /** "Alice → Bob → Frank: what Bob says of Frank has expired". */
@@ -81,7 +81,11 @@ function drawChains(element, reply) {
     chain.keys.forEach((key, at) => {
       const id = `${parent ?? (chain.from_root ? "" : "apart ")} ${key}`;
       if (!nodes.some((one) => one.id === id)) {
-        nodes.push({ id, key, parent, step: at ? chain.steps[at - 1] : null, apart: !at && !chain.from_root });
+        const step = at ? chain.steps[at - 1] : null;
+        const apart = !at && !chain.from_root;
+        const before = nodes.find((one) => one.id === parent);
+        nodes.push({ id, key, parent, step, apart, isBroken: apart || Boolean(step?.broken),
+          isLost: Boolean(before?.isBroken || before?.isLost) });
       }
       parent = id;
     });
@@ -93,7 +97,7 @@ function drawChains(element, reply) {
     viewBox: `0 0 ${width} ${height}`, width, height, class: "tree", role: "group",
     "aria-label": "How far it gets, drawn. The list below says the same." });
   for (const node of nodes.filter((one) => one.parent)) {
-    svg.append(draw("path", { class: `line ${node.step?.broken ? "broken" : ""}`,
+    svg.append(draw("path", { class: `line ${node.isBroken ? "broken" : ""}`,
       d: lineBetween(byName.get(node.parent), node, isWide) }));
   }
   svg.append(...nodes.map(boxOf));
@@ -102,12 +106,12 @@ function drawChains(element, reply) {
 
 function boxOf(node) {
   const root = state.roots.find((one) => one.fingerprint === node.key);
-  const isBroken = node.apart || Boolean(node.step?.broken);
   const said = node.apart ? "✗ no way leads here" : root ? `root, amount ${root.amount}`
-    : isBroken ? `✗ ${briefly(node.step)}` : "✓ so far";
+    : node.isBroken ? `✗ ${briefly(node.step)}` : node.isLost ? "○ not reached" : "✓ so far";
+  const sort = node.isBroken ? "no" : root ? "root" : node.isLost ? "idle" : "yes";
   const called = shortName(node.key);
   return explain(draw("a", {
-    href: addressOfKey(node.key), class: `node ${isBroken ? "no" : root ? "root" : "yes"}`,
+    href: addressOfKey(node.key), class: `node ${sort}`,
     transform: `translate(${node.x} ${node.y})`, "aria-label": `${called}: ${said}` },
   draw("rect", { width: node.width, height: HEIGHT, rx: 9 }),
   draw("text", { x: 10, y: 18, class: "main" }, fitted(called, node.width - 20, 13.5, 600)),
