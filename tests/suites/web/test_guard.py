@@ -69,6 +69,7 @@ class Guard(Served):
             headers = self.page.request("GET", path)[1]
             policy = dict(part.strip().partition(" ")[::2] for part in headers["Content-Security-Policy"].split(";"))
             self.assertEqual(policy.pop("default-src"), "'none'")
+            self.assertEqual(policy.pop("trusted-types"), "reload")  # One policy, whose one address is a constant.
             for name, value in policy.items():
                 self.assertIn(value, ("'none'", "'self'", "'self' data:", "'script'"), name)
             self.assertEqual(policy["script-src"], "'self'")

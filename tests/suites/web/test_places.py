@@ -1,6 +1,7 @@
 """The places of the page: the network at the start, a key's own page, and how one begins. They are reached by the
 mouse, by the keyboard, on a phone, in dark mode and as a screen reader has them."""
 
+import shutil
 import unittest
 from pathlib import Path
 
@@ -180,6 +181,21 @@ class Beginning(Places):
         self.browser.keys("ENTER")
         self.browser.wait_text("#counts", "✓ 3 fully authenticated")
         self.browser.wait_text("#notes", f"tukyamid root add {self.fpr['Alice']}")
+
+    def test_from_gpg_to_a_network_by_clicks(self):
+        """gpg's keyring is offered, and then the keys that gpg trusts as the user's own."""
+        shutil.copytree(self.friends.home, self.empty.own / "gnupg",
+                        ignore=lambda _, names: [name for name in names if name.startswith("S.")])
+        self.browser.open(self.empty.address)
+        self.begin("Two steps to begin")
+        self.browser.click("#add-gpg")
+        self.begin("One step before you can look")
+        offered = self.lines("#begin-steps button.offered")
+        self.assertEqual(sorted(text.partition(">")[0] + ">" for text in offered),
+                         [ALICE, BOB, CAROL, DAVE, FRANK])  # gpg takes its trust from a key that is revoked.
+        self.browser.click(f"#begin-steps li:nth-child({1 + [text.startswith(ALICE) for text in offered].index(True)}) "
+                           "button")
+        self.browser.wait_text("#counts", "✓ 3 fully authenticated")
 
     def test_a_keyring_that_is_not_there(self):
         self.browser.open(self.empty.address)

@@ -31,7 +31,8 @@ export function showWhatIf(reply, present) {
       onchange: (event) => setWanted(event.target) }),
     make("h3", {}, "Left out"),
     state.without.length ? make("ul", { class: "plain" }, state.without.map(leftOut))
-      : make("p", { class: "soft" }, "Nothing. The list of the paths has a button for each certification."),
+      : make("p", { class: "soft" }, `Nothing.${reply.paths.length
+        ? " The list of the paths has a button for each certification." : ""}`),
     triedOf(reply),
     supposedList(reply),
     supposingForm(),
