@@ -125,7 +125,7 @@ def _service(path: Path | None) -> Iterator[Finding]:
         with connect(path, timeout=10) as service:
             status = service.status()
             yield Finding("service", State.GOOD, f"{path} answers; it has {status['certificates']} certificates and "
-                          f"{status['verdicts']} verdicts in {status.get('database', 'memory')}")
+                          f"{status['verdicts']} verdicts in {status.get('database', 'memory')}{_readers(status)}")
             yield from _age(path, status)
             yield from map(_kept, service.keyrings())
     except ServiceMissing:
@@ -135,6 +135,11 @@ def _service(path: Path | None) -> Iterator[Finding]:
                       "end it, and ask again: the next question starts another")
     except (TukyamidError, OSError) as fault:
         yield Finding("service", State.BAD, str(fault), "set XDG_RUNTIME_DIR to a directory that only you can use")
+
+
+def _readers(status: Mapping[str, str]) -> str:
+    count = status.get("readers", "0")
+    return "" if count == "0" else f", and {count} reader{'' if count == '1' else 's'}"
 
 
 def _age(path: Path, status: Mapping[str, str]) -> Iterator[Finding]:

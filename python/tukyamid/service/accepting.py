@@ -5,7 +5,7 @@ from __future__ import annotations
 import asyncio
 import socket
 from collections import deque
-from collections.abc import Callable
+from collections.abc import Callable, Coroutine
 from functools import partial
 
 from ..client.socket_peers import peer_of
@@ -16,11 +16,13 @@ _TAKEN_AT_ONCE = 128  # Each costs some 20 us.
 _BEGUN_AT_ONCE = 8    # Each costs some 0.5 ms.
 _PAUSE = 1.0
 
-_Waiting = tuple[socket.socket, Callable[[], asyncio.BaseProtocol]]
+# Serves a connection, once it is its turn.
+Serve = Callable[[socket.socket], Coroutine[None, None, None]]
+_Waiting = tuple[socket.socket, Serve]
 
 
 class Acceptor:
-    """Takes connections from sockets, which listen already, and has the loop serve them with what `make` makes.
+    """Takes connections from sockets, which listen already, and has `serve` serve them.
     `has_room` says whether a user may have one more client, with that many that wait."""
 
     def __init__(self, has_room: Callable[[int, int], bool], tell: Callable[[str], None]) -> None:
@@ -31,10 +33,10 @@ class Acceptor:
         self._sockets: list[socket.socket] = []
         self._is_turning = False
 
-    def listen(self, listening: socket.socket, make: Callable[[], asyncio.BaseProtocol]) -> None:
+    def listen(self, listening: socket.socket, serve: Serve) -> None:
         listening.setblocking(False)
         self._sockets.append(listening)
-        self._loop.add_reader(listening.fileno(), self._take, listening, make)
+        self._loop.add_reader(listening.fileno(), self._take, listening, serve)
 
     def close(self) -> None:
         """Takes no more. Who waits to be served is disconnected."""
@@ -46,7 +48,7 @@ class Acceptor:
             connected.close()
         self._waiting.clear()
 
-    def _take(self, listening: socket.socket, make: Callable[[], asyncio.BaseProtocol]) -> None:
+    def _take(self, listening: socket.socket, serve: Serve) -> None:
         for _ in range(_TAKEN_AT_ONCE):
             try:
                 connected, _ = listening.accept()
@@ -55,15 +57,15 @@ class Acceptor:
             except OSError as error:  # Too many files are open.
                 self._tell(f"no connection can be taken: {error}")
                 self._loop.remove_reader(listening.fileno())
-                self._loop.call_later(_PAUSE, self._go_on, listening, make)
+                self._loop.call_later(_PAUSE, self._go_on, listening, serve)
                 return
-            self._let_wait(connected, make)
+            self._let_wait(connected, serve)
 
-    def _go_on(self, listening: socket.socket, make: Callable[[], asyncio.BaseProtocol]) -> None:
+    def _go_on(self, listening: socket.socket, serve: Serve) -> None:
         if listening.fileno() >= 0:
-            self._loop.add_reader(listening.fileno(), self._take, listening, make)
+            self._loop.add_reader(listening.fileno(), self._take, listening, serve)
 
-    def _let_wait(self, connected: socket.socket, make: Callable[[], asyncio.BaseProtocol]) -> None:
+    def _let_wait(self, connected: socket.socket, serve: Serve) -> None:
         connected.setblocking(False)
         if _is_gone(connected):
             connected.close()
@@ -73,7 +75,7 @@ class Acceptor:
         if not self._has_room(user, len(waiting)):
             _refuse(connected)
             return
-        self._waiting.setdefault(user, deque()).append((connected, make))
+        self._waiting.setdefault(user, deque()).append((connected, serve))
         self._turn_soon()
 
     def _turn_soon(self) -> None:
@@ -93,8 +95,8 @@ class Acceptor:
                     del self._waiting[user]
         self._turn_soon()
 
-    def _begin(self, connected: socket.socket, make: Callable[[], asyncio.BaseProtocol]) -> None:
-        task: asyncio.Task[object] = self._loop.create_task(self._loop.connect_accepted_socket(make, connected))
+    def _begin(self, connected: socket.socket, serve: Serve) -> None:
+        task: asyncio.Task[object] = self._loop.create_task(serve(connected))
         self._beginning.add(task)
         task.add_done_callback(partial(self._has_begun, connected))
 

@@ -14,11 +14,12 @@ _LOOK_SECONDS = 1.0
 _STOPPED = "Tt"  # By a signal, or by a debugger.
 
 
-def children() -> Iterator[int]:
-    """The process numbers of this process's children, whichever thread has started them."""
-    for task in Path("/proc/self/task").iterdir():
-        with contextlib.suppress(OSError):  # A thread may have ended meanwhile.
-            yield from map(int, (task / "children").read_text().split())
+def children(pid: int | None = None) -> Iterator[int]:
+    """The process numbers of this process's children, or another's, whichever thread has started them."""
+    with contextlib.suppress(OSError):  # It may have ended.
+        for task in Path(f"/proc/{pid or 'self'}/task").iterdir():
+            with contextlib.suppress(OSError):  # A thread may have ended meanwhile.
+                yield from map(int, (task / "children").read_text().split())
 
 
 def is_stopped(pid: int) -> bool:

@@ -205,6 +205,7 @@ class Desk(Holding):
             await sliced.close()
             raise
         self._held = sliced
+        self._access.feed.sliced()
         for sitting in list(self.sitting):
             sitting.turn(sliced)
         self.tell("the keyring is now larger than an engine, and is held in slices")

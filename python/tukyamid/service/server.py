@@ -4,6 +4,7 @@ from __future__ import annotations
 
 import asyncio
 import os
+import socket
 from collections.abc import Sequence
 from dataclasses import dataclass
 from functools import partial
@@ -19,16 +20,17 @@ from .engines.certificate_directory import Directory
 from .keyring_files.keyring_updates import Keyrings
 from .line_intake import Desk
 from .listening_sockets import Listening, Passed, notify
+from .readers.reader_pool import ReaderPool
+from .readers.relay_session import RelaySession
 from .sessions.client_rights import Rights
 from .sessions.own_answers import Answering
 from .sessions.session import Session
+from .sessions.tended_sessions import TendedSessions
 from .sessions.user_shares import Shares, bounds
-from .storage.log_growth import LogGrowth
+from .storage.database import Actor
 from .storage.shared_database import Shared
 
-_PATIENCE_AT_THE_END = 4
-_LARGEST_LOG = 128 << 20  # Octets.
-_MOST_SPOOLED = 256 << 20  # Octets of long replies of one user that aren't read.
+_BETWEEN_CONFIRMATIONS = 0.2  # Seconds.
 
 
 @dataclass(frozen=True)
@@ -48,7 +50,8 @@ class Door:
 
 
 class Service:
-    def __init__(self, hub: Desk, keyrings: Keyrings, directory: Directory, settings: Settings, ending: Ending) -> None:
+    def __init__(self, hub: Desk, keyrings: Keyrings, directory: Directory, settings: Settings, pool: ReaderPool,
+                 ending: Ending) -> None:
         self._hub = hub
         self._keyrings = keyrings
         self._directory = directory
@@ -56,9 +59,10 @@ class Service:
         self._shares = Shares(bounds(), hub.lag)
         self._ending = ending
         self._answering = Answering(hub, directory, keyrings, self._status)
-        self._sessions: set[Session] = set()
-        self._log = LogGrowth()
+        self._sessions, self._relayed = TendedSessions(hub, self._closed), TendedSessions(hub, self._closed)
+        self._pool = pool
         self._count = 0
+        self._relays: set[asyncio.Task[object]] = set()
         self._end = asyncio.Event()
         self._last_used = 0.0
         self._file = _own_file()
@@ -79,13 +83,14 @@ class Service:
                 door.listening.open()
             acceptor = Acceptor(self._shares.has_room, self._hub.tell)
             for door in doors:
-                acceptor.listen(door.listening.socket, partial(self._new_session, self._rights(door)))
+                acceptor.listen(door.listening.socket, partial(self._serve, self._rights(door)))
+            self._pool.begin(self._shares, self._serve_relayed, self._hub.held.count, self._hub.loaded is not None)
             notify("READY=1")
             self._last_used = loop.time()
             loading = loop.create_task(self._hub.load())
             loading.add_done_callback(self._loaded)
             beside = [loop.create_task(work) for work in (
-                self._look_around(), self._keyrings.watch(), self._answering.learn())]
+                self._look_around(), self._keyrings.watch(), self._answering.learn(), self._confirm())]
             await self._end.wait()
             self._begin_end()
             notify("STOPPING=1")
@@ -94,7 +99,8 @@ class Service:
             for task in beside:
                 task.cancel()
             await asyncio.gather(*beside, return_exceptions=True)
-            await self._end_sessions()
+            await self._pool.end()
+            await self._sessions.end()
         finally:
             self._begin_end()
             await self._directory.close()
@@ -131,19 +137,27 @@ class Service:
         """What nobody has caught is one line for people, and no end of the service."""
         self._hub.tell(f"{context['message']}: {context.get('exception')!r}")
 
-    def _new_session(self, rights: Rights) -> Session:
+    async def _serve(self, rights: Rights, connected: socket.socket) -> None:
+        """Serves a client here, unless a reader does."""
         self._count += 1
-        return Session(self._count, self._hub, self._answering.answer, rights, self._shares, self._opened)
+        if not self._pool.hand_over(connected, self._count, rights):
+            session = Session(self._count, self._hub, self._answering.answer, rights, self._shares, self._sessions.add)
+            await asyncio.get_running_loop().connect_accepted_socket(lambda: session, connected)
+
+    def _serve_relayed(self, connected: socket.socket, number: int, actor: Actor, may_change: bool) -> None:
+        """Answers the lines that a reader passes on for a client of its own."""
+        connected.setblocking(False)
+        session = RelaySession(number, self._hub, self._answering.answer, may_change, self._shares,
+                               self._relayed.add, actor)
+        loop = asyncio.get_running_loop()
+        task: asyncio.Task[object] = loop.create_task(loop.connect_accepted_socket(lambda: session, connected))
+        self._relays.add(task)
+        task.add_done_callback(self._relays.discard)
 
     def _rights(self, door: Door) -> Rights:
         return Rights(door.may_change, self._settings.most_views, door.listening.users)
 
-    def _opened(self, session: Session) -> None:
-        self._sessions.add(session)
-        session.over.add_done_callback(lambda _: self._closed(session))
-
     def _closed(self, session: Session) -> None:
-        self._sessions.discard(session)
         self._last_used = asyncio.get_running_loop().time()
 
     async def _look_around(self) -> None:
@@ -154,40 +168,26 @@ class Service:
         while True:
             await asyncio.sleep(pause)
             now = loop.time()
-            for session in list(self._sessions):
-                if session.outbox.drop_where_unread(now, patience):
-                    self._hub.tell(f"client {session.number} doesn't read its replies and is disconnected")
-                elif session.intake.holds_up_others(now, patience):
-                    session.drop("doesn't finish its long line")
-            self._drop_slowest()
-            self._drop_largest()
-            self._hub.cut_stuck()
-            if self._sessions or self._keyrings.is_busy:
+            self._sessions.tend(patience)
+            if len(self._relayed):
+                self._relayed.tend(patience)
+            self._pool.tend()
+            if len(self._sessions) or self._pool.clients or self._keyrings.is_busy:
                 self._last_used = now
             elif idle is not None and now - self._last_used > idle or self._is_upgraded():
                 self._end.set()
+
+    async def _confirm(self) -> None:
+        """Has readers know how old their answers may be, whose database others change too."""
+        while self._pool.is_used and isinstance(self._hub.database, Shared):
+            self._pool.published.confirm(None if self._hub.standby is None else self._hub.age)
+            await asyncio.sleep(_BETWEEN_CONFIRMATIONS)
 
     def _is_upgraded(self) -> bool:
         """Whether another version was installed since this one began, and whoever comes next starts that."""
         is_started_again = self._settings.idle is not None or any(
             isinstance(door.listening, Passed) for door in self._doors)
         return is_started_again and _own_file() != self._file
-
-    def _drop_slowest(self) -> None:
-        """Drops the client that has read for longest from the database as it was: its log grows until that is over."""
-        reading = [session for session in self._sessions if session.outbox.pinned_since < float("inf")]
-        if self._log.grown(self._hub.database.log_octets(), bool(reading)) > _LARGEST_LOG:
-            min(reading, key=lambda one: one.outbox.pinned_since).drop("reads the keyring too slowly")
-
-    def _drop_largest(self) -> None:
-        """Of a user whose unread replies take too much of the disk, drops those that have waited for longest."""
-        taken: dict[int, int] = {}
-        spooling = [session for session in self._sessions if session.outbox.spooled]
-        for session in sorted(spooling, key=lambda one: -one.outbox.spooled_since):
-            user = session.actor.uid
-            taken[user] = taken.get(user, 0) + session.outbox.spooled
-            if taken[user] > _MOST_SPOOLED:
-                session.drop("leaves too long a reply unread")
 
     async def _take_no_more(self, acceptor: Acceptor) -> None:
         """Closes the sockets. Who has connected by then is served: first nobody new finds the file, then those that
@@ -196,22 +196,12 @@ class Service:
         await asyncio.sleep(0.05)  # The loop lets in who waits.
         acceptor.close()
 
-    async def _end_sessions(self) -> None:
-        """Has the lines that were taken answered, and ends all connections."""
-        sessions = list(self._sessions)
-        for session in sessions:
-            session.stop(is_at_once=True)
-        if sessions:
-            await asyncio.wait([session.over for session in sessions], timeout=_PATIENCE_AT_THE_END)
-        for session in list(self._sessions):
-            session.outbox.drop()
-        await asyncio.sleep(0)
-
     def _status(self) -> list[tuple[str, object]]:
         pids, loaded = self._hub.pids, self._hub.loaded
         return [("budget", self._hub.budget), ("loaded", "all" if loaded is None else loaded),
-                ("engines", len(pids)), ("memory", sum(map(_resident, [os.getpid(), *pids]))),
-                ("clients", len(self._sessions)), ("process", os.getpid()),
+                ("engines", len(pids)), ("memory", sum(map(_resident, [os.getpid(), *pids, *self._pool.pids]))),
+                ("clients", len(self._sessions) + self._pool.clients), ("readers", self._pool.ready),
+                ("process", os.getpid()),
                 ("database", self._hub.database.name), ("state", self._hub.state),
                 ("age", int(self._hub.age)), ("version", VERSION), *self._status_of_shared()]
 

@@ -3,11 +3,9 @@
 from __future__ import annotations
 
 import argparse
-import asyncio
 import contextlib
-import importlib
 import sys
-from collections.abc import Callable, Coroutine, Sequence
+from collections.abc import Callable, Sequence
 from pathlib import Path
 
 from tukyamid.client.engine_program import find_program
@@ -15,6 +13,7 @@ from tukyamid.keyrings.verifier import find_verifier
 from tukyamid.output_files import Output
 from tukyamid.protocol.refusals import TukyamidError
 
+from . import event_loop
 from .ending import Ending
 from .engines.certificate_directory import Directory
 from .engines.program_run import pieces
@@ -23,13 +22,14 @@ from .keyring_files.keyring_updates import Keyrings
 from .line_intake import Desk
 from .listening_sockets import Listening, passed_sockets
 from .paths_and_locks import default_directory
+from .readers.reader_pool import ReaderPool
+from .readers.reader_words import ReaderWords
+from .serve_words import add_words_of_serve
 from .server import Door, Service, Settings
 from .storage.database import DatabaseFault
 from .storage.database_choice import Chosen
 from .storage.database_threads import Access, say
 from .storage.dumps import import_dump, lines_of
-from .storage.partial_reads import MOST
-from .task_limit import most_engines
 
 ENDED, FAILED = 0, 1
 _DESCRIPTION = """Keeps certificates and verdicts in a database, and answers the lines of Tukyamid's protocol to many
@@ -50,60 +50,13 @@ def parser() -> argparse.ArgumentParser:
         if name in ("serve", "import-dump", "hand-in"):
             one.add_argument("--engine", metavar="PROGRAM", help="the engine's program")
         if name == "serve":
-            _add_words_of_serve(one)
+            add_words_of_serve(one)
         elif name == "hand-in":
             one.add_argument("--discard", action="store_true", help="give these changes up instead")
             one.add_argument("files", metavar="FILE", type=Path, nargs="+", help=FILES[name])
         elif name != "check":
             one.add_argument("file", metavar="FILE", type=Path, help=FILES[name])
     return words
-
-
-def _add_words_of_serve(words: argparse.ArgumentParser) -> None:
-    words.add_argument("--socket", metavar="PATH", type=Path,
-                       help="where to listen; not needed if systemd passes a socket")
-    words.add_argument("--mode", metavar="OCTAL", type=_mode, default=0o600,
-                       help="the socket's permissions; any client that can connect can change verdicts (600)")
-    words.add_argument("--read-only-socket", metavar="PATH", type=Path,
-                       help="listen here too, for clients that may only ask")
-    words.add_argument("--read-only-mode", metavar="OCTAL", type=_mode, default=0o666,
-                       help="the permissions of that socket (666)")
-    words.add_argument("--idle", metavar="SECONDS", type=_seconds, default=None,
-                       help="end when nobody has been connected for this long (never)")
-    words.add_argument("--engines", metavar="N", type=_count, default=most_engines(),
-                       help="run up to N engines, more than one only while there is much to do (as many as processors, "
-                            "if the limit on tasks allows that)")
-    words.add_argument("--budget", metavar="N", type=_count, default=MOST.certificates,
-                       help="the most certificates of one engine; a larger keyring is loaded in parts (65536)")
-    words.add_argument("--views", metavar="N", type=_count, default=256, help="the most views of one client (256)")
-    words.add_argument("--patience", metavar="SECONDS", type=_seconds, default=60.0,
-                       help="disconnect a client that reads none of its replies for this long (60)")
-    words.add_argument("--max-age", metavar="SECONDS", type=_seconds,
-                       help="refuse questions if others' changes may have been missed for longer than this (never)")
-    words.add_argument("--directory", metavar="FOLDER", type=Path, default=None,
-                       help="the certificate directory of load and store (pgp.cert.d in the user's data folder)")
-    words.add_argument("--verifier", metavar="PROGRAM", help="the program wot-verdicts")
-    words.add_argument("--order", metavar="FILE", help="record the order of all clients' lines, for tests")
-
-
-def _mode(text: str) -> int:
-    if not 0 <= (mode := int(text, 8)) <= 0o7777:
-        raise ValueError
-    return mode
-
-
-def _count(text: str) -> int:
-    number = int(text)
-    if number < 1:
-        raise ValueError
-    return number
-
-
-def _seconds(text: str) -> float:
-    seconds = float(text)
-    if not 0 < seconds < float("inf"):
-        raise ValueError
-    return seconds
 
 
 def _program(given: argparse.Namespace) -> list[str]:
@@ -122,16 +75,23 @@ def serve(given: argparse.Namespace) -> int:
         database = stack.enter_context(chosen.served())
         order = stack.enter_context(open(given.order, "ab", buffering=0)) if given.order else None
         settings = Settings(given.patience, given.idle, given.views)
+        pool = ReaderPool(_words_of_readers(given, chosen), say)
 
         async def run() -> None:
-            access = Access(database, order)
+            access = Access(database, order, pool)
             hub = Desk([*_program(given), "run"], given.engines, access, given.budget, given.max_age)
             directory = Directory([*_program(given), "run"], (given.directory or default_directory()).absolute())
             keyrings = Keyrings(hub, _verifier(given))
-            await Service(hub, keyrings, directory, settings, Ending(access.tell)).serve(doors)
+            await Service(hub, keyrings, directory, settings, pool, Ending(access.tell)).serve(doors)
 
-        _run(run)
+        event_loop.run(run)
     return ENDED
+
+
+def _words_of_readers(given: argparse.Namespace, chosen: Chosen) -> ReaderWords:
+    return ReaderWords(readers=given.readers, database=chosen.name, program=_program(given),
+                       engines=max(1, given.engines // max(1, given.readers)), budget=given.budget,
+                       patience=given.patience, max_age=given.max_age if chosen.is_shared else None, order=given.order)
 
 
 def _doors(given: argparse.Namespace, stack: contextlib.ExitStack) -> list[Door]:
@@ -145,17 +105,6 @@ def _doors(given: argparse.Namespace, stack: contextlib.ExitStack) -> list[Door]
     if not doors:
         raise WrongWords("--socket is missing, and systemd passed no socket")
     return doors
-
-
-def _run(main_task: Callable[[], Coroutine[None, None, None]]) -> None:
-    """Runs the loop of uvloop, where that is installed, since it is the quicker one."""
-    try:
-        uvloop = importlib.import_module("uvloop")
-    except ImportError:
-        asyncio.run(main_task())
-        return
-    with asyncio.Runner(loop_factory=uvloop.new_event_loop) as runner:
-        runner.run(main_task())
 
 
 def check(given: argparse.Namespace) -> int:

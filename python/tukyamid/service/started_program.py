@@ -85,8 +85,8 @@ class StartedProgram:
         for transport in self._read:
             transport.close()
 
-    async def begin(self, words: Sequence[str], files: _Files) -> None:
-        thread = threading.Thread(target=self._live, args=(words, files), name="program", daemon=True)
+    async def begin(self, words: Sequence[str], files: _Files, inherited: Sequence[int]) -> None:
+        thread = threading.Thread(target=self._live, args=(words, files, inherited), name="program", daemon=True)
         try:
             thread.start()
         except RuntimeError as error:  # No thread can be started.
@@ -112,11 +112,11 @@ class StartedProgram:
         self._read.append(transport)
         return reader
 
-    def _live(self, words: Sequence[str], files: _Files) -> None:
+    def _live(self, words: Sequence[str], files: _Files, inherited: Sequence[int]) -> None:
         """In its thread: from the start of the program to its end."""
         stdin, stdout, stderr = files.given
         try:
-            process = subprocess.Popen(words, stdin=stdin, stdout=stdout, stderr=stderr)
+            process = subprocess.Popen(words, stdin=stdin, stdout=stdout, stderr=stderr, pass_fds=inherited)
         except Exception as error:
             self._hand_over(self._fail, error)
             return
@@ -151,12 +151,12 @@ class StartedProgram:
 
 
 async def start_program(words: Sequence[str], stdin: _File = PIPE, stdout: _File = PIPE, stderr: _File = None,
-                        limit: int = _LIMIT) -> StartedProgram:
+                        limit: int = _LIMIT, inherited: Sequence[int] = ()) -> StartedProgram:
     """Starts a program; OSError if that isn't possible. PIPE makes a stream here, and the program itself reads or
-    writes any other file. None is what this process has."""
+    writes any other file. None is what this process has. It has the `inherited` descriptors, too."""
     files, program = _Files(stdin, stdout, stderr), StartedProgram()
     try:
-        await program.begin(words, files)
+        await program.begin(words, files, inherited)
         await program.connect(files.ours, limit)
     except BaseException:
         program.kill()

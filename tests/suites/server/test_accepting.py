@@ -49,10 +49,13 @@ class Accepting(unittest.IsolatedAsyncioTestCase):
         self.users[connected.fileno()] = user
         return user
 
+    async def serve(self, connected):
+        await asyncio.get_running_loop().connect_accepted_socket(lambda: Told(self.order), connected)
+
     def accept(self, has_room=lambda user, waiting: True):
         acceptor = accepting.Acceptor(has_room, self.said.append)
         self.addCleanup(acceptor.close)
-        acceptor.listen(self.listening, lambda: Told(self.order))
+        acceptor.listen(self.listening, self.serve)
         return acceptor
 
     def connect(self):
@@ -117,7 +120,7 @@ class Accepting(unittest.IsolatedAsyncioTestCase):
         acceptor = accepting.Acceptor(lambda user, waiting: True, self.said.append)
         self.addCleanup(acceptor.close)
         with mock.patch.object(accepting, "_PAUSE", 0.01):
-            acceptor.listen(listening, lambda: Told(self.order))
+            acceptor.listen(listening, self.serve)
             await self.until(lambda: self.said)
             listening.accept = self.listening.accept
         self.assertEqual(await asyncio.get_running_loop().sock_recv(client, 100), b"here\n")

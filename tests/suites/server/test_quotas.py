@@ -13,8 +13,7 @@ from pathlib import Path
 from outside import PATIENCE, SERVER, Client, Server, needs_engine
 from world import World, fingerprint, packet
 
-MEGABYTE = 1 << 20
-NOBODY = 65534
+MEGABYTE, NOBODY = 1 << 20, 65534
 LOG = 128 * MEGABYTE  # What a slow reader may cost, as docs/SERVICE.md says.
 FULL_CLIENTS = b"refused full clients"
 
@@ -25,6 +24,8 @@ def memory(server):
 
 
 class Shares(unittest.TestCase):
+    serve = Server
+
     def setUp(self):
         self.folder = Path(tempfile.mkdtemp(prefix="tukyamid-quotas-"))
         self.addCleanup(shutil.rmtree, self.folder)
@@ -33,7 +34,7 @@ class Shares(unittest.TestCase):
         self.view = [b"view p time 5000", b"view p root %s 120" % self.world.fprs[0]]
 
     def begin(self, *options, **named):
-        self.server = self.enterContext(Server("--mode", "666", *options, folder=self.folder, **named))
+        self.server = self.enterContext(self.serve("--mode", "666", *options, folder=self.folder, **named))
         self.client = self.enterContext(Client(self.server.path))
         self.client.send(*self.world.lines(), *self.view)
         for _ in range(len(self.world.lines()) + len(self.view)):

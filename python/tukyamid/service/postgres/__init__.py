@@ -5,5 +5,6 @@ hears what other services change. `postgres_connection` finds the primary, and `
 """
 
 from .postgres_database import Postgres
+from .postgres_reading import PostgresReading
 
-__all__ = ["Postgres"]
+__all__ = ["Postgres", "PostgresReading"]

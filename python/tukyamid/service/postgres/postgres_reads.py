@@ -1,15 +1,14 @@
 """Reading PostgreSQL: a copy of the whole at one moment, and what is looked up in it."""
 
 import os
-import tempfile
-from binascii import unhexlify
-from collections.abc import Collection, Iterator
+from collections.abc import Collection
 from time import monotonic
 from typing import TYPE_CHECKING, Any
 
 from ..storage.database import AFTER_ALL, Actor, Binding, DatabaseFault, Figures, LogEntry, Source
 from ..storage.loaded_files import Loaded
 from ..storage.part_search import with_part
+from ..storage.snapshot_in_file import SnapshotInFile
 from ..storage.sqlite_reads import CERTIFIED, HOLDERS
 from ..storage.unlooked import Unlooked, count_unlooked, keys_of_ids, unlooked_after
 from .postgres_connection import Connected, Servers, Wire, faults
@@ -29,14 +28,9 @@ _STANDBY_SECONDS = 30.0
 _PAUSE, _SLOW = 2.0, 1.0  # Seconds.
 
 
-class PostgresSnapshot:
-    """The keyring at one moment, in a file without a name: so it needs no server that lives, and no open transaction,
-    however long it is kept."""
-
+class PostgresSnapshot(SnapshotInFile):
     def __init__(self, statements: Statements, change: int) -> None:
-        self.change = change
-        self._file = tempfile.TemporaryFile(prefix="tukyamid-")
-        self._count = 0
+        super().__init__(change)
         with statements.connection.cursor() as cursor:
             for query in _COPIES:
                 with cursor.copy(f"COPY ({query}) TO STDOUT".encode()) as copy:
@@ -44,24 +38,6 @@ class PostgresSnapshot:
                         self._count += bytes(block).count(b"\n")
                         self._file.write(block)
         self._file.flush()
-
-    def count(self) -> int:
-        return self._count
-
-    def lines(self) -> Iterator[bytes]:
-        with open(f"/proc/self/fd/{self._file.fileno()}", "rb") as file:  # Each reader has a place of its own.
-            for line in file:
-                yield line.removesuffix(b"\n")
-
-    def certificates(self) -> Iterator[bytes]:
-        for line in self.lines():
-            word, _, octets = line.partition(b" ")
-            if word != b"import":
-                return
-            yield unhexlify(octets)
-
-    def close(self) -> None:
-        self._file.close()
 
 
 class PostgresFinder(Connected):

@@ -73,20 +73,19 @@ class Answering:
 
     async def answer(self, session: Session, slot: Slot, line: bytes) -> None:
         """Answers one line."""
-        reply: bytes | Pieces | None
+        session.outbox.answer(slot, await self.reply(session, line))
+
+    async def reply(self, session: Session, line: bytes) -> bytes | Pieces | None:
         try:
             if line.partition(b" ")[0] in MAY_CHANGE:
                 async with self._directory.lock:
-                    reply = await self._of_directory(session, line)
-            else:
-                reply = FAULT if self._would_be_too_old(line) else await self._of_service(session, line)
-                if self._would_be_too_old(line):  # By now.
-                    reply = FAULT
+                    return await self._of_directory(session, line)
+            reply = FAULT if self._would_be_too_old(line) else await self._of_service(session, line)
+            return FAULT if self._would_be_too_old(line) else reply  # By now.
         except DatabaseFault:
-            reply = FAULT
+            return FAULT
         except DirectoryFailed as failed:
-            reply = failed.reply
-        session.outbox.answer(slot, reply)
+            return failed.reply
 
     def _would_be_too_old(self, line: bytes) -> bool:
         return self._hub.is_too_old and line.partition(b" ")[2].partition(b" ")[0] in QUESTIONS_OF_THE_SERVICE

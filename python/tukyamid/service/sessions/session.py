@@ -19,15 +19,13 @@ from .long_replies import dump_of
 from .incoming_lines import Intake
 from .outbox import Outbox, Pieces, Slot
 from .own_changes import OwnChanges
-from .user_shares import Shares
+from .user_shares import Joining
 from .views import Views, is_name
 from .watches import Watches
 
 # Does the lines that the service itself answers, and those of the certificate directory.
 Helper = Callable[["Session", Slot, bytes], Coroutine[None, None, None]]
-_MOST_LINES = 64
-_MOST_OCTETS = 1 << 20
-_UNREAD_OCTETS = 1 << 17
+_MOST_LINES, _MOST_OCTETS, _UNREAD_OCTETS = 64, 1 << 20, 1 << 17
 # All sessions share it, as what was read is taken at once. Few octets: they may be thousands of lines.
 _BUFFER = bytearray(1 << 15)
 
@@ -35,7 +33,7 @@ _BUFFER = bytearray(1 << 15)
 class Session(asyncio.BufferedProtocol):
     """Takes lines and hands them on at once, up to a bound; replies go out in the order of their lines."""
 
-    def __init__(self, number: int, hub: Desk, helper: Helper, rights: Rights, shares: Shares,
+    def __init__(self, number: int, hub: Desk, helper: Helper, rights: Rights, shares: Joining,
                  made: Callable[[Session], None]) -> None:
         """`made` is called once the connection stands."""
         self.number = number
@@ -49,14 +47,13 @@ class Session(asyncio.BufferedProtocol):
         self._shares = shares
         self._views = Views(rights.most_views)
         self._changes = OwnChanges(hub, number, self._begin_lines, self._give_up)
-        self._is_beginning = False
-        self._is_ended = False
+        self._is_beginning = self._is_ended = False
         self._task: asyncio.Task[None] | None = None
 
     def connection_made(self, transport: asyncio.BaseTransport) -> None:
         self._transport = cast(asyncio.Transport, transport)  # uvloop's is one by what it does, not by its class.
         self._transport.set_write_buffer_limits(high=_UNREAD_OCTETS)
-        self.actor = self._changes.actor = actor_of(transport.get_extra_info("socket").fileno())
+        self.actor = self._changes.actor = self._peer()
         self.outbox = Outbox(self._transport, self._begin_lines, self._give_up)
         share = self._shares.join(self.actor.uid)
         if share is None:
@@ -71,6 +68,9 @@ class Session(asyncio.BufferedProtocol):
         self._made(self)
         if not self.rights.admit(self.actor):
             self._give_up(PermissionError(f"user {self.actor.uid} may not use this socket"))
+
+    def _peer(self) -> Actor:
+        return actor_of(self._transport.get_extra_info("socket").fileno())
 
     def get_buffer(self, sizehint: int) -> bytearray:
         return _BUFFER
@@ -199,7 +199,7 @@ class Session(asyncio.BufferedProtocol):
             elif slot.finish is not None and isinstance(reply, bytes):
                 reply = slot.finish(reply, count)
             self.outbox.answer(slot, reply)
-        except Exception as error:  # What calls this has others to answer.
+        except Exception as error:  # Its caller has others to answer.
             self._give_up(error)
 
     def _ask_view(self, slot: Slot, line: bytes) -> None:

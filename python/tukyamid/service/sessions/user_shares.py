@@ -76,13 +76,13 @@ def _memory() -> int:
 class Share:
     """What one user has. Quick questions are under way up to a window, which grows while engines answer at once, and
     shrinks while lines wait for them: so a user's own flood fills no engine's queue. `has_others` says whether other
-    users may connect."""
+    users may connect. A user has this many `parts`, each at another process."""
 
-    def __init__(self, lag: Callable[[], float], has_others: bool) -> None:
+    def __init__(self, lag: Callable[[], float], has_others: bool, parts: int = 1) -> None:
         self.has_others = has_others
         self.clients = 0
         self.pins = {True: 0, False: 0}  # Cursors, and watched views.
-        self.views = Room(_MOST_VIEWS_AND_ROOTS)
+        self.views = Room(_MOST_VIEWS_AND_ROOTS // parts)
         self.long_lines = 0
         self.under_way = [0] * 5
         self.most = [_FIRST_WINDOW, 2.0, 2.0, 1024.0, float("inf")]
@@ -183,11 +183,21 @@ class Share:
         return self.under_way[kind] < self.most[kind]
 
 
-class Shares:
-    """The shares of all users. `lag` says for how many seconds lines have waited for the engines."""
+class Joining(Protocol):
+    """Where a client gets its user's share."""
 
-    def __init__(self, most: Bounds, lag: Callable[[], float]) -> None:
+    def join(self, uid: int) -> Share | None: ...
+
+    def leave(self, share: Share) -> None: ...
+
+
+class Shares:
+    """The shares of all users; each user has this many `parts`, of which one is here. `lag` says for how many seconds
+    lines have waited for the engines."""
+
+    def __init__(self, most: Bounds, lag: Callable[[], float], parts: int = 1) -> None:
         self.has_others = False
+        self._parts = parts
         self._most = most
         self._lag = lag
         self._clients = 0
@@ -200,14 +210,19 @@ class Shares:
 
     def join(self, uid: int) -> Share | None:
         """A user's share, for one more client; None if there are too many."""
-        share = self._shares.get(uid)
-        if share is None:
-            self._shares = {user: one for user, one in self._shares.items() if one.is_used}
-            share = self._shares[uid] = Share(self._lag, self.has_others)
+        share = self.of(uid)
         if self._clients >= self._most.clients or share.clients >= self._most.of_a_user:
             return None
         self._clients += 1
         share.clients += 1
+        return share
+
+    def of(self, uid: int) -> Share:
+        """A user's share, for a client that is counted already."""
+        share = self._shares.get(uid)
+        if share is None:
+            self._shares = {user: one for user, one in self._shares.items() if one.is_used}
+            share = self._shares[uid] = Share(self._lag, self.has_others, self._parts)
         return share
 
     def leave(self, share: Share) -> None:

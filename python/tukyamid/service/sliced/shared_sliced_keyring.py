@@ -156,8 +156,10 @@ class SharedSliced(Sliced):
 
         self._committer.count, lines = await self.read(renew)
         if lines is None:
+            self.access.feed.anew(self._committer.count)
             await self._begin_anew()
             return
+        self.access.feed.made(lines)
         for _, line in lines:
             self.access.note(0, line)
         changes = [*made, *(_change_of(line) for _, line in lines)]

@@ -22,7 +22,7 @@ class Changes:
     def __init__(self, merging: Merging, access: Access, read: Read,
                  committed: Callable[[list[Change]], Awaitable[None]], anew: Callable[[], Awaitable[None]]) -> None:
         self.merging = merging
-        self.committer = Committer(access.database, access.writing, self._settle, self._refused)
+        self.committer = Committer(access.database, access.writing, self._settle, self._refused, access.feed)
         self._tell = access.tell
         self._read = read
         self._committed = committed

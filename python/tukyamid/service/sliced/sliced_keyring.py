@@ -41,7 +41,7 @@ class Sliced:
         self.access = access
         self.budget = budget
         self.watched = Watched(self)
-        self.read = Reader(access, database)
+        self.read = self._opened(access, database)
         self._asker = Asker(Loader(program, budget), self.read)
         self._attempts = Attempts(access.tell, self._is_mended)
         self._changes = Changes(Merging(program, budget, self._attempts, access.tell), access, self.read,
@@ -49,6 +49,9 @@ class Sliced:
         self._errands = Errands(program, budget, self._freeze, self.answer, access.tell)
         self._committer = self._changes.committer
         self._lane = Lane(self._changes.make, self._changes.refuse, access.tell)
+
+    def _opened(self, access: Access, database: HasParts) -> Reader:
+        return Reader(access, database)
 
     @property
     def fault(self) -> str:

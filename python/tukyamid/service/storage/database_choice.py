@@ -13,6 +13,7 @@ from .database import Actor, Database, DatabaseFault
 from .dumps import opened_copy, restore
 from .sqlite_database import Sqlite
 from .sqlite_files import FileLock
+from .sqlite_reading import SqliteReading
 
 _URLS = ("postgresql://", "postgres://")
 
@@ -28,6 +29,10 @@ class Chosen:
     def files(self) -> list[Path]:
         """The database files that no output may replace: this one, and the user's own."""
         return [default_database(), *([self._path] if self._url is None else [])]
+
+    @property
+    def is_shared(self) -> bool:
+        return self._url is not None
 
     def lock(self) -> contextlib.AbstractContextManager[object]:
         """Keeps a file to one service. A shared database needs no lock: who changes it takes turns."""
@@ -45,6 +50,16 @@ class Chosen:
         """Opens it for a service, which remembers what it acknowledges if others change the database too."""
         return self.open() if self._url is None else contextlib.closing(_postgres(self._url, state_folder()))
 
+    def read(self) -> contextlib.closing[Database]:
+        """Opens it for a process that only reads, beside the service that has it locked."""
+        database: Database = SqliteReading(self._path) if self._url is None else _postgres(self._url, is_reader=True)
+        return contextlib.closing(database)
+
+    @property
+    def name(self) -> str:
+        """By which another process opens it."""
+        return self._url or str(self._path)
+
     def restore(self, copy: Path) -> Path | None:
         """Puts a copy that `backup` made into its place. A damaged file is set aside, and its new name given."""
         if self._url is None:
@@ -54,9 +69,9 @@ class Chosen:
         return None
 
 
-def _postgres(url: str, state: Path | None = None) -> Database:
+def _postgres(url: str, state: Path | None = None, is_reader: bool = False) -> Database:
     try:
-        from ..postgres import Postgres
+        from ..postgres import Postgres, PostgresReading
     except ImportError as error:
         raise DatabaseFault(f"PostgreSQL needs the package python3-psycopg: {error}") from None
-    return Postgres(url, state)
+    return PostgresReading(url) if is_reader else Postgres(url, state)

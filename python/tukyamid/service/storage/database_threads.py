@@ -14,6 +14,7 @@ from typing import BinaryIO, Protocol, TypeVar, runtime_checkable
 
 from tukyamid.protocol.spelling import for_people
 
+from .change_feed import Feed, NobodyFollows
 from .database import Database, Finder
 
 _R = TypeVar("_R")
@@ -97,8 +98,9 @@ def _line_of(text: object) -> bytes:
 
 
 class Access:
-    def __init__(self, database: Database, order: BinaryIO | None = None) -> None:
+    def __init__(self, database: Database, order: BinaryIO | None = None, feed: Feed | None = None) -> None:
         self.database = database
+        self.feed = feed or NobodyFollows()
         self.writing = ThreadPoolExecutor(1, "writing")
         self.parts: object = None  # What `read` asks, as whoever calls it says.
         self._finding, self._searching = Lookups(database, "finding"), Lookups(database, "searching")

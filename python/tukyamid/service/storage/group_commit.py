@@ -9,6 +9,7 @@ from concurrent.futures import Executor
 from dataclasses import dataclass
 from typing import TypeVar
 
+from .change_feed import Feed, NobodyFollows
 from .database import Database, DatabaseFault, Snapshot, Uncertain
 from .journal import Change
 from .shared_database import Shared
@@ -56,8 +57,9 @@ class Committer:
     so that this one alone fails, with what stands behind it."""
 
     def __init__(self, database: Database, executor: Executor, released: Callable[[], None],
-                 failed: Callable[[list[Change], str], None]) -> None:
+                 failed: Callable[[list[Change], str], None], feed: Feed | None = None) -> None:
         self.count = 0
+        self._feed = feed or NobodyFollows()
         self.fault = ""
         self._database = database
         self._shared = database if isinstance(database, Shared) else None
@@ -144,6 +146,8 @@ class Committer:
             self._fail(batch, f"an error of the service itself: {error!r}")
 
     def _finish(self, batch: list[Change], numbers: list[int]) -> None:
+        made = [change.told for change in batch if change.is_made]
+        self._feed.made(list(zip(numbers, made)))
         following = iter(numbers)
         for change in batch:
             if change.is_made:

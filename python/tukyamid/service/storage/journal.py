@@ -69,6 +69,11 @@ class Change(Point):
         return self.line is not None and self.reply is not None and self.reply.startswith(b"ok") \
             and not self.reply.endswith(b" new 0\n")
 
+    @property
+    def told(self) -> bytes:
+        """The line by which those who follow the service hear of it."""
+        return self.line or b""
+
     def entry(self) -> database.Change:
         """What it does to the database."""
         assert self.line is not None
@@ -98,6 +103,15 @@ class Verdicts(Change):
                  actor: Actor, done: Done) -> None:
         super().__init__(b"verdicts", 0, set(), actor, (), done)
         self.verdicts, self.looked, self.targets = verdicts, looked, targets
+
+    @property
+    def told(self) -> bytes:
+        return b" ".join([b"verdicts", *(fpr.hex().encode() for fpr in self.targets)])
+
+    @classmethod
+    def heard(cls, line: bytes, done: Done) -> Verdicts:
+        """Of those, by `told`, only on which certificates they are."""
+        return cls((), (), [bytes.fromhex(fpr.decode()) for fpr in line.split(b" ")[1:]], _NOBODY, done)
 
     def entry(self) -> database.Change:
         what = " ".join([f"verdicts {len(self.verdicts)} on", *(fpr.hex() for fpr in self.targets)])
@@ -141,6 +155,10 @@ class Journal:
         change = self.add(line, left, _NOBODY, (), done)
         change.count, change.reply = number, b"ok\n"
         return change
+
+    def behind(self, number: int) -> Point | None:
+        """The point behind the change of this number; None if that isn't among the changes since the snapshot."""
+        return next((change for change in self._changes if change.count == number), None)
 
     def begin_anew(self, snapshot: database.Snapshot) -> Point:
         """Has this snapshot stand for all changes so far, and gives its place."""

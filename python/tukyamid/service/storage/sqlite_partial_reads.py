@@ -20,6 +20,17 @@ class SqliteParts(QueriedParts):
             self._connection.execute("BEGIN")
             self.count()  # The transaction begins to read here.
 
+    def begin(self) -> int:
+        """Reads what is committed now until `end`, and gives the number of the last change of that."""
+        self._connection.execute("BEGIN")
+        (number,) = self._rows("SELECT coalesce(max(number), 0) FROM changes")
+        assert isinstance(number[0], int)
+        return number[0]
+
+    def end(self) -> None:
+        if self._connection.in_transaction:
+            self._connection.execute("ROLLBACK")
+
     def frozen(self) -> "SqliteParts":
         return SqliteParts(self._connect, self._path, is_frozen=True)
 

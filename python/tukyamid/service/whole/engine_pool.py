@@ -6,11 +6,12 @@ import asyncio
 from collections.abc import Callable, Sequence
 from functools import partial
 
-from ..engines.in_flight import NO_ENGINE
+from ..engines.in_flight import NO_ENGINE, ignore
 from ..engines.shared_views import Seats
 from ..engines.supervised_engine import Engine
 from ..engines.watch_places import WatchPlaces
 from ..storage.certificate_rows import brought, exports
+from ..storage.change_feed import Numbered
 from ..storage.database import Actor, Database, Snapshot
 from ..storage.database_threads import Access
 from ..storage.group_commit import FAULT, Barrier, Committer
@@ -37,7 +38,7 @@ class Hub:
         self._owns_access = access is None
         self._program = program
         self._most_engines = most_engines
-        self._committer = Committer(database, self.access.writing, self._release, self._roll_back)
+        self._committer = Committer(database, self.access.writing, self._release, self._roll_back, self.access.feed)
         self._journal: Journal | None = None
         self._is_renewing = False
 
@@ -129,6 +130,18 @@ class Hub:
             engine.send(line, partial(self._changed, change, engine), change)
         if fprs:
             self.engines[0].send(exports(line), partial(self._exported, change), is_inner=True, replies=len(fprs))
+
+    def take_committed(self, lines: Numbered) -> None:
+        """Has all engines take what was committed elsewhere. Nothing is under way in them that isn't committed."""
+        assert self._journal is not None
+        for number, line in lines:
+            self.access.note(0, line)
+            change = self._journal.add_committed(line, set(self.engines), number, ignore)
+            self._committer.count = number
+            for engine in self.engines:
+                engine.send(line, ignore, change)
+        if lines:
+            self._release()
 
     def ask(self, line: bytes, done: Done) -> None:
         """Sends a line that is no view's, and changes nothing, to the engine that has the least to do."""

@@ -6,7 +6,6 @@ import asyncio
 from collections.abc import Awaitable, Callable, Sequence
 from functools import partial
 
-from ..engines.in_flight import ignore
 from ..storage.database import Actor, Snapshot
 from ..storage.database_threads import Access
 from ..storage.group_commit import Barrier
@@ -94,6 +93,7 @@ class SharedHub(Hub):
         if not await self._fits(news):
             for _, line in news.lines or ():
                 self.access.note(0, line)
+            self.access.feed.anew(self._shared.place.number)
             raise Outgrown
         self.take_news(news)
 
@@ -102,19 +102,14 @@ class SharedHub(Hub):
         assert self._journal is not None
         if news.lines is None:
             assert news.snapshot is not None
+            self.access.feed.anew(news.snapshot.change)
             self._committer.count = news.snapshot.change
             point = self._journal.begin_anew(news.snapshot)
             for engine in self.engines:
                 engine.roll_back(point)
             return
-        for number, line in news.lines:
-            self.access.note(0, line)
-            change = self._journal.add_committed(line, set(self.engines), number, ignore)
-            self._committer.count = number
-            for engine in self.engines:
-                engine.send(line, ignore, change)
-        if news.lines:
-            self._release()
+        self.access.feed.made(news.lines)
+        self.take_committed(news.lines)
 
     def _renew(self) -> None:
         self._is_renewing = True

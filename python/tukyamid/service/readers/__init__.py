@@ -1,0 +1,1 @@
+"""Processes that answer questions beside the service: one keyring, one socket, one that writes."""

@@ -1,0 +1,108 @@
+"""Reading parts of a database at one moment after another: each is behind a change whose number is known."""
+
+from __future__ import annotations
+
+from collections.abc import Awaitable, Callable
+from dataclasses import dataclass
+from typing import Generic, Protocol, TypeVar, runtime_checkable
+
+from ..sliced.reader_thread import Reader
+from ..storage.database import DatabaseFault
+from ..storage.database_threads import Access
+from ..storage.partial_reads import HasParts, Parts
+from .published import Published
+
+_R = TypeVar("_R")
+
+
+class Moments(Protocol):
+    """One thread uses it at a time."""
+
+    @property
+    def parts(self) -> Parts:
+        """What is read at the moment that has begun."""
+
+    def begin(self) -> int:
+        """Reads what is committed now from now on, and gives the number of the last change of that."""
+
+    def end(self) -> bool:
+        """Whether the moment is over: what was read isn't held for long where that would cost others something."""
+
+    def frozen(self) -> Parts:
+        """Reads what is read now, whatever comes later."""
+
+    def close(self) -> None: ...
+
+
+@runtime_checkable
+class HasMoments(HasParts, Protocol):
+    def moments(self) -> Moments: ...
+
+
+@dataclass(frozen=True)
+class _Found(Generic[_R]):
+    value: _R
+
+
+class MomentReader(Reader):
+    """Reads at one moment for as long as a turn lasts. `count` is the number of the last change that was taken. If the
+    database has later ones, `catch_up` is called with the number of the last of these before anything is read."""
+
+    def __init__(self, access: Access, database: HasMoments, published: Published, count: Callable[[], int],
+                 catch_up: Callable[[int], Awaitable[None]]) -> None:
+        super().__init__(access, database)
+        self._moments = database.moments()
+        self._published = published
+        self._count = count
+        self._catch_up = catch_up
+        self._has_begun = False
+
+    async def __call__(self, call: Callable[[Parts], _R], /) -> _R:
+        if not self._has_begun:
+            found = await self._access.read(lambda: self._begun(call))
+            if isinstance(found, _Found):
+                return found.value
+            await self._catch_up(found)
+        return await self._access.read(lambda: self._asked(call))
+
+    async def renew(self) -> None:
+        """Reads what is committed now from now on."""
+        await self._catch_up(await self._access.read(self.begin))
+
+    async def frozen(self) -> Parts:
+        await self(lambda parts: None)
+        return await self._access.read(self._frozen)
+
+    def release(self) -> None:
+        """The turn is over."""
+        if self._has_begun:
+            self._has_begun = not self._moments.end()
+
+    def _frozen(self) -> Parts:
+        parts = self._moments.frozen()
+        self._has_begun = not self._moments.end()
+        return parts
+
+    def _begun(self, call: Callable[[Parts], _R]) -> _Found[_R] | int:
+        number = self.begin()
+        return _Found(self._asked(call)) if number == self._count() else number
+
+    def begin(self) -> int:
+        """Begins a moment, in the thread that reads."""
+        published = self._published.number  # Before: what is published is committed.
+        self._has_begun = False
+        number = self._moments.begin()
+        if number < published:
+            raise DatabaseFault("the server lacks changes that were acknowledged")
+        self._has_begun = True
+        return number
+
+    def _asked(self, call: Callable[[Parts], _R]) -> _R:
+        try:
+            return call(self._moments.parts)
+        except DatabaseFault:
+            self._has_begun = False
+            raise
+
+    def close(self) -> None:
+        self._moments.close()
