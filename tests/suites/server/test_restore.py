@@ -73,7 +73,7 @@ class Restoring(InAFolder):
         with closing(Sqlite(self.folder / "new.db")) as database:
             self.assertEqual(script_of(database), before)
         copy.chmod(0o600)
-        copy.write_bytes(octets[:-4096])
+        copy.write_bytes(octets[:len(octets) // 2])  # Its last page may be empty.
         status, said = self.command("restore", "--database", "new.db", "copies/copy")
         self.assertEqual((status, "copies/copy" in said), (1, True), said)
 
