@@ -62,6 +62,10 @@ class Answering:
             self._waiting = self._keyring.index.waiting()
 
     @property
+    def is_connected(self) -> bool:
+        return self._client is not None
+
+    @property
     def client(self) -> Client:
         if self._client is None:
             self._client = connect_read_only(self._socket, PATIENCE)

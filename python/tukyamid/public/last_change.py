@@ -7,7 +7,7 @@ import hashlib
 from typing import NamedTuple
 
 from ..client import aio
-from ..protocol.refusals import Refused, RefusedReadOnly, TukyamidError
+from ..protocol.refusals import Refused, RefusedReadOnly, ServiceEnded, TukyamidError
 from .read_only_service import NOBODYS, MayChange
 
 PATIENCE = 10.0
@@ -52,6 +52,17 @@ class LastChange:
             raise
 
     async def _read(self) -> State:
+        """A connection that was kept may have ended with the service, which then is asked over another one."""
+        is_kept = self._client is not None
+        try:
+            return await self._read_once()
+        except ServiceEnded:
+            if not is_kept:
+                raise
+            self._forget()
+            return await self._read_once()
+
+    async def _read_once(self) -> State:
         if self._client is None:
             self._client = await self._connect()
         changes = [one async for one in await self._client.log(1)]

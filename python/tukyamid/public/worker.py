@@ -10,7 +10,7 @@ import sys
 from typing import Any
 
 from ..command.exit_statuses import NoAnswer, WrongWords, reason_of
-from ..protocol.refusals import TukyamidError
+from ..protocol.refusals import ServiceEnded, TukyamidError
 from .answering import Answering
 from .page_answering import ask_page
 
@@ -36,12 +36,8 @@ def main(socket: str) -> None:
 
 def _reply(answering: Answering, line: bytes) -> tuple[int, dict[str, Any]]:
     """The status and the answer. Nothing that fails says that an amount isn't reached."""
-    call, time, roots, asked, state = json.loads(line)
     try:
-        answering.at(state)
-        page = call.removeprefix("page/")
-        return 200, (ask_page(answering, page, asked) if page != call
-                     else answering.ask(call, time, dict(roots), asked))
+        return 200, _answer(answering, line)
     except (WrongWords, ValueError) as error:
         return 400, _error(2, str(error))
     except NoAnswer as error:
@@ -55,6 +51,25 @@ def _reply(answering: Answering, line: bytes) -> tuple[int, dict[str, Any]]:
     except Exception as error:
         answering.forget()
         return 500, _error(3, reason_of(error))
+
+
+def _answer(answering: Answering, line: bytes) -> dict[str, Any]:
+    """A connection that was kept may have ended with the service, which then is asked over another one."""
+    is_kept = answering.is_connected
+    try:
+        return _answer_once(answering, line)
+    except ServiceEnded:
+        if not is_kept:
+            raise
+        answering.forget()
+        return _answer_once(answering, line)
+
+
+def _answer_once(answering: Answering, line: bytes) -> dict[str, Any]:
+    call, time, roots, asked, state = json.loads(line)
+    answering.at(state)
+    page = call.removeprefix("page/")
+    return ask_page(answering, page, asked) if page != call else answering.ask(call, time, dict(roots), asked)
 
 
 def _error(status: int, reason: str) -> dict[str, Any]:

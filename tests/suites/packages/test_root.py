@@ -171,10 +171,14 @@ class FreshRoot(unittest.TestCase):
         return {unit: [word for word, named in heard if named == unit] for unit in UNITS}
 
     def test_an_upgrade_restarts_what_runs(self):
-        """Nothing is stopped without being started again."""
+        """Nothing is stopped without being started again. Sockets aren't stopped at all: systemd doesn't start one whose
+        service runs already, nor what needs it."""
         self.assert_ended("upgrade")
         for unit, words in self.actions("upgraded").items():
-            self.assertEqual(words[-1:], ["restart"], f"{unit}: {self.said('upgraded')}")
+            self.assertEqual(words[-1:], ["start" if unit.endswith(".socket") else "restart"],
+                             f"{unit}: {self.said('upgraded')}")
+            if unit.endswith(".socket"):
+                self.assertEqual(set(words), {"start"}, f"{unit}: {self.said('upgraded')}")
 
     def test_a_removal_stops_what_runs(self):
         for unit, words in self.actions("systemctl").items():

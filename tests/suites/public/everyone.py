@@ -47,15 +47,23 @@ class Service:
                                              ("DATA_HOME", "STATE_HOME", "CACHE_HOME", "RUNTIME_DIR")},
                             "TUKYAMID_VERIFIER": str(verifier), "GNUPGHOME": str(self.own / "gnupg")}
         (self.own / "runtime_dir").mkdir(mode=0o700)
+        self._begin()
+        with self.client() as client:
+            for file in files:
+                client.add_keyring(file)
+
+    def _begin(self):
         words = [SERVER, "serve", "--database", self.own / "keyring.db", "--socket", self.changes,
                  "--read-only-socket", self.questions]
         self.process = subprocess.Popen([str(word) for word in words], env=self.environment,
                                         stdin=subprocess.DEVNULL, stderr=subprocess.DEVNULL)
         wait_for(self.changes)
         wait_for(self.questions)
-        with self.client() as client:
-            for file in files:
-                client.add_keyring(file)
+
+    def restart(self):
+        """Another process with the same database and sockets, as after an upgrade."""
+        self._end()
+        self._begin()
 
     def client(self):
         """A connection that may change the keyring."""
@@ -65,9 +73,12 @@ class Service:
         with self.client() as client:
             return next(iter(client.log(1))).number
 
-    def close(self):
+    def _end(self):
         self.process.send_signal(signal.SIGTERM)
         self.process.wait(PATIENCE)
+
+    def close(self):
+        self._end()
         self._folder.cleanup()
 
 
