@@ -215,12 +215,7 @@ class _WhyUnused:
             return "counts: the key's own, which only extends paths that lead to this key"
         if self._reached:
             return "counts: the wanted amount was reached without it"
-        if issuer is not None and (issuer in self._view.roots or self._is_known(issuer)):
+        if issuer is not None and (issuer in self._view.roots or self._view.reaches(issuer)):
             return ("counts, but its issuer isn't trusted this far: a depth, a scope or what is left of an "
                     "amount doesn't allow it")
         return "counts, but no path from a root goes through its issuer"
-
-    def _is_known(self, issuer: str) -> bool:
-        """Whether any user ID of the key is reached at all."""
-        certificate = self._view.keyring.certificate(issuer)
-        return certificate is not None and any(self._view.ask(issuer, 1, uid).amount for uid in certificate.user_ids)

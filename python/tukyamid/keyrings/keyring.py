@@ -202,6 +202,21 @@ class View:
         self.name = name
         self.time = time
         self.roots = roots
+        self._reached: dict[str, bool] | None = None
+
+    def keep_reached(self) -> None:
+        """From now on each key is asked about once by `reaches`, for whoever knows when the keyring changes."""
+        self._reached = {}
+
+    def reaches(self, fpr: str) -> bool:
+        """Whether any user ID of the key is reached at all."""
+        if self._reached is not None and fpr in self._reached:
+            return self._reached[fpr]
+        certificate = self.keyring.certificate(fpr)
+        found = certificate is not None and any(self.ask(fpr, 1, uid).amount for uid in certificate.user_ids)
+        if self._reached is not None:
+            self._reached[fpr] = found
+        return found
 
     def ask(self, fpr: str, wanted: int, user_id: bytes | str) -> Answer:
         """How confident one can be that the user ID belongs to the key, up to the wanted amount."""

@@ -95,6 +95,7 @@ class Answering:
             if len(self._views) == 8:
                 self._views.clear()
             self._views[of] = self.keyring.view(time, roots, f"public{len(self._views)}")
+            self._views[of].keep_reached()
         return self._views[of]
 
     def ask(self, call: str, time: int, roots: dict[str, int], asked: Mapping[str, Any]) -> dict[str, Any]:

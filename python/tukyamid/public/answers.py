@@ -70,6 +70,13 @@ class Answers:
             self._octets -= len(self._kept.popitem(last=False)[1])
         return Answer(200, reply.body, tag)
 
+    async def close(self) -> None:
+        """Gives up what is under way."""
+        tasks = [*self._under_way.values()]
+        for task in tasks:
+            task.cancel()
+        await asyncio.gather(*tasks, return_exceptions=True)
+
     def _begin(self, state: State) -> None:
         """Forgets the answers of another state."""
         if state.token != self._token:

@@ -113,8 +113,9 @@ async def _serve(given: Words) -> None:
         last, workers = LastChange(given.socket), Workers(given.socket, given.workers, given.seconds)
         stack.push_async_callback(last.close)
         stack.push_async_callback(workers.close)
-        parts = Parts(last, workers, Answers(workers, last), Metrics(), sets, origins,
-                      read_public_files())
+        answers = Answers(workers, last)
+        stack.push_async_callback(answers.close)
+        parts = Parts(last, workers, answers, Metrics(), sets, origins, read_public_files())
         _take_many(given.connections)
         burst = max(1.0, 5 * given.rate)
         server = Server(parts, Bounds(given.seconds, given.rate, burst, given.connections, fresh=given.fresh))

@@ -4,6 +4,7 @@ import atexit
 import contextlib
 import functools
 import http.client
+import importlib.util
 import json
 import os
 import signal
@@ -21,6 +22,8 @@ from page import DECEMBER, PATIENCE, hostile
 from tukyamid.client import connect
 
 SERVER = COMMAND.with_name("tukyamid-server")
+has_prometheus = importlib.util.find_spec("prometheus_client") is not None
+needs_prometheus = unittest.skipUnless(has_prometheus, "python3-prometheus-client isn't installed")
 
 
 class UnixConnection(http.client.HTTPConnection):

@@ -1,20 +1,15 @@
 """Where the server listens: a Unix socket, and the metrics at an address of their own."""
 
 import asyncio
-import importlib.util
 import signal
 import stat
-import unittest
 
-from everyone import PATIENCE, Asking, Everyone, Public
+from everyone import PATIENCE, Asking, Everyone, Public, needs_prometheus
 from friends import PEOPLE
 from inside import inside, metrics_of, run
 from outside import COMMAND
 from outside import run as command
 from page import needs_page
-
-has_prometheus = importlib.util.find_spec("prometheus_client") is not None
-needs_prometheus = unittest.skipUnless(has_prometheus, "python3-prometheus-client isn't installed")
 
 
 def read(octets):
