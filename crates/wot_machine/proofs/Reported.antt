@@ -1,5 +1,5 @@
 -- Watch lines that are reported after a line: what is appended, and the edges that are made for them.
-use Rattle.std.proofs.Common.{◌≡◌, inr, ℕ, true, List, [], Result, refl, sym, subst}
+use Rattle.std.proofs.Common.{◌≡◌, ◌≤◌, ◌+◌, inr, ℕ, true, List, [], Result, refl, sym, subst}
 use Rattle.std.specs.Prelude.{is_ok}
 use Rattle.std.proofs.lemmas.List.{append-nil}
 use Rattle.wot_cache.specs.State.{Engine}
@@ -8,6 +8,7 @@ use Rattle.wot_machine.specs.Stepped.{TellsBehind}
 use Rattle.wot_plain.specs.Made.{TellingMakes, WatchesMake}
 use Rattle.wot_plain.specs.Session.{Session}
 use Rattle.wot_plain.specs.Watching.{AreLines}
+use Rattle.wot_watch_commands.specs.Stale.{stale_in}
 use Rattle.wot_watch_commands.proofs.WatchEdges.{watches_as}
 
 -- if no watch has a line, nothing is reported
@@ -30,3 +31,11 @@ telling_made r s less old mid new last same m e n =
     (subst (λ (x : Engine). WatchesMake r old.watches old.engine x old.made last.made) (sym e)
     (subst (λ (x : ℕ). WatchesMake r old.watches old.engine new.engine old.made x) (sym n)
     (subst (λ (x : Machine). WatchesMake r x.watches x.engine new.engine x.made new.made) same m))))
+
+-- reporting them makes no more than asking did
+pub telling_once : (old mid new last : Machine) → mid ≡ old
+    → new.made ≤ mid.made + stale_in mid.engine mid.watches → last.made ≡ new.made
+    → last.made ≤ old.made + stale_in old.engine old.watches
+telling_once old mid new last same once n =
+    subst (λ (x : ℕ). x ≤ old.made + stale_in old.engine old.watches) (sym n)
+    (subst (λ (m : Machine). new.made ≤ m.made + stale_in m.engine m.watches) same once)

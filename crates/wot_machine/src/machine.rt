@@ -28,6 +28,7 @@ ghost use Rattle.wot_plain.specs.Pacing.{settled};
 ghost use Rattle.wot_plain.specs.Fresh.{IsDump, IsMadeAnew};
 ghost use Rattle.wot_plain.specs.Made.{LineMakes, TellingMakes, WatchesMake};
 ghost use Rattle.wot_plain.specs.Watching.{AreLines, IsWatchLine, told_all};
+ghost use Rattle.wot_watch_commands.specs.Stale.{stale_in};
 
 use crate::counts::{Counts, kept_on};
 use crate::dispatch::Parts;
@@ -240,6 +241,8 @@ impl Machine {
         // Nothing is made if the amounts are known. Otherwise each watch makes what a question from its view makes.
         ensures makes { TellingMakes result self.old.watches self.old.engine self.new.engine
             self.old.made self.new.made }
+        // Also after `Memory`, the signatures of a stale certificate count once for each view that a watch asks.
+        ensures once { self.new.made ≤ self.old.made + stale_in self.old.engine self.old.watches }
         ensures stays { StaysButMarks self.old.engine self.new.engine }
         ensures never_less { self.old.made ≤ self.new.made }
     {
@@ -267,6 +270,7 @@ impl Machine {
         ensures each { IfOk result (λ lines. AllByRecursion IsWatchLine lines.items) }
         ensures makes { WatchesMake result self.old.watches self.old.engine self.new.engine
             self.old.made self.new.made }
+        ensures once { self.new.made ≤ self.old.made + stale_in self.old.engine self.old.watches }
         ensures stays { StaysButMarks self.old.engine self.new.engine }
         ensures cursors { self.new.cursors ≡ self.old.cursors }
         ensures watches { self.new.watches ≡ self.old.watches }

@@ -1,2 +1,3 @@
 pub mod WatchEdges
+mod WatchesOnce
 pub mod WatchesSettled

@@ -1,8 +1,9 @@
 //! The `watch` commands, and the watch lines after each line. A watch's question is asked again only if what its answer
 //! depends on may have changed: `wot_cache`'s `Basis` says so. Watches are kept by wot_watch.
-ghost use Rattle.std.specs.Prelude.{◌≡◌, ◌≤◌, [], None, true, IfOk, IfSome, OnErr, is_ok};
+ghost use Rattle.std.specs.Prelude.{◌≡◌, ◌≤◌, ◌+◌, [], None, true, IfOk, IfSome, OnErr, is_ok};
 ghost use Rattle.std.specs.List.{AllByRecursion};
 ghost use Rattle.wot_script.specs.Replies.{is_short};
+ghost use Rattle.wot_keyring_spec.specs.Kept.{AreSortedByFpr};
 ghost use Rattle.wot_cache.specs.Basis.{HasGrown, IsPresent};
 ghost use Rattle.wot_cache.specs.Marks.{IsRefreshed};
 ghost use Rattle.wot_cache.specs.State.{StaysButMarks, state_of};
@@ -11,6 +12,7 @@ ghost use Rattle.wot_plain.specs.Classes.{IsWatched};
 ghost use Rattle.wot_plain.specs.Made.{WatchMakes, WatchMakesMarks, WatchesMake};
 ghost use Rattle.wot_watch_commands.specs.Asked.{AmountsTo, BeginsFor, OpensFor, RestsOn};
 ghost use Rattle.wot_watch_commands.specs.Settled.{AllSettled, AreOpen, AreSettled, IsSettled};
+ghost use Rattle.wot_watch_commands.specs.Stale.{stale_in};
 ghost use Rattle.wot_plain.specs.Watching.{AreLines, IsLine, IsWatchLine};
 ghost use Rattle.wot_plain.specs.Watching.{SetsOver, SetsWatch, told_all, told_by};
 ghost use Rattle.wot_plain.specs.Session.{Session, watched};
@@ -129,11 +131,14 @@ pub fn watch_lines(
     ensures lines { IfOk result (λ lines. AreLines (state_of engine.old) watches.now lines.items) }
     ensures each { IfOk result (λ lines. AllByRecursion IsWatchLine lines.items) }
     ensures makes { WatchesMake result watches.now engine.old engine.new steps.old.made steps.new.made }
+    // Whichever watch has no answer, the signatures of a stale certificate count once for each view.
+    ensures once { steps.new.made ≤ steps.old.made + stale_in engine.old watches.now }
     ensures stays { StaysButMarks engine.old engine.new }
     ensures never_less { steps.old.made ≤ steps.new.made }
 {
     kept_on_is_order();
     rests_on();
+    ordered(engine);
     let mut lines = Vec::new(alloc);
     let mut rest = watches.iter();
     'rest: while let Some((name, watch)) = rest.next() {
@@ -142,6 +147,13 @@ pub fn watch_lines(
         }
     }
     Ok(lines)
+}
+
+/// A law: the certificates that an engine keeps are sorted, so each is kept once.
+fn ordered(engine: &Engine)
+    ensures sorted { AreSortedByFpr engine.now.keyring.certs }
+{
+    let _ = engine.keyring().len();
 }
 
 /// The line of a watch; None if its amount is the last one reported.

@@ -1,12 +1,15 @@
 use Rattle.std.proofs.Common.{None, Some, List, arith, refl, subst, sym, ◌∷◌, ◌∙◌}
 use Rattle.std.specs.List.{AllByRecursion}
 use Rattle.wot_script.specs.declared.reply.Reply.{Reply}
+use Rattle.wot_keyring_spec.specs.Kept.{AreSortedByFpr}
+use Rattle.wot_keyring_spec.specs.Keyring.{Keyring}
 use Rattle.wot_cache.specs.Basis.{Basis}
 use Rattle.wot_cache.specs.State.{State, state_of}
 use Rattle.wot_watch.specs.Watches.{Watch, Watches}
 use Rattle.wot_watch_commands.specs.Settled.{IsSettled}
 use Rattle.wot_plain.specs.Watching.{IsLine, IsWatchLine}
 use Rattle.wot_watch_commands.proofs.WatchEdges.{MakesSoFar, never_ok, so_far_done, so_far_failed, so_far_more}
+use Rattle.wot_watch_commands.proofs.WatchesOnce.{CountsSoFar, counts_all, counts_last, counts_more}
 use Rattle.wot_plain.proofs.EdgesMadeByLine.{same_state}
 use Rattle.wot_watch_commands.proofs.WatchesSettled.{SettlesSoFar, all_later, present_grown, settled_before, settles_all}
 use Rattle.wot_watch_commands.proofs.WatchesSettled.{settles_not, settles_still, stays_back}
@@ -49,6 +52,11 @@ rest-preserved-in-Continue-branch-3 c =
           (subst (λ (ws : Watches). MakesSoFar c.args.engine.now c.args.steps.now.made all ws c.rest.engine
           c.rest.steps.made) c.in-Some.ensures.steps kept.8)
           c.in_ok-line.ensures.makes,
+      counts_more c.args.engine.now c.args.steps.now.made all _ c.next.new.self c.in-Some.name.now c.in-Some.watch.now
+          c.rest.engine c.watch_line.new.engine c.rest.steps.made c.watch_line.new.steps.made c.in_ok-line.ensures.makes
+          (subst (λ (ws : Watches). CountsSoFar c.args.engine.now c.args.steps.now.made all ws c.rest.engine
+          c.rest.steps.made) c.in-Some.ensures.steps kept.9) refl
+          (subst (λ (k : Keyring). AreSortedByFpr k.certs) (sym kept.4.keyring) c.ordered.ensures.sorted),
     )
 
 pub rest-preserved : goal.rest-preserved
@@ -91,6 +99,11 @@ rest-preserved c =
           (subst (λ (ws : Watches). MakesSoFar engine c.args.steps.now.made all ws c.rest.engine c.rest.steps.made)
           c.in-Some.ensures.steps kept.8)
           c.in_ok-line.ensures.makes,
+      counts_more c.args.engine.now c.args.steps.now.made all _ c.next.new.self c.in-Some.name.now c.in-Some.watch.now
+          c.rest.engine c.watch_line.new.engine c.rest.steps.made c.watch_line.new.steps.made c.in_ok-line.ensures.makes
+          (subst (λ (ws : Watches). CountsSoFar c.args.engine.now c.args.steps.now.made all ws c.rest.engine
+          c.rest.steps.made) c.in-Some.ensures.steps kept.9) refl
+          (subst (λ (k : Keyring). AreSortedByFpr k.certs) (sym kept.4.keyring) c.ordered.ensures.sorted),
     )
 
 pub returns-clause-settled : goal.returns-clause-settled
@@ -109,6 +122,11 @@ pub returns-clause-makes : goal.returns-clause-makes
 returns-clause-makes c =
     so_far_done c.args.engine.now c.args.steps.now.made c.args.watches.now c.rest.engine c.rest.steps.made c.rest.rest _
     c.in_default.ensures.steps.0 c.rest.invariant.8
+
+pub returns-clause-once : goal.returns-clause-once
+returns-clause-once c =
+    counts_all c.args.engine.now c.args.steps.now.made c.args.watches.now c.rest.rest c.rest.engine c.rest.steps.made
+    c.rest.invariant.9
 
 -- ---- out of memory
 
@@ -131,3 +149,19 @@ returns-in_err-push-clause-makes c =
     (subst (λ (ws : Watches). MakesSoFar c.args.engine.now c.args.steps.now.made c.args.watches.now ws c.rest.engine
     c.rest.steps.made) c.in-Some.ensures.steps c.rest.invariant.8)
     c.watch_line.ensures.makes
+
+pub returns-in_err-line-clause-once : goal.returns-in_err-line-clause-once
+returns-in_err-line-clause-once c =
+    counts_last c.args.engine.now c.args.steps.now.made c.args.watches.now _ c.next.new.self c.in-Some.name.now
+    c.in-Some.watch.now c.rest.engine c.watch_line.new.engine c.rest.steps.made c.watch_line.new.steps.made
+    c.watch_line.ensures.makes
+    (subst (λ (ws : Watches). CountsSoFar c.args.engine.now c.args.steps.now.made c.args.watches.now ws c.rest.engine
+    c.rest.steps.made) c.in-Some.ensures.steps c.rest.invariant.9)
+
+pub returns-in_err-push-clause-once : goal.returns-in_err-push-clause-once
+returns-in_err-push-clause-once c =
+    counts_last c.args.engine.now c.args.steps.now.made c.args.watches.now _ c.next.new.self c.in-Some.name.now
+    c.in-Some.watch.now c.rest.engine c.watch_line.new.engine c.rest.steps.made c.watch_line.new.steps.made
+    c.watch_line.ensures.makes
+    (subst (λ (ws : Watches). CountsSoFar c.args.engine.now c.args.steps.now.made c.args.watches.now ws c.rest.engine
+    c.rest.steps.made) c.in-Some.ensures.steps c.rest.invariant.9)

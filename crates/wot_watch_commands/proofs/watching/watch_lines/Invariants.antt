@@ -4,6 +4,7 @@ use Rattle.wot_cache.specs.Basis.{IsPresent}
 use Rattle.wot_cache.specs.State.{StaysButMarks, state_of}
 use Rattle.wot_plain.specs.Watching.{IsWatchLine}
 use Rattle.wot_watch_commands.proofs.WatchEdges.{MakesSoFar}
+use Rattle.wot_watch_commands.proofs.WatchesOnce.{CountsSoFar}
 use Rattle.wot_watch_commands.proofs.WatchesSettled.{SettlesSoFar}
 use Rattle.wot_plain.proofs.Watched.{AreSoFar}
 use Rattle.wot_watch_commands.proofs.watching.watch_lines.Given as goal
@@ -19,3 +20,4 @@ invariant-rest l =
     × IsPresent l.fn.engine l.basis
     × SettlesSoFar l.fn.engine l.basis l.fn.watches l.rest l.lines.items
     × MakesSoFar l.fn.engine l.fn.steps.made l.fn.watches l.rest l.engine l.steps.made
+    × CountsSoFar l.fn.engine l.fn.steps.made l.fn.watches l.rest l.engine l.steps.made

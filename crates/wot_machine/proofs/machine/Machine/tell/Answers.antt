@@ -1,4 +1,4 @@
-use Rattle.std.proofs.Common.{Result, Ok, inl, ap, refl, subst, sym, ◌∙◌}
+use Rattle.std.proofs.Common.{Result, Ok, inl, ap, refl, subst, sym, ◌∙◌, arith}
 use Rattle.wot_types.specs.declared.memory.Memory.{Memory}
 use Rattle.wot_keyring_spec.specs.Keyring.{Keyring}
 use Rattle.wot_cache.specs.State.{Engine, StaysButMarks}
@@ -6,7 +6,7 @@ use Rattle.wot_machine.specs.Machine.{Machine, kept}
 use Rattle.wot_machine.specs.Stepped.{TellsBehind}
 use Rattle.wot_plain.specs.Watching.{told_all}
 use Rattle.wot_watch_commands.proofs.WatchEdges.{never_ok}
-use Rattle.wot_machine.proofs.Reported.{telling_made}
+use Rattle.wot_machine.proofs.Reported.{telling_made, telling_once}
 use Rattle.wot_plain.proofs.EdgesMadeByLine.{same_state}
 use Rattle.wot_machine.proofs.CommandsInLines.{tells_behind}
 use Rattle.wot_machine.proofs.Reported.{tells_nothing}
@@ -78,3 +78,27 @@ returns-in_err-extend_from_slice-clause-makes c =
     c.from_residual-in_err-extend_from_slice.ensures.1 ok)) c.args.self.now
     c.is_settled.new.self c.watch_lines.new.self c.watch_lines.new.self c.is_settled.ensures.same
     c.watch_lines.ensures.makes refl refl
+
+pub returns-clause-once : goal.returns-clause-once
+returns-clause-once c =
+    telling_once c.args.self.now c.is_settled.new.self c.watch_lines.new.self c.note_reported.new.self
+    c.is_settled.ensures.same c.in_ok-lines.ensures.once c.note_reported.ensures.made
+
+pub returns-then-is_settled-clause-once : goal.returns-then-is_settled-clause-once
+returns-then-is_settled-clause-once c =
+    let same = ap (λ (m : Machine). m.made) c.is_settled.ensures.same in omega (arith, same)
+
+pub returns-in_err-lines-clause-once : goal.returns-in_err-lines-clause-once
+returns-in_err-lines-clause-once c =
+    telling_once c.args.self.now c.is_settled.new.self c.watch_lines.new.self c.watch_lines.new.self
+    c.is_settled.ensures.same c.watch_lines.ensures.once refl
+
+pub returns-in_err-text-clause-once : goal.returns-in_err-text-clause-once
+returns-in_err-text-clause-once c =
+    telling_once c.args.self.now c.is_settled.new.self c.watch_lines.new.self c.watch_lines.new.self
+    c.is_settled.ensures.same c.watch_lines.ensures.once refl
+
+pub returns-in_err-extend_from_slice-clause-once : goal.returns-in_err-extend_from_slice-clause-once
+returns-in_err-extend_from_slice-clause-once c =
+    telling_once c.args.self.now c.is_settled.new.self c.watch_lines.new.self c.watch_lines.new.self
+    c.is_settled.ensures.same c.watch_lines.ensures.once refl
