@@ -171,8 +171,8 @@ class FreshRoot(unittest.TestCase):
         return {unit: [word for word, named in heard if named == unit] for unit in UNITS}
 
     def test_an_upgrade_restarts_what_runs(self):
-        """Nothing is stopped without being started again. Sockets aren't stopped at all: systemd doesn't start one whose
-        service runs already, nor what needs it."""
+        """Nothing is stopped without being started again. Sockets aren't stopped at all: as long as its service
+        runs, systemd starts neither a socket nor what needs it."""
         self.assert_ended("upgrade")
         for unit, words in self.actions("upgraded").items():
             self.assertEqual(words[-1:], ["start" if unit.endswith(".socket") else "restart"],
