@@ -51,6 +51,11 @@ impl Hasher {
     }
 }
 
+/// Whether Sequoia has a hash algorithm.
+pub fn is_of_library(algorithm: u8) -> bool {
+    HashAlgorithm::from(algorithm).is_supported()
+}
+
 /// Whether the salt has the size that goes with the hash algorithm; version 4 has none.
 pub fn has_right_salt(signature: &Signature) -> bool {
     signature.version != 6 || salt_size(signature.hash_algorithm) == Some(signature.salt.len())

@@ -1,5 +1,6 @@
-//! Signatures on data that this program verifies by itself, since the library can't: those of version 6, and those by
-//! keys of RFC 9580's new algorithms or of a curve that the library hasn't, or by a subkey of such a key.
+//! Signatures on data that this program verifies by itself, since the library can't: those of version 6, those with a
+//! hash algorithm that the library hasn't, and those by keys of RFC 9580's new algorithms or of a curve that it hasn't, or
+//! by a subkey of such a key.
 
 use std::collections::HashMap;
 
@@ -8,7 +9,7 @@ use crate::digesting::Digesting;
 use crate::facts::{Facts, Unfit};
 use crate::finding::{Finding, Word};
 use crate::fingerprint::Fingerprint;
-use crate::hasher::has_right_salt;
+use crate::hasher::{has_right_salt, is_of_library};
 use crate::holders::{Holders, Named};
 use crate::keys::{self, verifying_key, VerifyingKey, ED25519, ED448};
 use crate::signature::{kind, Signature};
@@ -54,7 +55,8 @@ impl<'h> Judge<'h> {
         Judge { holders, time, bound: HashMap::new(), waiting: 0 }
     }
 
-    /// Whether the library can't verify a signature, by its version, its algorithm or a key that it names.
+    /// Whether the library can't verify a signature, by its version, its algorithms or a key that it names. Of a hash
+    /// algorithm that it hasn't it makes no error: it panics.
     pub fn is_mine(holders: &Holders, body: &[u8]) -> bool {
         let signature = match Signature::read(body) {
             Some(signature) => signature,
@@ -63,6 +65,7 @@ impl<'h> Judge<'h> {
         let is_foreign = |key: &[u8]| key[0] == 6 || verifying_key(key).map_or(false, |key| !key.is_of_library());
         signature.version == 6
             || matches!(signature.key_algorithm, ED25519 | ED448)
+            || !is_of_library(signature.hash_algorithm)
             || holders
                 .named(&signature.issuers())
                 .iter()
