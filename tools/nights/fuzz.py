@@ -1,4 +1,5 @@
-"""Mutations of what strangers write, and of configurations: their readers raise nothing but their refusals."""
+"""Mutations of what strangers write, and of configurations: readers raise nothing but their refusals, and the verifier
+ends by itself and says something of each."""
 
 from .night import FAILED, PASSED, Night, Part, last_line
 
@@ -8,4 +9,11 @@ def fuzz(night: Night) -> Part:
     seed, count = night.drawn("fuzz").randrange(10**9), night.size(1_000_000, 20_000)
     words = [str(night.root / "tests/suites/readers/fuzz"), "--seed", str(seed), "--count", str(count)]
     status, output = night.run("fuzz", words)
-    return Part("fuzz", PASSED if status == 0 else FAILED, last_line(output), output.splitlines()[:-1])
+    if status:
+        return Part("fuzz", FAILED, last_line(output), output.splitlines()[:-1])
+    mutations = night.size(40_000, 300)
+    words = ["env", f"WOT_MUTATIONS={mutations}", f"WOT_SEED={seed}",
+             str(night.root / "tests/suites/verify/run"), "test_mutated"]
+    status, verified = night.run("fuzz-verifier", words)
+    said = f"{last_line(output)}; the verifier over {mutations} of each kind, {last_line(verified)}"
+    return Part("fuzz", PASSED if status == 0 else FAILED, said, verified.splitlines()[-40:-1] if status else [])

@@ -1,6 +1,6 @@
 //! Signatures on data that this program verifies by itself, since the library can't: those of version 6, those with a
-//! hash algorithm that the library hasn't, and those by keys of RFC 9580's new algorithms or of a curve that it hasn't, or
-//! by a subkey of such a key.
+//! hash algorithm that the library hasn't, and those by keys of RFC 9580's new algorithms or of a curve that it hasn't,
+//! or by a subkey of such a key.
 
 use std::collections::HashMap;
 
