@@ -93,8 +93,12 @@ class Client:
         self.socket.sendall(b"".join(line + b"\n" for line in lines))
 
     def tell(self, line):
-        """Sends a line and gives the first line of its reply; what follows is passed over."""
+        """Sends a line and gives the first line of its reply."""
         self.send(line)
+        return self.read_reply()
+
+    def read_reply(self):
+        """The first line of the next reply; what follows is passed over."""
         first = self.read_line()
         words = first.split(b" ")
         if words[0] in (b"keys", b"dump", b"list", b"pending", b"explain"):

@@ -105,7 +105,7 @@ class Seen(unittest.TestCase):
         for client in clients:
             client.send(self.question)
         for client in clients:
-            self.assertEqual(self.first_of(client).split(b" ")[1] != b"0", bool(self.done % 2))
+            self.assertEqual(client.read_reply().split(b" ")[1] != b"0", bool(self.done % 2))
 
     def test_a_change_behind_a_long_one(self):
         """A long line takes a while on its way from process to process; the replies don't wait for that."""
@@ -131,21 +131,11 @@ class Seen(unittest.TestCase):
             good, bad = (b"verdict %s %s" % (self.number, said) for said in (b"good " + self.root, b"bad"))
             for _ in range(100):
                 client.send(self.question, good, self.question, bad, self.question)
-                replies = [self.first_of(client) for _ in range(5)]
+                replies = [client.read_reply() for _ in range(5)]
                 self.assertEqual([reply.split(b" ")[:2] for reply in (replies[0], replies[4])],
                                  [[b"amount", b"0"]] * 2)
                 self.assertEqual([replies[1], replies[3]], [b"ok", b"ok"])
                 self.assertNotEqual(replies[2].split(b" ")[:2], [b"amount", b"0"])
-
-    @staticmethod
-    def first_of(client):
-        first = client.read_line()
-        words = first.split(b" ")
-        if words[0] == b"amount":
-            for _ in range(int(words[3])):
-                for _ in range(int(client.read_line().split(b" ")[3])):
-                    client.read_line()
-        return first
 
     def test_what_was_looked_up_is_seen_by_later_lines(self):
         """A lookup reads the database, which has a change before anybody has its reply."""
