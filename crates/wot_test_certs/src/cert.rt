@@ -66,6 +66,7 @@ fn edges_made(rt: &impl Abort, alloc: Global, cert: &Cert) -> u64 {
     let mut verdicts = Verdicts::new(alloc);
     for uid in cert.user_ids() {
         for sig in uid.sigs() {
+            assert!(rt; verdicts.len() < 1000);
             expect_that(rt, verdicts.set(sig.number(), Verdict::Good(R)).is_ok());
         }
     }

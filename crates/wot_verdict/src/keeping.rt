@@ -3,7 +3,6 @@
 //! It uses `wot_slots`, `noted` and `specs/Kept.antt`. `verdicts` calls it. A change of one of the two
 //! leaves the other alone.
 ghost use Rattle.std.specs.Prelude.{◌≡◌, ◌<◌, ◌+◌, ◌-◌, ◌^◌, OnOk, OnErr, Some, None, is_some, cond, true};
-ghost use Rattle.std.specs.Option.{IfNone, IfSome};
 ghost use Rattle.wot_slots.specs.Near.{held_of, HoldsSame, Puts};
 ghost use Rattle.wot_verdict.specs.Kept.{said_in, verdicts_in, IsKept, KeepsCount, SameShorts, ShortsAt};
 ghost use Rattle.wot_verdict.specs.Verdicts.{with_verdict as with_it, without_verdict as without_it, ChangesAt};
@@ -15,20 +14,13 @@ use crate::noted::{
 use wot_slots::{Slots, number_is_whole};
 use wot_types::{Memory, SigNumber};
 
-/// The most verdicts that can be counted.
-const MOST: usize = 9_223_372_036_854_775_807;
-
-/// How many verdicts there are once one is set on a number that had this one before. `None` if that is too many.
-fn count_with(count: usize, old: Option<Verdict>) -> Option<usize>
-    requires few { count < 2 ^ 63 }
-    ensures counted { IfSome result (λ n. n ≡ cond (is_some old) count (count + 1)) }
-    ensures few { IfSome result (λ n. n < 2 ^ 63) }
-    ensures full { IfNone result (old ≡ None) }
+/// How many verdicts there are once one is set on a number that had this one before.
+fn count_with(count: usize, old: Option<Verdict>) -> usize
+    requires few { count + 1 < 2 ^ 63 }
+    ensures counted { result ≡ cond (is_some old) count (count + 1) }
+    ensures few { result < 2 ^ 63 }
 {
-    if old.is_some() {
-        return Some(count);
-    }
-    if count < MOST { Some(count + 1) } else { None }
+    if old.is_some() { count } else { count + 1 }
 }
 
 /// How many there are once one is removed, if it was there.
@@ -72,7 +64,8 @@ fn keep_left(held: &mut Slots<Noted>, number: &SigNumber, left: Option<Noted>)
     }
 }
 
-/// Sets the verdict on a number for which this was noted. After `Memory` nothing changed.
+/// Sets the verdict on a number for which this was noted. `Memory` comes only from the row of slots; nothing changed
+/// then.
 pub(crate) fn set_counted(
     held: &mut Slots<Noted>,
     count: &mut usize,
@@ -81,6 +74,7 @@ pub(crate) fn set_counted(
     verdict: Verdict,
 ) -> Result<(), Memory>
     requires kept { IsKept held.old count.old }
+    requires few { count.old + 1 < 2 ^ 63 }
     requires old { old ≡ held_of held.old number }
     ensures kept { IsKept held.new count.new }
     ensures set { OnOk result (verdicts_in held.new ≡ with_it (verdicts_in held.old) number verdict) }
@@ -90,9 +84,7 @@ pub(crate) fn set_counted(
     ensures holders { SameShorts held.old held.new }
 {
     number_is_whole(&number);
-    let Some(counted) = count_with(*count, verdict_of(old)) else {
-        return Err(Memory);
-    };
+    let counted = count_with(*count, verdict_of(old));
     keep(held, number, old, with_verdict(old, verdict))?;
     *count = counted;
     Ok(())

@@ -3,7 +3,7 @@
 //! It uses `wot_slots`, std's map, `keeping` and `listing`, and `specs/{Kept,Verdicts}.antt`.
 //! `wot_keyring` keeps one such map for all certificates, within the limit on verdicts, and a dump prints it.
 //! `wot_index` notes the certificates.
-ghost use Rattle.std.specs.Prelude.{◌≡◌, ◌≢◌, ◌<◌, ◌^◌, ◌↔◌, [], length, IsTrue, IfOk, OnOk, OnErr, Some, None};
+ghost use Rattle.std.specs.Prelude.{◌≡◌, ◌≢◌, ◌<◌, ◌+◌, ◌^◌, ◌↔◌, [], length, IsTrue, IfOk, OnOk, OnErr, Some, None};
 ghost use Rattle.std.specs.Prelude.{is_some};
 ghost use Rattle.std.specs.Iterator.{YieldsFirst, item_count};
 ghost use Rattle.wot_verdict.specs.Verdicts.{verdict_at, with_verdict, without_verdict, holder_at};
@@ -74,8 +74,9 @@ impl Verdicts {
     }
 
     /// Sets the verdict on a number, in place of an earlier one. Returns whether something changed. After `Memory`
-    /// nothing did.
+    /// nothing did. Whoever calls it knows that one more can be counted.
     pub fn set(&mut self, number: SigNumber, verdict: Verdict) -> Result<bool, Memory>
+        requires few { length self.old.entries + 1 < 2 ^ 63 }
         ensures set { OnOk result (self.new.entries ≡ with_verdict self.old.entries number verdict) }
         ensures at_each { OnOk result (ChangesAt number (Some verdict) self.old.entries self.new.entries) }
         ensures changed { IfOk result

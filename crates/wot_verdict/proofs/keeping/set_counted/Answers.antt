@@ -24,10 +24,10 @@ returns-clause-kept c =
     c.args.verdict refl
     (numbers_still c.args.held.now c.keep.new.held c.args.number (Some c.with_verdict.result) put
     (λ there. c.number_is_whole.ensures.whole) c.requires.kept.numbers)
-    c.args.count.now c.in-Some.counted c.requires.kept
-    (c.in-Some.ensures.counted ∙ ap (λ o. cond (is_some o) c.args.count.now (c.args.count.now + 1))
+    c.args.count.now c.count_with-counted.result c.requires.kept
+    (c.count_with-counted.ensures.counted ∙ ap (λ o. cond (is_some o) c.args.count.now (c.args.count.now + 1))
     (c.verdict_of.ensures.verdict ∙ ap verdict_in c.requires.old))
-    c.in-Some.ensures.few
+    c.count_with-counted.ensures.few
 
 pub returns-clause-set : goal.returns-clause-set
 returns-clause-set c =

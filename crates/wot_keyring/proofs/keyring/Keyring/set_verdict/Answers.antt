@@ -1,4 +1,4 @@
-use Rattle.std.proofs.Common.{◌≡◌, ◌∙◌, false, inl, length, nat_le, refl, sym, ap, subst}
+use Rattle.std.proofs.Common.{◌≡◌, ◌∙◌, false, inl, length, nat_le, refl, sym, ap, subst, arith}
 use Rattle.wot_verdict.specs.Verdicts.{AreSortedByNumber, ByNumber}
 use Rattle.wot_keyring_spec.specs.Keyring.{Keyring, verdict_on}
 use Rattle.wot_keyring_spec.specs.Kept.{IsJudgedBy}
@@ -179,3 +179,12 @@ pub returns-in-Err-clause-judged : goal.returns-in-Err-clause-judged
 returns-in-Err-clause-judged c = λ rows all.
     subst (λ (k : Keyring). IsJudgedBy rows k) (sym (same_parts _ _ _ _ _ _ c.args.self.now c.self.view_is refl
     (ap (λ (v : ByNumber). v.entries) c.in-Err.ensures.kept))) all
+
+-- ---- one more can be counted
+
+-- the limit on verdicts is far below what can be counted
+pub set-requires : goal.set-requires
+set-requires c =
+    let within = c.self.invariant.0.within.verdicts in
+    let small = c.self.invariant.0.small.verdicts in
+    omega (arith, within, small)
