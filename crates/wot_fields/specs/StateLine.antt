@@ -41,7 +41,7 @@ abbrev pub IsNoComment : List ℕ → Type 0
 IsNoComment [] = ⊥
 IsNoComment (octet ∷ octets) = octet ≢ 35
 
--- The text is one line, which isn't silent and has at most so many octets.
+-- The text is one line that gets a reply, and has at most `most` octets.
 pub record IsOneLine (most : ℕ) (text : List ℕ) : Type 0 where
   pub no_feed : AllByRecursion (λ octet. octet ≢ 10) text
   pub no_comment : IsNoComment text

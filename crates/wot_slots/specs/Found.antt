@@ -27,7 +27,7 @@ abbrev pub held_for : {T : Type 0} → SigNumber → Slot T → Option T
 held_for n None = None
 held_for n (Some e) = cond (is_number n e.0) (Some e.1) None
 
--- the value in the first of so many slots, from a place on, that has the number
+-- the value in the first slot that has the number, of `count` slots from a place on
 abbrev pub found_from : {T : Type 0} → List (Slot T) → SigNumber → ℕ → ℕ → Option T
 found_from slots n at zero = None
 found_from slots n at (suc count) =

@@ -17,7 +17,7 @@ AreOnce {T} came =
     (n : SigNumber) (k j : ℕ) (value other : T) → held_for n (slice_index_or came k None) ≡ Some value
     → held_for n (slice_index_or came j None) ≡ Some other → k ≡ j
 
--- There are at most so many entries that each has a place, and each slot has the place of one of them or none.
+-- Each entry can have a place, and each slot has the place of an entry or none.
 pub record IsKeptBy {T : Type 0} (places : List ℕ) (entries : List (Slot T)) : Type 0 where
   pub few : length entries ≤ nowhere
   pub within :

@@ -28,7 +28,7 @@ pub struct Slots<T> {
     pub rest: BTreeMap<SigNumber, T, Global>,
     /// How many numbers have a value.
     pub count: usize,
-    /// When the row has so many entries, it gets longer.
+    /// The row gets longer once it has this many entries.
     pub until: usize,
     pub alloc: Global,
 }

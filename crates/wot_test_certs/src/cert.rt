@@ -1,5 +1,5 @@
-//! Tests of wot_cert: how often a merge calls the policy's closure, and spans of time. How many edges wot_live makes
-//! stands beside the first, which has a certificate with marks.
+//! Tests of wot_cert: how often a merge calls the policy's closure, and spans of time. The first also
+//! counts the edges that wot_live makes, over a certificate with marks.
 use crate::assertion::expect_that;
 use std::alloc::Global;
 use std::cell::Cell;

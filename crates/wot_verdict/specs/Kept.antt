@@ -46,7 +46,7 @@ verdicts_above last held = entries_by (said_in held) last held
 abbrev pub verdicts_in : Slots Noted → Entries
 verdicts_in held = verdicts_above None held
 
--- So many verdicts are kept, and each number has 32 octets.
+-- `count` verdicts are kept, and each number has 32 octets.
 pub record IsKept (held : Slots Noted) (count : ℕ) : Type 0 where
   pub numbers : AreNumbers held
   pub counted : count ≡ length (verdicts_in held)
