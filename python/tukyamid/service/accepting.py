@@ -6,6 +6,7 @@ import asyncio
 import socket
 from collections import deque
 from collections.abc import Callable, Coroutine
+from contextlib import suppress
 from functools import partial
 
 from ..client.socket_peers import peer_of
@@ -104,7 +105,14 @@ class Acceptor:
         self._beginning.discard(task)
         if not task.cancelled() and task.exception() is not None:
             self._tell(f"a connection can't be served: {task.exception()!r}")
-            connected.close()
+            self._end(connected)
+
+    def _end(self, connected: socket.socket) -> None:
+        """Ends a connection, which may have a transport by now. Closed under its transport, the descriptor would go to
+        a later connection, which the loop would then never read. So the transport reads the end, and closes it."""
+        with suppress(OSError):
+            connected.shutdown(socket.SHUT_RDWR)
+        self._loop.call_later(_PAUSE, connected.close)
 
 
 def _is_gone(connected: socket.socket) -> bool:

@@ -170,6 +170,21 @@ class Injected(unittest.TestCase):
         self.check("--budget", "6")
 
     @needs_engine
+    def test_a_connection_that_fails_as_it_begins(self):
+        """It is ended. Later ones, which get its descriptor, are answered."""
+        self.begin()
+        control = Control(self.folder / "control")
+        self.addCleanup(control.close)
+        place, = (name for name in control("places") if name.startswith("server:") and ":_serve:behind" in name)
+        for _ in range(5):
+            control("arm " + place)
+            with Client(self.server.path) as silent:
+                silent.socket.settimeout(BOUND)
+                self.assertEqual(silent.socket.recv(1), b"")
+            self.assertEqual(self.talk([b"keys"] * 2), 0)
+        self.assertEqual(self.server.stop(), 0)
+
+    @needs_engine
     def test_while_it_begins_and_ends(self):
         """It begins, or says why not; and it ends."""
         self.begin()
