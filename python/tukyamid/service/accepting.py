@@ -17,7 +17,7 @@ _TAKEN_AT_ONCE = 128  # Each costs some 20 us.
 _BEGUN_AT_ONCE = 8    # Each costs some 0.5 ms.
 _PAUSE = 1.0
 
-# Serves a connection, once it is its turn.
+# Serves a connection that was let in.
 Serve = Callable[[socket.socket], Coroutine[None, None, None]]
 _Waiting = tuple[socket.socket, Serve]
 
@@ -26,13 +26,13 @@ class Acceptor:
     """Takes connections from sockets, which listen already, and has `serve` serve them.
     `has_room` says whether a user may have one more client, with that many that wait."""
 
-    def __init__(self, has_room: Callable[[int, int], bool], tell: Callable[[str], None]) -> None:
-        self._has_room, self._tell = has_room, tell
+    def __init__(self, has_room: Callable[[int, int], bool], report: Callable[[str], None]) -> None:
+        self._has_room, self._report = has_room, report
         self._loop = asyncio.get_running_loop()
         self._waiting: dict[int, deque[_Waiting]] = {}
         self._beginning: set[asyncio.Task[object]] = set()
         self._sockets: list[socket.socket] = []
-        self._is_turning = False
+        self._is_scheduled = False
 
     def listen(self, listening: socket.socket, serve: Serve) -> None:
         listening.setblocking(False)
@@ -56,7 +56,7 @@ class Acceptor:
             except (BlockingIOError, InterruptedError, ConnectionAbortedError):
                 return
             except OSError as error:  # Too many files are open.
-                self._tell(f"no connection can be taken: {error}")
+                self._report(f"no connection can be taken: {error}")
                 self._loop.remove_reader(listening.fileno())
                 self._loop.call_later(_PAUSE, self._go_on, listening, serve)
                 return
@@ -77,16 +77,16 @@ class Acceptor:
             _refuse(connected)
             return
         self._waiting.setdefault(user, deque()).append((connected, serve))
-        self._turn_soon()
+        self._begin_soon()
 
-    def _turn_soon(self) -> None:
-        if self._waiting and not self._is_turning:
-            self._is_turning = True
-            self._loop.call_soon(self._turn)
+    def _begin_soon(self) -> None:
+        if self._waiting and not self._is_scheduled:
+            self._is_scheduled = True
+            self._loop.call_soon(self._begin_some)
 
-    def _turn(self) -> None:
+    def _begin_some(self) -> None:
         """Begins with the first of each user, and once more if there are few users."""
-        self._is_turning = False
+        self._is_scheduled = False
         begun = 0
         while self._waiting and begun < _BEGUN_AT_ONCE:
             for user in list(self._waiting):
@@ -94,7 +94,7 @@ class Acceptor:
                 begun += 1
                 if not self._waiting[user]:
                     del self._waiting[user]
-        self._turn_soon()
+        self._begin_soon()
 
     def _begin(self, connected: socket.socket, serve: Serve) -> None:
         task: asyncio.Task[object] = self._loop.create_task(serve(connected))
@@ -104,7 +104,7 @@ class Acceptor:
     def _has_begun(self, connected: socket.socket, task: asyncio.Task[object]) -> None:
         self._beginning.discard(task)
         if not task.cancelled() and task.exception() is not None:
-            self._tell(f"a connection can't be served: {task.exception()!r}")
+            self._report(f"a connection can't be served: {task.exception()!r}")
             self._end(connected)
 
     def _end(self, connected: socket.socket) -> None:

@@ -29,13 +29,13 @@ def is_stopped(pid: int) -> bool:
         return False
 
 
-async def end_stopped(tell: Callable[[str], None]) -> None:
+async def end_stopped(report: Callable[[str], None]) -> None:
     """Ends those that are stopped, and still are a second later; for ever."""
     before: set[int] = set()
     while True:
         stopped = {pid for pid in children() if is_stopped(pid)}
         for pid in stopped & before:
-            tell(f"process {pid} was stopped, and is ended")
+            report(f"process {pid} was stopped, and is ended")
             kill(pid)
         before = stopped
         await asyncio.sleep(_LOOK_SECONDS)

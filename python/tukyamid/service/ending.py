@@ -22,15 +22,15 @@ class Ending:
     """A thread waits for the signal, because the loop may be held when it comes. From then on the process has some
     seconds: what is acknowledged is on the disk."""
 
-    def __init__(self, tell: Callable[[str], None]) -> None:
-        self._tell = tell
-        self._heard, self._told = socket.socketpair()
-        self._told.setblocking(False)
+    def __init__(self, report: Callable[[str], None]) -> None:
+        self._report = report
+        self._wakeup_end, self._wakeup = socket.socketpair()
+        self._wakeup.setblocking(False)
 
     def watch(self, begun: Callable[[], None], clear: Callable[[], None]) -> None:
         """Has `begun` called in this thread's loop once the end begins, and `clear` before the process is ended. This
         is for the main thread."""
-        signal.set_wakeup_fd(self._told.fileno(), warn_on_full_buffer=False)
+        signal.set_wakeup_fd(self._wakeup.fileno(), warn_on_full_buffer=False)
         for number in _SIGNALS:
             signal.signal(number, lambda *_: None)
         signal.signal(signal.SIGALRM, signal.SIG_DFL)
@@ -40,10 +40,10 @@ class Ending:
     def begin(self) -> None:
         """Begins the end, unless it has begun."""
         with contextlib.suppress(BlockingIOError):
-            self._told.send(b"\0")
+            self._wakeup.send(b"\0")
 
     def _wait(self, loop: asyncio.AbstractEventLoop, begun: Callable[[], None], clear: Callable[[], None]) -> None:
-        self._heard.recv(1)
+        self._wakeup_end.recv(1)
         signal.setitimer(signal.ITIMER_REAL, _LAST_SECONDS)
         with contextlib.suppress(RuntimeError):  # The loop may have ended.
             loop.call_soon_threadsafe(begun)
@@ -52,6 +52,6 @@ class Ending:
             for pid in children():
                 kill(pid)
             clear()
-            self._tell(f"something didn't end within {_MOST_SECONDS:.0f} seconds; the service ends without it")
+            self._report(f"something didn't end within {_MOST_SECONDS:.0f} seconds; the service ends without it")
         finally:
             os._exit(0)

@@ -1,4 +1,4 @@
-"""Whether an engine has room for a keyring, and for what comes."""
+"""Whether an engine has room for a keyring, and for what is added."""
 
 from __future__ import annotations
 
@@ -11,7 +11,7 @@ from .storage.partial_reads import Sizes
 from .storage.shared_database import News
 
 
-class Room:
+class Capacity:
     """Counts what lines add at most, and asks the database when that is more than an engine may hold."""
 
     def __init__(self, database: Database, most: Sizes) -> None:

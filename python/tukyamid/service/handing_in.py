@@ -8,7 +8,7 @@ from collections.abc import Iterable, Iterator, Sequence
 from pathlib import Path
 from typing import Protocol, runtime_checkable
 
-from .line_intake import Desk
+from .line_intake import LineIntake
 from .storage.acknowledged_changes import Entry, counted, read_script
 from .storage.database import Actor, Database, DatabaseFault
 from .storage.database_threads import Access
@@ -65,22 +65,22 @@ def _entries_of(paths: Iterable[Path]) -> list[Entry]:
 
 
 async def _make(database: TakesAgain, lacked: Sequence[Entry], program: Sequence[str]) -> None:
-    desk = Desk(program, 1, Access(database), MOST.certificates)
+    intake = LineIntake(program, 1, Access(database), MOST.certificates)
     try:
-        await desk.start()
-        await desk.load()
+        await intake.start()
+        await intake.load()
         for place in range(0, len(lacked), _AT_ONCE):
             some = lacked[place:place + _AT_ONCE]
-            await _make_some(desk, [one for one in some if one.line is not None])
-            await desk.write(lambda some=some: database.hand_in(some))  # type: ignore[misc]
+            await _make_some(intake, [one for one in some if one.line is not None])
+            await intake.write(lambda some=some: database.hand_in(some))  # type: ignore[misc]
     finally:
-        await desk.close()
+        await intake.close()
 
 
-async def _make_some(desk: Desk, entries: Sequence[Entry]) -> None:
+async def _make_some(intake: LineIntake, entries: Sequence[Entry]) -> None:
     """Makes these changes in their order. One that fails is tried again, with those that come after it."""
     for _ in range(_ATTEMPTS):
-        replies = await asyncio.gather(*(_made(desk, entry) for entry in entries))
+        replies = await asyncio.gather(*(_made(intake, entry) for entry in entries))
         for entry, reply in zip(entries, replies):
             if not reply.startswith((*_DONE, _FAULT)):
                 raise DatabaseFault(f"change {entry.place.number} gets the reply: {reply.decode()}")
@@ -89,13 +89,13 @@ async def _make_some(desk: Desk, entries: Sequence[Entry]) -> None:
             return
         entries = entries[failed[0]:]
         await asyncio.sleep(_PAUSE)
-    raise DatabaseFault(f"{desk.database.name}: changes can't be stored, try again: {desk.fault}")
+    raise DatabaseFault(f"{intake.database.name}: changes can't be stored, try again: {intake.fault}")
 
 
-async def _made(desk: Desk, entry: Entry) -> bytes:
+async def _made(intake: LineIntake, entry: Entry) -> bytes:
     """The reply to a change."""
     answered: asyncio.Future[bytes] = asyncio.get_running_loop().create_future()
     assert entry.line is not None
-    desk.change(entry.line, Actor(os.getuid(), os.getpid()),
-                lambda reply, _: answered.set_result((reply or b"the line was given up").strip()))
+    intake.change(entry.line, Actor(os.getuid(), os.getpid()),
+                  lambda reply, _: answered.set_result((reply or b"the line was given up").strip()))
     return await answered

@@ -7,7 +7,7 @@ from collections.abc import Callable, Sequence
 from functools import partial
 from typing import TypeVar
 
-from .engine_capacity import Room
+from .engine_capacity import Capacity
 from .sliced.shared_sliced_keyring import SharedSliced
 from .sliced.sliced_keyring import Sliced
 from .storage.database import Actor, Database, DatabaseFault, Finder
@@ -25,10 +25,10 @@ _LONGEST_SILENCE = 3.0  # Seconds in which a primary that isn't cut off has hear
 
 
 class Holding:
-    def __init__(self, access: Access, room: Room, most_age: float | None = None) -> None:
+    def __init__(self, access: Access, capacity: Capacity, most_age: float | None = None) -> None:
         """`most_age` is how old an answer may be, in seconds; None is as old as it is."""
         self._access = access
-        self._room = room
+        self._capacity = capacity
         self._held: Hub | Sliced | None = None
         self.most_age = most_age
 
@@ -100,14 +100,14 @@ class Holding:
 
     @property
     def budget(self) -> int:
-        return self._room.certificates
+        return self._capacity.certificates
 
     async def pending(self) -> int | None:
         """How many signatures of a sliced keyring have no verdict, well-formed or not; None if engines hold all."""
         return await self.held.read(lambda parts: parts.pending()) if isinstance(self.held, Sliced) else None
 
-    def tell(self, text: str) -> None:
-        self._access.tell(text)
+    def report(self, text: str) -> None:
+        self._access.report(text)
 
     def note_change(self, session: int, line: bytes) -> None:
         """Writes down a change when it has begun."""
@@ -134,8 +134,8 @@ class Holding:
         """Whether many verdicts can be made at once: no engine of this service or of another holds everything."""
         return isinstance(self._held, Sliced) and not isinstance(self.database, Shared)
 
-    async def judge(self, verdicts: Sequence[tuple[bytes, bytes]], looked: Sequence[Looked], targets: Sequence[bytes],
-                    actor: Actor) -> None:
+    async def set_verdicts(self, verdicts: Sequence[tuple[bytes, bytes]], looked: Sequence[Looked],
+                           targets: Sequence[bytes], actor: Actor) -> None:
         """Makes verdicts, each by a signature's number, on these certificates, and notes that the verifier has looked
         at some. DatabaseFault if that can't be committed."""
         assert isinstance(self._held, Sliced)
@@ -145,7 +145,7 @@ class Holding:
             if not answer.done():
                 answer.set_result(reply)
 
-        self._held.judge(Verdicts(verdicts, looked, targets, actor, done))
+        self._held.set_verdicts(Verdicts(verdicts, looked, targets, actor, done))
         if await answer != b"ok\n":
             raise DatabaseFault(f"{len(verdicts)} verdicts couldn't be committed")
 

@@ -10,7 +10,7 @@ from dataclasses import replace
 from functools import partial
 from typing import Protocol
 
-from .engine_capacity import Room
+from .engine_capacity import Capacity
 from .keyring_holder import Holding
 from .sessions.command_kinds import OF_THE_WHOLE
 from .sessions.cursors import Cursors
@@ -28,7 +28,7 @@ from .storage.group_commit import FAULT
 from .storage.journal import Done
 from .storage.partial_reads import MOST, HasParts, SharedInParts
 from .storage.shared_database import News, Shared
-from .storage.turn_taking import Begun, Waiting
+from .storage.locked_changes import Begun, Waiting
 from .waiting_lines import Place, WaitingLines
 from .whole.engine_pool import Hub
 from .whole.shared_engine_pool import SharedHub
@@ -38,25 +38,25 @@ _PAUSE = 1.0
 _PATIENCE = 30.0
 
 
-class Sitting(Protocol):
-    """A client at the desk."""
+class IntakeClient(Protocol):
+    """A client whose lines come in here."""
 
-    def turn(self, sliced: Sliced) -> None:
+    def use_slices(self, sliced: Sliced) -> None:
         """The keyring is sliced from now on. Nothing of the client is under way."""
 
     def resume(self) -> None:
         """Lines that have come meanwhile may begin."""
 
 
-class Desk(Holding):
+class LineIntake(Holding):
     """`budget` is how many certificates an engine may hold."""
 
     def __init__(self, program: Sequence[str], most_engines: int, access: Access, budget: int,
                  most_age: float | None = None) -> None:
         most = replace(MOST, certificates=min(budget, MOST.certificates))
-        super().__init__(access, Room(access.database, most), most_age)
-        self.sitting: set[Sitting] = set()
-        self._waiting = WaitingLines(self._resumed, access.tell)
+        super().__init__(access, Capacity(access.database, most), most_age)
+        self.clients: set[IntakeClient] = set()
+        self._waiting = WaitingLines(self._resumed, access.report)
         self._program = program
         self._most_engines = most_engines
         self.early: Sliced | None = None
@@ -65,9 +65,9 @@ class Desk(Holding):
     async def start(self) -> None:
         """Starts the first engine; OSError, ValueError or DatabaseFault where it can't take the database. If there is
         much to load, questions are answered from slices until `load` is over."""
-        held: Hub | Sliced = self._whole() if await self._room.has_all() else self._sliced()
+        held: Hub | Sliced = self._whole() if await self._capacity.has_all() else self._sliced()
         self._held = held
-        if not isinstance(held, Hub) or self._room.octets <= LOADED_AT_ONCE or isinstance(self.database, Shared):
+        if not isinstance(held, Hub) or self._capacity.octets <= LOADED_AT_ONCE or isinstance(self.database, Shared):
             await held.start()
             return
         await held.begin()
@@ -84,7 +84,7 @@ class Desk(Holding):
         try:
             await self.early.close()
         except Exception as error:
-            self.tell(repr(error))
+            self.report(repr(error))
         finally:
             self.early = None
             self._waiting.resume([])
@@ -131,8 +131,8 @@ class Desk(Holding):
     def _change(self, one: Waiting) -> None:
         held = self.held
         try:
-            if isinstance(held, Hub) and not held.fault and not self._room.takes(one.line):
-                self._begin_turn(held, lambda: self._room.takes_measured(one.line), one)
+            if isinstance(held, Hub) and not held.fault and not self._capacity.takes(one.line):
+                self._begin_slicing(held, lambda: self._capacity.takes_measured(one.line), one)
                 return
         except Exception as error:
             self._fail(one, error)
@@ -146,34 +146,34 @@ class Desk(Holding):
             self._fail(one, error)
 
     def _fail(self, one: Waiting, error: Exception) -> None:
-        self.tell(f"a change is refused: {error!r}")
+        self.report(f"a change is refused: {error!r}")
         one.begun()
         one.done(FAULT, self.count or 0)
 
     async def _takes_news(self, news: News) -> bool:
         """Whether engines that hold everything have room for what other services have changed. If they haven't, the
         keyring is sliced from now on."""
-        if await self._room.takes_news(news):
+        if await self._capacity.takes_news(news):
             return True
         if not self._waiting.is_held_up and isinstance(self.held, Hub):
-            self._begin_turn(self.held, self._room.has_all, None)
+            self._begin_slicing(self.held, self._capacity.has_all, None)
         return False
 
-    def _begin_turn(self, hub: Hub, has_room: Callable[[], Awaitable[bool]], change: Waiting | None) -> None:
+    def _begin_slicing(self, hub: Hub, has_room: Callable[[], Awaitable[bool]], change: Waiting | None) -> None:
         self._waiting.is_held_up = True
-        self._task = asyncio.get_running_loop().create_task(self._turn(hub, has_room, change))
+        self._task = asyncio.get_running_loop().create_task(self._slice_and_go_on(hub, has_room, change))
 
-    async def _turn(self, hub: Hub, has_room: Callable[[], Awaitable[bool]], change: Waiting | None) -> None:
+    async def _slice_and_go_on(self, hub: Hub, has_room: Callable[[], Awaitable[bool]], change: Waiting | None) -> None:
         """When all that came before is done, the keyring is sliced unless an engine has room for it. Then this change
-        is made, behind those that have waited for their turn."""
+        is made, after those that have waited."""
         waiting: list[Waiting] = []
         try:
-            await hub.settle()
+            await hub.wait_until_idle()
             waiting = hub.waiting()
-            await self._turn_unless(hub, has_room)
+            await self._slice_unless(hub, has_room)
         except Exception as error:  # It is the doing of this change; the others go on.
             if change is None:
-                self.tell(repr(error))
+                self.report(repr(error))
             else:
                 self._fail(change, error)
                 change = None
@@ -181,21 +181,21 @@ class Desk(Holding):
             behind = [] if change is None else [partial(self._hand_on, change)]
             self._waiting.resume([*(partial(self._change, one) for one in waiting), *behind])
 
-    async def _turn_unless(self, hub: Hub, has_room: Callable[[], Awaitable[bool]]) -> None:
+    async def _slice_unless(self, hub: Hub, has_room: Callable[[], Awaitable[bool]]) -> None:
         while self.held is hub:
             try:
                 if await has_room():
                     return
                 await self._slice(hub)
             except (DatabaseFault, OSError) as fault:
-                self.tell(str(fault))
+                self.report(str(fault))
                 if not hub.is_outgrown:
                     return
                 await asyncio.sleep(_PAUSE)
 
     def _resumed(self) -> None:
-        for sitting in list(self.sitting):
-            sitting.resume()
+        for clients in list(self.clients):
+            clients.resume()
 
     async def _slice(self, hub: Hub) -> None:
         sliced = self._sliced()
@@ -206,9 +206,9 @@ class Desk(Holding):
             raise
         self._held = sliced
         self._access.feed.sliced()
-        for sitting in list(self.sitting):
-            sitting.turn(sliced)
-        self.tell("the keyring is now larger than an engine, and is held in slices")
+        for clients in list(self.clients):
+            clients.use_slices(sliced)
+        self.report("the keyring is now larger than an engine, and is held in slices")
         await hub.close()
 
     def _whole(self) -> Hub:
@@ -218,9 +218,9 @@ class Desk(Holding):
 
     def _sliced(self) -> Sliced:
         if isinstance(self.database, SharedInParts):
-            return SharedSliced(self._program, self._access, self.database, self._room.certificates)
+            return SharedSliced(self._program, self._access, self.database, self._capacity.certificates)
         assert isinstance(self.database, HasParts)
-        return Sliced(self._program, self._access, self.database, self._room.certificates)
+        return Sliced(self._program, self._access, self.database, self._capacity.certificates)
 
     def ask(self, line: bytes, done: Done) -> None:
         """Asks what is no view's, and changes nothing."""

@@ -18,7 +18,7 @@ from .child_processes import end_stopped
 from .ending import Ending
 from .engines.certificate_directory import Directory
 from .keyring_files.keyring_updates import Keyrings
-from .line_intake import Desk
+from .line_intake import LineIntake
 from .listening_sockets import Listening, Passed, notify
 from .readers.reader_pool import ReaderPool
 from .readers.relay_session import RelaySession
@@ -50,7 +50,7 @@ class Door:
 
 
 class Service:
-    def __init__(self, hub: Desk, keyrings: Keyrings, directory: Directory, settings: Settings, pool: ReaderPool,
+    def __init__(self, hub: LineIntake, keyrings: Keyrings, directory: Directory, settings: Settings, pool: ReaderPool,
                  ending: Ending) -> None:
         self._hub = hub
         self._keyrings = keyrings
@@ -71,17 +71,17 @@ class Service:
     async def serve(self, doors: Sequence[Door]) -> None:
         """Serves clients of these sockets until SIGTERM, SIGINT, or until nobody has used it for long."""
         loop = asyncio.get_running_loop()
-        loop.set_exception_handler(self._tell_exception)
+        loop.set_exception_handler(self._report_exception)
         self._ending.watch(self._begin_end, self._remove_sockets)
         self._doors = doors
         self._shares.has_others = any(door.listening.users is None for door in doors)
-        warden = loop.create_task(end_stopped(self._hub.tell))
+        warden = loop.create_task(end_stopped(self._hub.report))
         try:
             if not await self._is_started():
                 return
             for door in doors:
                 door.listening.open()
-            acceptor = Acceptor(self._shares.has_room, self._hub.tell)
+            acceptor = Acceptor(self._shares.has_room, self._hub.report)
             for door in doors:
                 acceptor.listen(door.listening.socket, partial(self._serve, self._rights(door)))
             self._pool.begin(self._shares, self._serve_relayed, self._hub.held.count, self._hub.loaded is not None)
@@ -133,9 +133,9 @@ class Service:
         if not loading.cancelled() and loading.exception() is not None:
             self._end.set()
 
-    def _tell_exception(self, loop: asyncio.AbstractEventLoop, context: dict[str, Any]) -> None:
+    def _report_exception(self, loop: asyncio.AbstractEventLoop, context: dict[str, Any]) -> None:
         """What nobody has caught is one line for people, and no end of the service."""
-        self._hub.tell(f"{context['message']}: {context.get('exception')!r}")
+        self._hub.report(f"{context['message']}: {context.get('exception')!r}")
 
     async def _serve(self, rights: Rights, connected: socket.socket) -> None:
         """Serves a client here, unless a reader does."""

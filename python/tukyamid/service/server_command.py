@@ -19,7 +19,7 @@ from .engines.certificate_directory import Directory
 from .engines.program_run import pieces
 from .handing_in import hand_in
 from .keyring_files.keyring_updates import Keyrings
-from .line_intake import Desk
+from .line_intake import LineIntake
 from .listening_sockets import Listening, passed_sockets
 from .paths_and_locks import default_directory
 from .readers.reader_pool import ReaderPool
@@ -79,10 +79,10 @@ def serve(given: argparse.Namespace) -> int:
 
         async def run() -> None:
             access = Access(database, order, pool)
-            hub = Desk([*_program(given), "run"], given.engines, access, given.budget, given.max_age)
+            hub = LineIntake([*_program(given), "run"], given.engines, access, given.budget, given.max_age)
             directory = Directory([*_program(given), "run"], (given.directory or default_directory()).absolute())
             keyrings = Keyrings(hub, _verifier(given))
-            await Service(hub, keyrings, directory, settings, pool, Ending(access.tell)).serve(doors)
+            await Service(hub, keyrings, directory, settings, pool, Ending(access.report)).serve(doors)
 
         event_loop.run(run)
     return ENDED

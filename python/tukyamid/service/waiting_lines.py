@@ -12,10 +12,10 @@ Place = Callable[[], None]
 class WaitingLines:
     """`resumed` is called when none waits any more."""
 
-    def __init__(self, resumed: Callable[[], None], tell: Callable[[str], None]) -> None:
+    def __init__(self, resumed: Callable[[], None], report: Callable[[str], None]) -> None:
         self.is_held_up = False
         self._resumed = resumed
-        self._tell = tell
+        self._report = report
         self.waiting: deque[Place] = deque()
 
     @property
@@ -36,7 +36,7 @@ class WaitingLines:
             try:
                 place()
             except Exception as error:  # Whatever one line meets, the others go on.
-                self._tell(repr(error))
+                self._report(repr(error))
             self.waiting.popleft()
         if self.is_clear:
             self._resumed()

@@ -15,7 +15,7 @@ from pathlib import Path
 from outside import PATIENCE, PROGRAM, PYTHON, ROOT, SERVER, Client, Server, alone, needs_engine, script_of
 from tukyamid.service.engines.framing import LineCutter, ReplyCutter
 from tukyamid.service.server_command import COMMANDS
-from tukyamid.service.sessions.views import Room, Views
+from tukyamid.service.sessions.views import ViewBudget, Views
 from tukyamid.service.storage.sqlite_database import Sqlite
 from world import World
 
@@ -48,9 +48,9 @@ class Cutting(unittest.TestCase):
 
     def test_views_that_share_room(self):
         """Each view and each root takes the place of one, until it is closed or the client goes."""
-        room = Room(4)
+        budget = ViewBudget(4)
         one, other = Views(), Views()
-        one.room = other.room = room
+        one.budget = other.budget = budget
         a, b = (b"%040x" % number for number in (1, 2))
         told = [views.take(line) for views, line in (
             (one, b"view x time 5"), (one, b"view x root " + a + b" 9"), (one, b"view x root " + a + b" 8"),
@@ -60,7 +60,7 @@ class Cutting(unittest.TestCase):
         self.assertEqual(told, [b"ok\n"] * 5 + [b"refused full roots\n", b"refused full views\n"] + [b"ok\n"] * 4
                          + [b"refused view\n", b"ok\n"])
         other.close()
-        self.assertEqual((room.left, list(other.lines())), (4, []))
+        self.assertEqual((budget.left, list(other.lines())), (4, []))
 
     def test_views(self):
         views = Views()

@@ -124,7 +124,7 @@ class Moments(OneServer):
         """A turn with changes of two kinds, whose lines are longer than what is sent at once."""
         octets = bytes.fromhex(self.world.imports[0][7:].decode())
         effects = PutCertificate(bytes.fromhex(self.world.fprs[0].decode()), octets), SetVerdict(b"n" * 32, b"")
-        database.take_turn()
+        database.lock_for_news()
         database.apply([Change("a change", Actor(1, 2), (effect,), b"l" * 20_000) for effect in effects])
 
     def wait_at(self, number):
@@ -139,10 +139,10 @@ class Moments(OneServer):
             self.assertTrue(relay.held.wait(60))
             begun = time.monotonic()
             try:
-                other.take_turn()
+                other.lock_for_news()
             finally:
                 stopped.cut()
-            other.end_turn()
+            other.unlock()
             waited = time.monotonic() - begun
             self.assertIsInstance(made.exception(), DatabaseFault)
         return waited

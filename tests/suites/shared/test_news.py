@@ -16,7 +16,7 @@ class News(OneServer):
 
     def change(self, *lines):
         """Has one service commit a change for each of these lines, all at once."""
-        self.assertEqual(self.one.take_turn().snapshot is None, self.count > 0)
+        self.assertEqual(self.one.lock_for_news().snapshot is None, self.count > 0)
         changes = []
         for line in lines:
             self.count += 1
@@ -30,13 +30,13 @@ class News(OneServer):
         self.assertEqual(self.other.news().lines, ((1, b"first"), (2, b"second"), (3, b"third")))
         self.assertEqual(self.other.news().lines, ())
         self.change(b"fourth")
-        self.assertEqual(self.other.take_turn().lines, ((4, b"fourth"),))
-        self.other.end_turn()
+        self.assertEqual(self.other.lock_for_news().lines, ((4, b"fourth"),))
+        self.other.unlock()
         self.assertEqual(self.other.place, self.one.place)
 
     def test_a_change_that_changes_nothing_is_no_news(self):
         self.change(b"first")
-        self.one.take_turn()
+        self.one.lock_for_news()
         again = Change("again", Actor(1, 2), (SetVerdict((1).to_bytes(32, "big"), b""),), b"first")
         self.assertEqual(self.one.apply([again]), [1])
         self.assertEqual(self.other.news().lines, ((1, b"first"),))

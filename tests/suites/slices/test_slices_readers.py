@@ -15,7 +15,7 @@ from tukyamid.service.child_processes import children
 from tukyamid.service.readers.following_hub import FollowingHub
 from tukyamid.service.readers.following_slices import FollowingSliced
 from tukyamid.service.readers.published import Published
-from tukyamid.service.readers.reader_desk import ReaderDesk
+from tukyamid.service.readers.reader_intake import ReaderIntake
 from tukyamid.service.storage.database_threads import Access
 from tukyamid.service.storage.sqlite_database import Sqlite
 from tukyamid.service.storage.sqlite_reading import SqliteReading
@@ -113,14 +113,14 @@ class Beginning(unittest.TestCase):
         folder = self.enterContext(tempfile.TemporaryDirectory())
         path = Path(folder, "keyring.db")
         Sqlite(path).close()
-        desk = ReaderDesk([PROGRAM, "run"], 1, Access(SqliteReading(path)), 100, None, Published.made(), is_sliced)
-        starting = asyncio.create_task(desk.start())
+        intake = ReaderIntake([PROGRAM, "run"], 1, Access(SqliteReading(path)), 100, None, Published.made(), is_sliced)
+        starting = asyncio.create_task(intake.start())
         await asyncio.sleep(0)
         if has_turned:
-            desk.turn()
+            intake.use_slices()
         await starting
-        held = type(desk.held)
-        await desk.close()
+        held = type(intake.held)
+        await intake.close()
         return held
 
     def test_as_the_service(self):

@@ -5,7 +5,7 @@ from __future__ import annotations
 import asyncio
 from collections.abc import Awaitable, Callable
 
-from ..sliced.partial_engine import REFUSED_BUDGET, BudgetPassed
+from ..sliced.partial_engine import REFUSED_BUDGET, BudgetExceeded
 from ..storage.database import DatabaseFault
 from ..storage.group_commit import FAULT
 from .conversation import EngineGone, KilledByLine
@@ -19,35 +19,35 @@ _FIRST_PAUSE, _LONGEST_PAUSE = 0.05, 2.0
 class Attempts:
     """`is_mended` says whether a database can be read again that couldn't."""
 
-    def __init__(self, tell: Callable[[str], None], is_mended: Callable[[], Awaitable[bool]]) -> None:
-        self._tell = tell
+    def __init__(self, report: Callable[[str], None], is_mended: Callable[[], Awaitable[bool]]) -> None:
+        self._report = report
         self._is_mended = is_mended
 
     async def reply(self, work: Callable[[], Awaitable[bytes]]) -> bytes | None:
-        """The reply that work makes. None stands for a line at which engines end again and again."""
+        """The reply that work makes. None if engines end at this line again and again."""
         kills = faults = 0
         pauses = _Pauses()
         while True:
             try:
                 return await work()
             except KilledByLine as gone:
-                self._tell(f"an engine ended with {gone}; another takes its place")
+                self._report(f"an engine ended with {gone}; another takes its place")
                 kills += 1
                 if kills >= TRIES:
                     return None
             except EngineGone as gone:
-                self._tell(f"an engine ended with {gone}; another takes its place")
+                self._report(f"an engine ended with {gone}; another takes its place")
                 if not await pauses.has_another():
                     return NO_ENGINE
-            except BudgetPassed:
+            except BudgetExceeded:
                 return REFUSED_BUDGET
             except DatabaseFault as fault:
-                self._tell(str(fault))
+                self._report(str(fault))
                 faults += 1
                 if faults >= TRIES or not await self._is_mended():
                     return FAULT
             except Exception as error:  # Whatever one line meets, the others go on.
-                self._tell(repr(error))
+                self._report(repr(error))
                 return FAULT
 
 

@@ -52,7 +52,7 @@ class Directory:
         return reply
 
     async def _say(self, line: bytes) -> bytes:
-        (reply,) = await self._talk.tell([line])
+        (reply,) = await self._talk.run([line])
         return reply
 
     async def _again(self, call: Callable[[], Awaitable[_R]]) -> _R:

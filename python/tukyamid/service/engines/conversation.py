@@ -37,7 +37,7 @@ class Talk:
     def pid(self) -> int | None:
         return None if self._process is None or self._process.returncode is not None else self._process.pid
 
-    async def tell(self, lines: Iterable[bytes]) -> list[bytes]:
+    async def run(self, lines: Iterable[bytes]) -> list[bytes]:
         """The replies to these lines, none of which may be a comment or a watch. EngineGone if the program ends."""
         replies: list[bytes] = []
         piece: list[bytes] = []
@@ -46,11 +46,11 @@ class Talk:
             piece.append(line)
             size += len(line)
             if size >= _WRITTEN_PIECE:
-                replies += await self._tell(piece)
+                replies += await self._run(piece)
                 piece, size = [], 0
-        return replies + await self._tell(piece) if piece else replies
+        return replies + await self._run(piece) if piece else replies
 
-    async def _tell(self, lines: list[bytes]) -> list[bytes]:
+    async def _run(self, lines: list[bytes]) -> list[bytes]:
         try:
             process = await self._started()
             assert process.stdin is not None and process.stdout is not None

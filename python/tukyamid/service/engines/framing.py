@@ -8,7 +8,7 @@ _LISTS = frozenset((b"keys", b"dump", b"pending", b"list", b"piece"))
 
 
 class LineCutter:
-    """Cuts octets into lines as they come. A line of too many octets is passed over, and None stands for it."""
+    """Cuts octets into lines as they come. A line of too many octets is skipped and yields None."""
 
     def __init__(self, longest: float = LONGEST_LINE) -> None:
         self._longest = longest

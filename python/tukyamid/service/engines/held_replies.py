@@ -6,7 +6,7 @@ from collections import deque
 
 from ..storage.journal import Point
 from .in_flight import Held, Sent
-from .replayed_state import Standing, Watch
+from .replayed_state import ReplayedState, Watch
 
 
 class HeldReplies:
@@ -30,7 +30,7 @@ class HeldReplies:
         while self._held and self._held[0].point.count is not None:
             _hand_on(self._held.popleft())
 
-    def take_back(self, point: Point, standing: Standing) -> list[Sent]:
+    def take_back(self, point: Point, replayed: ReplayedState) -> list[Sent]:
         """The changes behind this point are none: gives what has to be asked for once more."""
         again, held = [], self._held
         self._held = deque()
@@ -40,18 +40,18 @@ class HeldReplies:
             if one.reply == b"ok\n":
                 _hand_on(Held(point, one.sent, one.reply, None))
             else:
-                standing.take_back(one.sent.line, one.reply)
+                replayed.take_back(one.sent.line, one.reply)
                 again.append(one.sent)
-        for watch in standing.watches.values():
-            watch.told = watch.heard
+        for watch in replayed.watches.values():
+            watch.reported = watch.handed_on
         return again
 
 
 def _hand_on(held: Held) -> None:
     if held.watch is not None:
-        held.watch.heard = held.reply
+        held.watch.handed_on = held.reply
     if held.sent is not None:
         assert held.point.count is not None
         held.sent.done(held.reply, held.point.count)
     elif held.watch is not None:
-        held.watch.hear(held.reply)
+        held.watch.on_report(held.reply)

@@ -15,12 +15,12 @@ _LONGEST_WAIT = 10.0
 
 
 class _Output(asyncio.Protocol):
-    """What a program writes, handed on as it comes. A stream would have each piece wait for two turns of the loop."""
+    """What a program writes, handed on as it comes. With a stream, each piece would wait for two rounds of the loop."""
 
-    def __init__(self, take: Callable[[bytes], None], tell: Callable[[str], None]) -> None:
+    def __init__(self, take: Callable[[bytes], None], report: Callable[[str], None]) -> None:
         self.over: asyncio.Future[None] = asyncio.get_running_loop().create_future()
         self._take = take
-        self._tell = tell
+        self._report = report
         self._transport: asyncio.BaseTransport | None = None
 
     def connection_made(self, transport: asyncio.BaseTransport) -> None:
@@ -32,7 +32,7 @@ class _Output(asyncio.Protocol):
         try:
             self._take(data)
         except Exception as error:
-            self._tell(f"an engine wrote something that isn't a reply: {error!r}")
+            self._report(f"an engine wrote something that isn't a reply: {error!r}")
             self.end()
 
     def connection_lost(self, exc: Exception | None) -> None:
@@ -47,11 +47,11 @@ class _Output(asyncio.Protocol):
 
 
 class Program:
-    """`take` is called with each reply. Lines that are sent in one turn of the loop are written at once."""
+    """`take` is called with each reply. Lines that are sent in one round of the loop are written at once."""
 
-    def __init__(self, take: Callable[[bytes], None], tell: Callable[[str], None]) -> None:
+    def __init__(self, take: Callable[[bytes], None], report: Callable[[str], None]) -> None:
         self._take = take
-        self._tell = tell
+        self._report = report
         self._process: StartedProgram | None = None
         self._stdin: asyncio.StreamWriter | None = None
         self._cutter = ReplyCutter()
@@ -80,7 +80,7 @@ class Program:
     async def run(self, words: Sequence[str], lines: Iterator[bytes], behind: Callable[[], Iterable[bytes]]) -> object:
         """Starts the program, and gives its status when it has ended. It is sent these lines as it reads them, and
         then at once those that `behind` gives, from which on it is live."""
-        output = _Output(self._cut, self._tell)
+        output = _Output(self._cut, self._report)
         process = await self._start(words, output)
         assert process.stdin is not None
         if self._is_killed:
@@ -111,7 +111,7 @@ class Program:
                 await asyncio.sleep(0)  # Questions to other engines come between.
         except Exception as error:  # Who reads the program's output meets its end.
             if not isinstance(error, ConnectionError):
-                self._tell(f"an engine can't be brought up to date: {error!r}")
+                self._report(f"an engine can't be brought up to date: {error!r}")
             self.kill()
             return
         # Nothing else runs between here and the end, so no line comes between.

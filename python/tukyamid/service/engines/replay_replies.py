@@ -11,12 +11,12 @@ NO_COMMAND = b"?"  # Its reply shows that a program is there, and changes nothin
 
 
 class Feed:
-    """Passes over the replies to the lines that bring a program to where it is to stand: `count` for the keyring, then
-    those for what stands beside it, then the watches. The new program sends watch lines that the last one didn't."""
+    """Drops the replies to the lines that restore a program's state: `count` for the keyring, then those for views and
+    cursors, then the watches. The new program sends watch lines that the last one didn't."""
 
-    def __init__(self, count: int, beside: list[bytes], watches: dict[bytes, Watch]) -> None:
-        self.behind = [NO_COMMAND, *beside, *(watch.line for watch in watches.values())]
-        self.left = count + len(self.behind)
+    def __init__(self, count: int, state: list[bytes], watches: dict[bytes, Watch]) -> None:
+        self.following = [NO_COMMAND, *state, *(watch.line for watch in watches.values())]
+        self.left = count + len(self.following)
         self._of_keyring = count
         self._watches = deque(watches.items())
 
@@ -29,8 +29,8 @@ class Feed:
             return "" if is_taken else f"a line of the database was answered with {reply[:80]!r}", None
         if self.left < len(self._watches):
             name, watch = self._watches.popleft()
-            told = reply if reply.startswith(b"watch ") else b"watch %s gone\n" % name
-            return "", told if told != watch.told else None
+            reported = reply if reply.startswith(b"watch ") else b"watch %s gone\n" % name
+            return "", reported if reported != watch.reported else None
         return "", None
 
 

@@ -7,21 +7,22 @@ from collections.abc import Callable, Iterator
 
 from ..sessions.views import Views
 
-Hear = Callable[[bytes], None]
+OnReport = Callable[[bytes], None]
 
 
 class Watch:
-    """A watch of the program: its line, the last report of it, what of that was handed on, and who hears it."""
-    __slots__ = ("line", "told", "heard", "hear")
+    """A watch of the program: its line, the last line that it reported, the last one that was handed on, and who gets
+    them."""
+    __slots__ = ("line", "reported", "handed_on", "on_report")
 
-    def __init__(self, line: bytes, hear: Hear) -> None:
+    def __init__(self, line: bytes, on_report: OnReport) -> None:
         self.line = line
-        self.told = b""
-        self.heard = b""
-        self.hear = hear
+        self.reported = b""
+        self.handed_on = b""
+        self.on_report = on_report
 
 
-class Standing:
+class ReplayedState:
     def __init__(self) -> None:
         self.watches: dict[bytes, Watch] = {}
         self._views = Views()

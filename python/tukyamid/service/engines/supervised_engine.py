@@ -13,7 +13,7 @@ from .held_replies import HeldReplies
 from .in_flight import Home, Sent, answered_without, ignore
 from .program_run import Program
 from .replay_replies import NO_COMMAND, Feed, fail
-from .replayed_state import Hear, Standing, Watch
+from .replayed_state import OnReport, ReplayedState, Watch
 
 _TRIES = 3
 _PAUSES = (0.0, 0.2, 0.4, 0.8, 1.6, 2.0)
@@ -38,15 +38,15 @@ class Engine:
         self._program = program
         self._journal = journal
         self._home = home
-        self.standing = Standing()
+        self.replayed = ReplayedState()
         self._held = HeldReplies()
         self._feed: Feed | None = None
         self._running: Program | None = None
         self._closing = asyncio.Event()
         self._failures = 0
         self._blame = Blame()
-        self._stands = False
-        self._stood = self._now()
+        self._is_up = False
+        self._last_up = self._now()
         self._is_rolled_back = False
         self._task = loop.create_task(self._keep_running())
 
@@ -63,11 +63,11 @@ class Engine:
         """How long the first waiting line has waited, in seconds."""
         return self._now() - self.waiting[0].since if self.waiting else 0.0
 
-    def send_watch(self, line: bytes, done: Done, hear: Hear) -> None:
-        """Sends a line `watch NAME on ..`. `hear` is called with each watch line that follows later replies. A
+    def send_watch(self, line: bytes, done: Done, on_report: OnReport) -> None:
+        """Sends a line `watch NAME on ..`. `on_report` is called with each watch line that follows later replies. A
         line that is no command is sent before it: so watch lines behind earlier replies aren't taken for its reply."""
         self.send(NO_COMMAND, ignore, is_inner=True)
-        self.send(line, done, watch=Watch(line, hear))
+        self.send(line, done, watch=Watch(line, on_report))
 
     def send(self, line: bytes, done: Done, change: Change | None = None, watch: Watch | None = None,
              is_inner: bool = False, replies: int = 1) -> None:
@@ -104,7 +104,7 @@ class Engine:
 
     def roll_back(self, point: Point) -> None:
         """All changes behind this point are none. What rests on them is asked for once more."""
-        again = self._held.take_back(point, self.standing)
+        again = self._held.take_back(point, self.replayed)
         self.waiting = deque([*again, *(sent for sent in self.waiting if sent.change is None)])
         self.point, self.stuck = point, None
         self._blame.clear()
@@ -119,7 +119,7 @@ class Engine:
             try:
                 await self._run_once()
             except Exception as error:  # Whatever it was, another program takes its place.
-                self._home.tell(repr(error))
+                self._home.report(repr(error))
                 await asyncio.sleep(_SHORT_PAUSE)
 
     async def _run_once(self) -> None:
@@ -137,22 +137,22 @@ class Engine:
 
     async def _take_end(self, status: object) -> None:
         self._failures += 1
-        self._home.tell(f"an engine ended with status {status}; another takes its place")
+        self._home.report(f"an engine ended with status {status}; another takes its place")
         if self._failures >= _TRIES:
             self._fail(OSError(f"the engine's program ends immediately, with status {status}"))
-        if self._stands:
-            self._stood = self._now()
+        if self._is_up:
+            self._last_up = self._now()
             if self.waiting and self._blame.take_end(self.waiting[0]):
                 self._give_up(self.waiting[0])
-        elif self._now() - self._stood > _LONGEST_ABSENCE:
+        elif self._now() - self._last_up > _LONGEST_ABSENCE:
             self._answer_without()
         if self._failures > 1:
             with contextlib.suppress(TimeoutError):
                 await asyncio.wait_for(self._closing.wait(), _PAUSES[min(self._failures, len(_PAUSES)) - 1])
 
     def _answer_without(self) -> None:
-        """No program has stood for long: nobody waits any longer. What opens or closes something is still sent to the
-        next one."""
+        """No program has been up for long, so nobody waits any longer. What opens or closes something is still sent to
+        the next one."""
         self._home.refuse_changes("no engine can be started")
         waiting, self.waiting = self.waiting, deque()
         self.waiting.extend(answered_without(waiting))
@@ -163,27 +163,27 @@ class Engine:
 
     async def _run(self) -> object:
         """Runs one program to its end, and gives its status."""
-        self._stands = False
+        self._is_up = False
         while not self._journal.is_there and not self._closing.is_set():
             await asyncio.sleep(_SHORT_PAUSE)
         count, lines = self._journal.lines(self.point.place)
-        feed = self._feed = Feed(count, list(self.standing.lines()), self.standing.watches)
-        running = self._running = Program(self._take, self._home.tell)
+        feed = self._feed = Feed(count, list(self.replayed.lines()), self.replayed.watches)
+        running = self._running = Program(self._take, self._home.report)
         try:
-            return await running.run(self._program, lines, lambda: self._behind(feed))
+            return await running.run(self._program, lines, lambda: self._lines_after(feed))
         finally:
             running.kill()
 
-    def _behind(self, feed: Feed) -> list[bytes]:
+    def _lines_after(self, feed: Feed) -> list[bytes]:
         """The lines for a program that has reached the state of the last one."""
-        return [*feed.behind, *(sent.again() for sent in self.waiting if not self._blame.holds_back(sent))]
+        return [*feed.following, *(sent.again() for sent in self.waiting if not self._blame.holds_back(sent))]
 
     def _take(self, reply: bytes) -> None:
         if self._feed is not None:
             self._take_fed(self._feed, reply)
             return
         if reply.startswith(b"watch ") and not (self.waiting and self.waiting[0].watch):
-            self._take_told(reply)
+            self._take_watch_line(reply)
             return
         self._failures = 0
         if (sent := self.waiting[0]).left > 1 and sent.take(reply):
@@ -196,10 +196,10 @@ class Engine:
             sent.done(reply, 0)
             return
         if reply.startswith(b"watch ") and sent.watch is not None:
-            sent.watch.told = reply
-            self.standing.watches[reply.split(b" ")[1]] = sent.watch
+            sent.watch.reported = reply
+            self.replayed.watches[reply.split(b" ")[1]] = sent.watch
         else:
-            self.standing.take(sent.line, reply)
+            self.replayed.take(sent.line, reply)
         if sent.is_inner:
             sent.done(reply, sent.replies - 1)
         else:
@@ -208,27 +208,27 @@ class Engine:
     def _take_fed(self, feed: Feed, reply: bytes) -> None:
         if not self.has_begun.done():
             self.has_begun.set_result(None)
-        fault, told = feed.take(reply)
+        fault, reported = feed.take(reply)
         if fault:
             self._fail(ValueError(fault))
-        if told is not None:
-            self._take_told(told)
+        if reported is not None:
+            self._take_watch_line(reported)
         if not feed.left:
-            self._feed, self._stands = None, True
+            self._feed, self._is_up = None, True
             if not self.ready.done():
                 self.ready.set_result(None)
 
-    def _take_told(self, reply: bytes) -> None:
+    def _take_watch_line(self, reply: bytes) -> None:
         """A watch line, after the reply to anybody's line."""
         name = reply.split(b" ")[1]
-        watch = self.standing.watches[name]
+        watch = self.replayed.watches[name]
         if reply.endswith(b" gone\n"):
-            del self.standing.watches[name]
-        watch.told = reply
+            del self.replayed.watches[name]
+        watch.reported = reply
         self._held.add(self.point, None, reply, watch)
 
     def _fail(self, error: Exception) -> None:
-        """The first program never came to stand; whoever waits for that gets this error."""
+        """The first program never came up; whoever waits for that gets this error."""
         fail(error, self.has_begun, self.ready)
 
     def _send_others(self) -> None:

@@ -53,7 +53,7 @@ def piece_at(number: int, size: int, place: int, certificates: int = _CERTIFICAT
             return Piece(text, size)
         if walk.last:
             return Piece(text[:walk.last], place + walk.last)
-    return _passed_over(number, size, place)
+    return _skipped(number, size, place)
 
 
 def begins_certificate(number: int, place: int) -> bool:
@@ -111,7 +111,7 @@ def _new_end(text: bytes, place: int) -> int:
     raise _CutShort
 
 
-def _passed_over(number: int, size: int, place: int) -> Piece:
+def _skipped(number: int, size: int, place: int) -> Piece:
     """A certificate that is too long for any line, or ends with the file. What can't be a packet ends the file."""
     at, why = place, "a certificate that is too long for a line; left out"
     while at < size:

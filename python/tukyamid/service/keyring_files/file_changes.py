@@ -21,20 +21,20 @@ class FileChanges:
     def __init__(self) -> None:
         self._stamps: dict[str, Stamp | None] = {}
         self._notices = Notices()
-        self._heard: set[str] = set()
+        self._noticed: set[str] = set()
         self._all_at = 0.0
         self._pause = _PAUSE
 
     async def changed(self, names: Collection[str], faulty: Collection[str]) -> list[str]:
         """Which of these keyrings are to be read. Those that were `faulty` are read again now and then."""
         loop = asyncio.get_running_loop()
-        begun, heard = loop.time(), self._heard
-        self._heard = set()
+        begun, noticed = loop.time(), self._noticed
+        self._noticed = set()
         if begun >= self._all_at:
-            heard, self._all_at = set(names), begun + _SECONDS_OF_NOTICES
+            noticed, self._all_at = set(names), begun + _SECONDS_OF_NOTICES
             for name in faulty:
                 self._stamps.pop(name, None)
-        due = [name for name in names if name in heard or not self._notices.is_watched(name)]
+        due = [name for name in names if name in noticed or not self._notices.is_watched(name)]
         for name, folders in zip(due, await asyncio.to_thread(lambda: list(map(_folders, due)))):
             self._notices.watch(name, folders)
         stamps = await asyncio.to_thread(lambda: list(map(_stamp, due)))
@@ -47,13 +47,13 @@ class FileChanges:
         meanwhile."""
         seconds = _SECONDS_OF_NOTICES if is_at_rest and self._stamps and all(
             map(self._notices.is_watched, self._stamps)) else self._pause
-        self._heard |= await self._notices.wait(seconds)
+        self._noticed |= await self._notices.wait(seconds)
 
     def note_read(self, name: str, stamp: Stamp | None) -> None:
         """A keyring was read, and had this stamp before that."""
         self._stamps[name] = stamp
         if not self._notices.is_watched(name):
-            self._notices.hear(name)
+            self._notices.notice(name)
 
     async def note_unreadable(self, name: str) -> None:
         """A keyring couldn't be read: it is read again when its files change, and now and then."""

@@ -45,7 +45,7 @@ class Notices:
     """Notices about keyrings, by their names. Without the kernel's help none come, and `watch` returns False."""
 
     def __init__(self) -> None:
-        self._heard: set[str] = set()
+        self._noticed: set[str] = set()
         self._event = asyncio.Event()
         self._kernel: tuple[_Kernel, int, int] | None = None
         self._number = -1
@@ -89,12 +89,12 @@ class Notices:
         except asyncio.TimeoutError:
             pass
         self._event.clear()
-        heard, self._heard = self._heard, set()
-        return heard
+        noticed, self._noticed = self._noticed, set()
+        return noticed
 
-    def hear(self, name: str) -> None:
+    def notice(self, name: str) -> None:
         """A keyring is to be looked at."""
-        self._heard.add(name)
+        self._noticed.add(name)
         self._event.set()
 
     def close(self) -> None:
@@ -126,18 +126,19 @@ class Notices:
         loop.call_later(_PAUSE, self._read_on)
 
     def _read_on(self) -> None:
-        if self._heard:
+        if self._noticed:
             self._event.set()
         if self._number >= 0:
             asyncio.get_running_loop().add_reader(self._number, self._read)
 
     def _take(self, number: int, mask: int, file: bytes) -> None:
         if number < 0:  # More came than the kernel keeps: anything may have changed.
-            self._heard.update(self._folders)
+            self._noticed.update(self._folders)
             return
         of = self._watched.get(number, {})
         is_gone = self._kernel is not None and bool(mask & self._kernel[2])
-        self._heard.update(name for name, names in of.items() if is_gone or names is None or not file or file in names)
+        self._noticed.update(name for name, names in of.items()
+                             if is_gone or names is None or not file or file in names)
         if is_gone:
             for name in list(of):
                 self._watched.pop(number, None)

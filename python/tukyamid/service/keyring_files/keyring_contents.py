@@ -1,5 +1,5 @@
 """The sources of watched keyrings: a file, a certificate directory, or the user's gpg. Each is read here once, and the
-verifier gets what was read: what stands in a file's place by then may be anything."""
+verifier gets what was read: by then the file may be any other one."""
 
 from __future__ import annotations
 

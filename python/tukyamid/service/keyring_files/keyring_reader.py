@@ -16,7 +16,7 @@ from .watched_files import Unreadable
 
 # Nothing is verified meanwhile: half a gigabyte takes some seconds.
 _SECONDS = 300
-_MOST_TOLD = 1 << 16
+_MOST_ERRORS = 1 << 16
 _UNREADABLE = 3
 _TEXT = "keyring"  # No name in a certificate directory.
 
@@ -25,7 +25,7 @@ Files = Sequence[tuple[str, bytes]]
 
 @dataclass(frozen=True)
 class Certificates:
-    """Each with its packets as they stand, and what was left out."""
+    """Each with its packets unchanged, and what was left out."""
     octets: tuple[bytes, ...]
     left_out: tuple[str, ...]
 
@@ -33,19 +33,19 @@ class Certificates:
 async def read_certificates(verifier: Sequence[str], name: str, files: Files) -> Certificates:
     """Has the verifier read these files of a keyring. Unreadable if nothing can be read; NotVerified if the verifier
     isn't there or fails."""
-    with tempfile.TemporaryFile() as told, tempfile.TemporaryDirectory(prefix="tukyamid-") as folder:
+    with tempfile.TemporaryFile() as errors, tempfile.TemporaryDirectory(prefix="tukyamid-") as folder:
         text = os.path.join(folder, _TEXT)
         await asyncio.to_thread(_copy, files, folder, text)
         is_text = os.path.exists(text)
         words = [*verifier, "--public", "--certificates", "--", "-" if is_text else folder]
         try:
             async with asyncio.timeout(_SECONDS):
-                octets, status = await _run(words, text if is_text else os.devnull, told.fileno())
+                octets, status = await _run(words, text if is_text else os.devnull, errors.fileno())
         except TimeoutError:
             raise Unreadable(f"{name}: the verifier didn't read it within {_SECONDS} seconds") from None
-        told.seek(0)
+        errors.seek(0)
         said = [_without_front(line, name, "-:" if is_text else folder)
-                for line in told.read(_MOST_TOLD).decode("utf-8", "replace").splitlines()]
+                for line in errors.read(_MOST_ERRORS).decode("utf-8", "replace").splitlines()]
     if status not in (0, 1, _UNREADABLE):
         raise NotVerified(f"the verifier failed: {said[-1] if said else f'it ended with status {status}'}")
     left_out = tuple(line for line in said if line.endswith("left out"))
@@ -63,11 +63,11 @@ def _copy(files: Files, folder: str, text: str) -> None:
             copy.write(octets)
 
 
-async def _run(words: Sequence[str], given: str, told: int) -> tuple[tuple[bytes, ...], int]:
+async def _run(words: Sequence[str], given: str, errors: int) -> tuple[tuple[bytes, ...], int]:
     """The certificates that the verifier writes, and its exit status. Its standard input is a file."""
     with open(given, "rb") as stdin:
         try:
-            process = await start_program(words, stdin=stdin, stderr=told, limit=PIECE)
+            process = await start_program(words, stdin=stdin, stderr=errors, limit=PIECE)
         except OSError as error:
             raise NotVerified(f"the verifier can't be started: {error}") from None
     assert process.stdout is not None

@@ -2,7 +2,7 @@
 
 from __future__ import annotations
 
-from ..line_intake import Desk
+from ..line_intake import LineIntake
 from ..storage.database import Source
 from ..storage.last_known import LastKnown
 
@@ -12,7 +12,7 @@ LEFT_OVER = ""  # Signatures that wait, though the keyring that they came with i
 class Records:
     """`known` is what was recorded when it was last asked for."""
 
-    def __init__(self, hub: Desk) -> None:
+    def __init__(self, hub: LineIntake) -> None:
         self._hub = hub
         self.known: list[Source] = []
         self._in_database = LastKnown(lambda: hub.is_away, lambda: hub.find(lambda finder: finder.sources()))

@@ -11,7 +11,7 @@ import asyncio
 from collections.abc import Callable, Sequence
 from dataclasses import dataclass, replace
 
-from ..line_intake import Desk
+from ..line_intake import LineIntake
 from ..storage.database import UNVERIFIED, Actor, DatabaseFault, Source
 from .fault_texts import fault_of, is_text, line_of, why_of
 from .file_changes import FileChanges
@@ -37,7 +37,7 @@ class Contents:
 class Keyrings:
     """Reads one keyring at a time. `verifier` returns the words that start the verifier."""
 
-    def __init__(self, hub: Desk, verifier: Callable[[], Sequence[str]]) -> None:
+    def __init__(self, hub: LineIntake, verifier: Callable[[], Sequence[str]]) -> None:
         self._hub = hub
         self._verification = Verification(hub, verifier)
         self._lock = asyncio.Lock()
@@ -81,7 +81,7 @@ class Keyrings:
             while rest is not None:
                 if rest.verdicts < WORTH_A_GO:
                     raise rest
-                async with self._lock:  # Others have had their turn.
+                async with self._lock:  # Other lines were answered meanwhile.
                     more, rest = await self._rounds.go(actor, say)
                 verdicts += more
         except Unreadable as error:
@@ -114,7 +114,7 @@ class Keyrings:
             except Exception as error:  # Whatever it was, the keyrings are looked after again.
                 said = str(error) if isinstance(error, (DatabaseFault, OSError)) else repr(error)
                 if said != told:
-                    self._hub.tell(said)
+                    self._hub.report(said)
                 told = said
             await self._files.wait(all(one.is_verified for one in self._records.known))
 
@@ -187,14 +187,14 @@ class Keyrings:
                 self._files.note_read(name, stamp)
         except NotVerified as error:
             if source.fault != str(error):
-                self._hub.tell(str(error))
+                self._hub.report(str(error))
         except Unreadable as error:
             if await self._records.of(name) is None:
                 return  # It isn't watched any more.
             self._partly.discard(name)
             await self._files.note_unreadable(name)
             if source.fault != str(error):
-                self._hub.tell(str(error))
+                self._hub.report(str(error))
                 await self._records.put(replace(source, fault=str(error)))
             if not source.is_verified:
                 self._rounds.imported[name] = replace(source, digest=SEEN, fault=str(error))

@@ -12,7 +12,7 @@ from contextlib import aclosing
 from dataclasses import dataclass, replace
 from typing import TYPE_CHECKING
 
-from ..line_intake import Desk
+from ..line_intake import LineIntake
 from ..storage.database import Actor
 from ..storage.loaded_files import Loaded
 from .certificate_cuts import begins_certificate, piece_at
@@ -127,7 +127,7 @@ class LargeFile:
 class Load:
     """One large keyring while it is loaded."""
 
-    def __init__(self, hub: Desk, name: str, verifier: Sequence[str]) -> None:
+    def __init__(self, hub: LineIntake, name: str, verifier: Sequence[str]) -> None:
         self._hub = hub
         self._name = name
         self._verifier = verifier

@@ -1,4 +1,4 @@
-"""Loads large keyrings part by part. Between two parts others have their turn."""
+"""Loads large keyrings part by part. Other lines are answered between two parts."""
 
 from __future__ import annotations
 
@@ -7,7 +7,7 @@ from collections.abc import Callable
 from contextlib import aclosing
 from dataclasses import replace
 
-from ..line_intake import Desk
+from ..line_intake import LineIntake
 from ..storage.database import UNVERIFIED, Actor, Source
 from .fault_texts import fault_of
 from .file_changes import FileChanges
@@ -20,15 +20,15 @@ from .watched_files import Unreadable
 
 
 class LargeUpdates:
-    """`lock` is held while anything is made of a keyring. `tell` is called with how far a load is."""
+    """`lock` is held while anything is made of a keyring. `report` is called with how far a load is."""
 
-    def __init__(self, hub: Desk, records: Records, verification: Verification, lock: asyncio.Lock,
-                 tell: Callable[[str], None]) -> None:
+    def __init__(self, hub: LineIntake, records: Records, verification: Verification, lock: asyncio.Lock,
+                 report: Callable[[str], None]) -> None:
         self._hub = hub
         self._records = records
         self._verification = verification
         self._lock = lock
-        self._tell = tell
+        self._report = report
         self._loads: dict[str, asyncio.Lock] = {}
 
     def is_loading(self, name: str | None = None) -> bool:
@@ -79,6 +79,6 @@ class LargeUpdates:
 
     async def _put(self, source: Source, share: float) -> None:
         why = f"{100 * share:.0f} % is loaded, and then all is verified"
-        self._tell(why)
+        self._report(why)
         self._verification.left = (await self._hub.find(lambda finder: finder.figures())).pending
         await self._records.put(replace(source, digest=UNVERIFIED, fault=why))

@@ -7,7 +7,7 @@ from collections.abc import Sequence
 
 from tukyamid.openpgp.packets import KEY, packet, packets
 
-from ..line_intake import Desk
+from ..line_intake import LineIntake
 from ..storage.unlooked import Unlooked
 
 _MOST_KEPT = 20_000
@@ -16,7 +16,7 @@ _MOST_KEPT = 20_000
 class NamedKeys:
     """Keeps those that were named last: few keys certify much."""
 
-    def __init__(self, hub: Desk) -> None:
+    def __init__(self, hub: LineIntake) -> None:
         self._hub = hub
         self._kept: dict[bytes, bytes] = {}  # By its ID, the packets of each kept key that has this ID.
 

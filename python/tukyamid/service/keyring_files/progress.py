@@ -8,7 +8,7 @@ from collections.abc import AsyncGenerator, Callable, Iterable, Iterator, Sequen
 from functools import partial
 from typing import TypeVar
 
-from ..line_intake import Desk
+from ..line_intake import LineIntake
 from ..storage.database import Actor, DatabaseFault
 
 _AHEAD = 64
@@ -54,13 +54,13 @@ def _spelled(seconds: float) -> str:
     return f"{seconds / 60:.0f} min" if seconds < 6000 else f"{seconds / 3600:.1f} h"
 
 
-async def make_changes(hub: Desk, lines: Iterable[bytes], actor: Actor, progress: Progress | None = None) -> int:
+async def make_changes(hub: LineIntake, lines: Iterable[bytes], actor: Actor, progress: Progress | None = None) -> int:
     """Has these changes made, some of them ahead of their replies; returns the number of refused ones. DatabaseFault if
     the database couldn't take some of them."""
     return len(await _refused(hub, ((line, 1) for line in lines), actor, progress))
 
 
-async def make_imports(hub: Desk, certificates: Sequence[bytes], actor: Actor, progress: Progress) -> int:
+async def make_imports(hub: LineIntake, certificates: Sequence[bytes], actor: Actor, progress: Progress) -> int:
     """Has certificates imported, several with each line; returns the number of refused ones. Those of a line that is
     refused are imported one by one."""
     groups = list(_grouped(certificates))
@@ -86,7 +86,7 @@ def _grouped(certificates: Iterable[bytes]) -> Iterator[list[bytes]]:
         yield group
 
 
-async def _refused(hub: Desk, lines: Iterable[tuple[bytes, int]], actor: Actor,
+async def _refused(hub: LineIntake, lines: Iterable[tuple[bytes, int]], actor: Actor,
                    progress: Progress | None) -> list[int]:
     """Has these changes made, each of which advances the progress; returns the places of the refused ones."""
     room, refused, failed = asyncio.Semaphore(_AHEAD), list[int](), 0

@@ -10,7 +10,7 @@ from itertools import islice
 
 from tukyamid.keyrings.verifier import VerifierFailed
 
-from ..line_intake import Desk
+from ..line_intake import LineIntake
 from ..storage.certificate_rows import keys_of
 from ..storage.database import Actor
 from ..storage.unlooked import Looked, Unlooked
@@ -18,7 +18,7 @@ from .progress import Progress, Say, make_changes, one_ahead
 from .verifier_program import NotVerified
 from .verified_parts import Verified, VerifiedParts
 
-# How many certificates' verdicts are made at once: meanwhile nobody else has a turn.
+# How many certificates' verdicts are set at once: all other lines wait meanwhile.
 _AT_ONCE = 200
 
 
@@ -34,7 +34,7 @@ class Verification:
     """`verifier` returns the words that start the verifier. `left` is how many signatures wait for it, None if that
     isn't known."""
 
-    def __init__(self, hub: Desk, verifier: Callable[[], Sequence[str]]) -> None:
+    def __init__(self, hub: LineIntake, verifier: Callable[[], Sequence[str]]) -> None:
         self._hub = hub
         self._verifier = verifier
         self._parts = VerifiedParts(hub)
@@ -55,7 +55,7 @@ class Verification:
 
     async def run(self, actor: Actor, say: Say) -> int:
         """Verifies what waits, with all certificates' keys, for one go. Returns how many verdicts are new."""
-        # Also without a verifier, since people hear how many wait for it.
+        # Also without a verifier, since the number that wait for it is reported.
         self.left = await self._hub.search(lambda finder: finder.count_unlooked())
         return await self._go(self.program()[:-2], actor, Progress(say, "signatures", self.left))
 
@@ -66,7 +66,7 @@ class Verification:
             async for verified in parts:
                 await self._make(verified, actor)
                 count += len(verified.verdicts)
-                self.left = max(0, (self.left or 0) - verified.settled)
+                self.left = max(0, (self.left or 0) - verified.done)
         if self._parts.has_left:
             raise OutOfTime(count, self.left or 0)
         return count
@@ -82,8 +82,8 @@ class Verification:
         for some in _in_groups(verified.part):
             verdicts = [(number, verified.verdicts[number]) for one in some for number in one.numbers
                         if number in verified.verdicts]
-            await self._hub.judge(verdicts, _looked(verified, some),
-                                  [bytes.fromhex(keys_of(one.octets)[0]) for one in some], actor)
+            await self._hub.set_verdicts(verdicts, _looked(verified, some),
+                                         [bytes.fromhex(keys_of(one.octets)[0]) for one in some], actor)
 
 
 def _looked(verified: Verified, some: Sequence[Unlooked]) -> list[Looked]:

@@ -5,7 +5,7 @@ from __future__ import annotations
 import os
 from dataclasses import replace
 
-from ..line_intake import Desk
+from ..line_intake import LineIntake
 from ..storage.database import Actor, Source
 from .fault_texts import why_of
 from .keyring_records import LEFT_OVER, Records
@@ -24,7 +24,7 @@ class Rounds:
     """`imported` is what was imported as a whole and waits to be verified: each keyring as it is recorded then. `why`
     says why it waits."""
 
-    def __init__(self, hub: Desk, records: Records, verification: Verification) -> None:
+    def __init__(self, hub: LineIntake, records: Records, verification: Verification) -> None:
         self._hub = hub
         self._records = records
         self._verification = verification
@@ -56,7 +56,7 @@ class Rounds:
             await self._verify(itself(), lambda text: None)
         except (NotVerified, OSError) as error:
             if why_of(error) != before:
-                self._hub.tell(why_of(error))
+                self._hub.report(why_of(error))
 
     async def _verify(self, actor: Actor, say: Say) -> int:
         """Verifies what waits, and records for each keyring that this is done, or why it isn't."""

@@ -9,15 +9,15 @@ from collections.abc import AsyncGenerator, Iterable, Iterator, Sequence, Set
 from contextlib import aclosing
 from dataclasses import dataclass
 
-from ..line_intake import Desk
+from ..line_intake import LineIntake
 from ..storage.unlooked import Unlooked
 from .named_keys import NamedKeys
 from .progress import Progress
-from .verifier_program import LATE, Judging
+from .verifier_program import LATE, VerifierRun
 
 # What is verified at a time: certificates, and their octets.
 _MOST_CERTIFICATES, _MOST_OCTETS = 2000, 8 << 20
-# How long it is verified until others have their turn.
+# For how many seconds it verifies before other lines are answered.
 _SECONDS = 60
 
 
@@ -32,7 +32,7 @@ class Verified:
     late: Set[int]
 
     @property
-    def settled(self) -> int:
+    def done(self) -> int:
         """How many signatures wait no longer."""
         return sum(number in self.verdicts or one.place not in self.late for one in self.part
                    for number in one.numbers)
@@ -41,7 +41,7 @@ class Verified:
 class VerifiedParts:
     """`has_left` is whether the last go has left something."""
 
-    def __init__(self, hub: Desk) -> None:
+    def __init__(self, hub: LineIntake) -> None:
         self._hub = hub
         self._keys = NamedKeys(hub)
         self._slow: set[int] = set()  # Certificates whose signatures take long.
@@ -82,15 +82,15 @@ class VerifiedParts:
         keys, absent = await self._keys.named_by(part)
         with _written(one.octets for one in part) as given, _written(keys) as others:
             behind = ["--with", others] if keys else []  # The verifier would report an empty file.
-            judging = Judging([*words, "--seconds", str(max(1, int(seconds))), *behind, "--pending", "--", given],
+            run = VerifierRun([*words, "--seconds", str(max(1, int(seconds))), *behind, "--pending", "--", given],
                               _questions(part))
-            async with aclosing(judging.lines()) as said:
+            async with aclosing(run.lines()) as said:
                 async for lines in said:
                     verdicts.update(map(_verdict_of, lines))
                     progress.advance(len(lines))
-        late = {one.place for one in part if judging.status == LATE and not verdicts.keys() >= {*one.numbers}}
+        late = {one.place for one in part if run.status == LATE and not verdicts.keys() >= {*one.numbers}}
         verified = Verified(part, verdicts, absent, late)
-        progress.advance(verified.settled - len(verdicts))
+        progress.advance(verified.done - len(verdicts))
         return verified
 
 

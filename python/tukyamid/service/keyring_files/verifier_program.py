@@ -16,7 +16,7 @@ class NotVerified(Exception):
     """The verifier isn't there, or has failed; the text says why."""
 
 
-class Judging:
+class VerifierRun:
     """The verifier at work on some questions. `status` is its exit status when its lines are over."""
 
     def __init__(self, words: Sequence[str], questions: bytes) -> None:

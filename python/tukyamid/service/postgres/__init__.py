@@ -1,7 +1,8 @@
 """The database in PostgreSQL, which services on several machines share.
 
-`postgres_database` writes to it in turns, by `postgres_table_changes`. `postgres_reads` reads it, and `notifications`
-hears what other services change. `postgres_connection` finds the primary, and `postgres_schema` makes the tables.
+`postgres_database` locks it and writes to it, by `postgres_table_changes`. `postgres_reads` reads it, and
+`notifications` is notified of what other services change. `postgres_connection` finds the primary, and
+`postgres_schema` makes the tables.
 """
 
 from .postgres_database import Postgres

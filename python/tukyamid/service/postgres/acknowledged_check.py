@@ -31,7 +31,7 @@ class Guard:
         self._name = name
         self._ledger = ledger
         self._last = ledger.last if ledger is not None else None
-        self._told: dict[Place, str] = {}
+        self._reported: dict[Place, str] = {}
         self._changing = threading.Lock()
 
     @property
@@ -82,9 +82,9 @@ class Guard:
             return
         if connection.info.parameter_status("in_hot_standby") == "on":
             raise DatabaseFault(f"{self._name}: the standby lacks changes that this service has acknowledged")
-        if last not in self._told:
-            self._told = {last: self._text(connection, last)}
-        raise Lacking(f"{self._name} lacks {self._told[last]}")
+        if last not in self._reported:
+            self._reported = {last: self._text(connection, last)}
+        raise Lacking(f"{self._name} lacks {self._reported[last]}")
 
     def _text(self, connection: "psycopg.Connection[tuple[object, ...]]", last: Place) -> str:
         """What is lacking, and in which file it is."""

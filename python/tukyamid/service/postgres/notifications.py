@@ -7,7 +7,7 @@ from time import monotonic
 from typing import TYPE_CHECKING
 
 from ..storage.database import DatabaseFault
-from ..storage.shared_database import Heard, Place
+from ..storage.shared_database import Notified, Place
 from .postgres_connection import Connected, Wire, faults
 from .postgres_statements import Statements
 
@@ -26,8 +26,8 @@ _END = "SELECT pg_terminate_backend(pid) FROM pg_stat_activity WHERE pid = ? AND
 
 class PostgresFollower(Connected):
     """Listens at the primary. Twice a second it has something confirmed that changes nothing. A primary that is cut off
-    can't have that done, since its standby doesn't hear it: so the service knows for how long it may have missed what
-    others acknowledge elsewhere. Without a synchronous standby that isn't known."""
+    can't have that done, since its standby doesn't receive it: so the service knows for how long it may have missed
+    what others acknowledge elsewhere. Without a synchronous standby that isn't known."""
 
     def __init__(self, database: Postgres) -> None:
         super().__init__(database.servers)
@@ -35,7 +35,7 @@ class PostgresFollower(Connected):
         self._backend: tuple[object, ...] = (0, None)
 
     @faults
-    def wait(self) -> Heard:
+    def wait(self) -> Notified:
         if self._wire is None:
             self._wire = self._connect()
         else:
@@ -50,8 +50,8 @@ class PostgresFollower(Connected):
             raise DatabaseFault(f"{self.name}: {self._wire.warned}")
         if standby and place.number and place == self._database.place:
             self._database.servers.guard.reached(place, last)
-        self._database.heard = monotonic()
-        return Heard(place, begun, standby)
+        self._database.last_contact = monotonic()
+        return Notified(place, begun, standby)
 
     def _connect(self) -> Wire:
         """A connection, and the end of the one before, which may still wait for a standby at the same server."""

@@ -1,4 +1,4 @@
-"""Writing to the database that several services share, each in its turn."""
+"""Writing to the database that several services share. Each locks it first."""
 
 import socket
 from collections.abc import Iterable, Sequence
@@ -28,7 +28,8 @@ from .postgres_table_changes import SharedWriting
 from .sqlite_copy import write_copy
 
 # Nobody else makes a change meanwhile. The first bound runs from each answer of the server's until the next message is
-# there as a whole. So a turn's statements are one message each: after a part of a statement nothing would bound it.
+# there as a whole. So each statement under the lock is one message: nothing would bound the wait after a part of a
+# statement.
 _BEGIN = b"BEGIN; SET LOCAL idle_in_transaction_session_timeout = '2s'; SET LOCAL tcp_user_timeout = '2s'"
 
 
@@ -39,7 +40,7 @@ class Postgres:
         """DatabaseFault if no server can be reached, or the database can't be used. A service has a folder for its
         state."""
         self.place = UNREAD
-        self.heard = float("-inf")  # When the primary was last heard of.
+        self.last_contact = float("-inf")  # When the primary was last heard of.
         self.servers = Servers(url, state)
         self._machine = socket.gethostname()
         self._wire: Wire | None = None
@@ -98,37 +99,37 @@ class Postgres:
             wire.cut()
 
     def _begin(self) -> tuple[Statements, Place]:
-        """Begins a turn. The server ends it if this service is silent, or reads nothing, for two seconds."""
+        """Locks the database. The server ends the lock if this service is silent, or reads nothing, for two seconds."""
         statements = Statements(self._primary().connection)
         statements.connection.execute(_BEGIN)
         return statements, Place(*statements.row(f"{PLACE} FOR UPDATE"))
 
     @faults
-    def take_turn(self) -> News:
+    def lock_for_news(self) -> News:
         statements, place = self._begin()
         return self._read(statements, place, has_snapshot=False)
 
     @faults
     def lock(self) -> None:
-        """Begins a turn of a service that reads by itself what others have changed."""
+        """Locks the database for a service that reads by itself what others have changed."""
         self._begin()
 
-    def _turn(self) -> "psycopg.Connection[Any] | None":
-        """The connection, if it has a turn."""
+    def _locked(self) -> "psycopg.Connection[Any] | None":
+        """The connection, if it holds the lock."""
         connection = self._wire.connection if self._wire is not None else None
-        has_turn = connection is not None and connection.info.transaction_status == TransactionStatus.INTRANS
-        return connection if has_turn else None
+        is_locked = connection is not None and connection.info.transaction_status == TransactionStatus.INTRANS
+        return connection if is_locked else None
 
     @faults
-    def prolong_turn(self) -> bool:
+    def keep_locked(self) -> bool:
         """Says something, so that the server sees that this service is still at work."""
-        turn = self._turn()
-        if turn is not None:
-            turn.execute("SELECT")
-        return turn is not None
+        locked = self._locked()
+        if locked is not None:
+            locked.execute("SELECT")
+        return locked is not None
 
     @faults
-    def end_turn(self) -> None:
+    def unlock(self) -> None:
         if self._wire is not None and self._wire.connection.info.transaction_status != TransactionStatus.IDLE:
             self._wire.connection.execute("ROLLBACK")
 
@@ -157,10 +158,10 @@ class Postgres:
 
     @faults
     def apply(self, changes: Sequence[Change]) -> list[int]:
-        turn = self._turn()
-        if turn is None:
+        locked = self._locked()
+        if locked is None:
             raise DatabaseFault(f"{self.name}: the turn is over")
-        statements = Statements(turn)
+        statements = Statements(locked)
         writing, now = SharedWriting(statements, self._machine), int(statements.row(NOW)[0])
         numbers = [writing.make(change, now) for change in changes]
         writing.count()
@@ -169,7 +170,7 @@ class Postgres:
 
     def _commit(self, writing: SharedWriting) -> None:
         assert self._wire is not None
-        writing.tell()
+        writing.report()
         self._wire.warned = ""
         try:
             self._wire.connection.execute("COMMIT")
@@ -177,7 +178,7 @@ class Postgres:
             if self._wire.connection.closed:
                 raise Uncertain(f"{self.name}: {text_of(error)}") from None
             raise
-        if self._wire.warned:  # That is how a server says that it hasn't heard from its standby.
+        if self._wire.warned:  # A server warns so if its standby hasn't confirmed anything.
             raise Uncertain(f"{self.name}: {self._wire.warned}")
         self.place = writing.place or self.place
         self.servers.guard.kept(writing.lines)
@@ -185,7 +186,7 @@ class Postgres:
     @faults
     def probe(self) -> None:
         self._begin()
-        self.end_turn()
+        self.unlock()
 
     @faults
     def fill(self, lines: Iterable[bytes], what: str, actor: Actor) -> int:
@@ -229,7 +230,7 @@ class Postgres:
         self._beside.drop_loaded(name)
 
     def put_looked(self, looked: Sequence[Looked]) -> None:
-        """Waits for a turn, maybe this service's own: so the thread that writes doesn't call this."""
+        """Waits for the lock, which this service itself may hold: so the thread that writes doesn't call this."""
         self._looking.put_looked(looked)
 
     @faults

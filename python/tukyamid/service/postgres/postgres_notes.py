@@ -1,5 +1,5 @@
 """What a service notes in the shared database beside the changes of the keyring. It has connections to itself, since a
-turn may be under way on the other one."""
+lock may be held on the other one."""
 
 import contextlib
 import dataclasses
@@ -13,7 +13,7 @@ from .notifications import PLACE
 from .postgres_connection import Connected, Servers, faults
 from .postgres_statements import Statements
 
-# As in a turn: a service that is silent or reads nothing doesn't hold others up.
+# As under the lock: a service that is silent or reads nothing doesn't hold others up.
 _BOUNDED = b"SET LOCAL idle_in_transaction_session_timeout = '2s'; SET LOCAL tcp_user_timeout = '2s'"
 NOW = "SELECT extract(epoch FROM clock_timestamp())::BIGINT"
 
@@ -65,7 +65,7 @@ class PostgresNotes(Connected):
 
     @faults
     def put_looked(self, looked: Sequence[Looked]) -> None:
-        """Waits for the turns of others: a key that comes meanwhile would otherwise wake nothing."""
+        """Waits until others have unlocked: otherwise a key that comes meanwhile would wake nothing."""
         with self._statements() as statements, statements.connection.transaction():
             statements.connection.execute(_BOUNDED)
             statements.row(f"{PLACE} FOR UPDATE")

@@ -16,7 +16,7 @@ from .postgres_reads import PostgresSnapshot
 from .postgres_statements import Statements
 
 _INDEX = re.compile(r"INDEXED BY \w+")
-# Few rows are looked up, each by an index. The transaction stands open between questions.
+# Few rows are looked up, each by an index. The transaction stays open between questions.
 _SETTINGS = ("SET enable_seqscan = off; SET enable_hashjoin = off; SET enable_mergejoin = off; SET jit = off; "
              "SET idle_in_transaction_session_timeout = 0")
 _BEGIN = "BEGIN ISOLATION LEVEL REPEATABLE READ READ ONLY"

@@ -43,7 +43,7 @@ class PostgresSnapshot(SnapshotInFile):
 class PostgresFinder(Connected):
     """Looks up what has been committed by now: on the primary, or on a standby while there is no primary. A server that
     lacks what this service has read is not asked. While no server answers, finding that out takes seconds: so what is
-    sought shortly after that fails at once, unless the primary was heard of meanwhile, and nobody waits for the
+    sought shortly after that fails at once, unless the primary has answered meanwhile, and nobody waits for the
     failures of others."""
 
     def __init__(self, database: "Postgres", servers: Servers, machine: str) -> None:
@@ -62,7 +62,7 @@ class PostgresFinder(Connected):
 
     def _rows(self, query: str, *values: object) -> list[tuple[Any, ...]]:
         now = monotonic()
-        if now < self._failed + _PAUSE and self._tried > self._database.heard:
+        if now < self._failed + _PAUSE and self._tried > self._database.last_contact:
             raise DatabaseFault(self._why)
         try:
             return self._asked(query, *values)

@@ -12,8 +12,8 @@ _MOST_OCTETS = 1 << 16  # Of several statements in one message.
 
 
 class Statements:
-    """Does statements of both databases: `?` stands for a value. Text is kept as its octets, since PostgreSQL has no
-    text with a zero in it."""
+    """Does statements of both databases: `?` is the place of a value. Text is kept as its octets, since PostgreSQL has
+    no text with a zero in it."""
 
     def __init__(self, connection: "psycopg.Connection[Any]") -> None:
         self.connection = connection

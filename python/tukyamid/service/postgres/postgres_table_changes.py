@@ -14,7 +14,7 @@ _LONG = 1 << 16
 
 
 class SharedWriting(Writing):
-    """Changes within one turn. The lines of the last ones are kept for the other services, fewer if they are long."""
+    """Changes under one lock. The lines of the last ones are kept for the other services, fewer if they are long."""
 
     def __init__(self, statements: Statements, machine: str) -> None:
         super().__init__(statements)
@@ -32,8 +32,8 @@ class SharedWriting(Writing):
                               self.place.mark))
         self.lines.append((*row_of(self.place), change.line or None))
 
-    def tell(self) -> None:
-        """Logs the changes, and has the other services hear of them once they are committed."""
+    def report(self) -> None:
+        """Logs the changes, and notifies the other services of them once they are committed."""
         if self.place is not None:
             self._statements.executemany("INSERT INTO changes VALUES (?, ?, ?, ?, ?, ?, ?)", self._changes)
             self._statements.executemany("INSERT INTO lines VALUES (?, ?, ?)", self.lines)

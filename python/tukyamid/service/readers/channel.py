@@ -13,13 +13,13 @@ _AT_ONCE = 64
 
 
 class Channel:
-    """One end of a pair of sockets. `hear` gets each message with its descriptor, or -1; `ended` is called when the
+    """One end of a pair of sockets. `received` gets each message with its descriptor, or -1; `ended` is called when the
     other end is closed."""
 
-    def __init__(self, connection: socket.socket, hear: Callable[[bytes, int], None],
+    def __init__(self, connection: socket.socket, received: Callable[[bytes, int], None],
                  ended: Callable[[], None]) -> None:
         self._connection = connection
-        self._hear = hear
+        self._received = received
         self._ended = ended
         self._loop = asyncio.get_running_loop()
         self._waiting: deque[tuple[bytes, int]] = deque()
@@ -64,9 +64,9 @@ class Channel:
                 self.close()
                 self._ended()
                 return
-            self._hear(message, descriptors[0] if descriptors else -1)
+            self._received(message, descriptors[0] if descriptors else -1)
             if self._connection.fileno() < 0:
-                return  # Closed by whoever heard that.
+                return  # Closed by whoever got the message.
 
     def close(self) -> None:
         if self._connection.fileno() >= 0:

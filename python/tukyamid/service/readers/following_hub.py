@@ -59,7 +59,7 @@ class FollowingHub(Hub):
             snapshot = await self.access.write(self.access.database.snapshot)
             await self._published.reach(snapshot.change)
         except DatabaseFault as fault:
-            self.tell(str(fault))
+            self.report(str(fault))
             if snapshot is not None:
                 snapshot.close()
             snapshot = None
@@ -75,7 +75,7 @@ class FollowingHub(Hub):
                 snapshot = await self.access.write(self._copied)
                 break
             except DatabaseFault as fault:
-                self.tell(str(fault))
+                self.report(str(fault))
                 await asyncio.sleep(_BETWEEN_TRIES)
         while self.count < snapshot.change:
             await asyncio.sleep(_PAUSE)

@@ -27,7 +27,7 @@ _LONGEST_MOMENT = 60.0  # Seconds: PostgreSQL keeps what is read, however old it
 
 
 class FollowingSliced(Sliced):
-    """`count` is the number of the last change that watches have heard of, if there are watches already."""
+    """`count` is the number of the last change that watches have seen, if there are watches already."""
 
     def __init__(self, program: Sequence[str], access: Access, database: HasMoments, budget: int, published: Published,
                  count: int | None) -> None:
@@ -35,15 +35,15 @@ class FollowingSliced(Sliced):
         self._begins_at = count
         self._news: deque[tuple[int, bytes]] = deque()
         self._newest = 0
-        self._heard = asyncio.Event()
+        self._has_news = asyncio.Event()
         self._is_due = False
         self._to_note: _Notes = []
-        self._unwritten: dict[int, _Notes] = {}  # Those of each client's last turn that is to come.
+        self._unwritten: dict[int, _Notes] = {}  # Those of each client's last line in the queue.
         self._kept: dict[tuple[Value, bytes], bytes] = {}
         self._kept_behind = -1
         self._moment = MomentReader(access, database, published, lambda: self.count, self._catch_up)
         super().__init__(program, access, database, budget)
-        self._task = asyncio.get_running_loop().create_task(self._keep_young())
+        self._task = asyncio.get_running_loop().create_task(self._keep_fresh())
 
     def _opened(self, access: Access, database: HasParts) -> Reader:
         return self._moment
@@ -66,21 +66,21 @@ class FollowingSliced(Sliced):
             return
         self._news.extend(new)
         self._newest = new[-1][0]
-        self._heard.set()
+        self._has_news.set()
         if not self._is_due:
             self._is_due = True
-            self.inner_turn(self._follow_news, lambda _: None)
+            self.enqueue_inner(self._follow_news, lambda _: None)
 
     async def _follow_news(self) -> None:
         self._is_due = False
 
     def note(self, session: int, line: bytes) -> None:
-        """Writes down a line behind its turn, in which what it rests on is known."""
+        """Writes down a line after it was answered, since what its reply depends on is known then."""
         self._to_note.append((session, line))
 
     def has_begun(self) -> None:
-        """A line has begun. If it has no turn it is written down now, but behind what its client has sent before it:
-        its reply comes behind those, too."""
+        """A line has begun. If it isn't queued, it is written down now, but after what its client has sent before it:
+        its reply comes after those, too."""
         noted, self._to_note = self._to_note, []
         for session, line in noted:
             if session in self._unwritten:
@@ -94,11 +94,11 @@ class FollowingSliced(Sliced):
             if self._unwritten.get(session) is noted:
                 del self._unwritten[session]
 
-    def inner_turn(self, work: Callable[[], Awaitable[None]], fail: Callable[[Exception], None]) -> None:
+    def enqueue_inner(self, work: Callable[[], Awaitable[None]], fail: Callable[[Exception], None]) -> None:
         noted, self._to_note = self._to_note, []
         self._unwritten.update({session: noted for session, _ in noted})
 
-        async def turn() -> None:
+        async def noted_work() -> None:
             try:
                 if self._published.number > self.count:
                     await self._moment.renew()
@@ -107,7 +107,7 @@ class FollowingSliced(Sliced):
                 self._write(noted)
                 self._moment.release()
 
-        super().inner_turn(turn, fail)
+        super().enqueue_inner(noted_work, fail)
 
     async def _ask(self, word: bytes, value: Value, rest: bytes) -> bytes:
         """What the engine has said to a question since the last change is its reply until the next one."""
@@ -123,13 +123,13 @@ class FollowingSliced(Sliced):
             kept[value, rest] = reply
         return reply
 
-    async def _begin_anew(self) -> None:
+    async def _begin_again(self) -> None:
         self._kept_behind = -1
-        await super()._begin_anew()
+        await super()._begin_again()
 
     async def _catch_up(self, number: int) -> None:
         """Takes the changes up to the moment that is read."""
-        await self._hear_of(number)
+        await self._wait_for(number)
         changes = []
         while self._news and self._news[0][0] <= number:
             _, line = self._news.popleft()
@@ -139,12 +139,12 @@ class FollowingSliced(Sliced):
         if changes:
             await self._follow(changes)
 
-    async def _hear_of(self, number: int) -> None:
+    async def _wait_for(self, number: int) -> None:
         """Waits until a change has come that is committed: by then it is published, too."""
         while self._newest < number:
-            self._heard.clear()
+            self._has_news.clear()
             try:
-                await asyncio.wait_for(self._heard.wait(), LONGEST_WAIT)
+                await asyncio.wait_for(self._has_news.wait(), LONGEST_WAIT)
             except asyncio.TimeoutError:
                 raise DatabaseFault(f"change {number} is committed, but nobody reports it") from None
 
@@ -152,7 +152,7 @@ class FollowingSliced(Sliced):
         return await self._moment.frozen()
 
     def snapshot(self, done: Callable[[Snapshot | None], None]) -> None:
-        async def turn() -> None:
+        async def work() -> None:
             snapshot = await self.access.write(self.access.database.snapshot)
             try:
                 await self._published.reach(snapshot.change)
@@ -160,15 +160,15 @@ class FollowingSliced(Sliced):
                 snapshot.close()
                 raise
             done(snapshot)
-        self.inner_turn(turn, lambda _: done(None))
+        self.enqueue_inner(work, lambda _: done(None))
 
-    async def _keep_young(self) -> None:
+    async def _keep_fresh(self) -> None:
         while True:
             await asyncio.sleep(_LONGEST_MOMENT)
-            self.inner_turn(self._moment.renew, lambda _: None)
+            self.enqueue_inner(self._moment.renew, lambda _: None)
 
 
 def _change_of(line: bytes) -> Change:
     if line.startswith(b"verdicts "):
-        return Verdicts.heard(line, ignore)
+        return Verdicts.from_feed(line, ignore)
     return Change(line, 0, set(), _NOBODY, brought(line), ignore)

@@ -45,8 +45,9 @@ class _Found(Generic[_R]):
 
 
 class MomentReader(Reader):
-    """Reads at one moment for as long as a turn lasts. `count` is the number of the last change that was taken. If the
-    database has later ones, `catch_up` is called with the number of the last of these before anything is read."""
+    """Reads at one moment for as long as one line is answered. `count` is the number of the last change that was taken.
+    If the database has later ones, `catch_up` is called with the number of the last of these before anything is
+    read."""
 
     def __init__(self, access: Access, database: HasMoments, published: Published, count: Callable[[], int],
                  catch_up: Callable[[int], Awaitable[None]]) -> None:
@@ -74,7 +75,7 @@ class MomentReader(Reader):
         return await self._access.read(self._frozen)
 
     def release(self) -> None:
-        """The turn is over."""
+        """The line is answered."""
         if self._has_begun:
             self._has_begun = not self._moments.end()
 

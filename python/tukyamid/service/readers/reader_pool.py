@@ -40,7 +40,7 @@ class OneReader:
         self.feed = feed
         self.shares: dict[int, Share] = {}
         self.is_ready = self.was_ready = False
-        self.heard = asyncio.get_running_loop().time()
+        self.last_message = asyncio.get_running_loop().time()
 
     def end(self) -> None:
         """It gets no clients any more."""
@@ -54,10 +54,10 @@ class OneReader:
 class ReaderPool:
     """`words` are those of each reader, but for its place and descriptors."""
 
-    def __init__(self, words: ReaderWords, tell: Callable[[str], None]) -> None:
+    def __init__(self, words: ReaderWords, report: Callable[[str], None]) -> None:
         self.published = Published.made()
         self._words = words
-        self._tell = tell
+        self._report = report
         self._readers: list[OneReader] = []
         self._tasks: list[asyncio.Task[None]] = []
         self._is_ending = False
@@ -117,7 +117,7 @@ class ReaderPool:
         self._is_sliced = True
         self._write(b"sliced\n")
 
-    def anew(self, number: int) -> None:
+    def replaced(self, number: int) -> None:
         """Other readers take the place of these; their clients are disconnected."""
         for one in self._readers:
             one.kill()
@@ -132,9 +132,9 @@ class ReaderPool:
         """Ends readers that don't answer, or take no changes."""
         now = asyncio.get_running_loop().time()
         for one in self._readers:
-            is_silent = one.is_ready and now - one.heard > _LONGEST_SILENCE
+            is_silent = one.is_ready and now - one.last_message > _LONGEST_SILENCE
             if is_silent or one.feed.get_write_buffer_size() > _MOST_UNREAD:
-                self._tell("a reader that doesn't go on is ended")
+                self._report("a reader that doesn't go on is ended")
                 one.kill()
             elif one.is_ready:
                 one.control.send(b"ping")
@@ -158,7 +158,7 @@ class ReaderPool:
             try:
                 was_ready = await self._run()
             except OSError as error:
-                self._tell(f"a reader can't be started: {error}")
+                self._report(f"a reader can't be started: {error}")
             pause = _PAUSE if was_ready else min(2 * pause, _LONGEST_PAUSE)
             if not self._is_ending:
                 await asyncio.sleep(max(0.0, begun + pause - loop.time()))
@@ -172,7 +172,7 @@ class ReaderPool:
         with other_control, other_feed:
             transport, _ = await asyncio.get_running_loop().create_unix_connection(asyncio.Protocol, sock=feed)
             reader = OneReader(transport)
-            reader.control = Channel(control, partial(self._hear, reader), reader.end)
+            reader.control = Channel(control, partial(self._received, reader), reader.end)
             self._readers.append(reader)
             try:
                 reader.process = await self._start(other_control.fileno(), other_feed.fileno())
@@ -195,16 +195,16 @@ class ReaderPool:
     def _forget(self, reader: OneReader) -> None:
         self._readers.remove(reader)
         if not self._is_ending and reader.process is not None:
-            self._tell(f"reader {reader.process.pid} has ended with {len(reader.shares)} clients; "
-                       "another one takes its place")
+            self._report(f"reader {reader.process.pid} has ended with {len(reader.shares)} clients; "
+                         "another one takes its place")
         for share in reader.shares.values():
             self._shares.leave(share)
         reader.shares.clear()
         reader.control.close()
         reader.feed.abort()
 
-    def _hear(self, reader: OneReader, message: bytes, descriptor: int) -> None:
-        reader.heard = asyncio.get_running_loop().time()
+    def _received(self, reader: OneReader, message: bytes, descriptor: int) -> None:
+        reader.last_message = asyncio.get_running_loop().time()
         word, *numbers = message.split(b" ")
         if word == b"ready":
             reader.is_ready = reader.was_ready = True

@@ -25,7 +25,7 @@ from ..storage.database_choice import Chosen
 from ..storage.database_threads import Access, say
 from .channel import Channel
 from .published import Published
-from .reader_desk import ReaderDesk
+from .reader_intake import ReaderIntake
 from .reader_session import ReaderAnswering, ReaderSession
 from .reader_words import ReaderWords, read_client, read_words
 
@@ -64,16 +64,16 @@ class Reader:
     def __init__(self, words: ReaderWords, access: Access) -> None:
         self._words = words
         self._published = Published(words.published)
-        self._desk = ReaderDesk([*words.program, "run"], words.engines, access, words.budget, words.max_age,
-                                self._published, words.is_sliced)
+        self._line_intake = ReaderIntake([*words.program, "run"], words.engines, access, words.budget, words.max_age,
+                                         self._published, words.is_sliced)
         most = bounds()
-        self._shares = Shares(Bounds(most.clients, most.clients), self._desk.lag, words.readers)
+        self._shares = Shares(Bounds(most.clients, most.clients), self._line_intake.lag, words.readers)
         self._shares.has_others = words.has_others
         # What these are asked for is relayed to the service.
         directory = Directory([*words.program, "run"], default_directory())
-        answering = Answering(self._desk, directory, Keyrings(self._desk, lambda: []), lambda: [])
-        self._answering = ReaderAnswering(self._desk, answering)
-        self._sessions = TendedSessions(self._desk, lambda session: None)
+        answering = Answering(self._line_intake, directory, Keyrings(self._line_intake, lambda: []), lambda: [])
+        self._answering = ReaderAnswering(self._line_intake, answering)
+        self._sessions = TendedSessions(self._line_intake, lambda session: None)
         self._beginning: set[asyncio.Task[object]] = set()
         self._end = asyncio.Event()
 
@@ -81,23 +81,23 @@ class Reader:
         loop = asyncio.get_running_loop()
         loop.set_exception_handler(lambda _, context: say(f"{context['message']}: {context.get('exception')!r}"))
         feed = socket.socket(fileno=self._words.feed)
-        self._control = Channel(socket.socket(fileno=self._words.control), self._hear, _end_at_once)
-        await loop.create_unix_connection(lambda: Following(self._desk), sock=feed)
-        await self._desk.start()
-        beside = [loop.create_task(end_stopped(self._desk.tell)), loop.create_task(self._tend())]
+        self._control = Channel(socket.socket(fileno=self._words.control), self._received, _end_at_once)
+        await loop.create_unix_connection(lambda: Following(self._line_intake), sock=feed)
+        await self._line_intake.start()
+        beside = [loop.create_task(end_stopped(self._line_intake.report)), loop.create_task(self._tend())]
         self._control.send(b"ready")
         await self._end.wait()
         await self._sessions.end()
         for task in beside:
             task.cancel()
-        await self._desk.close()
+        await self._line_intake.close()
 
     async def _tend(self) -> None:
         while True:
             await asyncio.sleep(min(_LONGEST_PAUSE, self._words.patience / 4))
             self._sessions.tend(self._words.patience)
 
-    def _hear(self, message: bytes, descriptor: int) -> None:
+    def _received(self, message: bytes, descriptor: int) -> None:
         word, _, text = message.partition(b" ")
         if word == b"client":
             self._let_in(text, socket.socket(fileno=descriptor))
@@ -112,7 +112,7 @@ class Reader:
                         None if client.users is None else frozenset(client.users))
 
         def made() -> ReaderSession:
-            session = ReaderSession(client.number, self._desk, self._answering, rights, self._shares,
+            session = ReaderSession(client.number, self._line_intake, self._answering, rights, self._shares,
                                     self._sessions.add, self._connect)
             session.over.add_done_callback(lambda _: self._control.send(b"gone %d" % client.number))
             return session
@@ -133,8 +133,8 @@ class Reader:
 class Following(asyncio.Protocol):
     """What the service commits, as it comes."""
 
-    def __init__(self, desk: ReaderDesk) -> None:
-        self._desk = desk
+    def __init__(self, intake: ReaderIntake) -> None:
+        self._line_intake = intake
         self._cutter = LineCutter(longest=float("inf"))
 
     def data_received(self, data: bytes) -> None:
@@ -144,16 +144,16 @@ class Following(asyncio.Protocol):
             if word != b"sliced":
                 lines.append((int(word), rest))
                 continue
-            self._desk.take(lines)
-            self._desk.turn()
+            self._line_intake.take(lines)
+            self._line_intake.use_slices()
             lines = []
         if lines:
-            self._desk.take(lines)
+            self._line_intake.take(lines)
 
     def connection_lost(self, exc: Exception | None) -> None:
         _end_at_once()
 
 
 def _end_at_once() -> None:
-    """The service has ended: another one may make changes of which nobody would hear here."""
+    """The service has ended: another one may make changes of which this process isn't notified."""
     os._exit(1)

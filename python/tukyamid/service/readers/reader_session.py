@@ -18,7 +18,7 @@ from ..sessions.user_shares import Shares
 from ..storage.database import Actor, DatabaseFault
 from ..storage.group_commit import FAULT
 from ..storage.journal import Done
-from .reader_desk import ReaderDesk
+from .reader_intake import ReaderIntake
 from .relay import Relay
 
 # Gives a connection to the service for a client: its number, who it is, and whether it may change something.
@@ -47,49 +47,50 @@ class RelayedChanges(OwnChanges):
 
 
 class ReaderSession(Session):
-    def __init__(self, number: int, hub: ReaderDesk, answering: ReaderAnswering, rights: Rights, shares: Shares,
+    def __init__(self, number: int, hub: ReaderIntake, answering: ReaderAnswering, rights: Rights, shares: Shares,
                  made: Callable[[Session], None], connect: Connect) -> None:
         super().__init__(number, hub, answering.answer, rights, shares, made)
-        self._desk = hub
+        self._line_intake = hub
         self._needed = 0  # The number of the last change that its lines have to see.
         self.relay = Relay(lambda: connect(number, self.actor, rights.may_change), self._give_up)
-        self._changes = RelayedChanges(hub, number, self._begin_anew, self._give_up)
+        self._changes = RelayedChanges(hub, number, self._begin_again, self._give_up)
         self._changes.relay = self.relay
 
     def buffer_updated(self, nbytes: int) -> None:
-        self._needed = self._desk.published.number
+        self._needed = self._line_intake.published.number
         super().buffer_updated(nbytes)
 
     def connection_lost(self, exc: Exception | None) -> None:
         self.relay.close()
         super().connection_lost(exc)
 
-    def _begin_anew(self) -> None:
+    def _begin_again(self) -> None:
         """After the reply to a change."""
         self.see()
         self._begin_lines()
 
     def see(self) -> None:
         """Later lines see what is published now."""
-        self._needed = self._desk.published.number
+        self._needed = self._line_intake.published.number
 
     def _has_room(self, line: bytes) -> bool:
-        return self._desk.has(self._needed) and not self._is_early(line) and super()._has_room(line)
+        return self._line_intake.has(self._needed) and not self._is_early(line) and super()._has_room(line)
 
     def _begin(self, line: bytes | None) -> None:
         super()._begin(line)
-        self._desk.has_begun()
+        self._line_intake.has_begun()
 
     def _is_early(self, line: bytes) -> bool:
-        """Whether a change would overtake questions that were sent before it: over slices their turn is yet to come."""
-        return self._desk.has_turns and line.partition(b" ")[0] in CHANGES and any(
+        """Whether a change would overtake questions that were sent before it: over slices they may still wait in the
+        queue."""
+        return self._line_intake.queues_questions and line.partition(b" ")[0] in CHANGES and any(
             not slot.is_answered and slot.word not in CHANGES for slot in self.outbox.slots)
 
 
 class ReaderAnswering:
     """Lookups are answered from the database, and the rest by the service."""
 
-    def __init__(self, hub: ReaderDesk, answering: Answering) -> None:
+    def __init__(self, hub: ReaderIntake, answering: Answering) -> None:
         self._hub = hub
         self._answering = answering
 
@@ -106,7 +107,7 @@ class ReaderAnswering:
             number = seen[0].number if seen else 0
             await published.reach(number)
         except DatabaseFault as fault:
-            self._hub.tell(str(fault))
+            self._hub.report(str(fault))
             number = -1
         session.outbox.answer(slot, reply if number >= needed else FAULT)
         session.see()

@@ -4,7 +4,7 @@ from __future__ import annotations
 
 from collections.abc import Callable
 
-from ..line_intake import Desk
+from ..line_intake import LineIntake
 from ..sessions.client_rights import Rights
 from ..sessions.session import Helper, Session
 from ..sessions.user_shares import Share, Shares
@@ -24,7 +24,7 @@ class _Counted:
 
 
 class RelaySession(Session):
-    def __init__(self, number: int, hub: Desk, helper: Helper, may_change: bool, shares: Shares,
+    def __init__(self, number: int, hub: LineIntake, helper: Helper, may_change: bool, shares: Shares,
                  made: Callable[[Session], None], actor: Actor) -> None:
         super().__init__(number, hub, helper, Rights(may_change), _Counted(shares), made)
         self._given = actor

@@ -1,4 +1,4 @@
-"""The reply to `service log`: read part by part, so that others have their turn between the parts."""
+"""The reply to `service log`: read part by part, and other lines are answered between the parts."""
 
 from __future__ import annotations
 
@@ -6,26 +6,26 @@ import os
 
 from tukyamid.protocol.spelling import write_user_id
 
-from ..line_intake import Desk
+from ..line_intake import LineIntake
 from ..storage.database import AFTER_ALL, Finder, LogEntry
 from .spooled_replies import Spooled
 
 _ENTRIES_AT_ONCE = 250  # They take some milliseconds.
 
 
-async def tell_log(desk: Desk, count: int) -> Spooled:
+async def log_reply(intake: LineIntake, count: int) -> Spooled:
     """The last `count` changes, or all if there are fewer."""
     made = Spooled()
-    told, before = 0, AFTER_ALL
+    listed, before = 0, AFTER_ALL
     try:
-        while told < count:
-            most = min(count - told, _ENTRIES_AT_ONCE)
-            lines, before = await desk.search(lambda finder: _part(finder, most, before))
+        while listed < count:
+            most = min(count - listed, _ENTRIES_AT_ONCE)
+            lines, before = await intake.search(lambda finder: _part(finder, most, before))
             made.add(lines)
-            told += len(lines)
+            listed += len(lines)
             if len(lines) < most:
                 break
-        return made.end(b"service log %d\n" % told)
+        return made.end(b"service log %d\n" % listed)
     except BaseException:
         made.close()
         raise

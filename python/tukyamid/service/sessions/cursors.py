@@ -6,7 +6,7 @@ from __future__ import annotations
 from functools import partial
 
 from ..engines.in_flight import ignore
-from ..engines.shared_views import Seat
+from ..engines.shared_views import EngineView
 from ..sliced.sliced_cursors import SlicedCursor, SlicedCursors
 from ..sliced.sliced_keyring import Sliced
 from ..storage.journal import Done
@@ -19,15 +19,15 @@ from .views import Views
 
 
 class Cursor:
-    """A cursor of the client: the view of an engine that it goes over, its name there, the client's view with its turn
-    at the beginning, and the number of the last change then."""
-    __slots__ = ("seat", "name", "view", "turn", "count")
+    """A cursor of the client: the view of an engine that it goes over, its name there, the client's view with its
+    revision at the start, and the number of the last change then."""
+    __slots__ = ("engine_view", "name", "view", "revision", "count")
 
-    def __init__(self, seat: Seat, name: bytes, view: bytes, turn: int) -> None:
-        self.seat = seat
+    def __init__(self, engine_view: EngineView, name: bytes, view: bytes, revision: int) -> None:
+        self.engine_view = engine_view
         self.name = name
         self.view = view
-        self.turn = turn
+        self.revision = revision
         self.count = 0
 
 
@@ -66,16 +66,17 @@ class Cursors:
         before = self._cursors.pop(name, None)
         if before is not None:
             self._end(before)
-        seat = None
+        engine_view = None
         if len(self._cursors) < MOST_CURSORS:
-            seat = self._hub.seats.pin(view.value, has_cursor=True, own=self._share.pins[True])
-        if seat is None:
+            engine_view = self._hub.engine_views.pin(view.value, has_cursor=True, own=self._share.pins[True])
+        if engine_view is None:
             done(b"refused full cursors\n", 0)
             return
         self._share.pins[True] += 1
-        cursor = self._cursors[name] = Cursor(seat, self._hub.seats.next_name(b"c"), view_name, view.turn)
+        inner_name = self._hub.engine_views.next_name(b"c")
+        cursor = self._cursors[name] = Cursor(engine_view, inner_name, view_name, view.revision)
         slot.finish = partial(self._begun, cursor)
-        seat.engine.send(b"cursor %s over %s %s" % (cursor.name, seat.name, wanted), done)
+        engine_view.engine.send(b"cursor %s over %s %s" % (cursor.name, engine_view.name, wanted), done)
 
     @staticmethod
     def _begun(cursor: Cursor, reply: bytes, count: int) -> bytes:
@@ -87,31 +88,32 @@ class Cursors:
         if view is None:
             done(b"refused view\n", 0)
             return
-        slot.finish = partial(self._told, cursor, view.turn)
-        cursor.seat.engine.send(b"cursor %s next %s" % (cursor.name, count), done)
+        slot.finish = partial(self._unless_stale, cursor, view.revision)
+        cursor.engine_view.engine.send(b"cursor %s next %s" % (cursor.name, count), done)
 
     @staticmethod
-    def _told(cursor: Cursor, turn: int, reply: bytes, count: int) -> bytes:
+    def _unless_stale(cursor: Cursor, revision: int, reply: bytes, count: int) -> bytes:
         if cursor.count != count:
             return b"stale keyring %d %d\n" % (cursor.count, count)
-        return reply if cursor.turn == turn else b"stale view %d %d\n" % (cursor.turn, turn)
+        return reply if cursor.revision == revision else b"stale view %d %d\n" % (cursor.revision, revision)
 
     def _end(self, cursor: Cursor) -> None:
         self._share.pins[True] -= 1
-        cursor.seat.engine.send(b"cursor %s close" % cursor.name, ignore, is_inner=True)
-        self._hub.seats.unpin(cursor.seat, has_cursor=True)
+        cursor.engine_view.engine.send(b"cursor %s close" % cursor.name, ignore, is_inner=True)
+        self._hub.engine_views.unpin(cursor.engine_view, has_cursor=True)
 
-    def turned(self, sliced: Sliced) -> SlicedCursors:
+    def over_slices(self, sliced: Sliced) -> SlicedCursors:
         """The client's cursors, over a keyring that is sliced from now on."""
-        turned = SlicedCursors(sliced, self._views, self._share)
+        sliced_cursors = SlicedCursors(sliced, self._views, self._share)
         self._share.pins[True] -= len(self._cursors)
         for name, cursor in self._cursors.items():
-            begun = cursor.seat.engine.standing.cursors.get(cursor.name)
-            if begun is not None and cursor.seat.value is not None:
+            begun = cursor.engine_view.engine.replayed.cursors.get(cursor.name)
+            if begun is not None and cursor.engine_view.value is not None:
                 line, taken = begun
-                turned.take(name, SlicedCursor(cursor.view, cursor.turn, cursor.seat.value, int(line.split(b" ")[4])),
-                            cursor.count, taken)
-        return turned
+                wanted = int(line.split(b" ")[4])
+                sliced_cursors.take(name, SlicedCursor(cursor.view, cursor.revision, cursor.engine_view.value, wanted),
+                                    cursor.count, taken)
+        return sliced_cursors
 
     def close(self) -> None:
         """The client is gone."""

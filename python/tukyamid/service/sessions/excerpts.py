@@ -7,7 +7,7 @@ from collections.abc import Collection, Sequence
 from dataclasses import dataclass
 
 from ..engines.program_run import pieces
-from ..line_intake import Desk
+from ..line_intake import LineIntake
 from ..storage.database import Database
 from ..storage.partial_reads import HasParts, Parts, SharedParts
 from .command_kinds import REFUSED_LINE
@@ -42,13 +42,13 @@ class Wanted:
         return members if self.word == b"from" else {*members, *parts.certified_by(members)}
 
 
-async def tell_excerpt(desk: Desk, text: bytes) -> bytes | Pieces:
+async def excerpt_reply(intake: LineIntake, text: bytes) -> bytes | Pieces:
     """The reply to a line that has this text behind `service excerpt`."""
     match = _WORDS.fullmatch(text)
     if match is None:
         return REFUSED_LINE
     of = Wanted(match[1], tuple(bytes.fromhex(fpr.decode()) for fpr in match[2].split()))
-    return await desk.search(lambda _: _excerpt(desk.database, of, desk.budget))
+    return await intake.search(lambda _: _excerpt(intake.database, of, intake.budget))
 
 
 def _excerpt(database: Database, of: Wanted, most: int) -> bytes | Pieces:

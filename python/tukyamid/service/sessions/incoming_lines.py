@@ -24,7 +24,7 @@ class Intake:
         self._client = client
         self._transport = transport
         self._cutter = LineCutter()
-        self._heard = 0.0
+        self._last_octets = 0.0
         self._kind = FREE
         self._is_paused = False
         self._is_held_up = False  # Until another long line is answered.
@@ -33,7 +33,7 @@ class Intake:
     def take(self, data: bytes) -> None:
         self.lines.extend(line for line in self._cutter.cut(data) if line is None or has_reply(line))
         if self._cutter.unfinished > _LONG_LINE:
-            self._heard = asyncio.get_running_loop().time()
+            self._last_octets = asyncio.get_running_loop().time()
             if not self._has_long_line:
                 self._take_long_line()
 
@@ -41,7 +41,7 @@ class Intake:
         """Whether this line may begin now; if not, the client goes on once it may."""
         kind, share = KINDS.get(word, FREE), self.share
         self._kind = kind = kind_of(word, line) if kind == FIND else kind
-        if share.left_of_turn > 0 and share.under_way[kind] < share.most[kind]:
+        if share.left_of_round > 0 and share.under_way[kind] < share.most[kind]:
             return True  # As `Share.has_room`, for every line.
         return share.has_room(kind, self._client)
 
@@ -77,4 +77,4 @@ class Intake:
 
     def holds_up_others(self, now: float, patience: float) -> bool:
         """Whether others wait for its long line, of which nothing has come for long."""
-        return self._has_long_line and self.share.has_waiting and now - self._heard > patience
+        return self._has_long_line and self.share.has_waiting and now - self._last_octets > patience

@@ -20,7 +20,7 @@ _MOST_IN_MEMORY = 1 << 20
 class Slot:
     """The place of a line's reply, or of a watch line, among the replies. `finish` makes the client's reply of
     the engine's, by the number of the last change before it."""
-    __slots__ = ("word", "size", "watch", "reply", "is_answered", "finish", "kind", "share", "told")
+    __slots__ = ("word", "size", "watch", "reply", "is_answered", "finish", "kind", "share", "reports")
 
     def __init__(self, word: bytes, size: int) -> None:
         self.word = word
@@ -31,7 +31,7 @@ class Slot:
         self.finish: Callable[[bytes, int], bytes] | None = None
         self.kind = 0
         self.share: Share | None = None
-        self.told: bytes | None = None  # The watch whose line this is.
+        self.reports: bytes | None = None  # The watch whose line this is.
 
     def end(self) -> None:
         """The line costs nothing any more."""
@@ -65,22 +65,22 @@ class Outbox:
         self.slots.append(slot)
         self.octets += slot.size
 
-    def tell(self, watch: bytes, reply: bytes) -> None:
+    def add_watch_line(self, watch: bytes, reply: bytes) -> None:
         """A watch line comes after the replies so far, but before the reply to a line of the same watch."""
         slot = Slot(b"watch", 0)
-        slot.reply, slot.is_answered, slot.told = reply, True, watch
-        self._forget_told(watch)
+        slot.reply, slot.is_answered, slot.reports = reply, True, watch
+        self._drop_outdated(watch)
         place = next((at for at, other in enumerate(self.slots) if other.watch == watch and not other.is_answered),
                      len(self.slots))
         self.slots.insert(place, slot)
         self.deliver()
 
-    def _forget_told(self, watch: bytes) -> None:
+    def _drop_outdated(self, watch: bytes) -> None:
         """A line of a watch that isn't written yet is out of date now, unless the watch began again."""
         for other in reversed(self.slots):
             if other.watch == watch:
                 return
-            if other.told == watch:
+            if other.reports == watch:
                 self.slots.remove(other)
                 return
 
@@ -97,13 +97,13 @@ class Outbox:
             self.deliver()
 
     def say(self, octets: bytes) -> None:
-        """Writes what stands before the reply to the first line, and belongs to it."""
+        """Writes what comes before the reply to the first line, and belongs to it."""
         self._write(octets)
 
     def deliver(self) -> None:
         """Writes the answered replies at the beginning of the row."""
         while self._pump is None and self.slots and self.slots[0].is_answered:
-            if self.slots[0].told is not None and not self.can_write:
+            if self.slots[0].reports is not None and not self.can_write:
                 break  # Nobody reads: a later one may take its place.
             slot = self.slots.popleft()
             self.octets -= slot.size
@@ -154,7 +154,7 @@ class Outbox:
         return False
 
     def _write(self, octets: bytes) -> None:
-        """Writes at the end of this turn of the loop, with what else there is by then."""
+        """Writes at the end of this round of the loop, with what else there is by then."""
         if self._transport.is_closing():
             return
         if not self._buffer:
@@ -178,7 +178,7 @@ class Outbox:
         self._loop.call_soon(self._run_pump)
 
     def _run_pump(self) -> None:
-        """Writes one piece; then it is the turn of others."""
+        """Writes one piece; then other clients go on."""
         if self._pump is None or not self.can_write or self._transport.is_closing():
             return
         try:

@@ -15,16 +15,16 @@ from tukyamid.protocol.spelling import read_user_id, write_user_id
 from ..engines.certificate_directory import Directory, DirectoryFailed
 from ..keyring_files.keyring_contents import is_name
 from ..keyring_files.keyring_updates import Keyrings
-from ..line_intake import Desk
+from ..line_intake import LineIntake
 from ..storage.certificate_rows import keys_of
 from ..storage.database import Binding, DatabaseFault, Figures, Finder, Source
 from ..storage.group_commit import FAULT
 from ..storage.last_known import LastKnown
 from ..storage.shared_database import Shared
-from .change_log import tell_log
+from .change_log import log_reply
 from .command_kinds import MAY_CHANGE, QUESTIONS_OF_THE_SERVICE, REFUSED_LINE, REFUSED_READ_ONLY
 from .engine_replies import asked
-from .excerpts import tell_excerpt
+from .excerpts import excerpt_reply
 from .outbox import Pieces, Slot
 from .session import Session
 
@@ -64,7 +64,7 @@ def listed(head: bytes, lines: list[bytes]) -> bytes:
 
 
 class Answering:
-    def __init__(self, hub: Desk, directory: Directory, keyrings: Keyrings, status: Status) -> None:
+    def __init__(self, hub: LineIntake, directory: Directory, keyrings: Keyrings, status: Status) -> None:
         self._hub = hub
         self._directory = directory
         self._keyrings = keyrings
@@ -107,23 +107,23 @@ class Answering:
         word, _, text = line.partition(b" ")[2].partition(b" ")
         match word:
             case b"status" if line == b"service status":
-                return await self._tell_status(session)
+                return await self._status_reply(session)
             case b"find":
                 return await self._find(session, text)
             case b"issuers" if _FPR.fullmatch(text):
-                return await self._tell_issuers(session, bytes.fromhex(text.decode()))
+                return await self._issuers_reply(session, bytes.fromhex(text.decode()))
             case b"certified" if _FPR.fullmatch(text):
                 return await session.hub.find(lambda finder: listed(b"service certified", [
                     b"on %d %s" % (depth, hexlify(fpr))
                     for fpr, depth in finder.certified(bytes.fromhex(text.decode()))]))
             case b"holders" if _KEY.fullmatch(text):
-                return await self._tell_holders(session, text.decode().lower())
+                return await self._holders_reply(session, text.decode().lower())
             case b"excerpt":
-                return await tell_excerpt(session.hub, text)
+                return await excerpt_reply(session.hub, text)
             case b"log" if _COUNT.fullmatch(text):
-                return await tell_log(session.hub, int(text))
+                return await log_reply(session.hub, int(text))
             case b"unverified" if line == b"service unverified":
-                return await self._tell_unverified(session)
+                return await self._unverified_reply(session)
             case b"keyring":
                 return await self._of_keyring(session, text)
         return REFUSED_LINE
@@ -141,7 +141,7 @@ class Answering:
             figures = replace(figures, change=self._hub.count)  # It may have what the engines don't have yet.
         return figures, sources
 
-    async def _tell_status(self, session: Session) -> bytes:
+    async def _status_reply(self, session: Session) -> bytes:
         figures, sources = await self._figures()
         count, waits = await self._count_pending(session, figures), True
         with contextlib.suppress(DatabaseFault):  # While it can't be read, nobody knows that all were looked at.
@@ -167,7 +167,7 @@ class Answering:
             count = int((reply or b"pending 0\n").split(b"\n", 1)[0].split(b" ")[1])
         return count
 
-    async def _tell_unverified(self, session: Session) -> bytes:
+    async def _unverified_reply(self, session: Session) -> bytes:
         waiting = await self._keyrings.waiting()
         if waiting is None:
             return listed(b"service unverified", [])
@@ -190,7 +190,7 @@ class Answering:
 
         return await (session.hub.search(look) if word in _SEARCHES else session.hub.find(look))
 
-    async def _tell_issuers(self, session: Session, fpr: bytes) -> bytes:
+    async def _issuers_reply(self, session: Session, fpr: bytes) -> bytes:
         def look(finder: Finder) -> bytes:
             issuers = finder.issuers(fpr)
             if issuers is None:
@@ -200,7 +200,7 @@ class Answering:
         return await session.hub.find(look)
 
     @staticmethod
-    async def _tell_holders(session: Session, key: str) -> bytes:
+    async def _holders_reply(session: Session, key: str) -> bytes:
         """The certificates that have this key as their primary key or as a subkey, first those whose primary key it
         is. If there are too many, an attacker may have made them, and none is chosen."""
         key_id = bytes.fromhex(key if len(key) == 16 else key[:16] if len(key) == 64 else key[-16:])

@@ -6,8 +6,8 @@ import asyncio
 from collections.abc import Callable
 from functools import partial
 
-from ..engine_capacity import Room
-from ..line_intake import Desk
+from ..engine_capacity import Capacity
+from ..line_intake import LineIntake
 from ..storage.database import Actor
 from ..storage.journal import Done
 from ..storage.read_ahead import LONG_LINE
@@ -16,7 +16,7 @@ from ..storage.read_ahead import LONG_LINE
 class OwnChanges:
     """`resume` is called when lines behind a change may begin, and `give_up` when something fails."""
 
-    def __init__(self, hub: Desk, number: int, resume: Callable[[], None],
+    def __init__(self, hub: LineIntake, number: int, resume: Callable[[], None],
                  give_up: Callable[[Exception], None]) -> None:
         self.actor = Actor(-1, -1)
         self.waiting = 0
@@ -41,7 +41,7 @@ class OwnChanges:
     async def _change_long(self, line: bytes, done: Done) -> None:
         """Has a long change made once another thread has read it."""
         try:
-            await asyncio.to_thread(Room.read_ahead, line)
+            await asyncio.to_thread(Capacity.read_ahead, line)
             self._change(line, done)
         except Exception as error:
             self._give_up(error)
@@ -54,6 +54,6 @@ class OwnChanges:
         """A change has its place in the order, and so lines behind it may."""
         self.waiting -= 1
         if len(line) > LONG_LINE:
-            Room.forget(line)
+            Capacity.forget(line)
         self._hub.note_change(self._number, line)
         self._resume()

@@ -7,7 +7,7 @@ from collections.abc import Callable, Coroutine
 from functools import partial
 from typing import cast
 
-from ..line_intake import Desk
+from ..line_intake import LineIntake
 from ..sliced.sliced_keyring import Sliced
 from ..storage.database import Actor, Snapshot
 from ..storage.group_commit import FAULT
@@ -33,9 +33,9 @@ _BUFFER = bytearray(1 << 15)
 class Session(asyncio.BufferedProtocol):
     """Takes lines and hands them on at once, up to a bound; replies go out in the order of their lines."""
 
-    def __init__(self, number: int, hub: Desk, helper: Helper, rights: Rights, shares: Joining,
+    def __init__(self, number: int, hub: LineIntake, helper: Helper, rights: Rights, shares: Joining,
                  made: Callable[[Session], None]) -> None:
-        """`made` is called once the connection stands."""
+        """`made` is called once the connection is there."""
         self.number = number
         self.hub = hub
         self.rights = rights
@@ -60,11 +60,11 @@ class Session(asyncio.BufferedProtocol):
             self._transport.write(REFUSED_CLIENTS)
             self._transport.close()
             return
-        self._views.room = share.views
+        self._views.budget = share.views
         self.intake = Intake(share, self, self._transport)
         self.watches = self.hub.watches(self.outbox, self._views, share)
         self.cursors = self.hub.cursors(self._views, share)
-        self.hub.sitting.add(self)
+        self.hub.clients.add(self)
         self._made(self)
         if not self.rights.admit(self.actor):
             self._give_up(PermissionError(f"user {self.actor.uid} may not use this socket"))
@@ -96,8 +96,8 @@ class Session(asyncio.BufferedProtocol):
         self.outbox.close()
         if self._task is not None:
             self._task.cancel()
-        if self in self.hub.sitting:
-            self.hub.sitting.discard(self)
+        if self in self.hub.clients:
+            self.hub.clients.discard(self)
             self.watches.close()
             self.cursors.close()
             self.intake.close()
@@ -106,10 +106,10 @@ class Session(asyncio.BufferedProtocol):
         if not self.over.done():
             self.over.set_result(None)
 
-    def turn(self, sliced: Sliced) -> None:
+    def use_slices(self, sliced: Sliced) -> None:
         """The keyring is sliced from now on."""
         assert isinstance(self.watches, Watches) and isinstance(self.cursors, Cursors)
-        self.watches, self.cursors = self.watches.turned(sliced), self.cursors.turned(sliced)
+        self.watches, self.cursors = self.watches.over_slices(sliced), self.cursors.over_slices(sliced)
 
     def resume(self) -> None:
         self._begin_lines()
@@ -195,7 +195,7 @@ class Session(asyncio.BufferedProtocol):
             if self.hub.most_age is not None and reply and slot.word in WITHOUT_EFFECT and self.hub.is_too_old:
                 reply = FAULT  # It has grown old meanwhile.
             elif reply is None:
-                self.hub.tell(f"client {self.number} is disconnected: its line killed the engine several times")
+                self.hub.report(f"client {self.number} is disconnected: its line killed the engine several times")
             elif slot.finish is not None and isinstance(reply, bytes):
                 reply = slot.finish(reply, count)
             self.outbox.answer(slot, reply)
@@ -217,7 +217,7 @@ class Session(asyncio.BufferedProtocol):
 
     def _take_view(self, slot: Slot, line: bytes) -> None:
         reply = self._views.take(line)
-        if not self.watches.pass_on(line, reply, partial(self._answered, slot)):
+        if not self.watches.forward(line, reply, partial(self._answered, slot)):
             self.outbox.answer(slot, reply)
 
     def _dumped(self, slot: Slot, views: list[bytes], snapshot: Snapshot | None) -> None:
@@ -241,10 +241,10 @@ class Session(asyncio.BufferedProtocol):
 
     def drop(self, why: str) -> None:
         """Ends the connection at once."""
-        self.hub.tell(f"client {self.number} {why} and is disconnected")
+        self.hub.report(f"client {self.number} {why} and is disconnected")
         self.outbox.drop()
 
     def _give_up(self, error: Exception) -> None:
-        self.hub.tell(f"client {self.number}: {error!r}")
+        self.hub.report(f"client {self.number}: {error!r}")
         self.intake.lines.clear()
         self.outbox.drop()

@@ -5,7 +5,7 @@ from __future__ import annotations
 import asyncio
 from collections.abc import Callable
 
-from ..line_intake import Desk
+from ..line_intake import LineIntake
 from ..storage.log_growth import LogGrowth
 from .session import Session
 
@@ -17,7 +17,7 @@ _MOST_SPOOLED = 256 << 20  # Octets of long replies of one user that aren't read
 class TendedSessions:
     """`closed` is called when one has ended."""
 
-    def __init__(self, hub: Desk, closed: Callable[[Session], None]) -> None:
+    def __init__(self, hub: LineIntake, closed: Callable[[Session], None]) -> None:
         self._hub = hub
         self._closed = closed
         self._sessions: set[Session] = set()
@@ -39,7 +39,7 @@ class TendedSessions:
         now = asyncio.get_running_loop().time()
         for session in list(self._sessions):
             if session.outbox.drop_where_unread(now, patience):
-                self._hub.tell(f"client {session.number} doesn't read its replies and is disconnected")
+                self._hub.report(f"client {session.number} doesn't read its replies and is disconnected")
             elif session.intake.holds_up_others(now, patience):
                 session.drop("doesn't finish its long line")
         self._drop_slowest()

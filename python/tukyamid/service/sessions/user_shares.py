@@ -12,7 +12,7 @@ from pathlib import Path
 from typing import Protocol
 
 from .command_kinds import CHANGES
-from .views import Room
+from .views import ViewBudget
 
 _RESERVED_DESCRIPTORS = 128  # For engines, the database, long lists and what Python opens.
 _DESCRIPTORS_OF_A_CLIENT = 4  # Its socket, a dump's database and log, and a long reply's file.
@@ -24,7 +24,7 @@ _MOST_VIEWS_AND_ROOTS = 1 << 16  # Some 20 MB.
 _LOOK_SECONDS, _LATE, _QUICK = 0.005, 0.02, 0.005
 _LOOK_ANSWERS = 16  # The clock is read after that many answers, because reading it is slower than the rest here.
 _FIRST_WINDOW, _LARGEST_WINDOW = 64.0, 4096.0
-_LINES_A_TURN = 256  # Each costs 5 to 60 us.
+_LINES_OF_A_ROUND = 256  # Each costs 5 to 60 us.
 
 # Kinds of lines: quick questions, long ones, what the database is searched for, changes, and what costs nothing.
 ASK, LONG, FIND, CHANGE, FREE = range(5)
@@ -82,7 +82,7 @@ class Share:
         self.has_others = has_others
         self.clients = 0
         self.pins = {True: 0, False: 0}  # Cursors, and watched views.
-        self.views = Room(_MOST_VIEWS_AND_ROOTS // parts)
+        self.views = ViewBudget(_MOST_VIEWS_AND_ROOTS // parts)
         self.long_lines = 0
         self.under_way = [0] * 5
         self.most = [_FIRST_WINDOW, 2.0, 2.0, 1024.0, float("inf")]
@@ -91,8 +91,8 @@ class Share:
         self._unlooked = 0  # Questions that were answered since the clock was read.
         self._waiting: dict[Waiter, int] = {}  # Those that wait, in their order, and for what.
         self._is_waking = False
-        self.left_of_turn = _LINES_A_TURN
-        self._turning: dict[Waiter, None] = {}  # Those who wait for the user's next turn.
+        self.left_of_round = _LINES_OF_A_ROUND
+        self._for_next_round: dict[Waiter, None] = {}  # Those who wait for the user's next round.
         self._loop = asyncio.get_running_loop()
 
     @property
@@ -101,31 +101,31 @@ class Share:
 
     def has_room(self, kind: int, one: Waiter) -> bool:
         """Whether one more line may be under way; if not, this client goes on once there is room."""
-        if self.under_way[kind] < self.most[kind] and self.left_of_turn > 0:
+        if self.under_way[kind] < self.most[kind] and self.left_of_round > 0:
             return True
-        if self.left_of_turn <= 0:
-            self._turning[one] = None
+        if self.left_of_round <= 0:
+            self._for_next_round[one] = None
         else:
             self._waiting[one] = kind
         return False
 
     def begin(self, kind: int) -> None:
         """A line of this kind is under way. All clients of a user begin few lines while the loop goes round once: a new
-        turn begins only once half of the last one is used, since that costs as much as some lines."""
+        round begins only once half of the last one is used, since beginning one costs as much as some lines."""
         self.under_way[kind] += 1
-        self.left_of_turn -= 1
-        if self.left_of_turn == _LINES_A_TURN // 2:
-            self._loop.call_soon(self._turn)
+        self.left_of_round -= 1
+        if self.left_of_round == _LINES_OF_A_ROUND // 2:
+            self._loop.call_soon(self._begin_round)
 
-    def _turn(self) -> None:
-        self.left_of_turn = _LINES_A_TURN
-        turning, self._turning = self._turning, {}
-        for one in list(turning):
-            if self.left_of_turn <= 0:
+    def _begin_round(self) -> None:
+        self.left_of_round = _LINES_OF_A_ROUND
+        waiting, self._for_next_round = self._for_next_round, {}
+        for one in list(waiting):
+            if self.left_of_round <= 0:
                 break
-            del turning[one]
+            del waiting[one]
             one.resume()
-        self._turning = {**turning, **self._turning}
+        self._for_next_round = {**waiting, **self._for_next_round}
 
     def end(self, kind: int) -> None:
         """A line of this kind is answered."""

@@ -21,13 +21,13 @@ def is_name(octets: bytes) -> bool:
 
 
 class View:
-    """The time and the roots of an open view. `turn` is another one whenever it changes."""
-    __slots__ = ("time", "roots", "turn", "_value")
+    """The time and the roots of an open view. `revision` changes whenever the view does."""
+    __slots__ = ("time", "roots", "revision", "_value")
 
     def __init__(self, time: bytes) -> None:
         self.time = time
         self.roots: dict[bytes, bytes] = {}
-        self.turn = 0
+        self.revision = 0
         self._value: Value | None = None
 
     @property
@@ -36,8 +36,8 @@ class View:
             self._value = self.time, tuple(sorted(self.roots.items()))
         return self._value
 
-    def turned(self, turn: int) -> None:
-        self.turn = turn
+    def revise(self, revision: int) -> None:
+        self.revision = revision
         self._value = None
 
 
@@ -48,8 +48,8 @@ def lines_of(name: bytes, value: Value) -> Iterator[bytes]:
         yield b"view %s root %s %s" % (name, fpr, amount)
 
 
-class Room:
-    """How many views and roots of views there may still be, in all views that share it."""
+class ViewBudget:
+    """How many more views and roots there may be, over all views that share the budget."""
 
     def __init__(self, left: int = 1 << 30) -> None:
         self.left = left
@@ -68,12 +68,12 @@ class Views:
     def __init__(self, most: int = 1 << 30) -> None:
         self._most = most
         self._views: dict[bytes, View] = {}
-        self._turns = 0
-        self.room = Room()
+        self._revisions = 0
+        self.budget = ViewBudget()
 
     def close(self) -> None:
-        """Leaves the room to others."""
-        self.room.left += sum(1 + len(view.roots) for view in self._views.values())
+        """Returns what it used of the budget."""
+        self.budget.left += sum(1 + len(view.roots) for view in self._views.values())
         self._views.clear()
 
     def get(self, name: bytes) -> View | None:
@@ -94,7 +94,7 @@ class Views:
             return b"refused view\n"
         if fpr is not None:
             return self._set_root(view, fpr.lower(), amount)
-        self.room.left += 1 + len(view.roots)
+        self.budget.left += 1 + len(view.roots)
         del self._views[name]
         return b"ok\n"
 
@@ -103,13 +103,13 @@ class Views:
             return b"refused line\n"
         view = self._views.get(name)
         if view is None:
-            if len(self._views) >= self._most or not self.room.take():
+            if len(self._views) >= self._most or not self.budget.take():
                 return b"refused full views\n"
             view = self._views[name] = View(time)
         elif view.time == time:
             return b"ok\n"
         view.time = time
-        self._turn(view)
+        self._revise(view)
         return b"ok\n"
 
     def _set_root(self, view: View, fpr: bytes, amount: bytes) -> bytes:
@@ -118,18 +118,18 @@ class Views:
             if before is None:
                 return b"refused absent\n"
             del view.roots[fpr]
-            self.room.left += 1
-        elif before is None and (len(view.roots) >= _MOST_ROOTS or not self.room.take()):
+            self.budget.left += 1
+        elif before is None and (len(view.roots) >= _MOST_ROOTS or not self.budget.take()):
             return b"refused full roots\n"
         else:
             view.roots[fpr] = amount
         if view.roots.get(fpr) != before:
-            self._turn(view)
+            self._revise(view)
         return b"ok\n"
 
-    def _turn(self, view: View) -> None:
-        self._turns += 1
-        view.turned(self._turns)
+    def _revise(self, view: View) -> None:
+        self._revisions += 1
+        view.revise(self._revisions)
 
     def lines(self) -> Iterator[bytes]:
         """The lines that make these views, in a dump's order."""

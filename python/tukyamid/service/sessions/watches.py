@@ -5,7 +5,7 @@ from __future__ import annotations
 from functools import partial
 
 from ..engines.in_flight import ignore
-from ..engines.shared_views import Seat
+from ..engines.shared_views import EngineView
 from ..engines.supervised_engine import Engine
 from ..engines.watch_places import Place
 from ..sliced.sliced_keyring import Sliced
@@ -37,10 +37,10 @@ def renamed(watch: bytes, reply: bytes) -> bytes:
 
 
 class Watches:
-    """`seats` are the views that are watched, or were: they stay the client's own until they are closed."""
+    """`engine_views` are the views that are watched, or were: they stay the client's own until they are closed."""
 
     def __init__(self, hub: Hub, outbox: Outbox, views: Views, share: Share) -> None:
-        self.seats: dict[bytes, Seat] = {}
+        self.engine_views: dict[bytes, EngineView] = {}
         self._hub = hub
         self._outbox = outbox
         self._views = views
@@ -49,25 +49,25 @@ class Watches:
         self._is_closed = False
 
     def ask(self, name: bytes, word: bytes, value: Value, rest: bytes, done: Done) -> None:
-        """A line that asks from the client's view of this name; `rest` is what stands behind the view."""
-        seat = self.seats.get(name) or self._hub.seats.find(value)
-        seat.engine.send(b"%s %s%s" % (word, seat.name, rest), done)
+        """A line that asks from the client's view of this name; `rest` is what follows the view."""
+        engine_view = self.engine_views.get(name) or self._hub.engine_views.find(value)
+        engine_view.engine.send(b"%s %s%s" % (word, engine_view.name, rest), done)
 
-    def pass_on(self, line: bytes, reply: bytes, done: Done) -> bool:
+    def forward(self, line: bytes, reply: bytes, done: Done) -> bool:
         """Passes on a line of a view that is watched, so that its watches report it; False if it isn't watched."""
-        if reply != b"ok\n" or not self.seats:
+        if reply != b"ok\n" or not self.engine_views:
             return False
         _, name, rest = line.split(b" ", 2)
-        seat = self.seats.get(name)
-        if seat is None:
+        engine_view = self.engine_views.get(name)
+        if engine_view is None:
             return False
         if rest == b"close":
-            del self.seats[name]
-            seat.engine.send(b"view %s close" % seat.name, done)
-            self._hub.seats.leave(seat)
+            del self.engine_views[name]
+            engine_view.engine.send(b"view %s close" % engine_view.name, done)
+            self._hub.engine_views.leave(engine_view)
             self._share.pins[False] -= 1
         else:
-            seat.engine.send(b"view %s %s" % (seat.name, rest), done)
+            engine_view.engine.send(b"view %s %s" % (engine_view.name, rest), done)
         return True
 
     def begin(self, slot: Slot, line: bytes, done: Done) -> None:
@@ -93,27 +93,27 @@ class Watches:
         if view is None:
             self._hub.ask(b"watch %s on %s%s" % (_NONE, _NONE, question), done)
             return
-        seat = self.seats.get(name)
-        if seat is None:
-            seat = self._hub.seats.pin(view.value, has_cursor=False, own=self._share.pins[False])
-            if seat is None:
+        engine_view = self.engine_views.get(name)
+        if engine_view is None:
+            engine_view = self._hub.engine_views.pin(view.value, has_cursor=False, own=self._share.pins[False])
+            if engine_view is None:
                 done(_REFUSED_FULL, 0)
                 return
-            self.seats[name] = seat
+            self.engine_views[name] = engine_view
             self._share.pins[False] += 1
-        begun = self._placed(known, seat.engine)
+        begun = self._placed(known, engine_view.engine)
         if begun is None:
             done(_REFUSED_FULL, 0)
             return
-        seat.engine.send_watch(b"watch %s on %s%s" % (begun.name, seat.name, question),
-                               partial(self._begun, watch, begun, done), partial(self._heard, watch, begun))
+        engine_view.engine.send_watch(b"watch %s on %s%s" % (begun.name, engine_view.name, question),
+                                      partial(self._begun, watch, begun, done), partial(self._reported, watch, begun))
 
     def _placed(self, known: Watching | None, engine: Engine) -> Watching | None:
         """A watch at this engine, in the place of the one that is known if that is there; None if there is no place."""
         if known is not None and known.engine is engine:
             return Watching(engine, known.name, known.place)
         place = self._hub.watch_places.take(engine, self._share)
-        return None if place is None else Watching(engine, self._hub.seats.next_name(b"w"), place)
+        return None if place is None else Watching(engine, self._hub.engine_views.next_name(b"w"), place)
 
     def _begun(self, watch: bytes, begun: Watching, done: Done, reply: bytes | None, count: int) -> None:
         before = self._watches.get(watch)
@@ -133,7 +133,7 @@ class Watches:
             ended.place.free()
         done(reply, count)
 
-    def _heard(self, watch: bytes, begun: Watching, reply: bytes) -> None:
+    def _reported(self, watch: bytes, begun: Watching, reply: bytes) -> None:
         """A watch line behind a reply to anybody. It comes after the replies to the client's own lines so
         far, but before the reply to one that restarts the same watch."""
         known = self._watches.get(watch)
@@ -141,31 +141,31 @@ class Watches:
             return
         if reply.endswith(b" gone\n"):
             self._watches.pop(watch).place.free()
-        self._outbox.tell(watch, renamed(watch, reply))
+        self._outbox.add_watch_line(watch, renamed(watch, reply))
 
-    def turned(self, sliced: Sliced) -> SlicedWatches:
+    def over_slices(self, sliced: Sliced) -> SlicedWatches:
         """The client's watches, over a keyring that is sliced from now on."""
-        self._share.pins[False] -= len(self.seats)
-        turned, names = SlicedWatches(sliced, self._outbox, self._views, self._share), {
-            seat.name: name for name, seat in self.seats.items()}
+        self._share.pins[False] -= len(self.engine_views)
+        sliced_watches = SlicedWatches(sliced, self._outbox, self._views, self._share)
+        names = {engine_view.name: name for name, engine_view in self.engine_views.items()}
         for watch, watching in self._watches.items():
-            known = watching.engine.standing.watches.get(watching.name)
+            known = watching.engine.replayed.watches.get(watching.name)
             if known is None:
                 continue
-            _, _, _, seat, question = known.line.split(b" ", 4)
-            name = names[seat]
+            _, _, _, engine_view, question = known.line.split(b" ", 4)
+            name = names[engine_view]
             view = self._views.get(name)
             if view is not None:
-                turned.take(watch, name, view.value, b" " + question, known.told.split()[3])
-        return turned
+                sliced_watches.take(watch, name, view.value, b" " + question, known.reported.split()[3])
+        return sliced_watches
 
     def close(self) -> None:
         """The client is gone, and with it its views: their watches are gone too."""
-        self._share.pins[False] -= len(self.seats)
-        for seat in self.seats.values():
-            self._hub.seats.unpin(seat, has_cursor=False)
+        self._share.pins[False] -= len(self.engine_views)
+        for engine_view in self.engine_views.values():
+            self._hub.engine_views.unpin(engine_view, has_cursor=False)
         for watching in self._watches.values():
             watching.place.free()
-        self.seats.clear()
+        self.engine_views.clear()
         self._watches.clear()
         self._is_closed = True

@@ -1,5 +1,5 @@
-"""One lane for the lines of all clients: each is done when those before it are. Changes that follow one another are
-made together. Whatever a turn raises, its line is answered, and the next one has its turn."""
+"""One queue for the lines of all clients: each is done when those before it are. Changes that follow one another are
+made together. Whatever a line's work raises, the line is answered, and the next one is done."""
 
 from __future__ import annotations
 
@@ -15,8 +15,8 @@ _MOST_OCTETS = 4 << 20
 _MOST_CERTIFICATES = 1024
 
 
-class Turn:
-    """What is done when its turn comes, and what is called if that raises something."""
+class Queued:
+    """Work in the queue, and what is called if it raises something."""
     __slots__ = ("work", "fail")
 
     def __init__(self, work: Callable[[], Awaitable[None]], fail: Callable[[Exception], None]) -> None:
@@ -25,7 +25,7 @@ class Turn:
 
 
 class Once:
-    """Hands on one reply, the first: a line that was answered before its turn failed isn't answered again."""
+    """Hands on one reply, the first: a line that was answered before its work failed isn't answered again."""
     __slots__ = ("_done",)
 
     def __init__(self, done: Done) -> None:
@@ -37,22 +37,22 @@ class Once:
             done(reply, count)
 
 
-class Lane:
+class LineQueue:
     """`make` makes changes, and `refuse` refuses those that it doesn't come to."""
 
     def __init__(self, make: Callable[[list[Change]], Awaitable[None]], refuse: Callable[[list[Change]], None],
-                 tell: Callable[[str], None]) -> None:
+                 report: Callable[[str], None]) -> None:
         self._make = make
         self._refuse = refuse
-        self._tell = tell
-        self._queue: deque[Change | Turn] = deque()
+        self._report = report
+        self._queue: deque[Change | Queued] = deque()
         self._since: deque[float] = deque()  # When each of them was added.
         self._now = asyncio.get_running_loop().time
         self._woken = asyncio.Event()
         self._is_closing = False
         self._task = asyncio.get_running_loop().create_task(self._work())
 
-    def add(self, item: Change | Turn) -> None:
+    def add(self, item: Change | Queued) -> None:
         self._queue.append(item)
         self._since.append(self._now())
         self._woken.set()
@@ -76,7 +76,7 @@ class Lane:
                     self._woken.clear()
                     await self._woken.wait()
             except Exception as error:  # Whatever one line meets, the others go on.
-                self._tell(repr(error))
+                self._report(repr(error))
 
     async def _do_next(self) -> None:
         changes = list(self._next_changes())
@@ -84,16 +84,16 @@ class Lane:
             try:
                 await self._make(changes)
             except Exception as error:
-                self._tell(repr(error))
+                self._report(repr(error))
                 self._refuse(changes)
             return
-        turn = self._next()
-        assert not isinstance(turn, Change)
+        queued = self._next()
+        assert not isinstance(queued, Change)
         try:
-            await turn.work()
+            await queued.work()
         except Exception as error:
-            self._tell(repr(error))
-            turn.fail(error)
+            self._report(repr(error))
+            queued.fail(error)
 
     def _next_changes(self) -> Iterator[Change]:
         """The changes at the beginning that can be made together."""
@@ -102,7 +102,7 @@ class Lane:
             yield change
             self._next()
 
-    def _next(self) -> Change | Turn:
+    def _next(self) -> Change | Queued:
         self._since.popleft()
         return self._queue.popleft()
 

@@ -32,7 +32,7 @@ class Kept:
                        if (found := parts.part(fpr)) is not None}
         self.certificates = {fpr: parts.has(fpr) for change in changes if (fpr := dropped(change)) is not None}
         self.verdicts = {number: parts.verdict(number) is not None for change in changes
-                         if (number := judged(change)) is not None}
+                         if (number := verdict_number(change)) is not None}
 
 
 def dropped(change: Change) -> bytes | None:
@@ -41,7 +41,7 @@ def dropped(change: Change) -> bytes | None:
     return bytes.fromhex(match[1].decode()) if match else None
 
 
-def judged(change: Change) -> bytes | None:
+def verdict_number(change: Change) -> bytes | None:
     """The number of the signature whose verdict a line sets."""
     match = _VERDICT.fullmatch(change.line or b"")
     return bytes.fromhex(match[1].decode()) if match else None
@@ -54,7 +54,7 @@ def touched_by(changes: Sequence[Change], parts: Parts) -> set[bytes]:
         if isinstance(change, Verdicts):
             touched.update(change.targets)
             continue
-        number = judged(change)
+        number = verdict_number(change)
         touched.update(fpr for fpr in (dropped(change), number and parts.certificate_of(number)) if fpr)
     return touched
 
@@ -62,10 +62,10 @@ def touched_by(changes: Sequence[Change], parts: Parts) -> set[bytes]:
 class Merging:
     """Finds the reply to each change, and what it does to the database."""
 
-    def __init__(self, program: Sequence[str], budget: int, attempts: Attempts, tell: Callable[[str], None]) -> None:
+    def __init__(self, program: Sequence[str], budget: int, attempts: Attempts, report: Callable[[str], None]) -> None:
         self._budget = budget
         self._attempts = attempts
-        self._tell = tell
+        self._report = report
         self._talk = Talk(program)
 
     @property
@@ -84,7 +84,7 @@ class Merging:
             elif _word(change) == b"drop":
                 change.reply = self._drop(change, kept)
             elif _word(change) == b"verdict":
-                change.reply = self._judge(change, kept)
+                change.reply = self._set_verdict(change, kept)
 
     @staticmethod
     def _drop(change: Change, kept: Kept) -> bytes:
@@ -95,8 +95,8 @@ class Merging:
         return _OK if was_there else _REFUSED_ABSENT
 
     @staticmethod
-    def _judge(change: Change, kept: Kept) -> bytes:
-        number = judged(change)
+    def _set_verdict(change: Change, kept: Kept) -> bytes:
+        number = verdict_number(change)
         if number is None:
             return _REFUSED_LINE
         is_taken_away = (change.line or b"").endswith(b" none")
@@ -125,7 +125,7 @@ class Merging:
             return await self._merge(changes, kept)
         except Exception as error:
             if not isinstance(error, EngineGone):
-                self._tell(repr(error))
+                self._report(repr(error))
             return False
 
     async def _merge_alone(self, change: Change, kept: Kept) -> bytes:
@@ -136,31 +136,31 @@ class Merging:
     async def _merge(self, changes: Sequence[Change], kept: Kept) -> bool:
         """False if an engine has no room for these changes at once."""
         try:
-            return await self._is_told(changes, kept)
+            return await self._is_taken(changes, kept)
         except BaseException:
             self._talk.kill()  # The next one has to hold nothing.
             raise
 
-    async def _is_told(self, changes: Sequence[Change], kept: Kept) -> bool:
+    async def _is_taken(self, changes: Sequence[Change], kept: Kept) -> bool:
         merged = {fpr for change in changes for fpr in change.fprs}
         front = [b"import " + hexlify(kept.octets[fpr]) for fpr in merged if fpr in kept.octets]
         lines = [line for change in changes
                  for line in (change.line or b"", *(b"export " + hexlify(fpr) for fpr in change.fprs))]
-        if not all(reply.startswith(b"ok") for reply in await self._talk.tell(front)):
+        if not all(reply.startswith(b"ok") for reply in await self._talk.run(front)):
             self._talk.kill()
             if len(changes) == 1:
                 changes[0].reply = REFUSED_BUDGET
             return len(changes) == 1
-        following = iter(await self._told(lines))
+        following = iter(await self._replies_to(lines))
         for change in changes:
             change.reply = next(following)
             change.exported.update(zip(change.fprs, following))
-        await self._talk.tell([b"drop " + hexlify(fpr) for fpr in merged])
+        await self._talk.run([b"drop " + hexlify(fpr) for fpr in merged])
         return True
 
-    async def _told(self, lines: Sequence[bytes]) -> list[bytes]:
+    async def _replies_to(self, lines: Sequence[bytes]) -> list[bytes]:
         try:
-            return await self._talk.tell(lines)
+            return await self._talk.run(lines)
         except CannotStart:
             raise
         except EngineGone as gone:

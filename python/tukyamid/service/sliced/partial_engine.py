@@ -23,7 +23,7 @@ _MOST_IN_VIEWS = 1 << 17  # Views times loaded certificates.
 _MOST_MOVED = 86_400  # Seconds: what has begun or ended within a day is little of a keyring.
 
 
-class BudgetPassed(Exception):
+class BudgetExceeded(Exception):
     """What a question rests on is more than an engine may load."""
 
 
@@ -69,7 +69,7 @@ class Loader:
                 await self._hold(base, base, fetch)
                 self._base = base
             await self._hold(beside, base, fetch)
-        except (BudgetPassed, DatabaseFault):
+        except (BudgetExceeded, DatabaseFault):
             raise  # Between two conversations: what the engine holds is known.
         except BaseException:
             self.end()
@@ -90,12 +90,12 @@ class Loader:
         room = self.budget - len(parts)
         await self._drop(self._oldest(len(self._loaded) - room, base, needed))
         if len(self._loaded) > room:
-            raise BudgetPassed
+            raise BudgetExceeded
         octets = self._octets + sum(len(part.octets) for part in parts) - _MOST_OCTETS
         if octets > 0 and len(self._loaded) > len(base) + len(needed):
             await self._drop(self._oldest(0, base, needed, octets))
         lines = [line for part in parts for line in part.lines()]
-        replies = await self._talk.tell(lines)
+        replies = await self._talk.run(lines)
         if not all(reply.startswith(b"ok") for reply in replies):
             await self._make_room(parts, lines, replies, base, needed)
         for part in parts:
@@ -110,9 +110,9 @@ class Loader:
         if not refusal.startswith(b"refused full "):
             raise EngineGone(f"a part of the database was answered with {refusal[:80]!r}")
         await self._drop(self._oldest(len(self._loaded), base, needed))
-        if not all(reply.startswith(b"ok") for reply in await self._talk.tell(lines)):
+        if not all(reply.startswith(b"ok") for reply in await self._talk.run(lines)):
             self.end()
-            raise BudgetPassed
+            raise BudgetExceeded
 
     def _oldest(self, number: int, base: Collection[bytes], needed: Collection[bytes], octets: int = 0) -> list[bytes]:
         """Those that are loaded and not needed, used least recently first, until they are this many and this large."""
@@ -143,21 +143,21 @@ class Loader:
             lines.append(b"drop " + hexlify(fpr))
             lines += [b"verdict %s none" % hexlify(number) for number in self._loaded.pop(fpr)]
         if lines:
-            await self._talk.tell(lines)
+            await self._talk.run(lines)
 
     async def ask(self, value: Value | None, lines: Callable[[bytes], Sequence[bytes]]) -> list[bytes]:
         """The replies to the lines that are made with the name of a view of this value."""
         try:
-            before = [] if value is None else list(self._seat(value))
-            told = [*before, *lines(b"-" if value is None else self._views[value])]
-            return (await self._talk.tell(told))[len(before):]
+            before = [] if value is None else list(self._lines_for(value))
+            sent = [*before, *lines(b"-" if value is None else self._views[value])]
+            return (await self._talk.run(sent))[len(before):]
         except BaseException as error:
             self.end()  # Nobody knows how much of it the engine has done.
             if isinstance(error, EngineGone) and not isinstance(error, CannotStart):
                 raise KilledByLine(str(error)) from None
             raise
 
-    def _seat(self, value: Value) -> Iterator[bytes]:
+    def _lines_for(self, value: Value) -> Iterator[bytes]:
         """The lines that make a view of this value, if there is none. Each view takes memory for all that is loaded, so
         others make room."""
         if value in self._views:

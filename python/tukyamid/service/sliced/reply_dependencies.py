@@ -8,7 +8,7 @@ from dataclasses import dataclass
 
 from ..sessions.views import Value
 from ..storage.partial_reads import Parts
-from .partial_engine import BudgetPassed
+from .partial_engine import BudgetExceeded
 from .slices import Slices
 
 _FPR = rb"(?:[0-9a-fA-F]{24})?[0-9a-fA-F]{40}"
@@ -32,19 +32,19 @@ def slice_of(value: Value, slices: Slices, parts: Parts) -> Collection[bytes]:
     """The members of the slice of a view; BudgetPassed if they are too many."""
     found = slices.of(roots_of(value), parts)
     if not found.is_whole:
-        raise BudgetPassed
+        raise BudgetExceeded
     return found.members
 
 
 def target_of(rest: bytes) -> bytes | None:
-    """The certificate that a line asks about, `rest` of which stands behind its view; None if it is malformed."""
+    """The certificate that a line asks about. `rest` is the line after its view. None if it is malformed."""
     match = _TARGET.fullmatch(rest)
     return bytes.fromhex(match[1].decode()) if match else None
 
 
 def rest_of(word: bytes, value: Value, rest: bytes, slices: Slices, parts: Parts, most: int) -> Rest:
-    """What a line `ask`, `explain`, `absence` or `check` rests on, `rest` of which stands behind its view; nothing if
-    it is malformed. BudgetPassed if that is more than `most`."""
+    """What the reply to a line `ask`, `explain`, `absence` or `check` depends on. `rest` is the line after its view.
+    Nothing if it is malformed. BudgetPassed if that is more than `most`."""
     target = target_of(rest)
     if target is None:
         return Rest(_NOTHING, _NOTHING)
@@ -67,7 +67,7 @@ def _checked(target: bytes, rest: bytes, parts: Parts, most: int) -> set[bytes]:
     found |= {fpr for fpr in _fprs(fields[1]) if parts.has(fpr)}
     for fpr in _fprs(fields[2]):
         if len(found) > most:
-            raise BudgetPassed
+            raise BudgetExceeded
         if parts.has(fpr):
             found |= {fpr, *(by for by in parts.introducers(fpr) if parts.has(by))}
     return found

@@ -13,7 +13,7 @@ from ..storage.database_threads import Access
 from ..storage.journal import Change, Done
 from ..storage.partial_reads import Parts, SharedInParts, SharedParts
 from ..storage.shared_database import News
-from ..storage.turn_taking import Begun, Call, Turns, Waiting
+from ..storage.locked_changes import Begun, Call, LockedChanges, Waiting
 from .line_queue import Group
 from .sliced_keyring import Sliced
 
@@ -26,52 +26,52 @@ class SharedSliced(Sliced):
     def __init__(self, program: Sequence[str], access: Access, database: SharedInParts, budget: int) -> None:
         super().__init__(program, access, database, budget)
         self._shared = database
-        self._turns: Turns | None = None
+        self._locked_changes: LockedChanges | None = None
         self._tasks: set[asyncio.Task[None]] = set()
         self._mended_after = 0.0
 
     @property
     def age(self) -> float:
         """For how many seconds changes of other services may have been missed."""
-        return self._turns.freshness.age if self._turns is not None else 0.0
+        return self._locked_changes.freshness.age if self._locked_changes is not None else 0.0
 
     @property
     def standby(self) -> str | None:
         """The setting that names the standby that confirms changes; empty if there is none, None if it isn't known."""
-        return self._turns.freshness.standby if self._turns is not None else None
+        return self._locked_changes.freshness.standby if self._locked_changes is not None else None
 
     async def start(self) -> None:
         """Begins behind the last change that was taken before, if any was."""
         await self._renew()
-        self._turns = Turns(self._shared, self.access.writing, self._committer, self)
-        self._begin(self._keep_young())
+        self._locked_changes = LockedChanges(self._shared, self.access.writing, self._committer, self)
+        self._begin(self._keep_fresh())
 
     async def close(self) -> None:
         for task in self._tasks:
             task.cancel()
         await asyncio.gather(*self._tasks, return_exceptions=True)
-        await self._lane.close()
-        if self._turns is not None:
-            await self._turns.close()
+        await self._line_queue.close()
+        if self._locked_changes is not None:
+            await self._locked_changes.close()
         await super().close()
 
-    def tell(self, text: str) -> None:
-        self.access.tell(text)
+    def report(self, text: str) -> None:
+        self.access.report(text)
 
     def note(self, session: int, line: bytes) -> None:
         """Writes down a line in the order in which lines are done."""
-        async def turn() -> None:
+        async def work() -> None:
             self.access.note(session, line)
-        self.inner_turn(turn, lambda _: None)
+        self.enqueue_inner(work, lambda _: None)
 
     def change(self, line: bytes, actor: Actor, done: Done, begun: Begun = lambda: None) -> None:
-        assert self._turns is not None
-        self._turns.change(Waiting(line, actor, done, begun))
+        assert self._locked_changes is not None
+        self._locked_changes.change(Waiting(line, actor, done, begun))
 
     def snapshot(self, done: Callable[[Snapshot | None], None]) -> None:
-        async def turn() -> None:
+        async def work() -> None:
             self._begin(self._copy(await self._freeze(), done))
-        self.inner_turn(turn, lambda _: done(None))
+        self.enqueue_inner(work, lambda _: done(None))
 
     async def _copy(self, parts: Parts, done: Callable[[Snapshot | None], None]) -> None:
         snapshot = None
@@ -79,7 +79,7 @@ class SharedSliced(Sliced):
             assert isinstance(parts, SharedParts)
             snapshot = await asyncio.to_thread(parts.snapshot)
         except Exception as error:
-            self.access.tell(str(error) if isinstance(error, DatabaseFault) else repr(error))
+            self.access.report(str(error) if isinstance(error, DatabaseFault) else repr(error))
         done(snapshot)
         await asyncio.to_thread(parts.close)
 
@@ -90,43 +90,43 @@ class SharedSliced(Sliced):
     def send_batch(self, batch: Sequence[Waiting], done: Callable[[Waiting], Done]) -> None:
         changes = [_change_of(one.line, one.actor, done(one)) for one in batch]
 
-        async def turn() -> None:
+        async def work() -> None:
             for one in batch:
                 one.begun()
             await self._changes.make(changes)
-        self.inner_turn(turn, lambda _: self._changes.refuse(changes))
+        self.enqueue_inner(work, lambda _: self._changes.refuse(changes))
 
-    async def begin_turn(self, call: Call) -> None:
+    async def begin_locked(self, call: Call) -> None:
         await call(self._shared.lock)
         try:
-            await self._in_lane(self._renew)
+            await self._in_queue(self._renew)
         except Exception:
-            await call(self._shared.end_turn)
+            await call(self._shared.unlock)
             raise
 
     async def catch_up(self, call: Call) -> None:
-        await self._in_lane(self._renew)
+        await self._in_queue(self._renew)
 
     def take_news(self, news: News) -> None:
         """News is read at the moment at which it is taken."""
         raise AssertionError(news)
 
-    async def _in_lane(self, work: Callable[[], Awaitable[None]]) -> None:
-        """Has something done behind the lines so far, and waits for it."""
+    async def _in_queue(self, work: Callable[[], Awaitable[None]]) -> None:
+        """Has something done after the lines so far, and waits for it."""
         done = asyncio.get_running_loop().create_future()
 
         def fail(error: Exception) -> None:
             if not done.done():
                 done.set_exception(error)
 
-        async def turn() -> None:
+        async def attempt() -> None:
             try:
                 await work()
             except Exception as error:
                 fail(error)
             if not done.done():
                 done.set_result(None)
-        self.inner_turn(turn, fail)
+        self.enqueue_inner(attempt, fail)
         await done
 
     async def _committed(self, made: list[Change]) -> None:
@@ -134,7 +134,7 @@ class SharedSliced(Sliced):
 
     async def _is_mended(self) -> bool:
         """Looks for a server, which may take seconds if there is none: then it is only looked for again after a while,
-        so that other lines have their turns."""
+        so that other lines are answered."""
         now = asyncio.get_running_loop().time
         begun = now()
         if begun < self._mended_after and self.fault:
@@ -142,7 +142,7 @@ class SharedSliced(Sliced):
         try:
             await self._renew()
         except DatabaseFault as fault:
-            self.access.tell(str(fault))
+            self.access.report(str(fault))
             self._mended_after = now() + _PAUSES * (now() - begun)
             return False
         return True
@@ -156,8 +156,8 @@ class SharedSliced(Sliced):
 
         self._committer.count, lines = await self.read(renew)
         if lines is None:
-            self.access.feed.anew(self._committer.count)
-            await self._begin_anew()
+            self.access.feed.replaced(self._committer.count)
+            await self._begin_again()
             return
         self.access.feed.made(lines)
         for _, line in lines:
@@ -166,14 +166,14 @@ class SharedSliced(Sliced):
         if changes:
             await self._follow(changes)
 
-    async def _keep_young(self) -> None:
+    async def _keep_fresh(self) -> None:
         while True:
             await asyncio.sleep(_LONGEST_MOMENT)
             try:
-                await self._in_lane(self._renew)
+                await self._in_queue(self._renew)
             except Exception as error:  # The next one may come through.
                 if not isinstance(error, DatabaseFault):
-                    self.access.tell(repr(error))
+                    self.access.report(repr(error))
 
     def _begin(self, work: Awaitable[None]) -> None:
         task = asyncio.ensure_future(work)

@@ -16,17 +16,18 @@ _PAUSE = 0.01
 
 
 class Changes:
-    """`committed` is called behind a commit with the changes that were made, and `anew` if that isn't known to have
-    been followed."""
+    """`committed` is called after a commit with the changes that were made, and `begin_again` if nobody knows whether
+    that was followed."""
 
     def __init__(self, merging: Merging, access: Access, read: Read,
-                 committed: Callable[[list[Change]], Awaitable[None]], anew: Callable[[], Awaitable[None]]) -> None:
+                 committed: Callable[[list[Change]], Awaitable[None]],
+                 begin_again: Callable[[], Awaitable[None]]) -> None:
         self.merging = merging
-        self.committer = Committer(access.database, access.writing, self._settle, self._refused, access.feed)
-        self._tell = access.tell
+        self.committer = Committer(access.database, access.writing, self._note_end, self._refused, access.feed)
+        self._report = access.report
         self._read = read
         self._committed = committed
-        self._anew = anew
+        self._begin_again = begin_again
         self._making: list[Change] = []
         self._over = asyncio.Event()
 
@@ -35,7 +36,7 @@ class Changes:
         try:
             await self.merging.take(changes, self._read)
         except Exception as error:
-            self._tell(str(error) if isinstance(error, DatabaseFault) else repr(error))
+            self._report(str(error) if isinstance(error, DatabaseFault) else repr(error))
             self.refuse(changes)
             return
         made, before = [change for change in changes if change.is_made], self.committer.count
@@ -45,7 +46,7 @@ class Changes:
             if self.committer.count != before:
                 await self._committed(made)
         except Exception as error:
-            self._tell(repr(error))
+            self._report(repr(error))
             await self._recover(changes)
 
     def _hand_in(self, changes: list[Change]) -> None:
@@ -68,15 +69,15 @@ class Changes:
         was loaded is relied on."""
         while any(change.count is None for change in changes):
             await asyncio.sleep(_PAUSE)
-        await self._anew()
+        await self._begin_again()
 
-    def _settle(self) -> None:
+    def _note_end(self) -> None:
         if all(change.count is not None for change in self._making):
             self._over.set()
 
     def _refused(self, failed: list[Change], why: str) -> None:
-        self._tell(f"{len(failed)} changes were refused, because they can't be stored: {why}")
-        self._settle()
+        self._report(f"{len(failed)} changes were refused, because they can't be stored: {why}")
+        self._note_end()
 
     async def close(self) -> None:
         """When no further change comes."""

@@ -22,13 +22,13 @@ _MOST_OF_A_USER = 128
 
 
 class SlicedCursor:
-    """A cursor of the client over its view of this name, which had that turn and value at the beginning; the number of
+    """A cursor of the client over its view of this name, which had that revision and value at the start; the number of
     the last change then; and the lines of the list from which pieces are taken."""
-    __slots__ = ("view", "turn", "value", "wanted", "count", "lines", "taken")
+    __slots__ = ("view", "revision", "value", "wanted", "count", "lines", "taken")
 
-    def __init__(self, view: bytes, turn: int, value: Value, wanted: int) -> None:
+    def __init__(self, view: bytes, revision: int, value: Value, wanted: int) -> None:
         self.view = view
-        self.turn = turn
+        self.revision = revision
         self.value = value
         self.wanted = wanted
         self.count = 0
@@ -90,7 +90,7 @@ class SlicedCursors:
             self._cursors.pop(name).close()
             done(b"ok\n", 0)
         else:
-            self._sliced.turn(partial(self._next, cursor, int(count)), done)
+            self._sliced.enqueue(partial(self._next, cursor, int(count)), done)
 
     def _over(self, name: bytes, view_name: bytes, wanted: int, done: Done) -> None:
         view = self._views.get(view_name)
@@ -100,8 +100,8 @@ class SlicedCursors:
                                             or self._share.pins[True] >= _MOST_OF_A_USER):
             done(b"refused full cursors\n", 0)
         else:
-            cursor = SlicedCursor(view_name, view.turn, view.value, wanted)
-            self._sliced.turn(partial(self._set, name, cursor), done)
+            cursor = SlicedCursor(view_name, view.revision, view.value, wanted)
+            self._sliced.enqueue(partial(self._set, name, cursor), done)
 
     async def _set(self, name: bytes, cursor: SlicedCursor, done: Done) -> None:
         cursor.count = self._sliced.count
@@ -119,8 +119,8 @@ class SlicedCursors:
             done(b"refused view\n", now)
         elif cursor.count != now:
             done(b"stale keyring %d %d\n" % (cursor.count, now), now)
-        elif cursor.turn != view.turn:
-            done(b"stale view %d %d\n" % (cursor.turn, view.turn), now)
+        elif cursor.revision != view.revision:
+            done(b"stale view %d %d\n" % (cursor.revision, view.revision), now)
         elif cursor.lines is None:
             filled = partial(self._filled, cursor, count, done)
             await self._sliced.go_over(cursor.value, cursor.wanted, cursor.fill, filled)

@@ -1,5 +1,5 @@
-"""A keyring that is larger than an engine. All lines pass through one lane; a question is asked when an engine has
-loaded what its reply rests on, and a change goes from the engine that merges to the database."""
+"""A keyring that is larger than an engine. All lines go through one queue; a question is asked when an engine has
+loaded what its reply depends on, and a change goes from the engine that merges to the database."""
 
 from __future__ import annotations
 
@@ -19,13 +19,13 @@ from ..storage.database_threads import Access
 from ..storage.group_commit import FAULT, Barrier
 from ..storage.journal import Change, Done, Verdicts
 from ..storage.partial_reads import HasParts, Parts
-from ..storage.turn_taking import Begun
-from .line_queue import Lane, Once, Turn
+from ..storage.locked_changes import Begun
+from .line_queue import LineQueue, Once, Queued
 from .merging_engine import Merging, touched_by
 from .partial_engine import Loader
 from .reader_thread import Reader
 from .sliced_changes import Changes
-from .sliced_long_replies import Errands, Work
+from .sliced_long_replies import LongReplies, Work
 from .sliced_questions import Asker, wanted_of
 from .sliced_watches import Watched
 
@@ -43,12 +43,12 @@ class Sliced:
         self.watched = Watched(self)
         self.read = self._opened(access, database)
         self._asker = Asker(Loader(program, budget), self.read)
-        self._attempts = Attempts(access.tell, self._is_mended)
-        self._changes = Changes(Merging(program, budget, self._attempts, access.tell), access, self.read,
-                                self._committed, self._begin_anew)
-        self._errands = Errands(program, budget, self._freeze, self.answer, access.tell)
+        self._attempts = Attempts(access.report, self._is_mended)
+        self._changes = Changes(Merging(program, budget, self._attempts, access.report), access, self.read,
+                                self._committed, self._begin_again)
+        self._long_replies = LongReplies(program, budget, self._freeze, self.answer, access.report)
         self._committer = self._changes.committer
-        self._lane = Lane(self._changes.make, self._changes.refuse, access.tell)
+        self._line_queue = LineQueue(self._changes.make, self._changes.refuse, access.report)
 
     def _opened(self, access: Access, database: HasParts) -> Reader:
         return Reader(access, database)
@@ -64,7 +64,7 @@ class Sliced:
 
     @property
     def pids(self) -> list[int]:
-        pids = [self._asker.loader.pid, self._changes.merging.pid, *self._errands.pids]
+        pids = [self._asker.loader.pid, self._changes.merging.pid, *self._long_replies.pids]
         return [pid for pid in pids if pid is not None]
 
     @property
@@ -73,7 +73,7 @@ class Sliced:
 
     def lag(self) -> float:
         """For how many seconds the next line has waited."""
-        return self._lane.lag()
+        return self._line_queue.lag()
 
     async def start(self) -> None:
         figures = await self.access.find(lambda finder: finder.log(1))
@@ -81,8 +81,8 @@ class Sliced:
 
     async def close(self) -> None:
         """Ends the engines, when what was handed in is answered."""
-        await self._lane.close()
-        await self._errands.close()
+        await self._line_queue.close()
+        await self._long_replies.close()
         await self._changes.close()
         await self._asker.loader.close()
         self.read.close()
@@ -105,56 +105,57 @@ class Sliced:
         if self._committer.refuses():
             done(FAULT, self.count)
         else:
-            self._lane.add(Change(line, 0, set(), actor, brought(line), done))
+            self._line_queue.add(Change(line, 0, set(), actor, brought(line), done))
         begun()
 
-    def judge(self, verdicts: Verdicts) -> None:
+    def set_verdicts(self, verdicts: Verdicts) -> None:
         """Has the verifier's verdicts made."""
         if self._committer.refuses():
             verdicts.finish(FAULT, self.count)
         else:
-            self._lane.add(verdicts)
+            self._line_queue.add(verdicts)
 
     def ask(self, line: bytes, done: Done) -> None:
         """A line that is no view's, and changes nothing."""
         match = _EXPORT.fullmatch(line)
         if line == b"pending":
-            self.turn(partial(self.begin, lambda asker: asker.pending()), done)
+            self.enqueue(partial(self.begin, lambda asker: asker.pending()), done)
         elif match:
-            self.turn(partial(self.answer, partial(self._export, bytes.fromhex(match[1].decode()))), done)
+            self.enqueue(partial(self.answer, partial(self._export, bytes.fromhex(match[1].decode()))), done)
         else:
-            self.turn(partial(self.answer, partial(self.say, line)), done)
+            self.enqueue(partial(self.answer, partial(self.say, line)), done)
 
     def question(self, word: bytes, value: Value, rest: bytes, done: Done) -> None:
-        """A line that asks from a view of this value; `rest` is what stands behind the view."""
+        """A line that asks from a view of this value; `rest` is what follows the view."""
         if word == b"list":
-            self.turn(partial(self.go_over, value, wanted_of(rest) or 1, lambda asker: asker.listed(value, rest)), done)
+            self.enqueue(partial(self.go_over, value, wanted_of(rest) or 1, lambda asker: asker.listed(value, rest)),
+                         done)
         else:
-            self.turn(partial(self.answer, partial(self._ask, word, value, rest)), done)
+            self.enqueue(partial(self.answer, partial(self._ask, word, value, rest)), done)
 
     def keys(self, done: Callable[[bytes | Pieces | None, int], None]) -> None:
-        """The reply to `keys`, in pieces, from the database as it is when the line's turn comes."""
-        async def turn() -> None:
+        """The reply to `keys`, in pieces, from the database as it is when the lines before it are answered."""
+        async def work() -> None:
             done(keys_of(await self._freeze()), self.count)
-        self.inner_turn(turn, lambda _: done(FAULT, self.count))
+        self.enqueue_inner(work, lambda _: done(FAULT, self.count))
 
     def snapshot(self, done: Callable[[Snapshot | None], None]) -> None:
         """Asks for a snapshot behind the changes so far."""
-        async def turn() -> None:
+        async def work() -> None:
             self._committer.add(Barrier(done))
-        self.inner_turn(turn, lambda _: done(None))
+        self.enqueue_inner(work, lambda _: done(None))
 
-    def turn(self, work: Callable[[Done], Awaitable[None]], done: Done) -> None:
-        """Has a line answered when its turn comes, once, whatever its turn raises."""
+    def enqueue(self, work: Callable[[Done], Awaitable[None]], done: Done) -> None:
+        """Has a line answered, once, after those before it, whatever `work` raises."""
         once = Once(done)
-        self.inner_turn(partial(work, once), lambda _: once(FAULT, self.count))
+        self.enqueue_inner(partial(work, once), lambda _: once(FAULT, self.count))
 
-    def inner_turn(self, work: Callable[[], Awaitable[None]], fail: Callable[[Exception], None]) -> None:
-        """Has something done when its turn comes; `fail` is called if that raises something."""
-        self._lane.add(Turn(work, fail))
+    def enqueue_inner(self, work: Callable[[], Awaitable[None]], fail: Callable[[Exception], None]) -> None:
+        """Has something done after the lines so far; `fail` is called if that raises something."""
+        self._line_queue.add(Queued(work, fail))
 
     async def go_over(self, value: Value, wanted: int, work: Work, done: Done) -> None:
-        """Has work done that goes over a whole list: here, or on an errand if it is long."""
+        """Has work done that goes over a whole list: here, or in an engine of its own if it is long."""
         try:
             _, targets = await self._asker.targets(value)
         except Exception:
@@ -169,12 +170,12 @@ class Sliced:
 
     async def begin(self, work: Work, done: Done) -> None:
         try:
-            await self._errands.begin(work, partial(self._counted, done, self.count))
+            await self._long_replies.begin(work, partial(self._counted, done, self.count))
         except Exception as error:
             self._fail(error, done)
 
     def _fail(self, error: Exception, done: Callable[[bytes, int], None]) -> None:
-        self.access.tell(str(error) if isinstance(error, DatabaseFault) else repr(error))
+        self.access.report(str(error) if isinstance(error, DatabaseFault) else repr(error))
         done(FAULT, self.count)
 
     @staticmethod
@@ -215,12 +216,12 @@ class Sliced:
             touched, reached = await self.read(partial(self._touched, made))
             await self._asker.loader.forget(touched)
         except Exception as error:
-            self.access.tell(str(error) if isinstance(error, DatabaseFault | EngineGone) else repr(error))
-            await self._begin_anew()
+            self.access.report(str(error) if isinstance(error, DatabaseFault | EngineGone) else repr(error))
+            await self._begin_again()
         else:
             await self.watched.change(touched, reached)
 
-    async def _begin_anew(self) -> None:
+    async def _begin_again(self) -> None:
         """Whatever is loaded, and whatever is known, may have changed."""
         self._asker.loader.end()
         self._asker = Asker(self._asker.loader, self.read)

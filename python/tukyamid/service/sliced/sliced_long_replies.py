@@ -1,5 +1,5 @@
 """Long replies about a keyring that is larger than an engine. Each is made by an engine of its own, from the database
-as it is when the line's turn comes: so nobody else waits for it."""
+as it is when the lines before it are answered: so nobody else waits for it."""
 
 from __future__ import annotations
 
@@ -23,14 +23,14 @@ Freeze = Callable[[], Awaitable[Parts]]
 Answer = Callable[[Callable[[], Awaitable[bytes]], Done], Awaitable[None]]
 
 
-class Errands:
+class LongReplies:
     def __init__(self, program: Sequence[str], budget: int, freeze: Freeze, answer: Answer,
-                 tell: Callable[[str], None]) -> None:
+                 report: Callable[[str], None]) -> None:
         self._program = program
         self._budget = budget
         self._freeze = freeze
         self._answer = answer
-        self._tell = tell
+        self._report = report
         self._loaders: set[Loader] = set()
         self._tasks: set[asyncio.Task[None]] = set()
         self._room = asyncio.Semaphore(_AT_ONCE)
@@ -54,7 +54,7 @@ class Errands:
                 asker = Asker(loader, FrozenReader(parts))
                 await self._answer(lambda: work(asker), done)
         except Exception as error:  # Whatever one line meets, the others go on.
-            self._tell(repr(error))
+            self._report(repr(error))
             done(FAULT, 0)
         finally:
             self._loaders.discard(loader)

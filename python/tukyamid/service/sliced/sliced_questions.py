@@ -12,7 +12,7 @@ from tukyamid.protocol.spelling import write_user_id
 
 from ..sessions.views import Value
 from ..storage.partial_reads import Part, Parts
-from .partial_engine import REFUSED_BUDGET, BudgetPassed, Loader
+from .partial_engine import REFUSED_BUDGET, BudgetExceeded, Loader
 from .reply_dependencies import Rest, rest_of, roots_of, slice_of, target_of
 from .slices import Slices
 
@@ -39,13 +39,13 @@ class Asker:
         return (await self.loader.ask(None, lambda _: [line]))[0]
 
     async def ask(self, word: bytes, value: Value, rest: bytes) -> bytes:
-        """The reply to a line that asks about one certificate; `rest` is what stands behind its view."""
+        """The reply to a line that asks about one certificate; `rest` is what follows its view."""
         if word == b"ask" and self._has_at_hand(value, rest):
             return await self._say(word, value, rest)
         try:
             needed, ready = await self._read(partial(self._gather, word, value, rest))
             await self.loader.load(needed.base, needed.beside, partial(self._fetch, ready))
-        except BudgetPassed:
+        except BudgetExceeded:
             reply = await self.say(b"%s -%s" % (word, rest))
             return reply if reply == _REFUSED_LINE else REFUSED_BUDGET
         return await self._say(word, value, rest)
@@ -91,7 +91,7 @@ class Asker:
                 b"ask %s %s %d %s" % (name, fpr, wanted, user_id) for fpr, user_id in spelled])
             for (fpr, user_id), reply in zip(spelled, replies):
                 if not reply.startswith(b"amount "):
-                    raise BudgetPassed  # The line that asks for a user ID of some megabytes is too long.
+                    raise BudgetExceeded  # The line that asks for a user ID of some megabytes is too long.
                 amount = int(reply.split(b" ", 2)[1])
                 if amount >= wanted:
                     yield b"bind %d %s %s\n" % (amount, fpr, user_id)
@@ -102,11 +102,11 @@ class Asker:
             return _REFUSED_LINE
         try:
             return listing(b"list", [line async for line in self.bindings(value, wanted)])
-        except BudgetPassed:
+        except BudgetExceeded:
             return REFUSED_BUDGET
 
     async def pending(self) -> bytes:
-        fprs = await self._read(lambda parts: list(parts.unjudged()))
+        fprs = await self._read(lambda parts: list(parts.unverified()))
         lines: list[bytes] = []
         step = min(_BATCH, self.loader.budget)
         for start in range(0, len(fprs), step):

@@ -23,9 +23,9 @@ _ON = re.compile(rb"on ([a-z0-9_-]{1,32})( ((?:[0-9a-fA-F]{24})?[0-9a-fA-F]{40})
 
 
 class Watch:
-    """A watch of a client over its view of this name: the view's value, the question behind it, the last
-    reported amount, and who hears another one. `hear` gets None when the watch is gone."""
-    __slots__ = ("name", "view", "value", "rest", "target", "told", "hear")
+    """A watch of a client over its view of this name: the view's value, the question behind it, the last reported
+    amount, and who gets another one. `on_report` gets None when the watch is gone."""
+    __slots__ = ("name", "view", "value", "rest", "target", "reported", "on_report")
 
     def __init__(self, name: bytes, view: bytes, value: Value, rest: bytes, target: bytes) -> None:
         self.name = name
@@ -33,8 +33,8 @@ class Watch:
         self.value = value
         self.rest = rest
         self.target = target
-        self.told = b""
-        self.hear: Callable[[bytes | None], None] = lambda amount: None
+        self.reported = b""
+        self.on_report: Callable[[bytes | None], None] = lambda amount: None
 
 
 class Watched:
@@ -61,26 +61,26 @@ class Watched:
             try:
                 await self.look_at(watch)
             except Exception as error:  # Whatever one watch meets, the others are looked at.
-                self._sliced.access.tell(repr(error))
+                self._sliced.access.report(repr(error))
                 self.lose(watch)
 
     async def look_at(self, watch: Watch) -> None:
         """Reports an amount that isn't the last one. A watch that can't be answered any more is gone."""
-        await self._sliced.answer(partial(self._sliced.amount, watch.value, watch.rest), partial(self._tell, watch))
+        await self._sliced.answer(partial(self._sliced.amount, watch.value, watch.rest), partial(self._report, watch))
 
     def lose(self, watch: Watch) -> None:
-        """A watch that can't be answered any more is gone, and its client hears that."""
-        self._tell(watch, None, 0)
+        """A watch that can't be answered any more is gone, which its client is notified of."""
+        self._report(watch, None, 0)
 
-    def _tell(self, watch: Watch, reply: bytes | None, _: int) -> None:
+    def _report(self, watch: Watch, reply: bytes | None, _: int) -> None:
         amount = amount_of(reply)
-        if watch not in self.watches or amount == watch.told:
+        if watch not in self.watches or amount == watch.reported:
             return
         if amount is None:
             self.watches.discard(watch)
         else:
-            watch.told = amount
-        watch.hear(amount)
+            watch.reported = amount
+        watch.on_report(amount)
 
 
 def amount_of(reply: bytes | None) -> bytes | None:
@@ -98,30 +98,30 @@ class SlicedWatches:
         self._watches: dict[bytes, Watch] = {}
         self._is_used = False
 
-    def take(self, name: bytes, view: bytes, value: Value, rest: bytes, told: bytes) -> None:
+    def take(self, name: bytes, view: bytes, value: Value, rest: bytes, reported: bytes) -> None:
         """Takes over a watch whose last reported amount is this."""
         one = self._watches[name] = Watch(name, view, value, rest, bytes.fromhex(rest.split(b" ")[1].decode()))
         self._share.pins[False] += 1
-        one.told, one.hear, self._is_used = told, partial(self._heard, name, one), True
+        one.reported, one.on_report, self._is_used = reported, partial(self._reported, name, one), True
         self._sliced.watched.watches.add(one)
 
     def ask(self, name: bytes, word: bytes, value: Value, rest: bytes, done: Done) -> None:
         self._sliced.question(word, value, rest, done)
 
-    def pass_on(self, line: bytes, reply: bytes, done: Done) -> bool:
+    def forward(self, line: bytes, reply: bytes, done: Done) -> bool:
         """Has the watches of a view looked at that a line has changed."""
         if reply == b"ok\n" and self._is_used:
             name = line.split(b" ", 2)[1]
             view = self._views.get(name)
-            self._sliced.inner_turn(partial(self._turned, name, None if view is None else view.value),
-                                    partial(self._lose, name))
+            self._sliced.enqueue_inner(partial(self._view_changed, name, None if view is None else view.value),
+                                       partial(self._lose, name))
         return False
 
-    async def _turned(self, name: bytes, value: Value | None) -> None:
+    async def _view_changed(self, name: bytes, value: Value | None) -> None:
         for watch, one in sorted(self._watches.items()):
             if one.view == name and value is None:
                 self._sliced.watched.watches.discard(one)
-                self._heard(watch, one, None)
+                self._reported(watch, one, None)
             elif one.view == name and value is not None and one.value != value:
                 one.value = value
                 await self._sliced.watched.look_at(one)
@@ -140,13 +140,13 @@ class SlicedWatches:
             return
         slot.watch, self._is_used = watch, True
         if match is None:
-            self._sliced.turn(partial(self._end, watch), done)
+            self._sliced.enqueue(partial(self._end, watch), done)
             return
         view = self._views.get(match[1])
         value = None if view is None else view.value
         one = Watch(watch, match[1], value or (b"0", ()), match[2], bytes.fromhex(match[3].decode()))
-        one.hear = partial(self._heard, watch, one)
-        self._sliced.turn(partial(self._set, watch, one, value is not None), done)
+        one.on_report = partial(self._reported, watch, one)
+        self._sliced.enqueue(partial(self._set, watch, one, value is not None), done)
 
     async def _end(self, watch: bytes, done: Done) -> None:
         one = self._pop(watch)
@@ -172,7 +172,7 @@ class SlicedWatches:
             self._share.pins[False] += 1
             if before is not None:
                 self._sliced.watched.watches.discard(before)
-            one.told = amount
+            one.reported = amount
             self._watches[watch] = one
             self._sliced.watched.watches.add(one)
             reply = b"watch %s amount %s\n" % (watch, amount)
@@ -183,13 +183,13 @@ class SlicedWatches:
         self._share.pins[False] -= one is not None
         return one
 
-    def _heard(self, watch: bytes, one: Watch, amount: bytes | None) -> None:
+    def _reported(self, watch: bytes, one: Watch, amount: bytes | None) -> None:
         if self._watches.get(watch) is not one:
             return
         if amount is None:
             self._pop(watch)
-        told = b"watch %s gone\n" % watch if amount is None else b"watch %s amount %s\n" % (watch, amount)
-        self._outbox.tell(watch, told)
+        reported = b"watch %s gone\n" % watch if amount is None else b"watch %s amount %s\n" % (watch, amount)
+        self._outbox.add_watch_line(watch, reported)
 
     def close(self) -> None:
         """The client is gone."""

@@ -83,7 +83,7 @@ class Ledger:
         with self._guard:
             try:
                 if self._size + len(octets) > _MOST_OCTETS and self._size:
-                    self._begin_anew()
+                    self._begin_again()
                 if os.write(self._file, octets) < len(octets):
                     raise OSError(f"{self._path}: the disk is full")
                 self._size += len(octets)
@@ -91,7 +91,7 @@ class Ledger:
             except OSError as error:
                 self.fault = str(error)
 
-    def _begin_anew(self) -> None:
+    def _begin_again(self) -> None:
         os.replace(self._path, self._before)
         os.close(self._file)
         self._file = os.open(self._path, os.O_WRONLY | os.O_APPEND | os.O_CREAT, 0o600)

@@ -1,4 +1,5 @@
-"""What follows a service over its database: it hears of every change before anybody gets a reply that rests on it."""
+"""What follows a service over its database: it is notified of every change before anybody gets a reply that depends on
+it."""
 
 from __future__ import annotations
 
@@ -16,7 +17,7 @@ class Feed(Protocol):
     def sliced(self) -> None:
         """The keyring is held in slices from now on."""
 
-    def anew(self, number: int) -> None:
+    def replaced(self, number: int) -> None:
         """Everything may have been replaced; this is the number of the last change now."""
 
 
@@ -25,4 +26,4 @@ class NobodyFollows:
 
     def sliced(self) -> None: ...
 
-    def anew(self, number: int) -> None: ...
+    def replaced(self, number: int) -> None: ...

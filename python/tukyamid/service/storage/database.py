@@ -196,7 +196,7 @@ class Database(Protocol):
         """Puts the lines of a dump into the place of everything, as one change, and gives its number."""
 
     def snapshot(self, before: Snapshot | None = None) -> Snapshot:
-        """The keyring as it stands now. It takes the place of `before`, which nobody reads any more: so the database
+        """The keyring as it is now. It takes the place of `before`, which nobody reads any more: so the database
         needn't keep what that one alone has."""
 
     def finder(self) -> Finder: ...

@@ -19,7 +19,7 @@ _URLS = ("postgresql://", "postgres://")
 
 
 class Chosen:
-    """A database by its name: a path, or a URL. No name stands for the user's own."""
+    """A database by its name: a path, or a URL. Without a name it is the user's own."""
 
     def __init__(self, name: str | None) -> None:
         self._url = name if name is not None and name.startswith(_URLS) else None
@@ -35,7 +35,7 @@ class Chosen:
         return self._url is not None
 
     def lock(self) -> contextlib.AbstractContextManager[object]:
-        """Keeps a file to one service. A shared database needs no lock: who changes it takes turns."""
+        """Keeps a file to one service. A shared database needs no such lock: services lock it for each change."""
         if self._url is not None:
             return contextlib.nullcontext()
         make_folder(str(self._path.parent))

@@ -108,7 +108,7 @@ class Access:
         self._order = order
         self.notes = order is not None  # Whether the order of lines is written down.
 
-    def tell(self, text: str) -> None:
+    def report(self, text: str) -> None:
         log(text)
 
     def note(self, session: int, line: bytes) -> None:

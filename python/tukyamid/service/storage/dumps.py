@@ -21,7 +21,7 @@ if TYPE_CHECKING:
     from tukyamid.client.engine import Engine
 
 _COMMANDS = (b"import ", b"verdict ")
-_PASSED_OVER = (b"view ", b"#", b"\n")
+_SKIPPED = (b"view ", b"#", b"\n")
 _ENDINGS = (LOG, SHARED_MEMORY, "-journal", "")
 
 
@@ -47,12 +47,12 @@ def _feed(engine: Engine, lines: Iterator[bytes], name: str) -> None:
 
 
 def _checked(script: BinaryIO, name: str) -> Iterator[bytes]:
-    """The lines of a dump, each with its place; a line that changes nothing stands for one that isn't for the
+    """The lines of a dump, each with its place; a line that changes nothing takes the place of one that isn't for the
     keyring."""
     for place, line in enumerate(script, 1):
         if line.startswith(_COMMANDS):
             yield line.removesuffix(b"\n")
-        elif line.startswith(_PASSED_OVER):
+        elif line.startswith(_SKIPPED):
             yield b"#"
         else:
             raise DatabaseFault(f"{name}: line {place} isn't a line of a dump")

@@ -54,7 +54,7 @@ class Committer:
 
     Whatever the database raises, the changes are answered. A DatabaseFault is of the database, so changes are refused
     until it is mended. Anything else is taken as the doing of one change: those of its batch are committed one by one,
-    so that this one alone fails, with what stands behind it."""
+    so that this one alone fails, with what depends on it."""
 
     def __init__(self, database: Database, executor: Executor, released: Callable[[], None],
                  failed: Callable[[list[Change], str], None], feed: Feed | None = None) -> None:
@@ -94,13 +94,13 @@ class Committer:
             self._finish(batch, [])
 
     def _next_batch(self) -> list[Change]:
-        """What is ready; of a shared database all that is under way, since its commit ends the turn."""
+        """What is ready; of a shared database all that is under way, since its commit unlocks it."""
         batch: list[Change] = []
-        if self._shared is not None and not all(isinstance(one, Change) and one.is_settled for one in self._queue):
+        if self._shared is not None and not all(isinstance(one, Change) and one.is_answered for one in self._queue):
             return batch
         while self._queue and len(batch) < (1 if self._left_alone else _MOST_CHANGES):
             item = self._queue[0]
-            if isinstance(item, Barrier) or not item.is_settled:
+            if isinstance(item, Barrier) or not item.is_answered:
                 break
             batch.append(item)
             self._queue.popleft()
@@ -133,7 +133,7 @@ class Committer:
         return await asyncio.get_running_loop().run_in_executor(self._executor, call)
 
     def _take_failure(self, batch: list[Change], error: Exception) -> None:
-        """The changes of a turn at a shared database fail together, since their turn is over."""
+        """Changes that were made under one lock of a shared database fail together, since it is unlocked by then."""
         if isinstance(error, DatabaseFault):
             self.fault = str(error)
             self._probed = asyncio.get_running_loop().time()
@@ -146,7 +146,7 @@ class Committer:
             self._fail(batch, f"an error of the service itself: {error!r}")
 
     def _finish(self, batch: list[Change], numbers: list[int]) -> None:
-        made = [change.told for change in batch if change.is_made]
+        made = [change.feed_line for change in batch if change.is_made]
         self._feed.made(list(zip(numbers, made)))
         following = iter(numbers)
         for change in batch:

@@ -13,7 +13,7 @@ from .unlooked import Looked
 if TYPE_CHECKING:
     from ..engines.supervised_engine import Engine
 
-# A snapshot is cheap to open, and what it stands for needn't be held in memory.
+# A snapshot is cheap to open, and what it contains needn't be held in memory.
 MOST_OCTETS = 1 << 20
 MOST_CHANGES = 2_000
 
@@ -59,7 +59,7 @@ class Change(Point):
             done(reply, count)
 
     @property
-    def is_settled(self) -> bool:
+    def is_answered(self) -> bool:
         """Whether nothing is to be waited for but the database."""
         return self.is_over or not self.left and len(self.exported) == len(self.fprs)
 
@@ -70,8 +70,8 @@ class Change(Point):
             and not self.reply.endswith(b" new 0\n")
 
     @property
-    def told(self) -> bytes:
-        """The line by which those who follow the service hear of it."""
+    def feed_line(self) -> bytes:
+        """The line by which those who follow the service are notified of it."""
         return self.line or b""
 
     def entry(self) -> database.Change:
@@ -96,7 +96,7 @@ class Change(Point):
 
 class Verdicts(Change):
     """What the verifier says of some certificates, by their fingerprints: verdicts, and that it has looked at them. It
-    is no client's line, and no engine hears it."""
+    is no client's line, and no engine gets it."""
     __slots__ = ("verdicts", "looked", "targets")
 
     def __init__(self, verdicts: Sequence[tuple[bytes, bytes]], looked: Sequence[Looked], targets: Sequence[bytes],
@@ -105,12 +105,12 @@ class Verdicts(Change):
         self.verdicts, self.looked, self.targets = verdicts, looked, targets
 
     @property
-    def told(self) -> bytes:
+    def feed_line(self) -> bytes:
         return b" ".join([b"verdicts", *(fpr.hex().encode() for fpr in self.targets)])
 
     @classmethod
-    def heard(cls, line: bytes, done: Done) -> Verdicts:
-        """Of those, by `told`, only on which certificates they are."""
+    def from_feed(cls, line: bytes, done: Done) -> Verdicts:
+        """Verdicts of which only the certificates are known, from their `feed_line`."""
         return cls((), (), [bytes.fromhex(fpr.decode()) for fpr in line.split(b" ")[1:]], _NOBODY, done)
 
     def entry(self) -> database.Change:
@@ -121,10 +121,10 @@ class Verdicts(Change):
 
 
 class Journal:
-    """What a new engine needs to stand at a place in the order of changes: a snapshot, and the changes since.
+    """What a new engine needs to come to a place in the order of changes: a snapshot, and the changes since.
 
-    A newer snapshot is offered as soon as there is one, and taken once no engine stands before it: one that does may
-    yet have to be started again, with lines that were sent before that snapshot. If no engine reads the snapshot, it is
+    A newer snapshot is offered as soon as there is one, and taken once no engine is at an earlier place: one that is
+    may have to be started again, with lines that were sent before that snapshot. If no engine reads the snapshot, it is
     lent to the database, which renews it; meanwhile no engine may begin to."""
 
     def __init__(self, snapshot: database.Snapshot) -> None:
@@ -160,8 +160,8 @@ class Journal:
         """The point behind the change of this number; None if that isn't among the changes since the snapshot."""
         return next((change for change in self._changes if change.count == number), None)
 
-    def begin_anew(self, snapshot: database.Snapshot) -> Point:
-        """Has this snapshot stand for all changes so far, and gives its place."""
+    def begin_again(self, snapshot: database.Snapshot) -> Point:
+        """Has this snapshot replace all changes so far, and returns its place."""
         self._first = Point(self.last.place + 1, snapshot.change)
         self._snapshot, self._offered = snapshot, None  # What still reads the old one has its own hold on it.
         self._changes.clear()
@@ -209,8 +209,8 @@ class Journal:
         self._offered = point, snapshot
         self.is_there = True
 
-    def settle(self, least: int) -> None:
-        """Takes the offered snapshot where all engines stand at `least` or behind it, and that isn't before it."""
+    def take_offered(self, least: int) -> None:
+        """Takes the offered snapshot if all engines have come to `least`, and the snapshot's place isn't later."""
         if self._offered is None or self._offered[0].place > least:
             return
         point, self._snapshot = self._offered  # What still reads the old one has its own hold on it.

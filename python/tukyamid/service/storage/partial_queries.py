@@ -40,7 +40,7 @@ FROM certificates JOIN keys USING (id) ORDER BY fingerprint"""
 _CERTIFICATE_OF = "SELECT fingerprint FROM verdicts JOIN keys ON keys.id = certificate WHERE number = ?"
 _VERDICT = "SELECT fingerprint FROM verdicts JOIN keys ON keys.id = issuer WHERE number = ?"
 _VERDICTS = "SELECT number, fingerprint FROM verdicts JOIN keys ON keys.id = issuer WHERE certificate = ?"
-_UNJUDGED = """
+_UNVERIFIED = """
 SELECT fingerprint FROM keys WHERE id IN (SELECT certificate FROM verdicts INDEXED BY unjudged_by_certificate
     WHERE issuer IS NULL AND certificate IS NOT NULL) ORDER BY fingerprint"""
 _OCTETS = "SELECT id, octets FROM certificates JOIN keys USING (id) WHERE fingerprint = ?"
@@ -125,8 +125,8 @@ class QueriedParts(ABC):
     def certificate_of(self, number: bytes) -> bytes | None:
         return next(self._fprs(_CERTIFICATE_OF, number), None)
 
-    def unjudged(self) -> Iterator[bytes]:
-        for (fpr,) in self._scan(_UNJUDGED):
+    def unverified(self) -> Iterator[bytes]:
+        for (fpr,) in self._scan(_UNVERIFIED):
             assert isinstance(fpr, bytes)
             yield fpr
 

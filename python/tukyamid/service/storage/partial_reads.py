@@ -83,7 +83,7 @@ class Parts(Protocol):
     def certificate_of(self, number: bytes) -> bytes | None:
         """The kept certificate that carries the signature of this number."""
 
-    def unjudged(self) -> Iterator[bytes]:
+    def unverified(self) -> Iterator[bytes]:
         """By fingerprint, the certificates that have a signature without a verdict."""
 
     def pending(self) -> int:
@@ -123,5 +123,5 @@ class SharedInParts(Shared, HasParts, Protocol):
     """A shared database that can be read in parts."""
 
     def lock(self) -> None:
-        """Waits, up to a bound, until no other service may change anything. This turn too ends with `apply`, or with
-        `end_turn`; what others have changed is read by renewing parts."""
+        """Waits, up to a bound, until no other service may change anything. This lock too ends with `apply`, or with
+        `unlock`; what others have changed is read by renewing parts."""

@@ -14,7 +14,7 @@ class Place:
     mark: bytes
 
 
-UNREAD = Place(-1, b"")  # Where a service stands that has read nothing yet.
+UNREAD = Place(-1, b"")  # The place of a service that has read nothing yet.
 
 
 @dataclass(frozen=True)
@@ -27,7 +27,7 @@ class News:
 
 
 @dataclass(frozen=True)
-class Heard:
+class Notified:
     """The place of the last change, as it was known at the time `begun` (`time.monotonic`) at the latest. `standby` is
     the setting that names the synchronous standby, which has confirmed it; empty if there is none."""
     place: Place
@@ -36,9 +36,9 @@ class Heard:
 
 
 class Follower(Protocol):
-    """Hears of changes. One thread uses it at a time."""
+    """Takes notice of changes. One thread uses it at a time."""
 
-    def wait(self) -> Heard:
+    def wait(self) -> Notified:
         """Waits until something is committed, half a second at most, and until the database confirms that it is still
         the one in which changes are made. DatabaseFault if nothing can be committed at present."""
 
@@ -51,7 +51,7 @@ class Follower(Protocol):
 @runtime_checkable
 class Shared(Database, Protocol):
     """A database that other services change too. It remembers how far this service has read, and `apply` is called
-    within a turn only."""
+    under the lock only."""
 
     place: Place  # Behind the last change that this service has read, or made itself.
 
@@ -59,15 +59,15 @@ class Shared(Database, Protocol):
     def ledger_fault(self) -> str:
         """Why the service can't note what it acknowledges; empty where all is well."""
 
-    def take_turn(self) -> News:
+    def lock_for_news(self) -> News:
         """Waits, up to a bound, until no other service may change anything; what they have changed is to be applied
-        before anything else. The turn ends with `apply`, or with `end_turn`."""
+        before anything else. The lock ends with `apply`, or with `unlock`."""
 
-    def prolong_turn(self) -> bool:
-        """Has a turn go on, if there is one: it is over if nothing is done in it for two seconds."""
+    def keep_locked(self) -> bool:
+        """Keeps the lock, if there is one: it ends if nothing is done under it for two seconds."""
 
-    def end_turn(self) -> None:
-        """Lets other services have their turn."""
+    def unlock(self) -> None:
+        """Lets other services lock the database."""
 
     def news(self, has_snapshot: bool = False) -> News: ...
 

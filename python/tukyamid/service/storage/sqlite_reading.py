@@ -27,7 +27,7 @@ class SqliteReading(Sqlite):
 
 
 class SqliteMoments:
-    """While something is read the log can't begin again, so a moment ends with the turn that has begun it."""
+    """While something is read the log can't begin again, so a moment ends with the line for which it began."""
 
     def __init__(self, database: SqliteReading) -> None:
         self._database = database

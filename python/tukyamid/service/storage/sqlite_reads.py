@@ -30,7 +30,7 @@ _KILOBYTES_OF_A_SNAPSHOT = 128
 
 
 class SqliteSnapshot:
-    """The keyring as it stood when this was opened: a transaction that only reads."""
+    """The keyring as it was when this was opened: a transaction that only reads."""
 
     def __init__(self, connection: sqlite3.Connection) -> None:
         self._connection = connection
@@ -43,7 +43,7 @@ class SqliteSnapshot:
         return int(self._connection.execute("SELECT coalesce(max(number), 0) FROM changes").fetchone()[0])
 
     def renew(self, between: Callable[[], object]) -> None:
-        """Has the keyring as it stands now. While `between` is called it has none."""
+        """Reads the keyring as it is now. While `between` is called it has none."""
         if self._connection.in_transaction:
             self._connection.execute("ROLLBACK")
         between()

@@ -7,7 +7,7 @@ from typing import Any, Protocol
 
 from .certificate_rows import Described, describe
 from .database import Change, DropCertificate, Effect, HaveLooked, PutCertificate, SetVerdict
-from .unlooked import LOOK, UNLOOK_ALL_JUDGED, WAKE, put_looked
+from .unlooked import LOOK, UNLOOK_ALL_VERIFIED, WAKE, put_looked
 
 NOBODY = 0  # The key of this number has no octets: the issuer of a signature that is bad.
 COUNTED = ("certificates", "octets", "user_ids", "signatures", "verdicts", "pending")
@@ -32,7 +32,7 @@ class Rows(Counted, Protocol):
 
 
 class Statements(Protocol):
-    """Does statements, whose values stand as `?` in them."""
+    """Does statements, in which `?` is the place of a value."""
 
     def execute(self, statement: str, values: Sequence[Any] = (), /) -> Rows: ...
 
@@ -74,9 +74,9 @@ class Writing:
                 self._put(describe(octets), octets)
             else:
                 number, _, issuer = rest.partition(b" ")
-                self._judge(bytes.fromhex(number.decode()), bytes.fromhex(issuer.removeprefix(b"good ").decode())
-                            if issuer != b"bad" else b"")
-        self._connection.execute(UNLOOK_ALL_JUDGED)
+                self._set_verdict(bytes.fromhex(number.decode()), bytes.fromhex(issuer.removeprefix(b"good ").decode())
+                                  if issuer != b"bad" else b"")
+        self._connection.execute(UNLOOK_ALL_VERIFIED)
         self._log(change, now)
         self.count()
         return self._number
@@ -96,7 +96,7 @@ class Writing:
             case DropCertificate(fpr):
                 return self._drop(fpr)
             case SetVerdict(number, issuer):
-                return self._judge(number, issuer)
+                return self._set_verdict(number, issuer)
             case HaveLooked(looked):
                 put_looked(lambda query, *values: self._connection.execute(query, values).fetchall(),
                            self._connection.executemany, looked)
@@ -168,16 +168,16 @@ class Writing:
         if row is None:
             return False
         place, octets, user_ids = row
-        unjudged = self._connection.execute("DELETE FROM verdicts WHERE certificate = ? AND issuer IS NULL", (place,))
-        judged = self._connection.execute("UPDATE verdicts SET certificate = NULL, depth = 0 WHERE certificate = ?",
-                                          (place,))
+        unverified = self._connection.execute("DELETE FROM verdicts WHERE certificate = ? AND issuer IS NULL", (place,))
+        verified = self._connection.execute("UPDATE verdicts SET certificate = NULL, depth = 0 WHERE certificate = ?",
+                                            (place,))
         self._connection.execute("DELETE FROM certificates WHERE id = ?", (place,))
-        self._loose += judged.rowcount
-        self._more.subtract({"certificates": 1, "octets": octets, "user_ids": user_ids, "pending": unjudged.rowcount,
-                             "signatures": unjudged.rowcount + judged.rowcount})
+        self._loose += verified.rowcount
+        self._more.subtract({"certificates": 1, "octets": octets, "user_ids": user_ids, "pending": unverified.rowcount,
+                             "signatures": unverified.rowcount + verified.rowcount})
         return True
 
-    def _judge(self, number: bytes, issuer: bytes | None) -> bool:
+    def _set_verdict(self, number: bytes, issuer: bytes | None) -> bool:
         by = None if issuer is None else self._key(issuer)
         row = self._one("SELECT certificate, issuer FROM verdicts WHERE number = ?", number)
         before = row[1] if row else None

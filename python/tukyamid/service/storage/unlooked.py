@@ -21,7 +21,7 @@ _FRONT_OCTETS = 3000  # A key that can be verified with is shorter.
 LOOK = "INSERT INTO unlooked (certificate, change) SELECT id, ? FROM certificates WHERE id = ? " \
     "ON CONFLICT (certificate) DO UPDATE SET change = excluded.change"
 WAKE = "DELETE FROM awaited WHERE key_id = ? RETURNING certificate"
-UNLOOK_ALL_JUDGED = "DELETE FROM unlooked WHERE certificate NOT IN " \
+UNLOOK_ALL_VERIFIED = "DELETE FROM unlooked WHERE certificate NOT IN " \
     "(SELECT certificate FROM verdicts WHERE certificate IS NOT NULL AND issuer IS NULL)"
 _SIZES = "SELECT certificate, unlooked.change, length(octets) FROM unlooked " \
     "JOIN certificates ON id = certificate WHERE certificate > ? ORDER BY certificate LIMIT ?"

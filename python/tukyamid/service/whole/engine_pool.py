@@ -7,7 +7,7 @@ from collections.abc import Callable, Sequence
 from functools import partial
 
 from ..engines.in_flight import NO_ENGINE, ignore
-from ..engines.shared_views import Seats
+from ..engines.shared_views import EngineViews
 from ..engines.supervised_engine import Engine
 from ..engines.watch_places import WatchPlaces
 from ..storage.certificate_rows import brought, exports
@@ -16,7 +16,7 @@ from ..storage.database import Actor, Database, Snapshot
 from ..storage.database_threads import Access
 from ..storage.group_commit import FAULT, Barrier, Committer
 from ..storage.journal import Change, Done, Journal, Point
-from ..storage.turn_taking import Begun, Waiting
+from ..storage.locked_changes import Begun, Waiting
 
 _BUSY_SECONDS = 0.05
 _LONGER_FOR_CHANGES = 5
@@ -32,7 +32,7 @@ class Hub:
     def __init__(self, program: Sequence[str], most_engines: int, database: Database,
                  access: Access | None = None) -> None:
         self.engines: list[Engine] = []
-        self.seats = Seats(self._least_busy, self._another, self.engines, most_engines)
+        self.engine_views = EngineViews(self._least_busy, self._another, self.engines, most_engines)
         self.watch_places = WatchPlaces()
         self.access = access or Access(database)
         self._owns_access = access is None
@@ -84,16 +84,16 @@ class Hub:
         await asyncio.gather(*(engine.close() for engine in self.engines))
         while self._committer.is_busy:
             await asyncio.sleep(0.01)
-        await self._end_turns()
+        await self._end_locking()
         if self._journal is not None:
             self._journal.close()
         if self._owns_access:
             self.access.close()
 
-    async def _end_turns(self) -> None:
-        """Ends the turns, where changes are made in turns."""
+    async def _end_locking(self) -> None:
+        """Makes no more changes, if the database is shared."""
 
-    async def settle(self) -> None:
+    async def wait_until_idle(self) -> None:
         """Comes back when all that was handed in is answered, and committed."""
         while self._committer.is_busy or any(engine.is_busy for engine in self.engines):
             await asyncio.sleep(0.002)
@@ -104,15 +104,15 @@ class Hub:
         return False
 
     def waiting(self) -> list[Waiting]:
-        """The changes that wait for their turn, where there are turns."""
+        """The changes that wait for the lock, if the database is shared."""
         return []
 
-    def tell(self, text: str) -> None:
-        self.access.tell(text)
+    def report(self, text: str) -> None:
+        self.access.report(text)
 
     def change(self, line: bytes, actor: Actor, done: Done, begun: Begun = lambda: None) -> None:
         """Has a change made; `done` gets its reply once all engines have answered and it is committed. `begun` is
-        called when it is sent to them: at once, unless it waits for its turn at a shared database."""
+        called when it is sent to them: at once, unless it waits for the lock of a shared database."""
         if self._committer.refuses():
             begun()
             done(FAULT, self.count)
@@ -190,7 +190,8 @@ class Hub:
         if change.reply is None:
             change.reply = reply
         elif change.reply != reply:
-            self.tell(f"engines gave different replies to one line: {change.reply[:80]!r} and {(reply or b'')[:80]!r}")
+            self.report("engines gave different replies to one line: "
+                        f"{change.reply[:80]!r} and {(reply or b'')[:80]!r}")
         if not change.left:
             if change.reply is not None and not change.reply.startswith(b"ok"):
                 self._journal.forget(change)
@@ -202,14 +203,14 @@ class Hub:
             return  # It was refused meanwhile.
         fpr = change.fprs[place]
         change.exported[fpr] = reply or b""
-        if change.is_settled:
+        if change.is_answered:
             self._committer.advance()
 
     def _release(self) -> None:
         assert self._journal is not None
         for engine in self.engines:
             engine.release()
-        self._settle()
+        self._take_offered()
         if self._journal.is_long(self._renewing_cost) and not self._is_renewing:
             self._renew()
 
@@ -219,9 +220,9 @@ class Hub:
         self._is_renewing = True
         self._committer.add(Barrier(partial(self._renewed, self._journal.last), self._journal.lend))
 
-    def _settle(self) -> None:
+    def _take_offered(self) -> None:
         assert self._journal is not None
-        self._journal.settle(min(engine.point.place for engine in self.engines))
+        self._journal.take_offered(min(engine.point.place for engine in self.engines))
 
     def _renewed(self, point: Point | None, snapshot: Snapshot | None) -> None:
         """Takes a snapshot behind this point; of a shared database it is behind all changes so far."""
@@ -229,15 +230,15 @@ class Hub:
         assert self._journal is not None
         if snapshot is not None:
             self._journal.offer(point or self._journal.last, snapshot)
-            self._settle()
+            self._take_offered()
         elif not self._journal.is_there:  # It was lent, and engines may wait for it.
             self._is_renewing = True
             asyncio.get_running_loop().call_later(_RENEWING_SECONDS, self._renew)
 
     def _roll_back(self, failed: list[Change], why: str) -> None:
-        """These changes couldn't be committed: all engines go back to where they stood before them."""
+        """These changes couldn't be committed: all engines go back to the place before them."""
         assert self._journal is not None
-        self.tell(f"{len(failed)} changes were refused, because they can't be stored: {why}")
+        self.report(f"{len(failed)} changes were refused, because they can't be stored: {why}")
         for change in failed:
             self._journal.forget(change)
         for engine in self.engines:

@@ -1,4 +1,4 @@
-"""All engines over one keyring that other services change too: changes are made in turns."""
+"""All engines over one keyring that other services change too: changes are made under a lock."""
 
 from __future__ import annotations
 
@@ -11,7 +11,7 @@ from ..storage.database_threads import Access
 from ..storage.group_commit import Barrier
 from ..storage.journal import Done
 from ..storage.shared_database import News, Shared
-from ..storage.turn_taking import Begun, Call, Outgrown, Turns, Waiting
+from ..storage.locked_changes import Begun, Call, Outgrown, LockedChanges, Waiting
 from .engine_pool import Hub
 
 _MOST_CHANGES = 256
@@ -21,7 +21,7 @@ Fits = Callable[[News], Awaitable[bool]]
 
 
 class SharedHub(Hub):
-    """A change waits for its turn, and what other services have changed comes between. Questions don't wait."""
+    """A change waits for the lock, and what other services have changed comes first. Questions don't wait."""
 
     _renewing_cost = 16  # A snapshot is a copy.
 
@@ -29,46 +29,46 @@ class SharedHub(Hub):
         super().__init__(program, most_engines, database, access)
         self._shared = database
         self._fits = fits
-        self._turns: Turns | None = None
+        self._locked_changes: LockedChanges | None = None
 
     @property
     def age(self) -> float:
         """For how many seconds changes of other services may have been missed."""
-        return self._turns.freshness.age if self._turns is not None else 0.0
+        return self._locked_changes.freshness.age if self._locked_changes is not None else 0.0
 
     @property
     def standby(self) -> str | None:
         """The setting that names the standby that confirms changes; empty if there is none, None if it isn't known."""
-        return self._turns.freshness.standby if self._turns is not None else None
+        return self._locked_changes.freshness.standby if self._locked_changes is not None else None
 
     async def start(self) -> None:
         await super().start()
-        self._turns = Turns(self._shared, self.access.writing, self._committer, self)
+        self._locked_changes = LockedChanges(self._shared, self.access.writing, self._committer, self)
 
-    async def _end_turns(self) -> None:
-        if self._turns is not None:
-            await self._turns.close()
+    async def _end_locking(self) -> None:
+        if self._locked_changes is not None:
+            await self._locked_changes.close()
 
-    async def settle(self) -> None:
-        """Here also what waits for its turn is answered; but where the keyring has outgrown the engines, it waits."""
-        while self._turns is not None and self._turns.is_busy:
+    async def wait_until_idle(self) -> None:
+        """Here also what waits for the lock is answered; but if the keyring has outgrown the engines, it waits."""
+        while self._locked_changes is not None and self._locked_changes.is_busy:
             await asyncio.sleep(0.002)
-        await super().settle()
+        await super().wait_until_idle()
 
     @property
     def is_outgrown(self) -> bool:
-        return self._turns is not None and self._turns.is_over
+        return self._locked_changes is not None and self._locked_changes.is_over
 
     def waiting(self) -> list[Waiting]:
-        return list(self._turns.waiting) if self._turns is not None else []
+        return list(self._locked_changes.waiting) if self._locked_changes is not None else []
 
     def change(self, line: bytes, actor: Actor, done: Done, begun: Begun = lambda: None) -> None:
-        assert self._turns is not None
-        self._turns.change(Waiting(line, actor, done, begun))
+        assert self._locked_changes is not None
+        self._locked_changes.change(Waiting(line, actor, done, begun))
 
     def snapshot(self, done: Callable[[Snapshot | None], None], begun: Begun = lambda: None) -> None:
-        assert self._turns is not None
-        self._turns.snapshot(Barrier(done, begun=begun))
+        assert self._locked_changes is not None
+        self._locked_changes.snapshot(Barrier(done, begun=begun))
 
     def next_batch(self, waiting: Sequence[Waiting]) -> int:
         return min(len(waiting), _MOST_CHANGES)
@@ -79,11 +79,11 @@ class SharedHub(Hub):
         for one in batch:
             one.begun()
 
-    async def begin_turn(self, call: Call) -> None:
+    async def begin_locked(self, call: Call) -> None:
         try:
-            await self._take(await call(self._shared.take_turn))
+            await self._take(await call(self._shared.lock_for_news))
         except Outgrown:
-            await call(self._shared.end_turn)
+            await call(self._shared.unlock)
             raise
 
     async def catch_up(self, call: Call) -> None:
@@ -93,7 +93,7 @@ class SharedHub(Hub):
         if not await self._fits(news):
             for _, line in news.lines or ():
                 self.access.note(0, line)
-            self.access.feed.anew(self._shared.place.number)
+            self.access.feed.replaced(self._shared.place.number)
             raise Outgrown
         self.take_news(news)
 
@@ -102,9 +102,9 @@ class SharedHub(Hub):
         assert self._journal is not None
         if news.lines is None:
             assert news.snapshot is not None
-            self.access.feed.anew(news.snapshot.change)
+            self.access.feed.replaced(news.snapshot.change)
             self._committer.count = news.snapshot.change
-            point = self._journal.begin_anew(news.snapshot)
+            point = self._journal.begin_again(news.snapshot)
             for engine in self.engines:
                 engine.roll_back(point)
             return

@@ -1,4 +1,4 @@
-"""A database that other services change too: changes are made in turns, and those of others are applied between."""
+"""A database that other services change too: changes are made under a lock, and those of others are applied before."""
 
 from __future__ import annotations
 
@@ -17,8 +17,8 @@ from .journal import Done
 from .shared_database import News, Shared
 
 _LONGEST_COPY = 600.0
-_LONGEST_TURN = 10.0
-_PAUSE = 0.5  # Between two signs that a turn goes on.
+_LONGEST_LOCK = 10.0
+_PAUSE = 0.5  # Between two signs that the service is still at work.
 _R = TypeVar("_R")
 
 # Called when a change is sent to the engines, or refused before that.
@@ -27,7 +27,7 @@ Begun = Callable[[], None]
 
 @dataclass
 class Waiting:
-    """A change that waits for its turn."""
+    """A change that waits for the lock."""
     line: bytes
     actor: Actor
     done: Done
@@ -45,11 +45,11 @@ class Call(Protocol):
 
 
 class Home(Protocol):
-    """What turns have done where the engines are."""
+    """What has to be done with the engines under the lock, and before."""
 
-    async def begin_turn(self, call: Call) -> None:
-        """Begins a turn: what other services have changed is taken by the engines before anything that comes later.
-        Outgrown where they can't take it; then there is no turn."""
+    async def begin_locked(self, call: Call) -> None:
+        """Locks the database. The engines take what other services have changed before anything that comes later.
+        Outgrown if they can't take it; then nothing is locked."""
 
     async def catch_up(self, call: Call) -> None:
         """Has the engines take what other services have changed."""
@@ -58,17 +58,17 @@ class Home(Protocol):
         """Has all engines take what other services have changed, if that was read already."""
 
     def next_batch(self, waiting: Sequence[Waiting]) -> int:
-        """How many of these changes, of which there is one at least, are made in one turn."""
+        """How many of these changes, of which there is one at least, are made under one lock."""
 
     def send_batch(self, batch: Sequence[Waiting], done: Callable[[Waiting], Done]) -> None:
         """Sends changes to the engines in this order, and hands them to the committer. Each has begun then."""
 
-    def tell(self, text: str) -> None: ...
+    def report(self, text: str) -> None: ...
 
 
-class Turns:
+class LockedChanges:
     """Does one thing at a time with the database, so that nothing is under way in the engines when news comes. A change
-    waits here until it has its turn; questions don't."""
+    waits here for the lock; questions don't."""
 
     def __init__(self, database: Shared, writing: ThreadPoolExecutor, committer: Committer, home: Home) -> None:
         self._database = database
@@ -82,7 +82,7 @@ class Turns:
         self._is_behind = False
         self._wake = asyncio.Event()
         self._loop = asyncio.get_running_loop()
-        self.freshness = Freshness(database, committer, home.tell, self._take_news_soon)
+        self.freshness = Freshness(database, committer, home.report, self._take_news_soon)
         self._tasks = [self._loop.create_task(work) for work in (self._work(), self.freshness.keep())]
 
     def _take_news_soon(self) -> None:
@@ -121,7 +121,7 @@ class Turns:
         self._committer.fault = str(fault)
         waiting, self.waiting = self.waiting, deque()
         if waiting:
-            self._home.tell(f"{len(waiting)} changes were refused, because they can't be stored: {fault}")
+            self._home.report(f"{len(waiting)} changes were refused, because they can't be stored: {fault}")
         for one in waiting:
             self._refuse(one)
 
@@ -150,7 +150,7 @@ class Turns:
         if self._barriers:
             await self._open_snapshot(self._barriers.popleft())
         if self.waiting:
-            await self._have_turn()
+            await self._change_locked()
         elif self._is_behind:
             await self._take(self._home.catch_up)
 
@@ -172,7 +172,7 @@ class Turns:
             barrier.begun()
             barrier.done(snapshot)
 
-    async def _have_turn(self) -> None:
+    async def _change_locked(self) -> None:
         prolonging = self._loop.create_task(self._prolong())
         try:
             await self._make_changes()
@@ -181,7 +181,7 @@ class Turns:
             await asyncio.gather(prolonging, return_exceptions=True)
 
     async def _make_changes(self) -> None:
-        await self._take(self._home.begin_turn)
+        await self._take(self._home.begin_locked)
         answered = asyncio.Event()
         batch = [self.waiting.popleft() for _ in range(self._home.next_batch(self.waiting))]
         left = len(batch)
@@ -195,14 +195,14 @@ class Turns:
 
         self._home.send_batch(batch, lambda one: partial(done, one))
         await answered.wait()
-        await self._call(self._database.end_turn)
+        await self._call(self._database.unlock)
 
     async def _prolong(self) -> None:
-        """Has a turn go on while the engines are at work. All services wait for it, so it has a bound: the database
-        ends the turn of a service that is stopped, and one that takes too long."""
+        """Keeps the lock while the engines are at work. All services wait for it, so it has a bound: the database ends
+        the lock of a service that is stopped, and of one that takes too long."""
         end = float("inf")
         while self._loop.time() < end:
             await asyncio.sleep(_PAUSE)
             if not self._committer.is_busy:
-                has_begun = await self._call(self._database.prolong_turn)
-                end = min(end, self._loop.time() + _LONGEST_TURN) if has_begun else end
+                has_begun = await self._call(self._database.keep_locked)
+                end = min(end, self._loop.time() + _LONGEST_LOCK) if has_begun else end

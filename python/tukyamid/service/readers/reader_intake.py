@@ -6,7 +6,7 @@ import os
 from collections.abc import Awaitable, Callable, Sequence
 from functools import partial
 
-from ..line_intake import Desk
+from ..line_intake import LineIntake
 from ..sliced.sliced_keyring import Sliced
 from ..storage.change_feed import Numbered
 from ..storage.database_threads import Access
@@ -21,7 +21,7 @@ async def _has_no_room() -> bool:
     return False
 
 
-class ReaderDesk(Desk):
+class ReaderIntake(LineIntake):
     def __init__(self, program: Sequence[str], most_engines: int, access: Access, budget: int, most_age: float | None,
                  published: Published, is_sliced: bool) -> None:
         super().__init__(program, most_engines, access, budget, most_age)
@@ -31,7 +31,7 @@ class ReaderDesk(Desk):
         self._before: list[tuple[int, bytes]] = []  # What came before there was an engine.
 
     async def start(self) -> None:
-        has_room = not self._is_sliced and await self._room.has_all()
+        has_room = not self._is_sliced and await self._capacity.has_all()
         held: Hub | Sliced = self._whole() if has_room and not self._is_sliced else self._sliced()
         await held.start()
         if self._is_sliced and isinstance(held, Hub):  # By now.
@@ -56,13 +56,13 @@ class ReaderDesk(Desk):
         return False
 
     @property
-    def has_turns(self) -> bool:
-        """Whether a question that has begun may see later changes, until it has its turn."""
+    def queues_questions(self) -> bool:
+        """Whether a question that has begun waits in a queue, and may see later changes until it is answered."""
         return isinstance(self.held, Sliced)
 
     def has(self, number: int) -> bool:
         """Whether a line may begin that has to see the change of this number; if not, it may once that has come. Over
-        slices each turn looks itself."""
+        slices each line in the queue looks itself."""
         if not isinstance(self.held, Hub) or self.held.count >= number:
             return True
         self._is_awaited = True
@@ -84,15 +84,15 @@ class ReaderDesk(Desk):
             self._is_awaited = False
             self._resumed()
 
-    def turn(self) -> None:
+    def use_slices(self) -> None:
         """The service holds the keyring in slices from now on."""
         self._is_sliced = True
         if isinstance(self._held, FollowingHub) and not self._waiting.is_held_up:
-            self._begin_turn(self._held, _has_no_room, None)
+            self._begin_slicing(self._held, _has_no_room, None)
 
-    async def _turn_unless(self, hub: Hub, has_room: Callable[[], Awaitable[bool]]) -> None:
+    async def _slice_unless(self, hub: Hub, has_room: Callable[[], Awaitable[bool]]) -> None:
         """What comes from now on may be too much for an engine, or of another kind. A new reader begins in slices."""
-        await super()._turn_unless(hub, has_room)
+        await super()._slice_unless(hub, has_room)
         if self.held is hub:
             os._exit(1)
 
@@ -116,5 +116,5 @@ class ReaderDesk(Desk):
     def _sliced(self) -> Sliced:
         assert isinstance(self.database, HasMoments)
         count = self._held.count if self._held is not None else None
-        return FollowingSliced(self._program, self._access, self.database, self._room.certificates, self.published,
+        return FollowingSliced(self._program, self._access, self.database, self._capacity.certificates, self.published,
                                count)

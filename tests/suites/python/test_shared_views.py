@@ -2,7 +2,7 @@
 
 import unittest
 
-from tukyamid.service.engines.shared_views import Seats
+from tukyamid.service.engines.shared_views import EngineViews
 
 ROOTS = ((b"aa" * 20, b"120"),)
 DAY = 86_400
@@ -24,10 +24,10 @@ class Engine:
 class Moved(unittest.TestCase):
     def setUp(self):
         self.engine = Engine()
-        self.seats = Seats(lambda: self.engine, lambda: None, [self.engine], 1)
+        self.views = EngineViews(lambda: self.engine, lambda: None, [self.engine], 1)
 
     def find(self, time, roots=ROOTS):
-        return self.seats.find((b"%d" % time, roots)).name
+        return self.views.find((b"%d" % time, roots)).name
 
     def test_a_view_moves_on(self):
         first = self.find(1000)
@@ -47,6 +47,6 @@ class Moved(unittest.TestCase):
                          [now, earlier, now, earlier])
 
     def test_a_view_that_somebody_keeps_stays(self):
-        pinned = self.seats.pin((b"1000", ROOTS), has_cursor=True)
+        pinned = self.views.pin((b"1000", ROOTS), has_cursor=True)
         self.assertNotEqual(self.find(1001), pinned.name)
         self.assertEqual(self.find(1000), pinned.name)
