@@ -28,8 +28,7 @@ from .postgres_table_changes import SharedWriting
 from .sqlite_copy import write_copy
 
 # Nobody else makes a change meanwhile. The first bound runs from each answer of the server's until the next message is
-# there as a whole. So each statement under the lock is one message: nothing would bound the wait after a part of a
-# statement.
+# there as a whole. So each statement under the lock is one message: nothing bounds a wait after part of one.
 _BEGIN = b"BEGIN; SET LOCAL idle_in_transaction_session_timeout = '2s'; SET LOCAL tcp_user_timeout = '2s'"
 
 
