@@ -101,10 +101,10 @@ def _batches(lines: Iterable[bytes]) -> Iterator[tuple[list[int], bytes]]:
 
 
 def restore(wire: Wire, file: BinaryIO, abandon: Callable[[], None]) -> bool:
-    """Sends what a file has as it stands. Returns whether each of its lines was answered with a line that begins with
-    `ok`; if not, the other side was abandoned."""
+    """Sends a file's lines unchanged. Returns whether each of its lines was answered with a line that begins with `ok`;
+    if not, the other side was abandoned."""
     with _Writing(wire, _pieces(file), abandon) as counts:
-        is_whole = _pass_ok(wire, counts)
+        is_whole = _skip_ok(wire, counts)
         if not is_whole:
             abandon()
     return is_whole
@@ -121,7 +121,7 @@ def _pieces(file: BinaryIO) -> Iterator[tuple[int, bytes]]:
         yield len(lines), piece
 
 
-def _pass_ok(wire: Wire, counts: Iterable[int]) -> bool:
+def _skip_ok(wire: Wire, counts: Iterable[int]) -> bool:
     """Reads the replies to that many lines, and returns whether each is a line that begins with `ok`."""
     rest, left = b"\n", 0
     for count in counts:

@@ -1,4 +1,4 @@
-"""The calls of the plain client: one for each command, and a few that take several."""
+"""The calls of the synchronous client: one for each command, and a few that take several."""
 
 from __future__ import annotations
 

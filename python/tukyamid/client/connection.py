@@ -1,4 +1,4 @@
-"""The plain connection: one exchange after another, over a program's pipes or a service's socket."""
+"""The synchronous connection: one exchange after another, over a program's pipes or a service's socket."""
 
 from __future__ import annotations
 
@@ -94,7 +94,7 @@ class Connection(Calls):
         except Refused as refused:
             reply = refused
         if isinstance(reply, Listing):
-            reply.settle()
+            reply.read_ahead()
         self._kept[line] = reply
         self._in_exchange = False
 
@@ -103,9 +103,9 @@ class Connection(Calls):
             if self._conversation.watches:
                 self._begin()
                 self._wire.send(PROBE + b"\n")
-                self._drive(self._conversation.hear())
+                self._drive(self._conversation.probe())
                 self._in_exchange = False
-            return self._conversation.take_told()
+            return self._conversation.take_watch_lines()
 
     def run(self, lines: Iterable[bytes]) -> Iterator[Reply | Listing[object] | Refused]:
         """Sends lines one by one (a file opened for octets will do), and yields the reply to each that has one. A
@@ -126,9 +126,8 @@ class Connection(Calls):
                     yield reply
 
     def restore(self, file: BinaryIO) -> bool:
-        """Sends what a file has as it stands: lines `import` and `verdict`, as in a dump. This is the quickest way to
-        fill an engine. Returns whether each was answered with `ok`; if not, the connection is ended. There must be no
-        watch."""
+        """Sends a file's lines unchanged: `import` and `verdict`, as in a dump. This is the quickest way to fill an
+        engine. Returns whether each was answered with `ok`; if not, the connection is ended. There must be no watch."""
         with self._lock:
             self._refuse_watches()
             self._begin()
@@ -166,7 +165,7 @@ class Connection(Calls):
         if self._in_exchange:
             raise ProtocolError("an exchange was broken off; begin another connection")
         if self._open_listing is not None:
-            self._open_listing.settle()
+            self._open_listing.read_ahead()
             self._open_listing = None
         self._in_exchange = True
 
@@ -198,4 +197,4 @@ class Connection(Calls):
         """Reads the reply to some line that begins no watch."""
         reply = self._receive(b"")
         if isinstance(reply, Listing):
-            reply.pass_over()
+            reply.skip()

@@ -1,4 +1,4 @@
-"""A long reply of the plain client."""
+"""A long reply of the synchronous client."""
 
 from __future__ import annotations
 
@@ -60,12 +60,12 @@ class Listing(Generic[T]):
                 raise ProtocolError("more came than the reply has")
             yield piece
 
-    def settle(self) -> None:
+    def read_ahead(self) -> None:
         """Reads what is left into memory."""
         if self._left:
             self._kept = [self._take() for _ in range(self._left)][::-1]
 
-    def pass_over(self) -> None:
+    def skip(self) -> None:
         """Reads what is left, and drops it."""
         while self._left:
             self._take()

@@ -1,5 +1,5 @@
-"""What the plain and the asynchronous connection have in common: how a line and its reply belong together, and what
-watch lines come in between."""
+"""What the synchronous and the asynchronous connection have in common: how a line and its reply belong together, and
+what watch lines come in between."""
 
 from __future__ import annotations
 
@@ -28,21 +28,21 @@ def begun_watch(line: bytes) -> str | None:
 
 
 class Conversation:
-    """The watches that are there, and their lines since `take_told`."""
+    """The watches that are there, and their lines since `take_watch_lines`."""
 
     def __init__(self) -> None:
         self.watches: set[str] = set()
-        self._told: list[Watched | Gone] = []
+        self._watch_lines: list[Watched | Gone] = []
 
     @property
-    def has_told(self) -> bool:
-        """Whether watch lines have come since `take_told`."""
-        return bool(self._told)
+    def has_watch_lines(self) -> bool:
+        """Whether watch lines have come since `take_watch_lines`."""
+        return bool(self._watch_lines)
 
-    def take_told(self) -> list[Watched | Gone]:
+    def take_watch_lines(self) -> list[Watched | Gone]:
         """The watch lines since the last call."""
-        told, self._told = self._told, []
-        return told
+        watch_line, self._watch_lines = self._watch_lines, []
+        return watch_line
 
     @staticmethod
     def octets_for(line: bytes) -> bytes:
@@ -56,7 +56,7 @@ class Conversation:
         head is read."""
         watch = begun_watch(line)
         if watch is not None:
-            yield from self.hear()
+            yield from self.probe()
         first = yield from self._first_line(watch, progress)
         reply = yield from read_reply_after(first)
         if isinstance(reply, Watched):
@@ -65,10 +65,10 @@ class Conversation:
             self.watches.discard(line.split(b" ")[1].decode("latin-1"))
         return reply
 
-    def hear(self) -> Reader[None]:
+    def probe(self) -> Reader[None]:
         """Reads watch lines, up to the reply to a probe."""
         while (line := (yield)) != PROBED:
-            self.hear_line(line)
+            self.take_watch_line(line)
 
     def _first_line(self, watch: str | None, progress: Progress) -> Reader[str]:
         while True:
@@ -78,11 +78,11 @@ class Conversation:
             elif not line.startswith("watch ") or watch is not None and line.startswith(f"watch {watch} "):
                 return line
             else:
-                self.hear_line(line)
+                self.take_watch_line(line)
 
-    def hear_line(self, line: str) -> None:
+    def take_watch_line(self, line: str) -> None:
         """Takes a watch line."""
-        told = read_watch(line)
-        if isinstance(told, Gone):
-            self.watches.discard(told.watch)
-        self._told.append(told)
+        watch_line = read_watch(line)
+        if isinstance(watch_line, Gone):
+            self.watches.discard(watch_line.watch)
+        self._watch_lines.append(watch_line)

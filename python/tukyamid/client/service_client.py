@@ -1,4 +1,4 @@
-"""The plain client of a service, over its Unix socket."""
+"""The synchronous client of a service, over its Unix socket."""
 
 from __future__ import annotations
 

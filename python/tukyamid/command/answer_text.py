@@ -21,7 +21,7 @@ if TYPE_CHECKING:
     from ..keyrings.keyring import Keyring
     from ..planning.suppositions import Supposition
     from ..protocol.service_lines import Waiting
-    from .keyring_choice import Tell
+    from .keyring_choice import Say
     from .parsed_words import Given
     from .questions import Ask, Found
 
@@ -41,13 +41,13 @@ class _Names:
         return self._kept[fpr]
 
 
-def answer(given: Given, show: Callable[[Report], str], tell: Tell) -> tuple[str, bool]:
-    """The text of the answer, and whether the amount is reached. `tell` is called with what people should hear beside
+def answer(given: Given, show: Callable[[Report], str], say: Say) -> tuple[str, bool]:
+    """The text of the answer, and whether the amount is reached. `say` is called with what people should read beside
     it."""
     configure(given)
     ask = questions.read(given)
     at = int(time.time()) if given.time is None else given.time
-    with Inputs(given, tell, lines_ahead(given, at)) as inputs:
+    with Inputs(given, say, lines_ahead(given, at)) as inputs:
         keyring = inputs.keyring
         waiting = keyring.index.waiting()  # Before the question: what comes to wait later doesn't change its answer.
         roots = Roots(given, inputs).find(at)

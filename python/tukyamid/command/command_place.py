@@ -1,4 +1,4 @@
-"""Where the command stands among the words: options may come before it.
+"""Where the command is among the words: options may come before it.
 
 >>> place_of_command(["--root", "ab", "verify", "-x"]), place_of_command(["--root=ab", "-q", "web"])
 (2, 2)

@@ -8,7 +8,7 @@ from ..fast_imports import TYPE_CHECKING
 from . import quick_parser
 from .command_place import place_of_command
 from .exit_statuses import NOT_REACHED, REACHED, WrongWords
-from .output import is_coloured, tell, write
+from .output import is_coloured, say, write
 
 if TYPE_CHECKING:
     from collections.abc import Callable
@@ -83,7 +83,7 @@ def _command(word: str) -> Run | None:
 def _answer(given: Given) -> int:
     from ..formats import form
     from . import answer_text
-    text, is_reached = answer_text.answer(given, form(given.format, is_coloured()), tell)
+    text, is_reached = answer_text.answer(given, form(given.format, is_coloured()), say)
     if not given.quiet:
         write(text)
     return REACHED if is_reached else NOT_REACHED

@@ -7,7 +7,7 @@ import sys
 
 from ..fast_imports import SIGINT, TYPE_CHECKING, signal
 from ..protocol.refusals import TukyamidError
-from .output import open_standard_files, tell
+from .output import open_standard_files, say
 
 if TYPE_CHECKING:
     from collections.abc import Callable
@@ -34,13 +34,13 @@ def run_guarded(run: Callable[[], int]) -> int:
     except KeyboardInterrupt:
         return INTERRUPTED
     except WrongWords as error:
-        tell(str(error))
-        tell(USAGE, "")
+        say(str(error))
+        say(USAGE, "")
         return WRONG_WORDS
     except Exception as error:
         if os.environ.get("TUKYAMID_TRACEBACK"):
             raise
-        tell(reason_of(error))
+        say(reason_of(error))
         return NO_ANSWER
 
 

@@ -14,7 +14,7 @@ from ..safe_folders import own_folder, runtime_file
 from .named_inputs import Stamp, stamp_of
 
 # A file that was changed within this time before its stamp was taken may change again without another stamp.
-_SETTLED_NANOSECONDS = 2 * 10**9
+_STABLE_NANOSECONDS = 2 * 10**9
 _RECORD = ".digest"
 _MOST_RECORDS = 64
 
@@ -52,7 +52,7 @@ def keep_record(stamp: Stamp, begun: int, digest: str, verifier: str) -> None:
     """Keeps a record, unless the inputs changed so lately that another change might not be noticed. `begun` is the time
     in nanoseconds before the stamp was taken."""
     program = stamp_of([verifier])
-    if program is None or max(stamp.newest, program.newest) + _SETTLED_NANOSECONDS > begun:
+    if program is None or max(stamp.newest, program.newest) + _STABLE_NANOSECONDS > begun:
         return
     name = _record_file(stamp)
     new = f"{name}.{os.getpid()}"

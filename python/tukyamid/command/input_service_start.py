@@ -14,7 +14,7 @@ from ..service.paths_and_locks import Lock, Taken, beside, is_locked
 from ..service.start_on_demand import ensure
 from ..service.storage.dumps import import_dump
 from ..service.storage.sqlite_database import Sqlite
-from .output import tell
+from .output import say
 
 DATABASE = "keyring.db"
 # A service takes some 50 MB, of which 17.5 MB are its own, and is started again in less than a second.
@@ -37,7 +37,7 @@ class Begun:
                 self._process.wait(_SECONDS_BEFORE_A_WORD)
             except subprocess.TimeoutExpired:
                 if os.isatty(2):
-                    tell("making the next answers about this input fast; Ctrl-C leaves that to the background")
+                    say("making the next answers about this input fast; Ctrl-C leaves that to the background")
                 self._process.wait(_PATIENCE)
 
 

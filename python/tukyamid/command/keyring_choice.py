@@ -16,15 +16,15 @@ if TYPE_CHECKING:
     from .named_inputs import Source
     from .parsed_words import Given
 
-    Tell = Callable[[str], None]
+    Say = Callable[[str], None]
 
 
 class Inputs:
     """What the words name as inputs, and the keyring of all of it, as long as it is open. A service is sent the lines
     `ahead` at once, for the calls that follow."""
 
-    def __init__(self, given: Given, tell: Tell, ahead: Sequence[bytes] = ()) -> None:
-        self._given, self._tell, self._ahead = given, tell, ahead
+    def __init__(self, given: Given, say: Say, ahead: Sequence[bytes] = ()) -> None:
+        self._given, self._say, self._ahead = given, say, ahead
         self._files: ExitStack | None = None
         self._paths: list[str] | None = None
         self.keyring: Keyring
@@ -85,7 +85,7 @@ class Inputs:
         """A keyring in an engine that is started for this question."""
         engine = [self._given.engine] if self._given.engine else None
         return Keyring.open(self.as_paths(sources), self._store(), engine, self.verifier_words, self._given.anew,
-                            tell=self._tell)
+                            say=self._say)
 
     def verified(self, sources: list[Source]) -> Keyring:
         """A keyring of these inputs in an engine of its own; what was verified of them is kept."""
@@ -99,5 +99,5 @@ class Inputs:
         try:
             return Store(self._given.cache)
         except (StoreRefused, OSError) as error:
-            self._tell(f"no cache is used: {error}")
+            self._say(f"no cache is used: {error}")
             return None

@@ -17,8 +17,8 @@ if TYPE_CHECKING:
 
 
 class Option:
-    """An option. It takes a value, which `read` reads (a ValueError says what is wrong with it), unless it stands for
-    one itself (`means`). One without `help` is hidden. `default` holds if no option of this `dest` is given."""
+    """An option. It takes a value, which `read` reads (a ValueError says what is wrong with it), unless it means one
+    itself (`means`). One without `help` is hidden. `default` holds if no option of this `dest` is given."""
     __slots__ = ("name", "short", "help", "metavar", "read", "dest", "default", "means", "is_many", "choices")
 
     def __init__(self, name: str, help: str = "", metavar: str = "", read: Read | None = None, dest: str = "",

@@ -34,7 +34,7 @@ def write(text: str) -> None:
         raise OSError(error.errno, error.strerror, "standard output") from None
 
 
-def tell(text: str, who: str = "tukyamid: ") -> None:
+def say(text: str, who: str = "tukyamid: ") -> None:
     """Says a line on standard error, as long as somebody reads it."""
     line = f"{who}{printable(text)}\n"
     try:

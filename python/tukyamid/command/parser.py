@@ -131,7 +131,7 @@ def _words_of(option: options.Option) -> dict[str, Any]:
 
 
 def typed(read_word: Callable[[str], Any]) -> Callable[[str], Any]:
-    """What reads an argument: a ValueError is said as it stands."""
+    """What reads an argument: a ValueError is printed unchanged."""
     def read(text: str) -> Any:
         try:
             return read_word(text)

@@ -86,7 +86,7 @@ class UserIds:
         return for_people((self._address or "").encode("utf-8", "surrogateescape"))
 
     def not_whole(self, found: Iterable[Assessment]) -> tuple[str, ...]:
-        """The note if an address stands for a whole user ID, which the key doesn't have."""
+        """The note if an address was taken for a whole user ID, which the key doesn't have."""
         hint = self._by_address() if self._address is None else ""
         return (hint.removeprefix("; "),) if hint and any(one.word is MissingWord.NO_UID for one in found) else ()
 

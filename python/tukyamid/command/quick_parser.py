@@ -23,7 +23,7 @@ def read(words: Sequence[str]) -> Given | None:
     """What the words say; None if they are for the parser."""
     given = Given(question=None, words=[], **_defaults())
     by_name = {option.name: option for option in QUESTION}
-    left, plain = iter(words), []
+    left, named = iter(words), []
     for word in left:
         name, equals, value = word.partition("=")
         option = by_name.get(name)
@@ -33,8 +33,8 @@ def read(words: Sequence[str]) -> Given | None:
         elif word.startswith("-") and word != "-":
             return None
         else:
-            plain.append(word)
-    given.question, given.words = (plain[0] if plain else None), plain[1:]
+            named.append(word)
+    given.question, given.words = (named[0] if named else None), named[1:]
     return given
 
 

@@ -12,7 +12,7 @@ from ..safe_folders import runtime_file
 from . import option_values
 from .exit_statuses import REACHED, NoAnswer, WrongWords
 from .key_names import resolve
-from .output import printable, tell, write
+from .output import printable, say, write
 from .parser import Parser
 
 if TYPE_CHECKING:
@@ -138,7 +138,7 @@ def _change(path: str, edit: Callable[[Any], None]) -> None:
         config_editing.change(path, edit)
         return
     if not os.path.exists(path):
-        tell(f"{path} begins as a copy of {config_file.HOST_FILE}, which it replaces for you")
+        say(f"{path} begins as a copy of {config_file.HOST_FILE}, which it replaces for you")
     config_editing.change(path, edit, template)
 
 
@@ -173,5 +173,5 @@ def _names(keys: Mapping[str, int]) -> dict[str, str]:
 def _name(keyring: Keyring, fpr: str) -> bytes | None:
     found = keyring.name(fpr) if keyring.certificate(fpr) is not None else None
     if found is None:
-        tell(f"the service's keyring doesn't have {fpr}")
+        say(f"the service's keyring doesn't have {fpr}")
     return found

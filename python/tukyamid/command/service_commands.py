@@ -16,7 +16,7 @@ from ..protocol.refusals import KeyringFault, RefusedAbsent
 from ..protocol.service_lines import KeyringLine
 from .exit_statuses import REACHED, NoAnswer, WrongWords
 from ..keyrings.gpg_keyring import home_directory
-from .output import printable, tell, write
+from .output import printable, say, write
 from .parser import Parser
 from .user_service import host_service, service
 
@@ -94,7 +94,7 @@ def _each(names: list[str], call: Callable[[str], str]) -> list[str]:
         except NoAnswer as error:
             faults.append(error)
     for fault in faults[:-1]:
-        tell(str(fault))
+        say(str(fault))
     if faults:
         write("".join(printable(line) + "\n" for line in lines))
         raise faults[-1]
@@ -139,7 +139,7 @@ def _why_not_added(client: Client, name: str, fault: KeyringFault) -> str:
 
 def _say_progress(text: str) -> None:
     if os.isatty(2):  # A script has no use for it.
-        tell(text)
+        say(text)
 
 
 def _remove(client: Client, name: str, with_certificates: bool) -> str:

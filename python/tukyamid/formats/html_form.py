@@ -51,7 +51,8 @@ def show(report: Report) -> str:
 
 
 def _name(text: str) -> str:
-    """A text of others', which may be written from right to left, and mustn't turn what stands beside it."""
+    """A text of others', which may be written from right to left, and mustn't change the direction of its
+    neighbours."""
     return f"<bdi>{escape(text)}</bdi>" if text else ""
 
 
@@ -124,7 +125,7 @@ def _row(*cells: Cell) -> Row:
 
 
 def _table(title: str, head: Sequence[str], rows: Iterable[Row], size: str = "whole") -> str:
-    """A table of cells that are HTML already; a number stands at the right."""
+    """A table of cells that are HTML already; a number is aligned to the right."""
     heads = "".join(f'<th scope="col">{word}</th>' for word in head)
     body = "".join("<tr>" + "".join(f'<td class="n">{cell}</td>' if isinstance(cell, int) else f"<td>{cell}</td>"
                                     for cell in row) + "</tr>" for row in rows)

@@ -76,7 +76,7 @@ def dates(certification: Certification) -> str:
 
 
 def scopes(certification: Certification) -> list[str]:
-    """The patterns, with their backslashes as they stand."""
+    """The regular expressions, with their backslashes unchanged."""
     return [for_people(pattern, "\\") for pattern in certification.scopes]
 
 

@@ -4,7 +4,7 @@ from ..keyrings.assessment import Assessment, Other, Report, ShownPath
 from .phrases import count, cut, dates, moment, name, no_path, result, said_elsewhere, scopes, supposed
 
 MOST_OTHERS = 8  # More than these are counted by their reasons.
-_GREEN, _RED, _BOLD, _PLAIN = "\x1b[32m", "\x1b[31m", "\x1b[1m", "\x1b[0m"
+_GREEN, _RED, _BOLD, _RESET = "\x1b[32m", "\x1b[31m", "\x1b[1m", "\x1b[0m"
 
 
 class Tree:
@@ -25,7 +25,7 @@ class Tree:
         return "\n".join(lines).rstrip("\n") + "\n"
 
     def _painted(self, text: str, colour: str) -> str:
-        return f"{colour}{text}{_PLAIN}" if self._colour else text
+        return f"{colour}{text}{_RESET}" if self._colour else text
 
     def _brief(self, one: Assessment) -> list[str]:
         amount = f"{one.amount:4}" if one.reached else self._painted("   ✗", _RED)

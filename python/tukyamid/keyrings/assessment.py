@@ -138,7 +138,7 @@ class Question:
 
 def assess(view: View, fpr: str, user_id: bytes, wanted: int, every: bool = False) -> Assessment:
     """Asks about a binding, and gathers what is said about its answer. If `every` certification is wanted, those on its
-    paths stand among the others too."""
+    paths are among the others too."""
     asked = Question(view, fpr, user_id, wanted)
     if asked.explanation is None:
         return Assessment(fpr, user_id, wanted, asked.amount, asked.paths, asked.word, ())

@@ -9,17 +9,17 @@ from .input_digest import digest_of
 from .verified_cache import Entry, Held, Store, StoreRefused
 from .verifier import Verifier, VerifierFailed
 
-Tell = Callable[[str], None]
+Say = Callable[[str], None]
 
 
 class Filling:
-    """An engine that is still empty, and where its certificates come from. `tell` is called with a text for people if
+    """An engine that is still empty, and where its certificates come from. `say` is called with a text for people if
     something was left out."""
 
     def __init__(self, engine: Connection, paths: list[str], verifier: Verifier, store: Store | None,
-                 tell: Tell) -> None:
+                 say: Say) -> None:
         self._engine, self._paths, self._verifier = engine, paths, verifier
-        self._store, self._tell = store, tell
+        self._store, self._say = store, say
 
     def fill(self, anew: bool) -> Entry | Held:
         """Fills the engine, and returns what it then holds. `anew` verifies also what was kept."""
@@ -45,7 +45,7 @@ class Filling:
             return self._store.keep(digest, self._engine.dump(), self._verifier.version)
         except (OSError, StoreRefused) as error:
             why = error.strerror if isinstance(error, OSError) else error
-            self._tell(f"the result can't be kept in {self._store.folder}: {why}")
+            self._say(f"the result can't be kept in {self._store.folder}: {why}")
             return Held(self._engine.dump())
 
     def _verify(self, known: dict[str, str]) -> None:
@@ -69,4 +69,4 @@ class Filling:
 
     def _feed(self, lines: Iterable[bytes]) -> None:
         for refusal in self._engine.feed(lines):
-            self._tell(f"line {refusal.position} of the verifier's output: {refusal}")
+            self._say(f"line {refusal.position} of the verifier's output: {refusal}")

@@ -63,7 +63,7 @@ def whole(engine: Connection) -> Iterator[bytes]:
 
 
 class DumpIndex:
-    """The index of an engine by its dump, as it stood when it was filled."""
+    """The index of an engine by its dump, as it was when it was filled."""
 
     is_whole = True
 
@@ -105,15 +105,15 @@ class Keyring:
 
     @property
     def bindings(self) -> Bindings:
-        """The list of (fingerprint, user ID) of all certificates, as it stood when the keyring was opened."""
+        """The list of (fingerprint, user ID) of all certificates, as it was when the keyring was opened."""
         return self.index.bindings()
 
     @classmethod
     def open(cls, paths: Iterable[str | os.PathLike[str]], store: Store | None = None,
              engine: Sequence[str] | None = None, verifier: Sequence[str] | None = None, anew: bool = False,
-             tell: Callable[[str], None] = lambda text: None) -> Keyring:
+             say: Callable[[str], None] = lambda text: None) -> Keyring:
         """Of keyring files and certificate directories. `store` keeps what was verified; None keeps nothing. `anew`
-        verifies also what is kept. `tell` is called with a text for people if something was left out. `engine` and
+        verifies also what is kept. `say` is called with a text for people if something was left out. `engine` and
         `verifier` are the words that start them; by default they are found."""
         from ..client.engine import Engine
         from .engine_filling import Filling
@@ -121,7 +121,7 @@ class Keyring:
         started = Engine(engine)
         try:
             inputs = [os.fspath(path) for path in paths]
-            held = Filling(started, inputs, Verifier(verifier, tell), store, tell).fill(anew)
+            held = Filling(started, inputs, Verifier(verifier, say), store, say).fill(anew)
         except BaseException:
             started.close()
             raise
@@ -183,7 +183,7 @@ class Keyring:
 
     def view(self, time: int, roots: Mapping[str, int], name: str = VIEW) -> View:
         """Opens a view: the time in seconds since 1970, and the amount of each root. It takes the place of an earlier
-        one of its name, so use several names (the engine has 16 views) to ask from several by turns."""
+        one of its name, so use several names (the engine has 16 views) to ask from several alternately."""
         try:
             self.engine.close_view(name)
         except RefusedView:

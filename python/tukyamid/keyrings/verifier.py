@@ -37,12 +37,12 @@ def find_verifier() -> list[str]:
 
 
 class Verifier:
-    """A verifier, by the words that start it. Of secret keys it reads the public parts. `tell` is called with what it
+    """A verifier, by the words that start it. Of secret keys it reads the public parts. `say` is called with what it
     says about what was left out, unless it says so on a terminal itself, where it also shows its progress."""
 
-    def __init__(self, words: Sequence[str] | None = None, tell: Callable[[str], None] = lambda text: None) -> None:
+    def __init__(self, words: Sequence[str] | None = None, say: Callable[[str], None] = lambda text: None) -> None:
         self.words = list(words) if words else find_verifier()
-        self._tell = tell
+        self._say = say
         self._version: str | None = None
 
     @property
@@ -93,7 +93,7 @@ class Verifier:
             why = f": {said[-1].removeprefix(NAME + ': ')}" if said else ""
             raise VerifierFailed(f"the verifier ended with status {status}{why}")
         for line in said:
-            self._tell(line)
+            self._say(line)
 
 
 def _written(process: subprocess.Popen[bytes], given: bytes) -> Iterator[bytes]:

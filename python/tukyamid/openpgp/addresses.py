@@ -35,7 +35,7 @@ def _is_short(address: str) -> bool:
 
 def canonical(address: str) -> str:
     """The spelling by which addresses are compared: in lower case, with the domain's ASCII spelling (IDNA 2008). A
-    domain that has none is compared as it stands, and so is what is too long for an address.
+    domain that has none is compared unchanged, and so is what is too long for an address.
 
     >>> canonical("Zo\u00cb@B\u00dcCHER.example"), canonical("zo\u00eb@xn--bcher-kva.EXAMPLE")
     ('zo\u00eb@xn--bcher-kva.example', 'zo\u00eb@xn--bcher-kva.example')

@@ -2,7 +2,7 @@
 
 By the profile a direct key signature governs a key alone, if there is one (docs/PROFILE.md, "What a key's own
 signatures say"). gpg and Sequoia also look at the self-signatures on user IDs. So a direct key signature that names a
-revoker and no end hides from the engine that a newer self-signature ends the key. People should hear of it, so this
+revoker and no end hides from the engine that a newer self-signature ends the key. People should know of it, so this
 module reads the ends as those programs do:
 
 - gpg takes the end that the newest direct key signature sets. If it sets none, the newest self-signature that sets one

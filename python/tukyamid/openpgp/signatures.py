@@ -1,6 +1,6 @@
 """What a signature says, read for people: dates, amounts and scopes, beside its number.
 
-The engine alone decides what counts. What stands here only says more about what it answered.
+The engine alone decides what counts. This module only says more about its answers.
 """
 
 from __future__ import annotations

@@ -22,7 +22,7 @@ if TYPE_CHECKING:
 
     Binding = tuple[str, bytes]
     Edge = tuple[str, str, bytes]
-    Tell = Callable[[str], None]
+    Say = Callable[[str], None]
 
 MOST_INTRODUCED, MOST_MOMENTS = 5, 200
 
@@ -68,17 +68,17 @@ class Look:
     """Looks for what is fragile, from some roots, at the time of the trials."""
 
     def __init__(self, keyring: SupposedKeyring, engine: ScratchEngine, trials: Trials, roots: Mapping[str, int],
-                 wanted: int, tell: Tell) -> None:
+                 wanted: int, say: Say) -> None:
         self._keyring, self._engine, self._trials, self._roots = keyring, engine, trials, roots
-        self._wanted, self._tell = wanted, tell
+        self._wanted, self._say = wanted, say
         self._root = max(roots, key=lambda fpr: roots[fpr])
         self._by_key: defaultdict[str, set[Binding]] = defaultdict(set)
         self._by_edge: defaultdict[Edge, set[Binding]] = defaultdict(set)
 
     def fragile(self, days: int) -> Fragile:
-        self._tell("listing the bindings")
+        self._say("listing the bindings")
         reached = self._reached()
-        self._tell(f"following the paths of {len(reached)} bindings")
+        self._say(f"following the paths of {len(reached)} bindings")
         for fpr, user_id in reached:
             self._note_paths(fpr, user_id)
         certifications = [self._without_edge(edge, using) for edge, using in sorted(self._by_edge.items())]
@@ -168,7 +168,7 @@ class Look:
         ending = endings(self._keyring, sorted(members), self._trials.time, self._trials.time + days * 86400)
         moments = sorted(ending)[:MOST_MOMENTS]
         for place, time in enumerate(moments, 1):
-            self._tell(f"what ends: moment {place} of {len(moments)}")
+            self._say(f"what ends: moment {place} of {len(moments)}")
             self._engine.open_view(VIEW, time)
             after = set(self._reached())
             if before - after:

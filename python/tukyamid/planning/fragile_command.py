@@ -14,7 +14,7 @@ from ..command.configured import configure
 from ..command.exit_statuses import REACHED, NoAnswer, WrongWords
 from ..command.keyring_choice import Inputs
 from ..command.option_values import read_threshold
-from ..command.output import tell, write
+from ..command.output import say, write
 from ..command.parsed_words import Given
 from ..command.trust_roots import Roots
 from ..formats.phrases import Called, moment
@@ -43,7 +43,7 @@ def run(words: Sequence[str]) -> int:
         raise WrongWords(f"--days takes at most {MOST_DAYS}")
     configure(given)
     at = int(time.time()) if given.time is None else given.time
-    with Inputs(given, tell) as inputs:
+    with Inputs(given, say) as inputs:
         waiting = inputs.keyring.index.waiting()
         if waiting is not None:
             raise NoAnswer(f"nothing can be said yet: {waiting}")
@@ -64,10 +64,10 @@ def run(words: Sequence[str]) -> int:
 
 def progress_for(error: TextIO) -> Callable[[str], None]:
     """What says how far it is: to people who wait at a terminal, and else nothing."""
-    def say(text: str) -> None:
+    def show(text: str) -> None:
         if error.isatty():
-            tell(text)
-    return say
+            say(text)
+    return show
 
 
 def words_parser() -> parser.Parser:

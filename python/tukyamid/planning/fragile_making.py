@@ -20,9 +20,9 @@ DAYS, MOST_DAYS = 180, 3650
 
 
 def fragile_in(keyring: Keyring, time: int, roots: Mapping[str, int], wanted: int, days: int = DAYS,
-               tell: Callable[[str], None] = lambda text: None, program: Program | None = None) -> Fragile:
+               say: Callable[[str], None] = lambda text: None, program: Program | None = None) -> Fragile:
     """Which bindings rest on a single key or certification, and what falls when something ends within these days.
-    `tell` is called with how far it is. It ends after half an hour."""
+    `say` is called with how far it is. It ends after half an hour."""
     with ScratchEngine(keyring, (), program) as engine, ended_after(PATIENCE, engine.end_at_once):
         there = SupposedKeyring(keyring, engine, (), ())
-        return Look(there, engine, Trials(engine, time, roots), roots, wanted, tell).fragile(days)
+        return Look(there, engine, Trials(engine, time, roots), roots, wanted, say).fragile(days)

@@ -21,7 +21,7 @@ if TYPE_CHECKING:
     from .scratch import ScratchEngine, SupposedKeyring
 
     Binding = tuple[str, bytes]
-    Tell = Callable[[str], None]
+    Say = Callable[[str], None]
     Score = tuple[int, int]
 
 MOST_COMERS = 200
@@ -52,9 +52,9 @@ class Planner:
     """Looks for the steps. `most` bounds how many there are."""
 
     def __init__(self, keyring: SupposedKeyring, engine: ScratchEngine, trials: Trials, roots: Mapping[str, int],
-                 wanted: int, depth: int, most: int, tell: Tell) -> None:
+                 wanted: int, depth: int, most: int, say: Say) -> None:
         self._keyring, self._engine, self._trials, self._roots = keyring, engine, trials, roots
-        self._wanted, self._depth, self._most, self._tell = wanted, depth, most, tell
+        self._wanted, self._depth, self._most, self._say = wanted, depth, most, say
 
     def meeting(self, comers: Sequence[str]) -> Meeting:
         there = tuple(fpr for fpr in dict.fromkeys(comers) if self._keyring.certificate(fpr) is not None)
@@ -63,7 +63,7 @@ class Planner:
         self._engine.need("key", there)
         introducers = self._introducers()
         useful = tuple(fpr for fpr in there if fpr in introducers)
-        before, steps = self._with_depth(there, useful) if self._depth else self._plain(there, useful)
+        before, steps = self._with_depth(there, useful) if self._depth else self._without_depth(there, useful)
         after = before + sum(len(one.gained) for one in steps)
         return Meeting(there, missing, self._wanted, self._depth, before, after, tuple(steps))
 
@@ -78,11 +78,11 @@ class Planner:
         user_ids = certificate.user_ids if certificate is not None else ()
         return Step(issuer, target, tuple(Certifies(issuer, target, user_id, self._depth) for user_id in user_ids))
 
-    def _plain(self, comers: Sequence[str], useful: Sequence[str]) -> tuple[int, list[Step]]:
+    def _without_depth(self, comers: Sequence[str], useful: Sequence[str]) -> tuple[int, list[Step]]:
         """Each person by themselves; those of whom a step gains the most come first."""
         before, groups = 0, []
         for place, target in enumerate(comers, 1):
-            self._tell(f"person {place} of {len(comers)}")
+            self._say(f"person {place} of {len(comers)}")
             reached, steps = self._of_person(target, [fpr for fpr in useful if fpr != target])
             before += len(reached)
             groups += [steps] if steps else []
@@ -140,7 +140,7 @@ class Planner:
         steps: list[Step] = []
         bounds = {(issuer, target): len(reached) + 10**6 for issuer in useful for target in comers if issuer != target}
         while bounds and len(steps) < self._most:
-            self._tell(f"step {len(steps) + 1}, with {len(reached)} bindings so far")
+            self._say(f"step {len(steps) + 1}, with {len(reached)} bindings so far")
             best = self._best(bounds, steps, reached)
             if best is None:
                 break

@@ -22,11 +22,11 @@ __all__ = ["MOST_COMERS", "MOST_STEPS", "meeting_of"]
 
 
 def meeting_of(keyring: Keyring, comers: Sequence[str], time: int, roots: Mapping[str, int], wanted: int,
-               depth: int = 0, most: int = MOST_STEPS, tell: Callable[[str], None] = lambda text: None,
+               depth: int = 0, most: int = MOST_STEPS, say: Callable[[str], None] = lambda text: None,
                program: Program | None = None) -> Meeting:
-    """Which certifications among those who come authenticate the most bindings, at a time and from some roots. `tell`
+    """Which certifications among those who come authenticate the most bindings, at a time and from some roots. `say`
     is called with how far it is. It ends after half an hour."""
     with ScratchEngine(keyring, (), program) as engine, ended_after(PATIENCE, engine.end_at_once):
         there = SupposedKeyring(keyring, engine, (), ())
         trials = Trials(engine, time, roots)
-        return Planner(there, engine, trials, roots, wanted, depth, most, tell).meeting(comers)
+        return Planner(there, engine, trials, roots, wanted, depth, most, say).meeting(comers)

@@ -11,7 +11,7 @@ from ..command.configured import configure
 from ..command.exit_statuses import NOT_REACHED, REACHED, NoAnswer, WrongWords
 from ..command.key_names import resolve
 from ..command.keyring_choice import Inputs
-from ..command.output import tell, write
+from ..command.output import say, write
 from ..command.parsed_words import Given
 from ..command.questions import UserIds, key_of
 from ..command.trust_roots import Roots
@@ -34,7 +34,7 @@ def run(words: Sequence[str]) -> int:
     _check(given)
     configure(given)
     at = int(time.time()) if given.time is None else given.time
-    with Inputs(given, tell) as inputs:
+    with Inputs(given, say) as inputs:
         waiting = inputs.keyring.index.waiting()
         if waiting is not None:
             raise NoAnswer(f"nothing can be said yet: {waiting}")

@@ -45,7 +45,7 @@ def _word(plan: Plan) -> str:
 
 
 def note(plan: Plan, name: Name) -> str | None:
-    """What stands in the way, or how far the search went; None if there is nothing to say."""
+    """What is in the way, or how far the search went; None if there is nothing to say."""
     if plan.explanation is None:
         return "the key has no such user ID"
     if plan.explanation.word != "ok":

@@ -1,4 +1,4 @@
-"""Certifications that are supposed by turns: each is imported once, and counts only while it is tried."""
+"""Certifications that are supposed one after another: each is imported once, and counts only while it is tried."""
 
 from __future__ import annotations
 

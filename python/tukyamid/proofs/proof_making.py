@@ -45,7 +45,7 @@ def _on_paths(fpr: str, answer: Answer) -> set[str]:
 
 
 def _steps(keyring: Keyring, steps: Iterable[Any], target: str) -> Iterator[Step]:
-    """The steps of a claim, with the user IDs that their places stand for."""
+    """The steps of a claim, with the user IDs at their places."""
     listed = list(steps)
     for step, into in zip(listed, [*(one.issuer for one in listed[1:]), target]):
         certificate = keyring.certificate(into)

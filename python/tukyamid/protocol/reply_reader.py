@@ -11,8 +11,8 @@ The first line alone says how a reply goes on:
 | `absence missed SUM` | a line `claim PATHS TABLE` |
 | any other | nothing |
 
-A reader is a generator that asks for a line by each `yield`, so that the plain client and the asynchronous one share
-it.
+A reader is a generator that asks for a line by each `yield`, so that the synchronous client and the asynchronous one
+share it.
 """
 
 from __future__ import annotations

@@ -121,7 +121,7 @@ def read_user_id(spelled: bytes) -> bytes:
 
 def for_people(octets: bytes, backslash: str = "\\\\") -> str:
     r"""A user ID as it may be shown on a terminal or a page: octets that are no text, and characters that don't print
-    (among them those that turn the direction of writing), become `\xhh`, and a backslash becomes two.
+    (among them those that change the direction of writing), become `\xhh`, and a backslash becomes two.
 
     >>> for_people(b"Eve \x1b[2J <eve@example.org>")
     'Eve \\x1b[2J <eve@example.org>'

@@ -8,7 +8,7 @@ _LINE = re.compile(rb"verdict ([0-9a-f]{64}) (?:bad|good ([0-9a-f]{40}|[0-9a-f]{
 
 
 class Verdicts:
-    """The lines `verdict` of a dump, from `start` on. They stand in the order of their numbers, and one is found by
+    """The lines `verdict` of a dump, from `start` on. They are in the order of their numbers, and one is found by
     halving. A line that isn't well-formed is no verdict, so its signature is verified again."""
 
     def __init__(self, octets: "bytes | mmap.mmap" = b"", start: int = 0) -> None:

@@ -47,7 +47,7 @@ class Answers:
         task = self._under_way.get(tag)
         if task is None:
             task = self._under_way[tag] = asyncio.create_task(self._made(question, state))
-            task.add_done_callback(lambda done: self._settle(tag, done))
+            task.add_done_callback(lambda done: self._note_end(tag, done))
         return await asyncio.shield(task)
 
     async def _made(self, question: Question, state: State) -> Answer:
@@ -84,7 +84,7 @@ class Answers:
             self._kept.clear()
             self._octets = 0
 
-    def _settle(self, tag: str, done: asyncio.Task[Answer]) -> None:
+    def _note_end(self, tag: str, done: asyncio.Task[Answer]) -> None:
         self._under_way.pop(tag, None)
         if not done.cancelled():
             done.exception()  # Whoever waited for it may have gone.

@@ -1,5 +1,5 @@
-"""A question as it stands in an address: every parameter is checked, and what is left is a value. Two addresses that
-ask for the same have the same value, so answers can be kept by it."""
+"""A question as it is spelled in an address: every parameter is checked, and what is left is a value. Two addresses
+that ask for the same have the same value, so answers can be kept by it."""
 
 from __future__ import annotations
 

@@ -25,7 +25,7 @@ class Origins:
         self._proxies = proxies
 
     def of(self, peer: str | None, headers: Mapping[str, str]) -> str:
-        """The address; `peer` is None for a Unix socket. One of IPv6 stands for its whole network of 64 bits."""
+        """The address; `peer` is None for a Unix socket. One of IPv6 counts as its whole network of 64 bits."""
         if peer is not None and not self._is_proxy(peer):
             return _share(peer)
         for address in reversed(_named(headers)[-MOST_HOPS:]):

@@ -112,7 +112,7 @@ class Server:
             return "ready", await self._ready()
         file = self._parts.files.get(path)
         cost = 1.0 if file is None else COST_OF_FILE
-        if after := self._rates.wait(self._parts.origins.of(_peer(request), _passed_on(request)), cost):
+        if after := self._rates.wait(self._parts.origins.of(_peer(request), _forwarded(request)), cost):
             self._parts.metrics.refused["rate"] += 1
             return "other", _failure(429, "too many requests come from this address", math.ceil(after))
         if path.startswith("/api/v1/"):
@@ -150,7 +150,7 @@ class Server:
         try:
             return self._response(await self._parts.answers.ask(question, _tags(request)))
         except Refusal as error:
-            self._parts.metrics.refused[error.sort] += 1
+            self._parts.metrics.refused[error.metric] += 1
             return _failure(503, str(error), LATER)
         except TukyamidError as error:
             self._parts.metrics.refused["service"] += 1
@@ -207,7 +207,7 @@ def _peer(request: web.BaseRequest) -> str | None:
     return str(found[0]) if isinstance(found, tuple) else None
 
 
-def _passed_on(request: web.BaseRequest) -> dict[str, str]:
+def _forwarded(request: web.BaseRequest) -> dict[str, str]:
     """What proxies say about where a request comes from. One may add a line of its own after a visitor's."""
     return {name: ", ".join(request.headers.getall(name)) for name in ("X-Forwarded-For", "Forwarded")
             if name in request.headers}

@@ -35,7 +35,7 @@ class LastChange:
         """The state. TukyamidError if the service can't be asked."""
         if self._next is None:
             self._next = asyncio.create_task(self._after(self._running))
-            self._next.add_done_callback(_settle)
+            self._next.add_done_callback(_note_end)
         return await asyncio.shield(self._next)
 
     async def _after(self, running: asyncio.Task[State] | None) -> State:
@@ -93,6 +93,6 @@ class LastChange:
         self._forget()
 
 
-def _settle(task: asyncio.Task[State]) -> None:
+def _note_end(task: asyncio.Task[State]) -> None:
     if not task.cancelled():
         task.exception()  # Whoever waited for it may have gone.

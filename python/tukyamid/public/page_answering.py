@@ -85,7 +85,7 @@ def _vouched(answering: Answering, asked: Json) -> dict[str, Any]:
 
 
 def _reach(answering: Answering, asked: Json) -> dict[str, Any]:
-    return Reach(answering.client, page_requests.read_subject(asked)).told()
+    return Reach(answering.client, page_requests.read_subject(asked)).reply()
 
 
 def _life(answering: Answering, asked: Json) -> dict[str, Any]:

@@ -1,4 +1,4 @@
-"""The calls of the page, as they stand in addresses: what is asked is JSON, in the parameter `q`."""
+"""The calls of the page, as they are spelled in addresses: what is asked is JSON, in the parameter `q`."""
 
 from __future__ import annotations
 

@@ -27,11 +27,11 @@ class Reply(NamedTuple):
 
 
 class Refusal(TukyamidError):
-    """A question that isn't answered now, though it may be later; `sort` names the reason in the metrics."""
+    """A question that isn't answered now, though it may be later; `metric` names the reason in the metrics."""
 
-    def __init__(self, sort: str, reason: str) -> None:
+    def __init__(self, metric: str, reason: str) -> None:
         super().__init__(reason)
-        self.sort = sort
+        self.metric = metric
 
 
 class _Worker:

@@ -48,7 +48,7 @@ class DataSignature:
 
 
 class Outside(StrEnum):
-    """Where text stands that isn't part of a signed message or text, so that nobody signed it."""
+    """Where there is text outside a signed message or text, which nobody signed."""
     BEFORE = "before"
     AFTER = "after"
 
@@ -58,7 +58,8 @@ _OUTSIDE = {f"outside {one}": one for one in Outside}
 
 @dataclass(frozen=True)
 class Found:
-    """What the verifier found: the signatures in their order, and where unsigned text stands around what they sign."""
+    """What the verifier found: the signatures in their order, and where there is unsigned text around what they
+    sign."""
     signatures: tuple[DataSignature, ...]
     outside: tuple[Outside, ...] = ()
 
@@ -91,8 +92,9 @@ def signatures_on(signed: Signed, certificates: str, verifier: Verifier, at: int
         raise VerifierFailed(f"the verifier can't be started: {error}") from None
     # Its status 1 says that a part of the keyrings was left out.
     if ended.returncode not in (0, 1):
-        told = ended.stderr.decode("utf-8", "replace").strip().splitlines()
-        raise VerifierFailed(_for_people(told[-1]) if told else f"the verifier ended with status {ended.returncode}")
+        errors = ended.stderr.decode("utf-8", "replace").strip().splitlines()
+        last = _for_people(errors[-1]) if errors else f"the verifier ended with status {ended.returncode}"
+        raise VerifierFailed(last)
     return _read_all(ended.stdout.decode("utf-8", "replace").splitlines())
 
 

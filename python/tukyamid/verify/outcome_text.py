@@ -7,7 +7,7 @@ from datetime import datetime, timezone
 from ..formats import colons
 from ..protocol import spelling
 from .data_signatures import DataSignature, Word
-from .signer_judgement import Judged, Known, Outcome, Wanted
+from .signer_check import CheckedSignature, Known, Outcome, Wanted
 
 # RFC 9580, section 9.5.
 _HASHES = {1: "MD5", 2: "SHA-1", 3: "RIPEMD-160", 8: "SHA2-256", 9: "SHA2-384", 10: "SHA2-512", 11: "SHA2-224",
@@ -21,22 +21,22 @@ def for_people(outcome: Outcome) -> str:
     signers = "1 signer" if count == 1 else f"{count} signers"
     lines = [f"{mark} {said}: {signers} of {wanted.threshold} needed",
              f"    wanted: {' or '.join(_shown(one.text) for one in wanted.whom)}, to the amount {wanted.amount}"]
-    if not outcome.judged:
+    if not outcome.checked:
         lines.append("    there is no signature")
-    for place, judged in enumerate(outcome.judged, 1):
-        lines += [f"    {line}" for line in _signature_lines(place, judged, wanted)]
+    for place, checked in enumerate(outcome.checked, 1):
+        lines += [f"    {line}" for line in _signature_lines(place, checked, wanted)]
     if outcome.outside:
         lines.append(f"    not signed: the text {' and '.join(outcome.outside)} the signed part of the file")
     return "".join(line + "\n" for line in lines)
 
 
-def _signature_lines(place: int, judged: Judged, wanted: Wanted) -> Iterator[str]:
-    signature = judged.signature
+def _signature_lines(place: int, checked: CheckedSignature, wanted: Wanted) -> Iterator[str]:
+    signature = checked.signature
     yield f"signature {place}: {signature.word}: {signature.why or signature.word.meaning}"
     yield f"    {_origin(signature)}"
     if signature.word is not Word.GOOD:
         return
-    for known, moment in (judged.at_signing, "when it was made"), (judged.now, "now"):
+    for known, moment in (checked.at_signing, "when it was made"), (checked.now, "now"):
         if known is not None:
             yield f"    {moment}: {_said(known, wanted)}"
 
@@ -72,7 +72,7 @@ def for_programs(outcome: Outcome) -> str:
         "wanted": wanted.amount,
         "whom": [{"kind": one.kind.value, "text": _shown(one.text)} for one in wanted.whom],
         "when": str(wanted.when),
-        "signatures": [_signature_object(judged, wanted) for judged in outcome.judged],
+        "signatures": [_signature_object(checked, wanted) for checked in outcome.checked],
         "outside": [str(one) for one in outcome.outside],
     }, indent=2) + "\n"
 
@@ -82,24 +82,24 @@ def for_fields(outcome: Outcome) -> str:
     wanted = outcome.wanted
     lines: list[colons.Line] = [
         ("vfy", 1, "yes" if outcome.is_verified else "no", len(outcome.signers), wanted.threshold, wanted.amount)]
-    for judged in outcome.judged:
-        signature = judged.signature
-        lines.append(("sig", str(signature.word), "yes" if judged.counts(wanted) else "no", signature.made,
+    for checked in outcome.checked:
+        signature = checked.signature
+        lines.append(("sig", str(signature.word), "yes" if checked.counts(wanted) else "no", signature.made,
                       signature.kind, signature.hash_algorithm, signature.certificate, signature.key, signature.why))
         lines += [("who", moment, known.time, known.amount, known.user_id, known.why or None)
-                  for moment, known in (("signing", judged.at_signing), ("now", judged.now)) if known is not None]
+                  for moment, known in (("signing", checked.at_signing), ("now", checked.now)) if known is not None]
     lines += [("out", str(one)) for one in outcome.outside]
     return colons.written(lines)
 
 
-def _signature_object(judged: Judged, wanted: Wanted) -> dict[str, object]:
-    signature = judged.signature
+def _signature_object(checked: CheckedSignature, wanted: Wanted) -> dict[str, object]:
+    signature = checked.signature
     return {
-        "verdict": str(signature.word), "counts": judged.counts(wanted), "why": signature.why,
+        "verdict": str(signature.word), "counts": checked.counts(wanted), "why": signature.why,
         "certificate": signature.certificate, "key": signature.key, "made": signature.made,
         "type": signature.kind,
         "hash": None if signature.hash_algorithm is None else _hash_name(signature.hash_algorithm),
-        "at_signing": _known_object(judged.at_signing), "now": _known_object(judged.now),
+        "at_signing": _known_object(checked.at_signing), "now": _known_object(checked.now),
     }
 
 

@@ -7,7 +7,7 @@ from ..command.configured import configure
 from ..command.exit_statuses import REACHED, NoAnswer, WrongWords
 from ..command.keyring_choice import Inputs
 from ..command.option_values import read_threshold
-from ..command.output import tell, write
+from ..command.output import say, write
 from ..command.parsed_words import Given
 from ..command.parser import Help, Parser, add_inputs, add_programs, add_time_and_amount, typed
 from ..command.trust_roots import Roots
@@ -19,7 +19,7 @@ from .data_signatures import Signed, signatures_on
 from .expected_signer import Whom
 from .hints import hint
 from .signed_content import Content
-from .signer_judgement import Outcome, Wanted, When, judge
+from .signer_check import Outcome, Wanted, When, check_signers
 
 VERIFIED, NOT_VERIFIED = 0, 1
 FORMS = {"tree": outcome_text.for_people, "json": outcome_text.for_programs, "colons": outcome_text.for_fields}
@@ -60,7 +60,7 @@ def run(words: Sequence[str]) -> int:
         _show(FORMS[given.format](outcome), given)
     what = hint(signed, outcome)
     if what is not None:
-        tell(what)
+        say(what)
     return VERIFIED if outcome.is_verified else NOT_VERIFIED
 
 
@@ -70,7 +70,7 @@ def _show(text: str, given: GivenToVerify) -> None:
         write(text)
         return
     for line in text.splitlines():
-        tell(line, who="")
+        say(line, who="")
 
 
 def add_arguments(made: Parser) -> None:
@@ -117,17 +117,17 @@ def _signed(given: GivenToVerify) -> Signed:
 def _outcome(given: GivenToVerify, signed: Signed, content: Content) -> Outcome:
     now = int(time.time()) if given.time is None else given.time
     wanted = Wanted(tuple(given.whom), given.amount, given.threshold, When(given.when))
-    with Inputs(given, tell) as inputs:
+    with Inputs(given, say) as inputs:
         waiting = inputs.keyring.index.waiting()
         roots = Roots(given, inputs).find(now)
         for note in roots.notes:
-            tell(note)
+            say(note)
         with certificate_file(inputs.keyring) as certificates:
             verifier = Verifier(inputs.verifier_words)
             found = signatures_on(signed, certificates, verifier, given.time, content.path)
-        outcome = judge(inputs.keyring, roots.amounts, found, wanted, now)
+        outcome = check_signers(inputs.keyring, roots.amounts, found, wanted, now)
         if waiting is not None:
             if not (outcome.is_verified and is_looked_at(inputs.keyring, outcome.fprs)):
                 raise NoAnswer(f"nothing can be said yet: {waiting}")
-            tell(f"{waiting}; none of them can change this answer")
+            say(f"{waiting}; none of them can change this answer")
         return outcome

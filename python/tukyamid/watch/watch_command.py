@@ -9,7 +9,7 @@ from ..command.configured import configure
 from ..command.exit_statuses import NO_ANSWER, NOT_REACHED, REACHED, NoAnswer, WrongWords
 from ..command.key_names import resolve
 from ..command.keyring_choice import Inputs
-from ..command.output import tell, write
+from ..command.output import say, write
 from ..command.trust_roots import Roots
 from ..command.user_service import service
 from ..fast_imports import TYPE_CHECKING
@@ -70,9 +70,9 @@ def _subject_of(given: Wanted) -> Subject:
     if given.gpg or given.gpg_keyring or given.keyring or given.directory:
         raise NoAnswer("watch asks about the service's keyring, and your configuration names other inputs")
     with service() as client:
-        inputs = Inputs(given, tell)
+        inputs = Inputs(given, say)
         inputs.keyring = served_keyring(client)
         chosen = Roots(given, inputs).find(int(time.time()))
         for note in chosen.notes:
-            tell(note)
+            say(note)
         return Subject(resolve(inputs.keyring, fpr), sought, given.amount, chosen.amounts)

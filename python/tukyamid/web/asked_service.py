@@ -11,7 +11,7 @@ from ..command.parsed_words import Given
 from ..safe_folders import runtime_file
 
 if TYPE_CHECKING:
-    from ..command.keyring_choice import Tell
+    from ..command.keyring_choice import Say
 
 
 class Service(NamedTuple):
@@ -21,7 +21,7 @@ class Service(NamedTuple):
     is_own: bool
 
 
-def service_for(given: Given, inputs: Inputs, tell: Tell) -> Service:
+def service_for(given: Given, inputs: Inputs, say: Say) -> Service:
     """The service, which is started unless it runs. Named inputs are verified first, unless they were before."""
     sources = sources_of(given)
     if not sources:
@@ -30,6 +30,6 @@ def service_for(given: Given, inputs: Inputs, tell: Tell) -> Service:
         return Service(runtime_file("tukyamid.socket"), ensure, True)
     from ..command.input_service_client import Reopening
     reopening = Reopening(given, sources, lambda: inputs.as_paths(sources))
-    tell("reading the inputs; the first time, this takes as long as verifying them")
+    say("reading the inputs; the first time, this takes as long as verifying them")
     start = reopening.ensure(lambda: inputs.verified(sources))
     return Service(start(), start, False)

@@ -7,7 +7,7 @@ import webbrowser
 from collections.abc import Iterator
 from contextlib import contextmanager, suppress
 
-from ..command.output import tell
+from ..command.output import say
 from ..safe_folders import runtime_file
 
 
@@ -36,6 +36,6 @@ def opened(address: str) -> Iterator[None]:
 
 def _open(address: str) -> None:
     if not webbrowser.open(address):
-        tell("no browser could be opened: open the address that is printed")
+        say("no browser could be opened: open the address that is printed")
     elif sys.stderr.isatty():
-        tell("the page is open until this command is interrupted")
+        say("the page is open until this command is interrupted")

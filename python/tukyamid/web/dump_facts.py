@@ -67,19 +67,19 @@ class Facts:
         fpr, key, user_ids = "", b"", dict[bytes, None]()
         user_id = b""
         start: "hashlib._Hash | None" = None  # Of the numbers of the component's signatures, if it has facts.
-        for sort, body in packets(octets):
-            if sort == SIGNATURE:
+        for packet_type, body in packets(octets):
+            if packet_type == SIGNATURE:
                 if start is not None and (fact := _fact_of(fpr, user_id, body)) is not None:
                     number = start.copy()
                     number.update(_with_length(body))
                     self._by_number[number.hexdigest().encode("ascii")] = fact
-            elif sort == KEY:
+            elif packet_type == KEY:
                 fpr, key, user_id, start = key_fingerprint(body), body, b"", _start_of(body, 0, b"")
                 self.created[fpr] = int.from_bytes(body[1:5], "big")
-            elif sort == USER_ID:
+            elif packet_type == USER_ID:
                 user_ids[body] = None
                 user_id, start = body, _start_of(key, 1, body)
-            elif sort in (ATTRIBUTE, SUBKEY):
+            elif packet_type in (ATTRIBUTE, SUBKEY):
                 start = None
         self.names[fpr] = for_people(next(iter(user_ids), b""))
         self.bindings += len(user_ids)

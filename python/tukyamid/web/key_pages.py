@@ -1,5 +1,5 @@
 """A key's own place on the page: its user IDs with their amounts, who vouches for it, whom it vouches for, and its
-times. The engine says what counts and how much; what stands here sorts and counts it."""
+times. The engine says what counts and how much; this module sorts and counts it."""
 
 from __future__ import annotations
 

@@ -11,7 +11,7 @@ from .names import Names
 from .network import Network
 from .network_picture import Picture, Tree
 from .page_requests import Standpoint
-from .service_connections import Desk
+from .service_connections import ServiceConnections
 
 # What is done within this time is shown at once, so that a small keyring is drawn once.
 PATIENCE = 0.4
@@ -22,8 +22,8 @@ MOST_LISTED = 30
 class Networks:
     """Keeps one network. One of another standpoint, or of an earlier keyring, is given up."""
 
-    def __init__(self, desk: Desk) -> None:
-        self._desk = desk
+    def __init__(self, connections: ServiceConnections) -> None:
+        self._connections = connections
         self._kept: tuple[object, Network] | None = None
         self._task: asyncio.Task[None] | None = None
         self._whole: Tree | None = None
@@ -55,7 +55,7 @@ class Networks:
         if self._task is not None and not network.is_done:
             await asyncio.wait([self._task], timeout=PATIENCE)
         sought = network.others[begin:begin + MOST_LISTED]
-        names = await self._desk.do(lambda keyring: _named(keyring, sought))
+        names = await self._connections.do(lambda keyring: _named(keyring, sought))
         return {"count": len(network.others), "begin": begin, "keys": sought, "names": names}
 
     async def whole(self, standpoint: Standpoint) -> Network | None:
@@ -66,14 +66,14 @@ class Networks:
         return network if network.is_done else None
 
     async def _network(self, standpoint: Standpoint) -> Network:
-        async with self._desk.talking() as client:
+        async with self._connections.talking() as client:
             change = max([one.number async for one in await client.log(1)], default=0)
         of = (standpoint.time, tuple(standpoint.roots.items()), change)
         if self._kept is None or self._kept[0] != of:
             self.close()
             network = Network(standpoint)
             self._kept = of, network
-            self._task = asyncio.create_task(self._desk.ask(network.gather, True))
+            self._task = asyncio.create_task(self._connections.ask(network.gather, True))
         return self._kept[1]
 
     def close(self) -> None:

@@ -14,7 +14,7 @@ from typing import Any
 from ..process_end import ended
 from ..protocol.refusals import ServiceEnded
 from .page_requests import Standpoint
-from .service_connections import Desk
+from .service_connections import ServiceConnections
 
 LONGEST_LINE = 1 << 26
 PATIENCE = 1800.0
@@ -69,14 +69,14 @@ class _Survey:
 class Surveys:
     """The overview that was asked for last, or what another module makes."""
 
-    def __init__(self, desk: Desk, module: str = "overview_process") -> None:
-        self._desk, self._module = desk, module
+    def __init__(self, connections: ServiceConnections, module: str = "overview_process") -> None:
+        self._connections, self._module = connections, module
         self._last: _Survey | None = None
 
     async def ask(self, standpoint: Standpoint, **more: object) -> dict[str, Any]:
         """How far the overview is, or all of it. One of another question, or of an earlier keyring, is given up. Raises
         ServiceEnded if the service has ended meanwhile."""
-        async with self._desk.talking() as client:
+        async with self._connections.talking() as client:
             change = max([one.number async for one in await client.log(1)], default=0)
         roots = dict(sorted(standpoint.roots.items()))
         asked = json.dumps({"time": standpoint.time, "roots": roots, **more}).encode()
@@ -89,7 +89,7 @@ class Surveys:
                 raise ServiceEnded(state["error"])
             return state
         await self.close()
-        words = [sys.executable, "-m", f"tukyamid.web.{self._module}", self._desk.socket]
+        words = [sys.executable, "-m", f"tukyamid.web.{self._module}", self._connections.socket]
         survey.task = asyncio.create_task(survey.run(words, asked))
         self._last = survey
         return survey.state

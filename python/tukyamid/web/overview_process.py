@@ -53,7 +53,7 @@ class Copied:
 
 
 class Overview:
-    """A copy of the service's keyring in an engine of its own, from which keys can be taken out by turns."""
+    """A copy of the service's keyring in an engine of its own, from which keys can be taken out one after another."""
 
     def __init__(self, engine: Engine, facts: FactsProcess, time: int, roots: dict[str, int]) -> None:
         self._engine, self._facts, self._roots = engine, facts, roots

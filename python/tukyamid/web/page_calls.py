@@ -14,7 +14,7 @@ from .network_jobs import Networks
 from .overview_jobs import Surveys
 from .page_requests import Json
 from .reach import Reach
-from .service_connections import Desk
+from .service_connections import ServiceConnections
 
 MOST_FOUND = 30
 LEAST_SOUGHT = 2
@@ -27,12 +27,12 @@ class Calls:
     """`begin` is what the page begins with: the roots and the time. `is_own` says that the service is the user's own,
     which keeps keyrings that it is given."""
 
-    def __init__(self, desk: Desk, surveys: Surveys, begin: page_requests.Standpoint, notes: tuple[str, ...],
-                 is_own: bool = False) -> None:
+    def __init__(self, connections: ServiceConnections, surveys: Surveys, begin: page_requests.Standpoint,
+                 notes: tuple[str, ...], is_own: bool = False) -> None:
         self._is_own = is_own
-        self._desk, self._surveys, self._begin, self._notes = desk, surveys, begin, notes
-        self._networks = Networks(desk)
-        self._fragile, self._meetings = Surveys(desk, "plan_process"), Surveys(desk, "plan_process")
+        self._connections, self._surveys, self._begin, self._notes = connections, surveys, begin, notes
+        self._networks = Networks(connections)
+        self._fragile, self._meetings = Surveys(connections, "plan_process"), Surveys(connections, "plan_process")
         self.by_name: dict[str, Call] = {
             "begin": self.begin, "search": self.search, "answer": self.answer, "reasons": self.reasons,
             "moments": self.moments, "changes": self.changes, "overview": self.overview, "proof": self.proof,
@@ -50,9 +50,9 @@ class Calls:
 
     async def begin(self, asked: Json) -> dict[str, Any]:
         """What the page shows first: the roots that it was started with, and what the service holds."""
-        async with self._desk.talking() as client:
+        async with self._connections.talking() as client:
             figures, waiting = await client.status(), await client.unverified()
-        shown = await self._desk.do(lambda keyring: page_answers.standpoint(keyring, self._begin))
+        shown = await self._connections.do(lambda keyring: page_answers.standpoint(keyring, self._begin))
         return {**shown, "notes": [*self._notes, *([] if waiting is None else [str(waiting)])],
                 "certificates": figures.get("certificates"), "user_ids": figures.get("user-ids")}
 
@@ -63,7 +63,7 @@ class Calls:
             return {"found": [], "more": False}
         key = sought_key(sought)
         found: list[dict[str, str]] = []
-        async with self._desk.talking() as client:
+        async with self._connections.talking() as client:
             listing = await (client.find("key", key) if key else client.find("first", sought))
             async for one in listing:
                 if len(found) == MOST_FOUND:
@@ -74,25 +74,25 @@ class Calls:
 
     async def answer(self, asked: Json) -> dict[str, Any]:
         subject = page_requests.read_subject(asked)
-        return await self._desk.do(lambda keyring: page_answers.answer(keyring, subject))
+        return await self._connections.do(lambda keyring: page_answers.answer(keyring, subject))
 
     async def reasons(self, asked: Json) -> dict[str, Any]:
         subject, word = page_requests.read_subject(asked), page_requests.text(asked, "word", 40)
         begin = page_requests.number(asked, "begin", 0, 10**6)
-        return await self._desk.do(lambda keyring: page_answers.reasons(keyring, subject, word, begin))
+        return await self._connections.do(lambda keyring: page_answers.reasons(keyring, subject, word, begin))
 
     async def moments(self, asked: Json) -> dict[str, Any]:
         subject = page_requests.read_subject(asked)
-        return await self._desk.do(lambda keyring: moments.moments(keyring, subject))
+        return await self._connections.do(lambda keyring: moments.moments(keyring, subject))
 
     async def changes(self, asked: Json) -> dict[str, Any]:
         subject, since = page_requests.read_subject(asked), page_requests.number(asked, "since", 0, MOST_TIME)
-        return await self._desk.do(lambda keyring: page_answers.changes(keyring, subject, since))
+        return await self._connections.do(lambda keyring: page_answers.changes(keyring, subject, since))
 
     async def plan(self, asked: Json) -> dict[str, Any]:
         """Which new certifications would raise the amount."""
         subject, by, most = page_requests.read_plan(asked)
-        return await self._desk.do(lambda keyring: page_plans.plan(keyring, subject, by, most), True)
+        return await self._connections.do(lambda keyring: page_plans.plan(keyring, subject, by, most), True)
 
     async def fragile(self, asked: Json) -> dict[str, Any]:
         """What rests on a single key or certification, and what ends soon."""
@@ -117,7 +117,7 @@ class Calls:
 
     async def key(self, asked: Json) -> dict[str, Any]:
         fpr, standpoint = page_requests.fingerprint(asked), page_requests.read_standpoint(asked)
-        return await self._desk.ask(lambda client: KeyPage(client, fpr, standpoint).summary())
+        return await self._connections.ask(lambda client: KeyPage(client, fpr, standpoint).summary())
 
     async def vouched(self, asked: Json) -> dict[str, Any]:
         """Who vouches for a key (`by`), or whom it vouches for (`for`)."""
@@ -125,13 +125,13 @@ class Calls:
         begin = page_requests.number(asked, "begin", 0, 10**9)
         most = page_requests.number(asked, "most", 1, MOST_VOUCHED)
         if page_requests.text(asked, "side", 3) == "for":
-            return await self._desk.ask(lambda client: KeyPage(client, fpr, standpoint).vouches_for(begin, most))
-        return await self._desk.ask(lambda client: KeyPage(client, fpr, standpoint).vouched_for_by(begin, most))
+            return await self._connections.ask(lambda client: KeyPage(client, fpr, standpoint).vouches_for(begin, most))
+        return await self._connections.ask(lambda client: KeyPage(client, fpr, standpoint).vouched_for_by(begin, most))
 
     async def reach(self, asked: Json) -> dict[str, Any]:
         """How far an answer gets that isn't reached, and where it breaks."""
         subject = page_requests.read_subject(asked)
-        return await self._desk.ask(lambda client: Reach(client, subject).told(), True)
+        return await self._connections.ask(lambda client: Reach(client, subject).reply(), True)
 
     async def gone(self, asked: Json) -> dict[str, Any]:
         """What would be lost if a key were gone, or how far the network is that says it."""
@@ -140,24 +140,24 @@ class Calls:
         if network is None:
             return {"progress": "looking for what rests on the key"}
         whole = network
-        return await self._desk.do(lambda keyring: gone.gone(keyring, whole, fpr), True)
+        return await self._connections.do(lambda keyring: gone.gone(keyring, whole, fpr), True)
 
     async def life(self, asked: Json) -> dict[str, Any]:
         """A key's times."""
         fpr = page_requests.fingerprint(asked)
-        return await self._desk.do(lambda keyring: moments.life(keyring, fpr))
+        return await self._connections.do(lambda keyring: moments.life(keyring, fpr))
 
     async def offered(self, asked: Json) -> dict[str, Any]:
         """What somebody can begin with."""
         time = page_requests.number(asked, "time", 0, MOST_TIME)
-        return await self._desk.ask(lambda client: beginnings.offered(client, time, self._is_own))
+        return await self._connections.ask(lambda client: beginnings.offered(client, time, self._is_own))
 
     async def add(self, asked: Json) -> dict[str, Any]:
         """Has the user's own service keep a keyring."""
         name = page_requests.text(asked, "name", 4096)
         if not self._is_own:
             raise ValueError("this page shows the inputs that were named; start tukyamid web without them to add one")
-        return await self._desk.ask(lambda client: beginnings.add(client, name), True)
+        return await self._connections.ask(lambda client: beginnings.add(client, name), True)
 
     async def qr(self, asked: Json) -> dict[str, Any]:
         """A fingerprint as a QR code."""
@@ -167,7 +167,7 @@ class Calls:
         """The answer as a file that somebody else can check."""
         from ..proofs.proof_making import make
         subject = page_requests.read_unsupposed(asked)
-        return await self._desk.do(lambda keyring: make(
+        return await self._connections.do(lambda keyring: make(
             keyring, subject.fpr, subject.user_id, subject.wanted, subject.standpoint.time,
             dict(subject.standpoint.roots)))
 

@@ -31,16 +31,16 @@ def _answer(keyring: Keyring, asked: dict[str, Any]) -> dict[str, Any]:
     if asked["what"] == "fragile":
         if not roots:
             return {"error": "without a root nothing is authenticated, so nothing is fragile"}
-        found = fragile_in(keyring, time, roots, wanted, asked["days"], _tell)
+        found = fragile_in(keyring, time, roots, wanted, asked["days"], _say)
         return {"time": time, "roots": roots, "reached": found.reached, "tables": tables(found, called.of)}
-    meeting = meeting_of(keyring, asked["who"], time, roots, wanted, asked["depth"], tell=_tell)
+    meeting = meeting_of(keyring, asked["who"], time, roots, wanted, asked["depth"], say=_say)
     shown = meeting_text.as_object(meeting, called.of)
     names = {fpr: called.of(fpr) for fpr in meeting.comers}
     sheet = meeting_sheet.show(meeting, time, called.of)
     return {"time": time, "roots": roots, **shown, "names": names, "sheet": sheet}
 
 
-def _tell(text: str) -> None:
+def _say(text: str) -> None:
     say(progress=text)
 
 

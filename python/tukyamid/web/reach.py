@@ -32,7 +32,7 @@ class Reach:
         self._view = self._keyring.view(subject.standpoint.time, subject.standpoint.roots, VIEW)
         self._names = Names(self._keyring)
 
-    def told(self) -> dict[str, Any]:
+    def reply(self) -> dict[str, Any]:
         """Where it breaks, those chains first that break least. `target` says what is wrong with the key itself, and
         `certifiers` how many keys have certified the user ID."""
         subject = self._subject

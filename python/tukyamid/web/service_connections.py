@@ -18,7 +18,7 @@ MOST_LONG = 3
 PATIENCE = 600.0
 
 
-class Desk:
+class ServiceConnections:
     """`start` starts the service again if it has ended."""
 
     def __init__(self, socket: str | os.PathLike[str], start: Callable[[], object]) -> None:

@@ -9,7 +9,7 @@ from ..command.configured import configure
 from ..command.exit_statuses import REACHED, NoAnswer, WrongWords
 from ..command.keyring_choice import Inputs
 from ..command.option_values import read_time
-from ..command.output import tell, write
+from ..command.output import say, write
 from ..command.parsed_words import Given
 from ..command.parser import Help, Parser, add_inputs, typed
 from ..command.trust_roots import Chosen, Roots
@@ -19,7 +19,7 @@ from .asked_service import service_for
 from .browser_opening import opened
 from .page_files import read_files
 from .page_requests import Standpoint
-from .service_connections import Desk
+from .service_connections import ServiceConnections
 
 HELP = """usage: tukyamid web [option..]
 
@@ -54,19 +54,19 @@ def _serve(given: Wanted) -> None:
     except ModuleNotFoundError as error:
         raise NoAnswer(f"the page needs Python's {error.name}: apt-get install python3-aiohttp libjs-d3") from None
     configure(given)
-    inputs = Inputs(given, tell)
-    service = service_for(given, inputs, tell)
+    inputs = Inputs(given, say)
+    service = service_for(given, inputs, say)
 
     async def serve() -> None:
-        desk = Desk(service.socket, service.start)
+        connections = ServiceConnections(service.socket, service.start)
         at = int(time.time()) if given.time is None else given.time
-        chosen = _roots(desk, given, inputs, at)
-        surveys = Surveys(desk)
-        calls = Calls(desk, surveys, Standpoint(at, chosen.amounts), chosen.notes, service.is_own)
+        chosen = _roots(connections, given, inputs, at)
+        surveys = Surveys(connections)
+        calls = Calls(connections, surveys, Standpoint(at, chosen.amounts), chosen.notes, service.is_own)
         server = Server(read_files(), calls.by_name, given.port)
-        desk.keep()
+        connections.keep()
         with ExitStack() as stack:
-            stack.callback(desk.close)
+            stack.callback(connections.close)
             try:
                 await server.run(lambda: _begin(server.address, given.no_browser, stack))
             finally:
@@ -114,9 +114,9 @@ def _read_port(text: str) -> int:
     return int(text)
 
 
-def _roots(desk: Desk, given: Given, inputs: Inputs, at: int) -> Chosen:
+def _roots(connections: ServiceConnections, given: Given, inputs: Inputs, at: int) -> Chosen:
     """The roots to begin with. The page works without any: they can be chosen there."""
-    with desk.connect() as client:
+    with connections.connect() as client:
         inputs.keyring = served_keyring(client)
         try:
             return Roots(given, inputs).find(at)

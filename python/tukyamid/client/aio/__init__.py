@@ -1,4 +1,4 @@
-"""The client for asyncio: the names of the plain one, over a program (`start`) or a service (`connect`).
+"""The client for asyncio: the names of the synchronous one, over a program (`start`) or a service (`connect`).
 
     async with await connect("/run/user/1000/tukyamid.socket") as service:
         answers = await asyncio.gather(*(service.ask("me", fpr, 120, user_id) for fpr, user_id in bindings))

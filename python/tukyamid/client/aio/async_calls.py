@@ -1,4 +1,4 @@
-"""The calls of the asynchronous client. Each has the name, the arguments and the reply of the plain one."""
+"""The calls of the asynchronous client. Each has the name, the arguments and the reply of the synchronous one."""
 
 from __future__ import annotations
 

@@ -97,7 +97,7 @@ class Connection(Calls):
         self._exchanges: deque[Exchange[object]] = deque()
         self._inflow: _Inflow | None = None
         self._may_read = asyncio.Event()
-        self._heard = asyncio.Event()
+        self._has_input = asyncio.Event()
         self._fault: TukyamidError | None = None
         self._task = asyncio.get_running_loop().create_task(self._read())
 
@@ -133,9 +133,9 @@ class Connection(Calls):
     async def told(self) -> list[Watched | Gone]:
         if self._conversation.watches:
             await self._check()
-            await self._answered(self._put(PROBE + b"\n", self._conversation.hear()))
-        self._heard.clear()
-        return self._conversation.take_told()
+            await self._answered(self._put(PROBE + b"\n", self._conversation.probe()))
+        self._has_input.clear()
+        return self._conversation.take_watch_lines()
 
     def _answer_to(self, line: bytes, progress: Progress) -> Reader[Reply | Listing[object]]:
         """Reads a reply; of a listing the head, with which the connection begins to read its items."""
@@ -196,7 +196,7 @@ class Connection(Calls):
             exchange.fail(self._fault)
         if self._inflow is not None:
             self._inflow.fail(self._fault)
-        self._heard.set()
+        self._has_input.set()
         self._writer.close()
 
     async def _read_all(self) -> None:
@@ -222,8 +222,8 @@ class Connection(Calls):
         if self._inflow is not None and self._inflow.left:
             self._inflow.take(line)
         elif not self._exchanges:
-            self._conversation.hear_line(line)
+            self._conversation.take_watch_line(line)
         elif self._exchanges[0].take(line):
             self._exchanges.popleft()
-        if self._conversation.has_told:
-            self._heard.set()
+        if self._conversation.has_watch_lines:
+            self._has_input.set()

@@ -55,10 +55,10 @@ class Client(Bulk, ServiceCalls):
         """Waits until something comes that no call has asked for, as watch lines do. Whether it does in this time."""
         with contextlib.suppress(TimeoutError):
             async with asyncio.timeout(seconds):
-                await self._heard.wait()
-        if not self._conversation.has_told:
+                await self._has_input.wait()
+        if not self._conversation.has_watch_lines:
             await self._check()
-        return self._conversation.has_told
+        return self._conversation.has_watch_lines
 
     async def _end_error(self) -> ServiceEnded:
         return ServiceEnded("the connection to the service has ended")

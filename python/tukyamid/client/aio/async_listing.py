@@ -19,10 +19,10 @@ class Listing(Generic[T]):
     """A long reply: `count` items, gone through once by `async for`. Some are read ahead. While another call waits for
     its reply, all are."""
 
-    def __init__(self, head: ListingHead, wants_more: Callable[[], None]) -> None:
+    def __init__(self, head: ListingHead, needs_more: Callable[[], None]) -> None:
         self.count = head.count
         self._item = head.item
-        self._wants_more = wants_more
+        self._needs_more = needs_more
         self._left = head.count
         self._kept: deque[T] = deque()
         self._has_come = asyncio.Event()
@@ -47,7 +47,7 @@ class Listing(Generic[T]):
             if self._fault is not None:
                 raise self._fault
             self._has_come.clear()
-            self._wants_more()
+            self._needs_more()
             await self._has_come.wait()
         self._left -= 1
         return self._kept.popleft()

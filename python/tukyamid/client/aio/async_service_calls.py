@@ -40,7 +40,7 @@ class ServiceCalls(Calls, ABC):
         return await self.do(service_lines.CertifiedBy(fpr))
 
     async def excerpt(self, word: str, fprs: Iterable[str]) -> Listing[bytes]:
-        """Lines `import` and `verdict` that make a part of the keyring, as in the plain client."""
+        """Lines `import` and `verdict` that make a part of the keyring, as in the synchronous client."""
         return await self.do(service_lines.Excerpt(word, fprs))
 
     async def log(self, count: int) -> Listing[Change]:

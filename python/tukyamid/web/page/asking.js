@@ -1,4 +1,4 @@
-// Calls of this page's own server. A later call of a sort takes the place of one that is under way. What fails on the
+// Calls of this page's own server. A later call of a kind takes the place of one that is under way. What fails on the
 // way is said and tried again, so that no question is lost.
 
 import { byId, fill, make } from "./dom.js";
@@ -22,7 +22,7 @@ const SECRET = document.querySelector("meta[name=seal]")?.content ?? "";
 const underWay = new Map();
 const troubles = new Map();
 
-/** The reply to a call, or null if a later one of its sort took its place. A failure is an Error with its reason. */
+/** The reply to a call, or null if a later one of its kind took its place. A failure is an Error with its reason. */
 export async function call(what, asked = {}, sort = what) {
   underWay.get(sort)?.abort();
   const control = new AbortController();

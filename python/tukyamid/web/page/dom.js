@@ -43,7 +43,7 @@ export function refill(element, ...inside) {
 
 export const byId = (id) => document.getElementById(id);
 
-/** A name of others: it may be written from right to left, and mustn't turn what stands beside it. */
+/** A name of others: it may be written from right to left, and mustn't change the direction of its neighbours. */
 export const name = (text) => make("bdi", { class: "name" }, text);
 
 /** A user ID without its address where there is little room. One that is nothing but an address stays as it is. */

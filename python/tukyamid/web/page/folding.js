@@ -1,4 +1,4 @@
-// Equal steps of many paths as one: keys that all stand between the same two keys are drawn as one box with a count.
+// Equal steps of many paths as one: keys that are all between the same two keys are drawn as one box with a count.
 
 const MOST_ALIKE = 5;
 const MARK = "fold ";

@@ -1,4 +1,4 @@
-// Where the keys and the certifications of some paths stand in a drawing: rows from the roots down to the target.
+// Where the keys and the certifications of some paths are in a drawing: rows from the roots down to the target.
 
 export const HEIGHT = 58;
 const ROW = HEIGHT + 104;
@@ -94,7 +94,7 @@ function trace(edge, edges, keys) {
     edge.label = [stop.x, stop.y + middle];
     return;
   }
-  // Where several lines end together, labels stand near where each begins, and the other way round.
+  // Where several lines end together, labels are near where each begins, and the other way round.
   const meet = edges.filter((one) => one.step.target === edge.step.target).length;
   const part = edges.filter((one) => one.step.issuer === edge.step.issuer).length;
   const [near, far] = meet > 1 ? [0.12, 0.36] : part > 1 ? [0.88, 0.6] : [0.5, 0.48];

@@ -1,5 +1,5 @@
-// Says if a part of the page doesn't come, and offers to load it again. It is no module and stands before them: if one
-// of them is missing, none of them runs.
+// Says if a part of the page doesn't come, and offers to load it again. It is no module, and is loaded before them: if
+// one of them is missing, none of them runs.
 
 (() => {
   const LATE = 10000;

@@ -1,4 +1,4 @@
-// The words of the web of trust, with a sentence for each, and where they stand in a text.
+// The words of the web of trust, with a sentence for each, and where they are in a text.
 
 export const MEANINGS = {
   "amount": "How much trust something carries, from 0 to 255. 120 is full trust, 60 is half of it.",
@@ -21,7 +21,7 @@ export const MEANINGS = {
 
 const TERM = new RegExp(`\\b(${Object.keys(MEANINGS).join("|")})s?\\b`);
 
-/** A text in parts, in turn what is no term and what is one: the first time that each term stands there. */
+/** A text in parts, alternately what is no term and what is one: the first occurrence of each term. */
 export function parts(text) {
   const found = [];
   const seen = new Set();

@@ -1,5 +1,5 @@
-// What stands in a picture, explained beside it: a tap, the mouse or the focus shows a tip, with a sentence for each
-// word of the web of trust. A picture has no room for buttons, so all of them share one tip.
+// What a picture shows, explained beside it: a tap, the mouse or the focus shows a tip, with a sentence for each word
+// of the web of trust. A picture has no room for buttons, so all of them share one tip.
 
 import { fill, make } from "./dom.js";
 import { whenChanged } from "./state.js";

@@ -1,4 +1,4 @@
-// Where the nodes of a network stand: on wide screens in columns from the roots to the right, on narrow ones below one
+// Where the nodes of a network are: on wide screens in columns from the roots to the right, on narrow ones below one
 // another, each further in than what it hangs on. No two of them overlap.
 
 export const HEIGHT = 44;

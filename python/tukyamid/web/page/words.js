@@ -1,4 +1,4 @@
-// The words of the web of trust, explained where they stand: a tap, the mouse or the focus shows a sentence.
+// The words of the web of trust, explained where they occur: a tap, the mouse or the focus shows a sentence.
 
 import { byId, curly, fill, make } from "./dom.js";
 import { addressOf } from "./state.js";

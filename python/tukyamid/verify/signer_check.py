@@ -47,7 +47,7 @@ class Known:
 
 
 @dataclass(frozen=True)
-class Judged:
+class CheckedSignature:
     """A signature, and how far its signer is known at the moments that are asked of. Both are None unless the
     signature is good."""
     signature: DataSignature
@@ -62,15 +62,15 @@ class Judged:
 
 @dataclass(frozen=True)
 class Outcome:
-    """`outside` says where unsigned text stands around what is signed."""
+    """`outside` says where there is unsigned text around what is signed."""
     wanted: Wanted
-    judged: tuple[Judged, ...]
+    checked: tuple[CheckedSignature, ...]
     outside: tuple[Outside, ...] = ()
 
     @property
     def signers(self) -> tuple[str, ...]:
         """The fingerprints of those whose signatures count, each once. Two keys of one certificate are one signer."""
-        counting = [one.signature.certificate for one in self.judged if one.counts(self.wanted)]
+        counting = [one.signature.certificate for one in self.checked if one.counts(self.wanted)]
         return tuple(dict.fromkeys(fpr for fpr in counting if fpr is not None))
 
     @property
@@ -80,26 +80,26 @@ class Outcome:
     @property
     def fprs(self) -> set[str]:
         """The keys that those whose signatures count are known by."""
-        return {fpr for one in self.judged if one.counts(self.wanted) for known in (one.at_signing, one.now)
+        return {fpr for one in self.checked if one.counts(self.wanted) for known in (one.at_signing, one.now)
                 if known is not None for fpr in known.fprs}
 
 
-def judge(keyring: Keyring, roots: dict[str, int], found: Found, wanted: Wanted, now: int) -> Outcome:
+def check_signers(keyring: Keyring, roots: dict[str, int], found: Found, wanted: Wanted, now: int) -> Outcome:
     """Asks the engine for each signer of a good signature."""
-    return Outcome(wanted, tuple(_judge_each(keyring, roots, found.signatures, wanted, now)), found.outside)
+    return Outcome(wanted, tuple(_checked(keyring, roots, found.signatures, wanted, now)), found.outside)
 
 
-def _judge_each(keyring: Keyring, roots: dict[str, int], signatures: Iterable[DataSignature], wanted: Wanted,
-                now: int) -> Iterator[Judged]:
+def _checked(keyring: Keyring, roots: dict[str, int], signatures: Iterable[DataSignature], wanted: Wanted,
+             now: int) -> Iterator[CheckedSignature]:
     for signature in signatures:
         fpr, made = signature.certificate, signature.made
         if signature.word is not Word.GOOD or fpr is None or made is None:
-            yield Judged(signature, None, None)
+            yield CheckedSignature(signature, None, None)
             continue
         named = _names_of(keyring, fpr, wanted.whom)
         at_signing = _known(keyring, roots, fpr, named, wanted, made) if wanted.when.is_asked_of_signing else None
         at_now = _known(keyring, roots, fpr, named, wanted, now) if wanted.when.is_asked_of_now else None
-        yield Judged(signature, at_signing, at_now)
+        yield CheckedSignature(signature, at_signing, at_now)
 
 
 def _names_of(keyring: Keyring, fpr: str, whom: Sequence[Whom]) -> list[bytes]:
