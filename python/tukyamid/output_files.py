@@ -1,7 +1,8 @@
 """What a command writes for its user: made aside, and then put in its place whole, or dropped.
 
 A regular file keeps its owner and its mode, and a link stays: what it leads to is written. Anything else, such as a
-device, a pipe or `/dev/fd/63`, is written through, and never replaced.
+device, a pipe or `/dev/fd/63`, is written through, and never replaced. So is a file in a directory in which others
+could replace what is made there: no name in it is looked up twice.
 """
 
 import contextlib
@@ -13,6 +14,7 @@ from pathlib import Path
 from types import TracebackType
 from typing import BinaryIO, Self
 
+from .safe_folders import check_folder
 from .service.paths_and_locks import beside, is_locked
 from .service.storage.atomic_files import sync_folder
 
@@ -31,6 +33,7 @@ class Output:
         self._place = Path(name)
         self._found: os.stat_result | None = None
         self._through: int | None = None
+        self._folder: int | None = None  # The directory, if others could replace what is made in it.
         self._aside: tempfile.TemporaryDirectory[str] | None = None
 
     def __enter__(self) -> Self:
@@ -50,17 +53,21 @@ class Output:
 
     def _look(self) -> None:
         _refuse_databases(self._place, self._kept)
+        if _is_of_others(self._place.parent):
+            self._folder = os.open(self._place.parent, os.O_RDONLY | os.O_DIRECTORY)
         with contextlib.suppress(FileNotFoundError):
             self._found = self._place.stat()
             _refuse_others(self._place, self._found)
             if stat.S_ISDIR(self._found.st_mode):
                 raise IsADirectoryError(f"{self._place} is a directory")
+            if self._folder is not None and not _is_plain(self._found):
+                raise PermissionError(f"{self._place} isn't a file of one name, in a directory of others")
             if not stat.S_ISREG(self._found.st_mode):
                 self._through = os.open(self._place, os.O_WRONLY | os.O_NOCTTY)
 
     def _make_aside(self) -> tempfile.TemporaryDirectory[str]:
         """A directory for what is being made: beside its place if it is renamed to there in the end."""
-        if self._through is None:
+        if self._through is None and self._folder is None:
             try:
                 return tempfile.TemporaryDirectory(prefix=".tukyamid-", dir=self._place.parent)
             except OSError as error:
@@ -74,9 +81,10 @@ class Output:
         self._close()
 
     def _close(self) -> None:
-        if self._through is not None:
-            os.close(self._through)
-            self._through = None
+        for opened in self._through, self._folder:
+            if opened is not None:
+                os.close(opened)
+        self._through = self._folder = None
         if self._aside is not None:
             self._aside.cleanup()
 
@@ -94,7 +102,9 @@ class Output:
     def keep(self) -> None:
         """Puts what was made in its place."""
         with open(self.path, "rb") as made:
-            if self._through is None and not self._keeps_owner(made):
+            if self._folder is not None:
+                self._through = self._opened_among_others(self._folder)
+            elif self._through is None and not self._keeps_owner(made):
                 self._through = os.open(self._place, os.O_WRONLY)
             if self._through is not None:
                 self._copy(made, self._through)
@@ -102,6 +112,18 @@ class Output:
             os.fsync(made.fileno())
         os.replace(self.path, self._place)
         sync_folder(self._place.parent)
+
+    def _opened_among_others(self, folder: int) -> int:
+        """Opens the place in a directory of others: a new file, or the one that was found there."""
+        flags = os.O_WRONLY | os.O_NOFOLLOW | os.O_NONBLOCK | os.O_NOCTTY
+        if self._found is None:
+            return os.open(self._place.name, flags | os.O_CREAT | os.O_EXCL, 0o600, dir_fd=folder)
+        opened = os.open(self._place.name, flags, dir_fd=folder)
+        found = os.fstat(opened)
+        if not os.path.samestat(found, self._found) or not _is_plain(found):
+            os.close(opened)
+            raise PermissionError(f"{self._place} was replaced meanwhile")
+        return opened
 
     def _keeps_owner(self, made: BinaryIO) -> bool:
         """Gives what was made the owner, mode and access list of the file in its place; False if that can't be done."""
@@ -152,6 +174,22 @@ def _behind_links(path: Path) -> Path:
         _refuse_others(path, path.lstat())
         path = path.parent / path.readlink()
     raise OSError(f"{path}: too many links")
+
+
+def _is_of_others(folder: Path) -> bool:
+    """Whether others could put something else in the place of what is made in a directory."""
+    try:
+        check_folder(os.fspath(folder), is_shared_fine=True)
+    except PermissionError:
+        return True
+    except OSError:  # It isn't there, or isn't a directory: who makes something in it says so.
+        pass
+    return False
+
+
+def _is_plain(found: os.stat_result) -> bool:
+    """Whether this is a regular file that has no second name."""
+    return stat.S_ISREG(found.st_mode) and found.st_nlink == 1
 
 
 def _refuse_others(path: Path, found: os.stat_result) -> None:

@@ -10,6 +10,7 @@ from pathlib import Path
 
 from ..client.engine import find_program
 from ..client.service_client import connect
+from ..own_processes import environment, words_of
 from ..service.paths_and_locks import Lock, Taken, beside, is_locked
 from ..service.start_on_demand import ensure
 from ..service.storage.dumps import import_dump
@@ -43,11 +44,9 @@ class Begun:
 
 def begin(entry: str, socket: str) -> Begun:
     """Has this program run in the background."""
-    package = str(Path(__file__).resolve().parents[2])
-    words = [sys.executable, "-m", "tukyamid.command.input_service_start", os.path.abspath(entry), socket]
+    words = [*words_of("command.input_service_start"), os.path.abspath(entry), socket]
     return Begun(subprocess.Popen(words, stdin=subprocess.DEVNULL, stdout=subprocess.DEVNULL, cwd="/",
-                                  stderr=subprocess.DEVNULL, start_new_session=True,
-                                  env={**os.environ, "PYTHONPATH": package}))
+                                  stderr=subprocess.DEVNULL, start_new_session=True, env=environment()))
 
 
 def has_room(socket: str) -> bool:

@@ -7,11 +7,10 @@ import asyncio
 import contextlib
 import os
 import signal
-import sys
 from collections.abc import Awaitable
-from pathlib import Path
 from typing import NamedTuple, TypeVar
 
+from ..own_processes import environment, words_of
 from ..process_end import ended
 from ..protocol.refusals import TukyamidError
 
@@ -50,11 +49,9 @@ class _Worker:
         return Reply(status, await process.stdout.readexactly(size))
 
     async def _start(self) -> asyncio.subprocess.Process:
-        package = str(Path(__file__).resolve().parents[2])
         self._process = await asyncio.create_subprocess_exec(
-            sys.executable, "-m", "tukyamid.public.worker", self._socket, stdin=asyncio.subprocess.PIPE,
-            stdout=asyncio.subprocess.PIPE, stderr=asyncio.subprocess.DEVNULL, limit=LONGEST, start_new_session=True,
-            env={**os.environ, "PYTHONPATH": package})
+            *words_of("public.worker"), self._socket, stdin=asyncio.subprocess.PIPE, stdout=asyncio.subprocess.PIPE,
+            stderr=asyncio.subprocess.DEVNULL, limit=LONGEST, start_new_session=True, env=environment())
         return self._process
 
     async def end(self) -> None:

@@ -4,7 +4,6 @@ from __future__ import annotations
 
 import os
 import subprocess
-import sys
 import time
 from collections.abc import Sequence
 from pathlib import Path
@@ -12,6 +11,7 @@ from socket import AF_UNIX
 from socket import socket as new_socket
 
 from tukyamid.client.socket_peers import check_listener
+from tukyamid.own_processes import environment, words_of
 from tukyamid.protocol.refusals import TukyamidError
 from tukyamid.safe_folders import make_folder
 
@@ -74,15 +74,12 @@ def _wait_for_the_last(path: Path, patience: float) -> None:
 
 def _start(path: Path, options: Sequence[str], patience: float) -> None:
     """Starts a service that outlives this process, and waits until it listens."""
-    package = str(Path(__file__).resolve().parents[2])
-    paths = [package, *filter(None, [os.environ.get("PYTHONPATH")])]
-    words = [sys.executable, "-m", "tukyamid.service", "serve", "--socket", os.fspath(path), "--idle",
-             str(_IDLE_SECONDS), *options]
+    words = [*words_of("service"), "serve", "--socket", os.fspath(path), "--idle", str(_IDLE_SECONDS), *options]
     log = _opened_log()
     try:
         begin = os.lseek(log, 0, os.SEEK_END)
         service = subprocess.Popen(words, stdin=subprocess.DEVNULL, stdout=subprocess.DEVNULL, stderr=log, cwd="/",
-                                   start_new_session=True, env={**os.environ, "PYTHONPATH": os.pathsep.join(paths)})
+                                   start_new_session=True, env=environment())
         _started.append(service)
         end = time.monotonic() + patience
         while not is_served(path):

@@ -3,7 +3,6 @@ signature, so whoever accepts it has asked Tukyamid."""
 
 import os
 import subprocess
-import sys
 import tempfile
 import time
 from collections.abc import Iterator, Sequence
@@ -12,6 +11,7 @@ from pathlib import Path
 
 from ..client import connect
 from ..configuration import config_file
+from ..own_processes import environment, words_of
 from ..protocol.refusals import TukyamidError
 from ..service.start_on_demand import is_served
 from . import trial_data
@@ -79,12 +79,10 @@ def trial(options: Sequence[str] = ()) -> Iterator[Trial]:
     be started."""
     with tempfile.TemporaryDirectory(prefix="tukyamid-") as folder:
         made = Trial(Path(folder))
-        words = [sys.executable, "-m", "tukyamid.service", "serve", "--socket", str(made.socket), "--database",
+        words = [*words_of("service"), "serve", "--socket", str(made.socket), "--database",
                  str(made.folder / "keyring.db"), "--directory", str(made.folder / "pgp.cert.d"), *options]
-        package = str(Path(__file__).resolve().parents[2])
-        paths = [package, *filter(None, [os.environ.get("PYTHONPATH")])]
         with subprocess.Popen(words, stdin=subprocess.DEVNULL, stdout=subprocess.DEVNULL, stderr=subprocess.DEVNULL,
-                              env={**os.environ, "PYTHONPATH": os.pathsep.join(paths)}) as service:
+                              env=environment()) as service:
             try:
                 _wait_for(made.socket, service)
                 with connect(made.socket, timeout=_PATIENCE) as connection:

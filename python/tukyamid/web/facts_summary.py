@@ -11,11 +11,11 @@ import os
 import subprocess
 import sys
 from collections.abc import Iterator
-from pathlib import Path
 from queue import Queue
 from threading import Thread
 from typing import Any, NamedTuple, Self
 
+from ..own_processes import environment, words_of
 from ..protocol.refusals import TukyamidError
 from . import overview_tables
 from .dump_facts import Facts
@@ -49,10 +49,8 @@ class FactsProcess:
     that the dump doesn't wait for what is read of it."""
 
     def __init__(self, time: int) -> None:
-        package = str(Path(__file__).resolve().parents[2])
-        self._process = subprocess.Popen(
-            [sys.executable, "-m", "tukyamid.web.facts_summary", str(time)], stdin=subprocess.PIPE,
-            stdout=subprocess.PIPE, env={**os.environ, "PYTHONPATH": package})
+        self._process = subprocess.Popen([*words_of("web.facts_summary"), str(time)], stdin=subprocess.PIPE,
+                                         stdout=subprocess.PIPE, env=environment())
         assert self._process.stdin is not None and self._process.stdout is not None
         self._stdin, self._stdout = self._process.stdin, self._process.stdout
         self._unwritten: Queue[bytes] = Queue(MOST_PIECES)

@@ -6,11 +6,9 @@ from __future__ import annotations
 import asyncio
 import contextlib
 import json
-import os
-import sys
-from pathlib import Path
 from typing import Any
 
+from ..own_processes import environment, words_of
 from ..process_end import ended
 from ..protocol.refusals import ServiceEnded
 from .page_requests import Standpoint
@@ -44,10 +42,9 @@ class _Survey:
         self._changed.set()
 
     async def run(self, words: list[str], asked: bytes) -> None:
-        package = str(Path(__file__).resolve().parents[2])
         process = await asyncio.create_subprocess_exec(
             *words, stdin=asyncio.subprocess.PIPE, stdout=asyncio.subprocess.PIPE, limit=LONGEST_LINE,
-            start_new_session=True, env={**os.environ, "PYTHONPATH": package})
+            start_new_session=True, env=environment())
         assert process.stdin is not None and process.stdout is not None
         try:
             async with asyncio.timeout(PATIENCE):
@@ -89,7 +86,7 @@ class Surveys:
                 raise ServiceEnded(state["error"])
             return state
         await self.close()
-        words = [sys.executable, "-m", f"tukyamid.web.{self._module}", self._connections.socket]
+        words = [*words_of(f"web.{self._module}"), self._connections.socket]
         survey.task = asyncio.create_task(survey.run(words, asked))
         self._last = survey
         return survey.state
