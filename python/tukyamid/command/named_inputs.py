@@ -96,11 +96,11 @@ class Gpg:
 
 
 def _files(name: str) -> Iterator[str]:
-    """A file, or a directory and all that is in it."""
+    """A file, or a certificate directory and its certificates."""
+    from ..keyrings.directory_entries import entries_of
     yield name
-    for folder, folders, files in os.walk(name) if os.path.isdir(name) else ():
-        folders.sort()
-        yield from (os.path.join(folder, file) for file in sorted(files))
+    if os.path.isdir(name):
+        yield from entries_of(name)
 
 
 def stamp_of(files: Iterable[str]) -> Stamp | None:

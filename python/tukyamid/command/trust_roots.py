@@ -6,6 +6,7 @@ import os
 
 from ..bounded_reading import read_at_most
 from ..fast_imports import TYPE_CHECKING
+from ..keyrings.directory_entries import TRUST_ROOT, own_directory
 from ..openpgp.certificates import key_fingerprint
 from ..openpgp.packets import KEY, packets
 from ..records import Value
@@ -84,11 +85,11 @@ class Roots:
             return found
         own = {fpr: FULL for fpr in self._of_directory(own_directory())}
         if own:
-            self._notes.append(f"the root is sq's own, {printable(own_directory())}/trust-root")
+            self._notes.append(f"the root is sq's own, {printable(own_directory())}/{TRUST_ROOT}")
         return own
 
     def _of_directory(self, folder: str) -> list[str]:
-        name = os.path.join(folder, "trust-root")
+        name = os.path.join(folder, TRUST_ROOT)
         try:
             octets = read_at_most(name, MOST_OCTETS)
         except (FileNotFoundError, NotADirectoryError):
@@ -114,9 +115,3 @@ class Roots:
             if line.startswith(b"import "):
                 yield from (key_fingerprint(body) for kind, body in packets(bytes.fromhex(line[7:].decode("ascii")))
                             if kind == KEY)
-
-
-def own_directory() -> str:
-    """The user's certificate directory, as the draft of the shared OpenPGP certificate directory names it."""
-    data = os.environ.get("XDG_DATA_HOME") or os.path.expanduser("~/.local/share")
-    return os.environ.get("PGP_CERT_D") or os.path.join(data, "pgp.cert.d")

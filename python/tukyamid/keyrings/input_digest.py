@@ -5,6 +5,8 @@ import os
 from collections.abc import Iterable, Iterator
 from pathlib import Path
 
+from .directory_entries import entries_of
+
 LAYOUT = "tukyamid 3"
 
 
@@ -13,8 +15,7 @@ def files_of(path: Path) -> Iterator[tuple[bytes, Path]]:
     if not path.is_dir():
         yield b"file", path
         return
-    files = sorted(file for file in path.rglob("*") if file.is_file())
-    yield from ((b"entry " + os.fsencode(file.relative_to(path)), file) for file in files)
+    yield from ((b"entry " + os.fsencode(os.path.relpath(file, path)), Path(file)) for file in entries_of(str(path)))
 
 
 def digest_of(paths: Iterable[str | os.PathLike[str]], verifier: str) -> str:

@@ -8,6 +8,7 @@ import stat
 import time
 from pathlib import Path
 
+from tukyamid.keyrings.directory_entries import own_directory
 from tukyamid.safe_folders import runtime_file
 
 _PAUSE = 0.01
@@ -27,9 +28,8 @@ def default_database() -> Path:
 
 
 def default_directory() -> Path:
-    """The certificate directory that the user's other programs share."""
-    named = os.environ.get("PGP_CERT_D")
-    return Path(named) if named else _data() / "pgp.cert.d"
+    """The certificate directory that the user's programs share."""
+    return Path(own_directory())
 
 
 def default_log() -> Path:

@@ -5,14 +5,12 @@ from __future__ import annotations
 
 import contextlib
 import os
-import re
 import stat
 from collections.abc import Iterator
 
+from tukyamid.keyrings import directory_entries
+
 MOST_OCTETS = 512 << 20
-TRUST_ROOT = "trust-root"
-_FOLDER = re.compile(r"[0-9a-f]{2}")
-_ENTRY = re.compile(r"[0-9a-f]{38}|[0-9a-f]{62}")
 _KEYRING = (".pgp", ".gpg", ".asc")
 
 
@@ -28,10 +26,11 @@ def files_of(name: str) -> list[str]:
             return [name]
         if not stat.S_ISDIR(mode):
             raise Unreadable(f"{name}: this is neither a regular file nor a directory")
-        found = sorted(_entries(name)) or sorted(_keyrings(name))
+        found = directory_entries.entries_of(name) or sorted(_keyrings(name))
         if not found and not _is_new(name):
+            keyrings = ", ".join(f"*{end}" for end in _KEYRING)
             raise Unreadable(f"{name}: this isn't a certificate directory: it has no certificate as 0a/1b2c.., and no "
-                             f"{TRUST_ROOT}; nor has it keyrings as {', '.join(f'*{end}' for end in _KEYRING)}")
+                             f"{directory_entries.TRUST_ROOT}; nor has it keyrings as {keyrings}")
         return found
     except OSError as error:
         raise unreadable(name, error) from None
@@ -40,17 +39,15 @@ def files_of(name: str) -> list[str]:
 def is_folder_of_files(name: str) -> bool:
     """Whether a keyring is a folder of keyring files, as a keyserver dumps them."""
     try:
-        return os.path.isdir(name) and not any(_entries(name)) and any(_keyrings(name))
+        return os.path.isdir(name) and not directory_entries.entries_of(name) and any(_keyrings(name))
     except OSError as error:
         raise unreadable(name, error) from None
 
 
 def folders_of(name: str) -> dict[str, frozenset[bytes] | None]:
-    """The directories in which a keyring's files can change, each with the names of these files; None stands for any
-    name."""
+    """The directories in which a keyring's files can change, each with the names of these files; None is any name."""
     if os.path.isdir(name):
-        own = [entry.path for entry in os.scandir(name) if _FOLDER.fullmatch(entry.name) and entry.is_dir()]
-        return {folder: None for folder in (name, *own)}
+        return {folder: None for folder in (name, *directory_entries.folders_of(name))}
     places = {os.path.split(path) for path in (os.path.abspath(name), os.path.realpath(name))}
     return {folder: frozenset(os.fsencode(file) for own, file in places if own == folder) for folder, _ in places}
 
@@ -74,21 +71,10 @@ def unreadable(name: str, error: OSError) -> Unreadable:
     return Unreadable(f"{error.filename or name}: {error.strerror or error}")
 
 
-def _entries(folder: str) -> Iterator[str]:
-    """The certificates of a certificate directory. Links to files count as files."""
-    with os.scandir(folder) as entries:
-        for entry in entries:
-            if entry.name == TRUST_ROOT and entry.is_file():
-                yield entry.path
-            elif _FOLDER.fullmatch(entry.name) and entry.is_dir():
-                with os.scandir(entry.path) as own:
-                    yield from (one.path for one in own if _ENTRY.fullmatch(one.name) and one.is_file())
-
-
 def _is_new(folder: str) -> bool:
     """Whether a directory without certificates may be a certificate directory: nothing is in it, or what programs that
     keep one leave there."""
-    return all(name == "writelock" or name.startswith(("_", ".")) or _FOLDER.fullmatch(name)
+    return all(name == "writelock" or name.startswith(("_", ".")) or directory_entries.is_folder_name(name)
                for name in os.listdir(folder))
 
 
