@@ -1,4 +1,4 @@
-"""Parts of the standard library without what stands around them, so that a question of the command starts at once.
+"""Parts of the standard library without the rest of their modules, so that a question of the command starts at once.
 
 `typing`, `socket`, `threading`, `signal` and `hashlib` take three times as long to import as the interpreter takes to
 start. Type checkers read the modules themselves. At run time what is named here comes from their C modules, and what

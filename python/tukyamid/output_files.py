@@ -153,7 +153,7 @@ class Output:
 
 
 def _descriptor(name: str) -> int | None:
-    """The descriptor that a name such as `/dev/stdout` or `/dev/fd/63` stands for; None for any other name."""
+    """The descriptor that a name such as `/dev/stdout` or `/dev/fd/63` means; None for any other name."""
     own = os.path.realpath("/proc/self/fd")
     for _ in range(_MOST_LINKS):
         folder, last = os.path.split(os.path.abspath(name))

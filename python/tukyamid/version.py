@@ -1,4 +1,4 @@
-"""The version of Tukyamid, and what was built. The version stands here alone: packages and documents take it from here.
+"""The version of Tukyamid, and what was built. Packages and documents take the version from this module alone.
 
 >>> version_text().splitlines()[0] == f"tukyamid {VERSION}"
 True

@@ -72,11 +72,11 @@ class Calls(ABC):
         self.do(commands.Drop(fpr))
 
     def judge_good(self, number: str, fpr: str) -> None:
-        """Says that the signature of this number is by the key of this fingerprint."""
+        """Records that the key of this fingerprint made the signature of this number."""
         self.do(commands.Good(number, fpr))
 
     def judge_bad(self, number: str) -> None:
-        """Says that the signature of this number is nobody's."""
+        """Records that no key made the signature of this number."""
         self.do(commands.Bad(number))
 
     def unjudge(self, number: str) -> None:

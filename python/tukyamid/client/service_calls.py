@@ -23,7 +23,7 @@ class ServiceCalls(Calls, ABC):
     """What a service can be asked besides."""
 
     def status(self) -> dict[str, str]:
-        """What the service holds and how it does, by name."""
+        """What the service holds and how it is doing, by name."""
         return {figure.name: figure.value for figure in self.do(service_lines.Status())}
 
     def find(self, by: str, sought: UserId) -> Listing[Found]:

@@ -32,7 +32,7 @@ _TOP = Path(__file__).resolve().parents[3]
 
 
 class State(Enum):
-    """How a part does. `NOTE` is no fault: the rest works without it."""
+    """The state of a part. A `NOTE` isn't a fault: the rest works without it."""
     GOOD = "ok"
     NOTE = "note"
     BAD = "missing"

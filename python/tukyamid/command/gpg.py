@@ -59,8 +59,9 @@ def _printed(words: Iterable[str]) -> bytes:
 
 
 def roots_of(trust: Mapping[str, int], view: View) -> dict[str, int]:
-    """The roots that owner trust makes, as gpg takes it: a key of ultimate trust is a root. One of full or marginal
-    trust is one only once a user ID of it is authenticated by the roots so far. The view's roots are set meanwhile."""
+    """The roots that follow from owner trust, by gpg's rules: a key of ultimate trust is a root. One of full or
+    marginal trust is one only once a user ID of it is authenticated by the roots so far. The view's roots are set
+    meanwhile."""
     roots = {fpr: AMOUNTS[ULTIMATE] for fpr, level in trust.items() if level == ULTIMATE}
     others = {fpr: level for fpr, level in trust.items() if level != ULTIMATE}
     found = True

@@ -7,8 +7,8 @@ from ..protocol.spelling import for_people
 
 
 def open_standard_files() -> None:
-    """Opens what the caller closed, so that no other file takes its number. Without standard output there is nobody to
-    answer: an OSError."""
+    """Opens the standard descriptors that the caller closed, so that no other file gets their numbers. Raises an
+    OSError if standard output is closed, since nobody would get the answer."""
     closed = [number for number in (0, 1, 2) if not _is_open(number)]
     if 1 in closed:
         raise OSError(errno.EBADF, "closed", "standard output")

@@ -52,8 +52,8 @@ def change(path: str, edit: Callable[[Any], None], template: str = _FIRST) -> No
 
 
 def remove_if_bare(path: str) -> None:
-    """Removes a file that has nothing but what a new one begins with, since one's own would hide the host's, and its
-    folder if nothing else is there."""
+    """Removes a file that contains only what a new one begins with, since the user's own file would hide the host's.
+    Its folder is removed too if that is empty."""
     with _locked(path):
         text = config_file.read(path)
         if text is not None and text.strip() in ("", _FIRST.strip()) and not os.path.islink(path):

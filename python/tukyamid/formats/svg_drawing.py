@@ -1,4 +1,4 @@
-"""The paths of an answer as inline SVG: a lane for each path, its root at the left, the target at the right."""
+"""The paths of an answer as inline SVG: a row for each path, its root at the left, the target at the right."""
 
 from collections.abc import Iterator
 from html import escape
@@ -7,19 +7,19 @@ from ..keyrings.assessment import Assessment, Certification, Report, ShownPath
 from .phrases import MOST_DRAWN, count, cut, day, name
 
 _DASHED = ' stroke-dasharray="6 4"'
-_BOX, _HIGH, _GAP, _LANE, _MARGIN = 190, 46, 150, 92, 16
+_BOX, _HIGH, _GAP, _STEP, _MARGIN = 190, 46, 150, 92, 16
 
 
 def draw(report: Report, one: Assessment) -> str:
     most = max(len(path.steps) for path in one.paths)
     width = 2 * _MARGIN + _BOX + most * (_BOX + _GAP)
-    height = 2 * _MARGIN + _LANE * (len(one.paths) - 1) + 70
+    height = 2 * _MARGIN + _STEP * (len(one.paths) - 1) + 70
     parts = [f'<svg xmlns="http://www.w3.org/2000/svg" viewBox="0 0 {width} {height}" width="{width}" '
              f'height="{height}" role="img" font-family="sans-serif" font-size="11"><title>{_title(one)}</title>',
              '<defs><marker id="tip" viewBox="0 0 8 8" refX="7" refY="4" markerWidth="7" markerHeight="7" '
              'orient="auto"><path d="M0 0 8 4 0 8z" fill="#33658a"/></marker></defs>']
-    for lane, path in enumerate(one.paths):
-        parts += _lane(report, one, path, _MARGIN + lane * _LANE, most)
+    for row, path in enumerate(one.paths):
+        parts += _row(report, one, path, _MARGIN + row * _STEP, most)
     return "".join(parts) + "</svg>"
 
 
@@ -27,7 +27,7 @@ def _title(one: Assessment) -> str:
     return f"{count(len(one.paths), 'path')} to {escape(cut(one.user_id, MOST_DRAWN))}"
 
 
-def _lane(report: Report, one: Assessment, path: ShownPath, top: int, most: int) -> Iterator[str]:
+def _row(report: Report, one: Assessment, path: ShownPath, top: int, most: int) -> Iterator[str]:
     keys = [path.root, *(step.target for step in path.steps)]
     left = [_MARGIN + at * (_BOX + _GAP) for at in range(len(keys))]
     left[-1] = _MARGIN + most * (_BOX + _GAP)

@@ -1,5 +1,5 @@
-"""gpg's own keyring: where it is, and what gpg says of it. gpg would make a home directory that isn't there, and a
-keyring, so neither is asked for before it is seen."""
+"""gpg's own keyring: where it is, and what gpg prints of it. gpg creates a missing home directory and a missing
+keyring, so it is only run if both are there."""
 
 import os
 import subprocess

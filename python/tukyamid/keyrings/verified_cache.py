@@ -136,8 +136,8 @@ class Store:
         return {}
 
     def keep(self, digest: str, lines: Iterable[bytes], verifier: str) -> Entry:
-        """Writes an entry of a dump's lines, whole or not at all, and returns it. What is kept is of certificates and
-        verdicts alone."""
+        """Writes an entry of a dump's lines, whole or not at all, and returns it. Only certificates and verdicts are
+        kept."""
         self.folder.mkdir(mode=0o700, parents=True, exist_ok=True)
         self._check()  # Others may have made it meanwhile.
         new = Path(tempfile.mkdtemp(prefix=".new-", dir=self.folder))

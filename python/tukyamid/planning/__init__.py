@@ -1,1 +1,2 @@
-"""What would be if: certifications that nobody has made, supposed in an engine of its own, and plans made of them."""
+"""What-if questions: certifications that don't exist are supposed in an engine of their own, and plans are made of
+them."""

@@ -44,8 +44,8 @@ def cost(ones: Sequence[Certifies]) -> tuple[object, ...]:
 
 
 class Absence(Value):
-    """What all that these people could certify gives together, by the engine's proof of absence, and whether the
-    engine's check accepts that proof."""
+    """The amount that all possible certifications by these people give together, by the engine's proof of absence, and
+    whether the engine's check accepts that proof."""
     __slots__ = ("certifications", "amount", "is_checked")
 
     def __init__(self, certifications: int, amount: int, is_checked: bool) -> None:

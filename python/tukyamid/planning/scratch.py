@@ -36,7 +36,7 @@ PATIENCE = 60.0
 
 
 class ScratchEngine(Engine):
-    """An engine that loads from a keyring what it is asked about, without what is supposed not to be there."""
+    """An engine that loads what it is asked about from a keyring, except what is supposed to be gone."""
 
     def __init__(self, keyring: Keyring, suppositions: Sequence[Supposition], program: Program | None = None) -> None:
         self._keyring, self._suppositions = keyring, suppositions

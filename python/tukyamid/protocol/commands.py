@@ -95,7 +95,7 @@ class Time(Command[Done]):
 
 
 class Root(Command[Done]):
-    """Sets a trust root's amount; 0 takes the root away."""
+    """Sets a trust root's amount; 0 removes the root."""
     __slots__ = ("view", "fpr", "amount")
     form, replies = "view {0.view} root {0.fpr} {0.amount}", (Done,)
 
@@ -206,6 +206,6 @@ class WatchOn(WantedQuestion, Command[Watched]):
 
 
 class WatchOff(Named, Command[Done]):
-    """Takes a watch away."""
+    """Removes a watch."""
     __slots__ = ()
     form, replies = "watch {0.name} off", (Done,)

@@ -24,7 +24,8 @@ class Answer(NamedTuple):
 
 
 class Answers:
-    """Keeps answers up to some size, those that were asked for last. Who asks the same at once waits for one answer."""
+    """Keeps answers up to some size, those that were asked for last. Those who ask the same at the same time wait for
+    one answer."""
 
     def __init__(self, workers: Workers, last: LastChange) -> None:
         self._workers, self._last = workers, last

@@ -21,7 +21,7 @@ from .whole.shared_engine_pool import SharedHub
 _R = TypeVar("_R")
 
 
-_LONGEST_SILENCE = 3.0  # Seconds in which a primary that isn't cut off has heard from its standby.
+_LONGEST_SILENCE = 3.0  # Seconds within which a primary that isn't cut off gets something from its standby.
 
 
 class Holding:

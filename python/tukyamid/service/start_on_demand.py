@@ -44,9 +44,9 @@ def is_served(path: Path) -> bool:
 
 
 def ensure(socket: Path | None = None, options: Sequence[str] = (), patience: float = _PATIENCE) -> Path:
-    """The socket of a running service; starts one where none runs, and one alone however many ask at once. `socket` is
-    by default the user's, and `options` are more words for a service that is started. ServiceFailed where none can be
-    had within `patience` seconds."""
+    """The socket of a running service. Starts one if none runs, and only one however many ask at once. `socket` is by
+    default the user's, and `options` are more words for a service that is started. ServiceFailed if none is up within
+    `patience` seconds."""
     try:
         path = default_socket() if socket is None else socket
         if is_served(path):

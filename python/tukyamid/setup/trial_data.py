@@ -1,6 +1,6 @@
-"""What a trial verifies: a text that is a commit of git's as well, a signature on it, and one by a stranger.
+"""What a trial verifies: a text that is also a git commit, a signature on it, and one by a stranger.
 
-The keys were made for this alone, and their secret parts were thrown away. No keyring of a user's has them.
+The keys were made for this alone, and their secret parts were thrown away. No user's keyring has them.
 """
 
 from base64 import b64decode

@@ -29,7 +29,7 @@ class Whom:
 
     @classmethod
     def read(cls, text: str) -> "Whom":
-        """`@example.org` is a domain, `carol@example.org` an address, and any other text a user ID as it stands."""
+        """`@example.org` is a domain, `carol@example.org` an address, and any other text is a whole user ID."""
         if text.startswith("@"):
             if address_of(_someone_at(text)) is None:
                 raise ValueError(f"{text!r} isn't a domain: write it as @example.org")

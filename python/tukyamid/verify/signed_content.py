@@ -25,7 +25,7 @@ class Content:
 
     @property
     def path(self) -> Path | None:
-        """Where the verifier writes it: a file that isn't there yet. None if it isn't wanted."""
+        """Where the verifier writes it: a file that doesn't exist yet. None if it isn't wanted."""
         return None if self._output is None else self._output.path
 
     def keep(self) -> None:

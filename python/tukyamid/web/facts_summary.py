@@ -76,7 +76,7 @@ class FactsProcess:
         self._process.kill()
 
     def write(self, octets: bytes) -> None:
-        """More of the dump; nothing at its end."""
+        """Takes more of the dump; no octets mean its end."""
         self._unwritten.put(octets)
 
     def _write(self) -> None:

@@ -65,7 +65,7 @@ class _Reader:
         return self._keyring.index.issuer(self._certificate.fpr, signature.number)
 
     def lifetime(self) -> Iterator[Moment]:
-        """Of the key itself: made, expired, revoked."""
+        """The moments of the key itself: created, expired, revoked."""
         certificate = self._certificate
         yield Moment(certificate.created, "begins", f"The key of {self._name} is created")
         own = [certificate.direct, *certificate.user_ids.values()]

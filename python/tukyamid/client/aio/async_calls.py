@@ -69,11 +69,11 @@ class Calls(ABC):
         await self.do(commands.Drop(fpr))
 
     async def judge_good(self, number: str, fpr: str) -> None:
-        """Says that the signature of this number is by the key of this fingerprint."""
+        """Records that the key of this fingerprint made the signature of this number."""
         await self.do(commands.Good(number, fpr))
 
     async def judge_bad(self, number: str) -> None:
-        """Says that the signature of this number is nobody's."""
+        """Records that no key made the signature of this number."""
         await self.do(commands.Bad(number))
 
     async def unjudge(self, number: str) -> None:

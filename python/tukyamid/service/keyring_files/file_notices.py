@@ -29,8 +29,8 @@ class _Kernel(Protocol):
 
 
 def _kernel() -> tuple[_Kernel, int, int] | None:
-    """The calls, what is to be noticed about a directory, and what stands for a directory that went away; None where
-    the library isn't installed."""
+    """The calls, the events of a directory that matter, and those that say that it went away; None if the library
+    isn't installed."""
     try:
         found = importlib.import_module("watchdog.observers.inotify_c")
     except Exception:  # It isn't there, or doesn't know this system.

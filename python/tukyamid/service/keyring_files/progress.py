@@ -39,9 +39,9 @@ class Progress:
         if now >= self._next:
             self._next = now + _PROGRESS_SECONDS
             of = "" if self._total is None else f" of {self._total}"
-            self._say(f"{self._what} {self._count}{of}{self._pace(now - self._begun)}")
+            self._say(f"{self._what} {self._count}{of}{self._rate(now - self._begun)}")
 
-    def _pace(self, seconds: float) -> str:
+    def _rate(self, seconds: float) -> str:
         """The rate and the remaining time, as far as they can be known."""
         share = self._count / self._total if self._total else self.share
         rest = f", {_spelled(seconds * (1 / share - 1))} left" if share and share < 1 else ""

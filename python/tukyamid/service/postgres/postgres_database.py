@@ -39,7 +39,7 @@ class Postgres:
         """DatabaseFault if no server can be reached, or the database can't be used. A service has a folder for its
         state."""
         self.place = UNREAD
-        self.last_contact = float("-inf")  # When the primary was last heard of.
+        self.last_contact = float("-inf")  # When the primary last answered.
         self.servers = Servers(url, state)
         self._machine = socket.gethostname()
         self._wire: Wire | None = None

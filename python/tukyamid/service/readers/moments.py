@@ -23,7 +23,7 @@ class Moments(Protocol):
         """What is read at the moment that has begun."""
 
     def begin(self) -> int:
-        """Reads what is committed now from now on, and gives the number of the last change of that."""
+        """From now on reads what is committed now, and returns the number of the last change in it."""
 
     def end(self) -> bool:
         """Whether the moment is over: what was read isn't held for long where that would cost others something."""

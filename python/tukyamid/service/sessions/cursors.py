@@ -39,7 +39,7 @@ class Cursors:
         self._cursors: dict[bytes, Cursor] = {}
 
     def begin(self, slot: Slot, line: bytes, done: Done) -> None:
-        """Does a line `cursor ..`."""
+        """Runs a line `cursor ..`."""
         fields = fields_of(line)
         if fields is None:
             done(b"refused line\n", 0)

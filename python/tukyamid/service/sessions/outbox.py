@@ -34,7 +34,7 @@ class Slot:
         self.reports: bytes | None = None  # The watch whose line this is.
 
     def end(self) -> None:
-        """The line costs nothing any more."""
+        """The line no longer counts towards its user's share."""
         share, self.share = self.share, None
         if share is not None:
             share.end(self.kind)

@@ -71,7 +71,7 @@ class Watches:
         return True
 
     def begin(self, slot: Slot, line: bytes, done: Done) -> None:
-        """Does a line `watch ..`."""
+        """Runs a line `watch ..`."""
         watch, _, rest = line[6:].partition(b" ")
         if not is_name(watch):
             done(_REFUSED_LINE, 0)

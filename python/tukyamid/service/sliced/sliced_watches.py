@@ -132,7 +132,7 @@ class SlicedWatches:
             self._sliced.watched.lose(one)
 
     def begin(self, slot: Slot, line: bytes, done: Done) -> None:
-        """Does a line `watch ..`."""
+        """Runs a line `watch ..`."""
         watch, _, rest = line[6:].partition(b" ")
         match = _ON.fullmatch(rest)
         if not is_name(watch) or match is None and rest != b"off":

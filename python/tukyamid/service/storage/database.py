@@ -66,7 +66,8 @@ Effect = PutCertificate | DropCertificate | SetVerdict | HaveLooked
 
 @dataclass(frozen=True)
 class Change:
-    """What one line made of the keyring, in the words of the log; and the line, for the engines of other services."""
+    """What one line changed in the keyring, in the words of the log; and the line itself, for the engines of other
+    services."""
     what: str
     actor: Actor
     effects: tuple[Effect, ...]

@@ -2,8 +2,8 @@
 
 
 class LogGrowth:
-    """A log's file stays as large as a great change has made it, until another change restarts it. Whoever reads
-    meanwhile isn't the reason."""
+    """A log's file stays as large as a large change has made it, until another change restarts it. Nobody who reads
+    meanwhile is to blame."""
 
     def __init__(self) -> None:
         self._before = 0

@@ -1,4 +1,4 @@
-"""A database file as a reader has it: another process writes to it, and has it locked."""
+"""A database file in a reader's process: another process writes to it and holds its lock."""
 
 from __future__ import annotations
 

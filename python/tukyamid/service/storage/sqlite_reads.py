@@ -43,7 +43,7 @@ class SqliteSnapshot:
         return int(self._connection.execute("SELECT coalesce(max(number), 0) FROM changes").fetchone()[0])
 
     def renew(self, between: Callable[[], object]) -> None:
-        """Reads the keyring as it is now. While `between` is called it has none."""
+        """Reads the keyring as it is now. While `between` is called, it reads nothing."""
         if self._connection.in_transaction:
             self._connection.execute("ROLLBACK")
         between()

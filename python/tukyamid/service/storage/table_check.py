@@ -16,7 +16,7 @@ _COUNTS = """SELECT (SELECT count(*) FROM certificates),
 
 
 def compare(connection: Statements, certificates: Iterable[tuple[Any, ...]]) -> Iterator[str]:
-    """Where the tables say something else than the octets of these rows, which are those of `EVERY_CERTIFICATE`."""
+    """Where the tables differ from the octets of these rows, which are those of `EVERY_CERTIFICATE`."""
     for place, fpr, octets in certificates:
         try:
             described = describe(octets)

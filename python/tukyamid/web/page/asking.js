@@ -36,14 +36,14 @@ export async function call(what, asked = {}, sort = what) {
       if (what === "add" || (!reply.lost && (!MAY_PASS.has(reply.status) || tries >= TRIES_OF_SERVICE))) {
         throw Object.assign(new Error(reply.error), { status: reply.status });
       }
-      tell(control, reply.lost ?? `Trying again: ${reply.error}.`);
+      report(control, reply.lost ?? `Trying again: ${reply.error}.`);
       await pause(PAUSES[Math.min(tries, PAUSES.length) - 1], control.signal);
     }
   } catch (failure) {
     if (control.signal.aborted) return null;
     throw failure;
   } finally {
-    tell(control, null);
+    report(control, null);
     if (underWay.get(sort) === control) underWay.delete(sort);
   }
 }
@@ -56,7 +56,7 @@ async function once(what, asked, control, patience) {
   const giveUp = () => own.abort();
   signal.addEventListener("abort", giveUp);
   const over = patience ? setTimeout(giveUp, patience) : 0;
-  const late = setTimeout(() => troubles.has(control) || tell(control, WAITING), LATE);
+  const late = setTimeout(() => troubles.has(control) || report(control, WAITING), LATE);
   try {
     const nonce = SECRET && crypto.randomUUID();
     const reply = await (isPublic ? fetch(addressOfCall(what, asked), { signal: own.signal }) : fetch(`call/${what}`, {
@@ -98,7 +98,7 @@ const pause = (milliseconds, signal) => new Promise((done, fail) => {
 });
 
 /** Says what a call waits for, as long as it does. */
-function tell(who, text) {
+function report(who, text) {
   if (text) troubles.set(who, text);
   else if (!troubles.delete(who)) return;
   fill(byId("trouble"), [...new Set(troubles.values())].map((one) => make("p", { class: "trouble" }, one)));

@@ -36,11 +36,11 @@ export const fingerprintsOf = (text) => text.split("\n").map((line) => line.spli
   .map((line) => (/^(0x)?[\s0-9a-f]+$/i.test(line) ? line.replace(/^0x|\s/gi, "") : line.split(/\s/)[0]).toLowerCase());
 
 async function meet(who, depth) {
-  const turn = (asking += 1);
+  const round = (asking += 1);
   fill(byId("meeting"));
   try {
     const reply = await waitFor("meeting", { ...standpoint(), who: fingerprintsOf(who.value),
-      depth: Number(depth.value) }, byId("meeting-state"), () => state.view === "plans" && turn === asking);
+      depth: Number(depth.value) }, byId("meeting-state"), () => state.view === "plans" && round === asking);
     if (reply !== null) show(reply);
   } catch (failure) {
     fill(byId("meeting-state"));

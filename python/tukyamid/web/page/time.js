@@ -62,7 +62,7 @@ function build() {
       make("button", { type: "button", id: "earlier", "aria-label": "Previous moment", onclick: () => jump(-1) },
         "◀ Previous"),
       make("button", { type: "button", id: "later", "aria-label": "Next moment", onclick: () => jump(1) }, "Next ▶"),
-      make("button", { type: "button", id: "now", onclick: () => settle(state.now) },
+      make("button", { type: "button", id: "now", onclick: () => choose(state.now) },
         isPresent() ? "Now" : `Back to ${day(state.now)}`),
       make("label", { class: "inline" }, "Day ", make("input", {
         type: "date", id: "day", onchange: (event) => picked(event.target.value) }))),
@@ -73,7 +73,7 @@ function build() {
 }
 
 function momentOf(one) {
-  const go = make("button", { type: "button", class: "link", onclick: () => settle(one.time) }, day(one.time));
+  const go = make("button", { type: "button", class: "link", onclick: () => choose(one.time) }, day(one.time));
   const sign = make("span", { class: one.sort, "aria-hidden": "true" }, SIGNS[one.sort]);
   return make("li", {}, go, " ", sign, " ", name(one.what));
 }
@@ -120,10 +120,10 @@ function moved(time) {
   const since = (begun ??= state.time);
   clearTimeout(timer);
   fill(byId("as-of"), moment(time));
-  timer = setTimeout(() => settle(time, since, false), 90);
+  timer = setTimeout(() => choose(time, since, false), 90);
 }
 
-function settle(time, since = state.time, note = true) {
+function choose(time, since = state.time, note = true) {
   if (time === state.time) return;
   change({ time }, note);
   place();
@@ -132,13 +132,13 @@ function settle(time, since = state.time, note = true) {
 
 function picked(text) {
   const time = Date.parse(`${text}T00:00:00Z`) / 1000;
-  if (Number.isFinite(time) && time >= 0 && time < 2 ** 32) settle(time);
+  if (Number.isFinite(time) && time >= 0 && time < 2 ** 32) choose(time);
 }
 
 function jump(direction) {
   const times = [...new Set(moments.map((one) => one.time))];
   const next = direction > 0 ? times.find((time) => time > state.time) : times.findLast((time) => time < state.time);
-  if (next !== undefined) settle(next);
+  if (next !== undefined) choose(next);
 }
 
 /** Lists what is otherwise than it was where the slider came from. */
