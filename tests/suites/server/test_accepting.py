@@ -10,7 +10,8 @@ from pathlib import Path
 from unittest import mock
 
 from tukyamid.service import accepting
-from tukyamid.service.sessions.user_shares import FREE, Share
+from tukyamid.service.sessions.command_kinds import FREE
+from tukyamid.service.sessions.user_shares import Share
 
 FULL = b"refused full clients\n"
 TURN = 256  # Lines, as docs/SERVICE.md says.

@@ -8,8 +8,9 @@ from collections import deque
 from tukyamid.protocol.spelling import has_reply
 
 from ..engines.framing import LineCutter
+from .command_kinds import COSTS, FIND, FREE, cost_of
 from .outbox import Slot
-from .user_shares import FIND, FREE, KINDS, Share, Waiter, kind_of
+from .user_shares import Share, Waiter
 
 _LONG_LINE = 1 << 16  # Octets; longer ones are few at a time.
 
@@ -39,8 +40,8 @@ class Intake:
 
     def has_room(self, word: bytes, line: bytes) -> bool:
         """Whether this line may begin now; if not, the client goes on once it may."""
-        kind, share = KINDS.get(word, FREE), self.share
-        self._kind = kind = kind_of(word, line) if kind == FIND else kind
+        kind, share = COSTS.get(word, FREE), self.share
+        self._kind = kind = cost_of(word, line) if kind == FIND else kind
         if share.left_of_round > 0 and share.under_way[kind] < share.most[kind]:
             return True  # As `Share.has_room`, for every line.
         return share.has_room(kind, self._client)

@@ -11,7 +11,7 @@ from dataclasses import dataclass
 from pathlib import Path
 from typing import Protocol
 
-from .command_kinds import CHANGES
+from .command_kinds import ASK
 from .views import ViewBudget
 
 _RESERVED_DESCRIPTORS = 128  # For engines, the database, long lists and what Python opens.
@@ -26,18 +26,7 @@ _LOOK_ANSWERS = 16  # The clock is read after that many answers, because reading
 _FIRST_WINDOW, _LARGEST_WINDOW = 64.0, 4096.0
 _LINES_OF_A_ROUND = 256  # Each costs 5 to 60 us.
 
-# Kinds of lines: quick questions, long ones, what the database is searched for, changes, and what costs nothing.
-ASK, LONG, FIND, CHANGE, FREE = range(5)
 _LONG_LINES = 5  # What a client waits for that has sent a part of a long line.
-KINDS = {b"ask": ASK, b"check": ASK, b"watch": ASK, b"list": LONG, b"explain": LONG, b"absence": LONG, b"cursor": LONG,
-         b"keys": LONG, b"pending": LONG, b"export": LONG, b"service": FIND, **{word: CHANGE for word in CHANGES}}
-
-
-def kind_of(word: bytes, line: bytes) -> int:
-    kind = KINDS.get(word, FREE)
-    if kind == FIND and line.startswith(b"service keyring"):
-        return FREE  # One keyring is read at a time, and that may take minutes.
-    return kind
 
 
 class Waiter(Protocol):

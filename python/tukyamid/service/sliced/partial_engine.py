@@ -62,7 +62,7 @@ class Loader:
 
     async def load(self, base: Collection[bytes], beside: Collection[bytes], fetch: Fetch) -> None:
         """Has the engine hold these certificates, as far as they are kept. `base` is the same object again and again
-        as long as it has the same members. BudgetPassed if they aren't all held at once."""
+        as long as it has the same members. BudgetExceeded if they aren't all held at once."""
         try:
             if base is not self._base:
                 self._base = ()

@@ -29,7 +29,7 @@ def roots_of(value: Value) -> tuple[bytes, ...]:
 
 
 def slice_of(value: Value, slices: Slices, parts: Parts) -> Collection[bytes]:
-    """The members of the slice of a view; BudgetPassed if they are too many."""
+    """The members of the slice of a view; BudgetExceeded if they are too many."""
     found = slices.of(roots_of(value), parts)
     if not found.is_whole:
         raise BudgetExceeded
@@ -44,7 +44,7 @@ def target_of(rest: bytes) -> bytes | None:
 
 def rest_of(word: bytes, value: Value, rest: bytes, slices: Slices, parts: Parts, most: int) -> Rest:
     """What the reply to a line `ask`, `explain`, `absence` or `check` depends on. `rest` is the line after its view.
-    Nothing if it is malformed. BudgetPassed if that is more than `most`."""
+    Nothing if it is malformed. BudgetExceeded if that is more than `most`."""
     target = target_of(rest)
     if target is None:
         return Rest(_NOTHING, _NOTHING)

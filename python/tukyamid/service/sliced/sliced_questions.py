@@ -73,7 +73,7 @@ class Asker:
         return await self._read(partial(_parts_of, fprs))
 
     async def targets(self, value: Value) -> tuple[Collection[bytes], list[bytes]]:
-        """The slice of a view, and the certificates that its members have certified; BudgetPassed if it is more."""
+        """The slice of a view, and the certificates that its members have certified; BudgetExceeded if it is more."""
         def look(parts: Parts) -> tuple[Collection[bytes], list[bytes]]:
             members = slice_of(value, self.slices, parts)
             return members, parts.certified_by(members)
