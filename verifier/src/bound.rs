@@ -16,7 +16,7 @@ pub struct Own<'a> {
     pub place: Place,
     pub component: &'a [u8],
     pub facts: Facts,
-    /// When the subkey on which it stands agreed to be bound; None if it didn't, and wherever nobody has to.
+    /// When the subkey that it is on agreed to be bound; None if it didn't, or needn't.
     pub agreed: Option<Facts>,
 }
 

@@ -1,4 +1,4 @@
-//! Certificates as the engine assembles them: which component each signature of a packet list stands on.
+//! Certificates as the engine assembles them: which component each signature of a packet list is on.
 
 use crate::fingerprint::Fingerprint;
 use crate::keys;
@@ -14,20 +14,20 @@ pub struct Certificate<'a> {
     fingerprint: Option<Fingerprint>,
     /// The first is the key.
     packets: Vec<Packet<'a>>,
-    standing: Vec<Standing>,
+    positions: Vec<Position>,
 }
 
-/// Where a signature stands, by places in the packet list; the component of one on the key is the key.
-struct Standing {
+/// Where a signature is, by places in the packet list; the component of one on the key is the key.
+struct Position {
     signature: usize,
     component: usize,
     place: Place,
 }
 
-/// A signature's body with what it stands on.
+/// A signature's body with what it is on.
 pub struct PlacedSignature<'c> {
     pub place: Place,
-    /// Empty where the signature stands on the key.
+    /// Empty if the signature is on the key.
     pub component: &'c [u8],
     pub body: &'c [u8],
 }
@@ -36,7 +36,7 @@ impl<'a> Certificate<'a> {
     /// The certificate of a packet list that begins with a key and has no other, or why the engine refuses it.
     pub fn assemble(packets: Vec<Packet<'a>>) -> Result<Certificate<'a>, What> {
         let mut certificate =
-            Certificate { fingerprint: Fingerprint::of_key(&packets[0].body), packets, standing: Vec::new() };
+            Certificate { fingerprint: Fingerprint::of_key(&packets[0].body), packets, positions: Vec::new() };
         certificate.place_signatures()?;
         if certificate.octets().len() > LONGEST {
             return Err(What::Long);
@@ -45,12 +45,12 @@ impl<'a> Certificate<'a> {
     }
 
     fn place_signatures(&mut self) -> Result<(), What> {
-        // Where the next signature stands; nowhere after a packet that is dropped together with its signatures.
+        // What the next signature is on; None after a packet that is dropped together with its signatures.
         let mut component = None;
         for (index, packet) in self.packets.iter().enumerate() {
             match packet.kind {
                 kind::KEY => component = Some((index, Place::Key)),
-                kind::SIGNATURE => self.standing.extend(component.map(|(component, place)| Standing {
+                kind::SIGNATURE => self.positions.extend(component.map(|(component, place)| Position {
                     signature: index,
                     component,
                     place,
@@ -90,13 +90,13 @@ impl<'a> Certificate<'a> {
     }
 
     pub fn signatures(&self) -> impl ExactSizeIterator<Item = PlacedSignature<'_>> {
-        self.standing.iter().map(move |standing| PlacedSignature {
-            place: standing.place,
-            component: match standing.place {
+        self.positions.iter().map(move |position| PlacedSignature {
+            place: position.place,
+            component: match position.place {
                 Place::Key => &[],
-                _ => &self.packets[standing.component].body,
+                _ => &self.packets[position.component].body,
             },
-            body: &self.packets[standing.signature].body,
+            body: &self.packets[position.signature].body,
         })
     }
 
@@ -114,8 +114,8 @@ impl<'a> Certificate<'a> {
     }
 }
 
-/// The certificates of a text of packets. `tell` hears, with its place in the text, what is left out or spelled again.
-pub fn certificates<'a>(text: &'a [u8], public: bool, mut tell: impl FnMut(usize, What)) -> Vec<Certificate<'a>> {
+/// The certificates of a text of packets. `report` gets what is left out or spelled again, with its place in the text.
+pub fn certificates<'a>(text: &'a [u8], public: bool, mut report: impl FnMut(usize, What)) -> Vec<Certificate<'a>> {
     let mut certificates = Vec::new();
     let mut cut = None;
     let mut lists: Vec<Vec<Packet>> = Vec::new();
@@ -125,24 +125,24 @@ pub fn certificates<'a>(text: &'a [u8], public: bool, mut tell: impl FnMut(usize
             Ok(packet) if begins_certificate(&packet) => lists.push(vec![packet]),
             Ok(packet) => match lists.last_mut() {
                 Some(list) => list.push(packet),
-                // These are ignored wherever they stand (RFC 9580, sections 5.8 and 5.14).
+                // These are ignored wherever they are (RFC 9580, sections 5.8 and 5.14).
                 None if matches!(packet.kind, kind::MARKER | kind::PADDING) => {}
-                None => tell(packet.place, What::BeforeFirst),
+                None => report(packet.place, What::BeforeFirst),
             },
         }
     }
     if let Some(fault) = cut {
         // The certificate that the fault cuts short may lack a revocation.
         let place = lists.pop().map_or(fault.place, |list| list[0].place);
-        tell(place, What::Fault(fault));
+        report(place, What::Fault(fault));
     }
     for list in lists {
         let place = list[0].place;
-        list.iter().filter(|packet| packet.is_respelled()).for_each(|packet| tell(packet.place, What::Respelled));
+        list.iter().filter(|packet| packet.is_respelled()).for_each(|packet| report(packet.place, What::Respelled));
         let list = if public { without_secrets(list) } else { Ok(list) };
         match list.and_then(Certificate::assemble) {
             Ok(certificate) => certificates.push(certificate),
-            Err(what) => tell(place, what),
+            Err(what) => report(place, what),
         }
     }
     certificates
@@ -179,17 +179,17 @@ mod tests {
     /// The certificates' signatures, as place, component and body, and what was reported.
     #[allow(clippy::type_complexity)]
     fn cut(text: &[u8], public: bool) -> (Vec<Vec<(Place, Vec<u8>, Vec<u8>)>>, Vec<(usize, What)>) {
-        let mut told = Vec::new();
-        let certificates = certificates(text, public, |place, what| told.push((place, what)));
+        let mut reported = Vec::new();
+        let certificates = certificates(text, public, |place, what| reported.push((place, what)));
         let signatures = |certificate: &Certificate| {
             let placed = certificate.signatures();
             placed.map(|one| (one.place, one.component.to_vec(), one.body.to_vec())).collect()
         };
-        (certificates.iter().map(signatures).collect(), told)
+        (certificates.iter().map(signatures).collect(), reported)
     }
 
     #[test]
-    fn signatures_stand_on_the_component_before_them() {
+    fn signatures_are_on_the_component_before_them() {
         let text = text(&[
             KEY,
             &[0xc2, 1, 1],
@@ -215,8 +215,8 @@ mod tests {
     #[test]
     fn what_the_engine_refuses_is_left_out_alone() {
         let secret = [0xc5, 8, 4, 0, 0, 0, 1, 27, 0, 0];
-        let told = vec![(0, What::Secret)];
-        assert_eq!(cut(&text(&[&secret, KEY]), false), (vec![vec![]], told));
+        let reported = vec![(0, What::Secret)];
+        assert_eq!(cut(&text(&[&secret, KEY]), false), (vec![vec![]], reported));
         let secret_subkey = [0xc7, 8, 4, 0, 0, 0, 1, 27, 0, 0];
         for (packet, what) in
             [(&[0xc8, 0][..], What::Compressed), (&[0xcb, 0], What::Kind(11)), (&secret_subkey, What::Secret)]
@@ -227,18 +227,18 @@ mod tests {
         let marked = text(&[&[0xca, 3, b'P', b'G', b'P', 0xd5, 1, 0], KEY]);
         assert_eq!(cut(&marked, false), (vec![vec![]], vec![]));
         let text = text(&[&[0xcd, 0], KEY, KEY, &[0xc2, 7]]);
-        let (certificates, told) = cut(&text, false);
+        let (certificates, reported) = cut(&text, false);
         assert_eq!(certificates.len(), 1);
-        assert_eq!(told[0], (0, What::BeforeFirst));
-        assert!(matches!(told[1], (10, What::Fault(fault)) if fault.place == 18));
+        assert_eq!(reported[0], (0, What::BeforeFirst));
+        assert!(matches!(reported[1], (10, What::Fault(fault)) if fault.place == 18));
     }
 
     #[test]
     fn secret_parts_are_dropped_on_request() {
         let public = [4, 0, 0, 0, 1, 22, 2, 0x2b, 6, 0, 9, 1, 0xff];
         let text = text(&[&[0xc5, 16], &public, &[0, 1, 2], &[0xcd, 1, b'a'], &[0xc7, 15], &public, &[0, 1]]);
-        let told = |_: usize, what: What| panic!("{what:?}");
-        let certificates = certificates(&text, true, told);
+        let reported = |_: usize, what: What| panic!("{what:?}");
+        let certificates = certificates(&text, true, reported);
         assert_eq!(certificates.len(), 1);
         let expected = [&[0xc6, 13][..], &public, &[0xcd, 1, b'a', 0xce, 13], &public].concat();
         assert_eq!(certificates[0].octets(), expected);

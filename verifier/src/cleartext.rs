@@ -21,8 +21,8 @@ pub fn is_ended_by(line: &[u8]) -> bool {
     line.without_end() == SIGNATURE
 }
 
-/// Hands on what is signed, piece by piece, and returns the armored signatures behind it. The text begins with the line
-/// that begins it, and has nothing behind the signatures. Lines end with a line feed, and the last line doesn't end.
+/// Hands on what is signed, piece by piece, and returns the armored signatures after it. The text begins with the line
+/// that begins it, and has nothing after the signatures. Lines end with a line feed, and the last line doesn't end.
 pub fn take_apart(text: &mut dyn BufRead, data: &mut dyn FnMut(&[u8]) -> io::Result<()>) -> io::Result<Vec<u8>> {
     let mut line = Vec::new();
     next_line(text, &mut line)?;

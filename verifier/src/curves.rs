@@ -13,8 +13,8 @@ use sequoia_openpgp::types::PublicKeyAlgorithm;
 
 use crate::verify::Failure;
 
-/// The curves by what stands for them in a key's material: the length of an object identifier, and its octets. Then
-/// their numbers in OpenSSL (openssl/obj_mac.h).
+/// The curves as a key's material names them: the length of an object identifier, and its octets. Then their numbers in
+/// OpenSSL (openssl/obj_mac.h).
 const CURVES: [(&[u8], c_int); 4] = [
     (b"\x09\x2b\x24\x03\x03\x02\x08\x01\x01\x07", 927),
     (b"\x09\x2b\x24\x03\x03\x02\x08\x01\x01\x0b", 931),

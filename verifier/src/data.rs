@@ -12,10 +12,10 @@ use crate::layout::Outside;
 use crate::library::Library;
 use crate::message::{copy_pieces, signatures_of, Message};
 use crate::mixed::Mixed;
-use crate::own::Judge;
+use crate::own::OwnVerifier;
 use crate::said::Said;
 
-/// Signatures that stand apart are held in memory. Longer ones are refused.
+/// Detached signatures are held in memory. Longer ones are refused.
 const LONGEST_SIGNATURES: u64 = 1 << 24;
 
 /// What is signed, and where its signatures are.
@@ -119,7 +119,7 @@ impl Opened<'_> {
         bodies.iter().filter_map(|body| Said::of(body)).collect()
     }
 
-    /// What stands around a message or a text with a cleartext signature: nobody signed it.
+    /// What is around a message or a text with a cleartext signature: nobody signed it.
     pub fn outside(&self) -> Outside {
         match &self.0 {
             Form::Whole { message: Ok(message), .. } => message.outside(),
@@ -130,11 +130,11 @@ impl Opened<'_> {
     /// What each signature comes to, as [`Signed::findings`] has it.
     pub fn findings(self, holders: &Holders, at: Option<u32>) -> Result<Vec<Finding>, Broken> {
         let library = Library { holders, at };
-        let judged = match self.0 {
+        let findings = match self.0 {
             Form::Detached { data, bodies } => detached(data, bodies, library),
             Form::Whole { whole, message } => of_whole(whole, message, library),
         };
-        match judged {
+        match findings {
             Ok(findings) => Ok(findings),
             Err(Stop::Malformed(error)) => Ok(vec![Finding::unread(Word::Malformed, &error)]),
             Err(Stop::Broken(broken)) => Err(broken),
@@ -164,7 +164,7 @@ fn detached(data: Data, bodies: io::Result<Vec<Vec<u8>>>, library: Library) -> R
 /// lets more pass around these than RFC 9580 does.
 fn of_whole(mut whole: Whole, message: io::Result<Message>, library: Library) -> Result<Vec<Finding>, Stop> {
     let message = message.map_err(|error| named(whole.path, error))?;
-    if message.is_cleartext() || message.signatures.iter().any(|body| Judge::is_mine(library.holders, body)) {
+    if message.is_cleartext() || message.signatures.iter().any(|body| OwnVerifier::is_mine(library.holders, body)) {
         message.check().map_err(|why| Stop::Malformed(anyhow::anyhow!(why)))?;
         return taken_apart(&message, whole, library);
     }
@@ -174,7 +174,7 @@ fn of_whole(mut whole: Whole, message: io::Result<Message>, library: Library) ->
     content.finish().map(|()| findings)
 }
 
-/// Verifies the signatures of a message as those that stand apart from its data.
+/// Verifies the signatures of a message as if they were detached from its data.
 fn taken_apart(message: &Message, whole: Whole, library: Library) -> Result<Vec<Finding>, Stop> {
     let Whole { path, mut file, spare, mut content } = whole;
     let unspared = |error| unwritten(Path::new("a temporary file"), error);

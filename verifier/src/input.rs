@@ -107,7 +107,7 @@ fn names(folder: &Path, lengths: &[usize]) -> io::Result<Vec<String>> {
     Ok(names)
 }
 
-/// Whether a path stands for standard input.
+/// Whether a path means standard input.
 pub fn is_standard_input(path: &Path) -> bool {
     path == Path::new("-")
 }
@@ -151,7 +151,7 @@ fn read_bounded(file: impl Read, size: u64) -> io::Result<Vec<u8>> {
 }
 
 /// The packets of all armored keys of a text.
-fn dearmored(text: &[u8], tell: &mut impl FnMut(usize, What)) -> io::Result<Vec<u8>> {
+fn dearmored(text: &[u8], report: &mut impl FnMut(usize, What)) -> io::Result<Vec<u8>> {
     if text.get(8..12) == Some(b"KBXf") {
         return Err(invalid("a keybox; write its keys with `gpg --export`"));
     }
@@ -165,8 +165,8 @@ fn dearmored(text: &[u8], tell: &mut impl FnMut(usize, What)) -> io::Result<Vec<
         let mut octets = Vec::new();
         match reader.read_to_end(&mut octets) {
             Ok(_) if matches!(reader.kind(), Some(Kind::PublicKey | Kind::SecretKey)) => packets.append(&mut octets),
-            Ok(_) => tell(place, What::Armor("it holds no keys".to_owned())),
-            Err(error) => tell(place, What::Armor(error.to_string())),
+            Ok(_) => report(place, What::Armor("it holds no keys".to_owned())),
+            Err(error) => report(place, What::Armor(error.to_string())),
         }
     }
     Ok(packets)

@@ -10,13 +10,13 @@ use crate::notice::{Notice, What};
 pub fn cut<'a>(texts: &'a [Text], public: bool, notices: &mut Vec<Notice>) -> Vec<Certificate<'a>> {
     let mut all = Vec::new();
     for text in texts {
-        let mut tell = |place, what| notices.push(Notice { name: text.name.clone(), place, what });
-        let mut certificates = certificate::certificates(&text.octets, public, &mut tell);
+        let mut report = |place, what| notices.push(Notice { name: text.name.clone(), place, what });
+        let mut certificates = certificate::certificates(&text.octets, public, &mut report);
         if text.octets.is_empty() {
-            tell(0, What::Empty);
+            report(0, What::Empty);
         }
         if is_misfiled(text, &certificates) {
-            tell(0, What::Misfiled);
+            report(0, What::Misfiled);
             certificates.clear();
         }
         all.append(&mut certificates);

@@ -1,4 +1,4 @@
-//! Where the armor of a text stands (RFC 9580, section 6.2), and what stands around it.
+//! Where the armor of a text is (RFC 9580, section 6.2), and what is around it.
 
 use std::io::{self, BufRead, Read};
 
@@ -13,13 +13,13 @@ const FARTHEST_BEGIN: u64 = 1 << 20;
 #[derive(Clone, Copy, Debug, PartialEq, Eq)]
 pub struct Layout {
     pub is_cleartext: bool,
-    /// The octet at which the block begins, and that behind its last line.
+    /// The octet at which the block begins, and the one after its last line.
     pub begin: u64,
     pub end: u64,
     pub outside: Outside,
 }
 
-/// Whether anything but empty lines stands before and after what is signed. It is covered by no signature.
+/// Whether there is anything but empty lines before and after what is signed. It is covered by no signature.
 #[derive(Clone, Copy, Debug, Default, PartialEq, Eq)]
 pub struct Outside {
     pub before: bool,
@@ -113,7 +113,7 @@ mod tests {
     }
 
     #[test]
-    fn blocks_and_what_stands_around_them() {
+    fn blocks_and_what_is_around_them() {
         for (is_clear, block) in [(false, ARMOR), (true, CLEAR)] {
             let plain = layout(block).unwrap();
             assert_eq!(plain, (is_clear, block.to_owned(), Outside { before: false, after: false }));

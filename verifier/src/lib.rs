@@ -1,4 +1,4 @@
-//! Verifies OpenPGP signatures: those in keyrings, and those on data. Programs of this package use it, which stand in
+//! Verifies OpenPGP signatures: those in keyrings, and those on data. Programs of this package use it, which are in
 //! `src/bin`.
 //!
 //! **Certificates.** [`input`] reads files and certificate directories out of their armor, [`keyring`] cuts them into

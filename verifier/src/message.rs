@@ -23,7 +23,7 @@ pub struct Message {
     /// The bodies of the signatures, in their order.
     pub signatures: Vec<Vec<u8>>,
     literals: usize,
-    /// How many signatures stand before the data.
+    /// How many signatures come before the data.
     before: usize,
 }
 
@@ -48,7 +48,7 @@ impl Message {
         self.layout.map_or(false, |layout| layout.is_cleartext)
     }
 
-    /// What stands around it, unsigned.
+    /// What is around it, unsigned.
     pub fn outside(&self) -> Outside {
         self.layout.map_or_else(Outside::default, |layout| layout.outside)
     }
@@ -74,7 +74,7 @@ impl Message {
         !self.is_cleartext() && self.literals == 0 && self.one_passes.is_empty() && !self.signatures.is_empty()
     }
 
-    /// Whether signatures and data stand as they should (RFC 9580, section 10.3): an Err says what is wrong.
+    /// Whether signatures and data are ordered as they should be (RFC 9580, section 10.3): an Err says what is wrong.
     pub fn check(&self) -> Result<(), &'static str> {
         let (passes, signatures) = (&self.one_passes, &self.signatures);
         if self.is_cleartext() {

@@ -5,7 +5,7 @@ use std::io::{self, Cursor, Read};
 use crate::data::Stop;
 use crate::finding::{Finding, Word};
 use crate::library::Library;
-use crate::own::{Judge, Judged};
+use crate::own::{Begun, OwnVerifier};
 use crate::packets::{self, kind};
 
 pub struct Mixed<'s> {
@@ -14,7 +14,7 @@ pub struct Mixed<'s> {
 }
 
 enum Part<'s> {
-    Mine(Judged<'s>),
+    Mine(Begun<'s>),
     /// The library's: its body.
     Other(&'s [u8]),
 }
@@ -22,9 +22,9 @@ enum Part<'s> {
 impl<'s> Mixed<'s> {
     /// Of the bodies of signatures, to be verified at a time.
     pub fn new(bodies: &'s [Vec<u8>], library: Library<'s>, time: u64) -> Mixed<'s> {
-        let mut judge = Judge::new(library.holders, time);
-        let part = |body: &'s Vec<u8>| match Judge::is_mine(library.holders, body) {
-            true => Part::Mine(judge.judge(body)),
+        let mut verifier = OwnVerifier::new(library.holders, time);
+        let part = |body: &'s Vec<u8>| match OwnVerifier::is_mine(library.holders, body) {
+            true => Part::Mine(verifier.begin(body)),
             false => Part::Other(body),
         };
         Mixed { library, parts: bodies.iter().map(part).collect() }
@@ -43,7 +43,7 @@ impl<'s> Mixed<'s> {
     /// Takes a piece of the data.
     pub fn update(&mut self, octets: &[u8]) -> io::Result<()> {
         for part in &mut self.parts {
-            if let Part::Mine(Judged::Waiting(waiting)) = part {
+            if let Part::Mine(Begun::Waiting(waiting)) = part {
                 waiting.update(octets);
             }
         }
@@ -59,8 +59,8 @@ impl<'s> Mixed<'s> {
         let mut findings = Vec::new();
         for part in self.parts {
             match part {
-                Part::Mine(Judged::Decided(finding)) => findings.push(finding),
-                Part::Mine(Judged::Waiting(waiting)) => findings.push(waiting.finding()),
+                Part::Mine(Begun::Decided(finding)) => findings.push(finding),
+                Part::Mine(Begun::Waiting(waiting)) => findings.push(waiting.finding()),
                 Part::Other(_) => findings.extend(others.next()),
             }
         }
@@ -78,7 +78,7 @@ impl<'s> Mixed<'s> {
         }
         match self.library.detached(Cursor::new(octets), data) {
             Err(Stop::Malformed(error)) => Ok(vec![Finding::unread(Word::Malformed, &error)]),
-            judged => judged,
+            other => other,
         }
     }
 }

@@ -4,12 +4,12 @@ use std::fmt;
 
 use crate::packets::Fault;
 
-/// Something of the input that doesn't come out as it stands.
+/// Something of the input that isn't written unchanged.
 #[derive(Clone, Debug, PartialEq, Eq)]
 pub struct Notice {
     /// The file, as it was named.
     pub name: String,
-    /// The octet of the file's packets at which it stands.
+    /// The octet of the file's packets at which it is.
     pub place: usize,
     pub what: What,
 }

@@ -1,11 +1,11 @@
-//! A signature's number: SHA-256 over five fields, each behind its length in four octets.
+//! A signature's number: SHA-256 over five fields, each after its length in four octets.
 
 use sequoia_openpgp::crypto::hash::Digest;
 use sequoia_openpgp::types::HashAlgorithm;
 
 pub type Number = [u8; 32];
 
-/// What a signature stands on; the number is that of the field.
+/// What a signature is on; the number is that of the field.
 #[derive(Clone, Copy, Debug, PartialEq, Eq, Hash)]
 pub enum Place {
     Key = 0,
@@ -14,7 +14,7 @@ pub enum Place {
     Subkey = 3,
 }
 
-/// The number of a signature on a component of a key; the component is empty where it stands on the key itself.
+/// The number of a signature on a component of a key; the component is empty if it is on the key itself.
 pub fn number_of(key: &[u8], place: Place, component: &[u8], signature: &[u8]) -> Number {
     let mut hash = HashAlgorithm::SHA256.context().expect("the library has SHA-256");
     for field in [&b"wot1"[..], key, &[place as u8], component, signature] {

@@ -21,7 +21,7 @@ const CLOCKS_DIFFER: u64 = 30 * 60;
 const MOST: usize = 64;
 
 /// Verifies at one time.
-pub struct Judge<'h> {
+pub struct OwnVerifier<'h> {
     holders: &'h Holders<'h>,
     time: u64,
     /// By the fingerprint of the certificate.
@@ -30,7 +30,7 @@ pub struct Judge<'h> {
 }
 
 /// A signature, before its data are read.
-pub enum Judged<'s> {
+pub enum Begun<'s> {
     Decided(Finding),
     Waiting(Box<Waiting<'s>>),
 }
@@ -50,9 +50,9 @@ struct Candidate {
     key: VerifyingKey,
 }
 
-impl<'h> Judge<'h> {
-    pub fn new(holders: &'h Holders<'h>, time: u64) -> Judge<'h> {
-        Judge { holders, time, bound: HashMap::new(), waiting: 0 }
+impl<'h> OwnVerifier<'h> {
+    pub fn new(holders: &'h Holders<'h>, time: u64) -> OwnVerifier<'h> {
+        OwnVerifier { holders, time, bound: HashMap::new(), waiting: 0 }
     }
 
     /// Whether the library can't verify a signature, by its version, its algorithms or a key that it names. Of a hash
@@ -76,16 +76,16 @@ impl<'h> Judge<'h> {
     }
 
     /// What can be said of a signature before the data are there.
-    pub fn judge<'s>(&mut self, body: &'s [u8]) -> Judged<'s> {
+    pub fn begin<'s>(&mut self, body: &'s [u8]) -> Begun<'s> {
         let signature = match Signature::read(body) {
             Some(signature) => signature,
-            None => return Judged::Decided(Finding::nothing(Word::Malformed).since("a part of it is missing")),
+            None => return Begun::Decided(Finding::nothing(Word::Malformed).since("a part of it is missing")),
         };
         match self.prepared(&signature) {
-            Err(finding) => Judged::Decided(finding),
+            Err(finding) => Begun::Decided(finding),
             Ok((created, digesting, candidates)) => {
                 self.waiting += 1;
-                Judged::Waiting(Box::new(Waiting { signature, created, digesting, candidates }))
+                Begun::Waiting(Box::new(Waiting { signature, created, digesting, candidates }))
             }
         }
     }

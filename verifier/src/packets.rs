@@ -1,4 +1,4 @@
-//! Packet framing (RFC 9580, section 4.2): a text of octets is cut into packets, each with its octets as they stand.
+//! Packet framing (RFC 9580, section 4.2): a text of octets is cut into packets, each with its octets unchanged.
 
 use std::borrow::Cow;
 use std::fmt;
@@ -38,7 +38,7 @@ pub struct Packet<'a> {
 }
 
 impl<'a> Packet<'a> {
-    /// Whether the packet had a partial or indeterminate length, so that it isn't written as it stands.
+    /// Whether the packet had a partial or indeterminate length, so that it isn't written unchanged.
     pub fn is_respelled(&self) -> bool {
         self.spelling == Spelling::New
     }
@@ -232,7 +232,7 @@ mod tests {
     }
 
     #[test]
-    fn definite_lengths_are_written_as_they_stand() {
+    fn definite_lengths_are_written_unchanged() {
         let spellings: [&[u8]; 6] = [
             &[0xcd, 2, 7, 8],
             &[0xcd, 255, 0, 0, 0, 2, 7, 8],
@@ -253,7 +253,7 @@ mod tests {
     }
 
     #[test]
-    fn partial_and_indeterminate_lengths_are_spelled_anew() {
+    fn partial_and_indeterminate_lengths_are_respelled() {
         for spelling in [&[0xcd, 225, 7, 8, 224, 9, 1, 5][..], &[0xb7, 7, 8, 9, 5]] {
             let packet = Packets::new(spelling).next().unwrap().unwrap();
             assert!(packet.is_respelled());

@@ -93,7 +93,7 @@ impl<'a> Signature<'a> {
         subpackets.rest.is_empty().then(|| found)
     }
 
-    /// The bodies of the signatures that stand in this one, in both areas.
+    /// The bodies of the signatures embedded in this one, in both areas.
     pub fn embedded(&self) -> impl Iterator<Item = &'a [u8]> {
         let subpackets = self.areas.into_iter().flat_map(|area| Subpackets { rest: area });
         subpackets.filter_map(|subpacket| match subpacket.split_first() {
@@ -103,7 +103,7 @@ impl<'a> Signature<'a> {
     }
 }
 
-/// The field whose length stands at a place, in a number of octets, and the place behind the field.
+/// The field whose length is at a place, in a number of octets, and the place after the field.
 fn field(body: &[u8], at: usize, length_size: usize) -> Option<(&[u8], usize)> {
     let begin = at + length_size;
     let length = body.get(at..begin)?.iter().fold(0, |length, octet| (length << 8) + usize::from(*octet));

@@ -14,7 +14,7 @@ pub fn of(signature: &Signature, created: u32) -> Option<String> {
     hash.update(&created.to_be_bytes());
     let mut rest = signature.material;
     while !rest.is_empty() {
-        // These have octets in place of numbers, which gpg's formula takes as they stand.
+        // These have octets in place of numbers, which gpg's formula takes unchanged.
         if matches!(signature.key_algorithm, ED25519 | ED448) {
             hash.update(std::mem::take(&mut rest));
             continue;

@@ -28,8 +28,8 @@ fn copy(from: &mut dyn Read) -> io::Result<File> {
     Ok(file)
 }
 
-/// A new file that only this process sees: it has no name. Where the file system can't make such a file, its name is
-/// gone at once, and nobody else may open it before.
+/// A new file that only this process sees: it has no name. If the file system can't make such a file, its name is gone
+/// at once, and nobody else may open it before.
 pub fn unnamed() -> io::Result<File> {
     let mut options = OpenOptions::new();
     options.read(true).write(true).mode(0o600).custom_flags(libc::O_TMPFILE);

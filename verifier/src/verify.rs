@@ -1,4 +1,4 @@
-//! Whether a key made a signature: the digest of RFC 9580, section 5.2.4, over octets as they stand, and the library's
+//! Whether a key made a signature: the digest of RFC 9580, section 5.2.4, over unchanged octets, and the library's
 //! arithmetic. Nothing is asked of dates, hashes or key sizes: the engine has a policy of its own.
 
 use nettle::{ed25519, ed448, rsa};
@@ -142,7 +142,7 @@ fn is_known(key: &LibraryKey) -> bool {
     matches!(key.mpis(), RSA { .. } | DSA { .. } | EdDSA { .. } | ECDSA { .. })
 }
 
-/// What stands before a digest by SHA-3 in an RSA signature (RFC 9580, section 5.2.2; RFC 8017, section 9.2).
+/// What precedes a digest by SHA-3 in an RSA signature (RFC 9580, section 5.2.2; RFC 8017, section 9.2).
 fn sha3_digest_info(hash_algorithm: u8) -> Option<&'static [u8]> {
     match hash_algorithm {
         SHA3_256 => Some(b"\x30\x31\x30\x0d\x06\x09\x60\x86\x48\x01\x65\x03\x04\x02\x08\x05\x00\x04\x20"),

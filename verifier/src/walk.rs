@@ -6,7 +6,7 @@ use flate2::bufread::{DeflateDecoder, ZlibDecoder};
 
 use crate::packets::kind;
 
-/// How deep compressed packets may stand in one another.
+/// How deep compressed packets may be nested.
 const DEEPEST: usize = 8;
 /// How many octets the signatures of a message may have in all.
 const MOST: u64 = 1 << 24;
@@ -112,7 +112,7 @@ struct Body<'f> {
     then: Then,
 }
 
-/// What comes behind the part that is read.
+/// What comes after the part that is read.
 #[derive(Clone, Copy, PartialEq, Eq)]
 enum Then {
     Nothing,

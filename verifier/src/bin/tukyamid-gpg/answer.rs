@@ -1,4 +1,4 @@
-//! What the caller hears of a signature: gpg's status lines, and the text for people.
+//! What the caller gets for a signature: gpg's status lines, and the text for people.
 //!
 //! `VALIDSIG` follows only if a key made the signature and could. One `TRUST_` line follows `GOODSIG`. After anything
 //! else there is none that says more than `TRUST_UNDEFINED`.
@@ -83,7 +83,7 @@ impl Outcome {
 }
 
 /// Counts the signers, and refuses what a strict policy doesn't let pass. What isn't known here is None, and stays.
-pub fn settle(mut outcomes: Vec<Option<Outcome>>, policy: &Policy) -> Vec<Option<Outcome>> {
+pub fn under_policy(mut outcomes: Vec<Option<Outcome>>, policy: &Policy) -> Vec<Option<Outcome>> {
     let mut signers: Vec<String> = outcomes.iter().flatten().filter_map(Outcome::full_signer).collect();
     signers.sort();
     signers.dedup();

@@ -18,7 +18,7 @@ pub struct Named {
 }
 
 impl Key {
-    /// Of lines as they stand.
+    /// Of unchanged lines.
     pub fn of(lines: &[Vec<u8>]) -> Key {
         Key(lines.iter().map(|line| line.split(|octet| *octet == b':').map(<[u8]>::to_vec).collect()).collect())
     }
@@ -54,7 +54,7 @@ impl Key {
         }
     }
 
-    /// The lines as they stand then.
+    /// The lines as they are then.
     pub fn into_lines(self) -> impl Iterator<Item = Vec<u8>> {
         self.0.into_iter().map(|line| line.join(&b':'))
     }

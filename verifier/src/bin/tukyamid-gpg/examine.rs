@@ -1,4 +1,4 @@
-//! What each signature on data comes to: whether a key made it, and how that key's certificate stands now.
+//! What each signature on data comes to: whether a key made it, and the standing of that key now.
 
 use std::collections::HashMap;
 
@@ -35,7 +35,7 @@ pub enum Code {
     UnusableKey = 53,
 }
 
-/// How a key that made a signature stands now.
+/// The standing of a key that made a signature, now.
 #[derive(Clone, Copy, Debug, PartialEq, Eq)]
 pub enum Standing {
     Usable,
@@ -165,7 +165,7 @@ impl<'s, 'h> Examination<'s, 'h> {
         }
     }
 
-    /// How the key stands that made the signature, or why it couldn't make it.
+    /// The standing of the key that made the signature, or why it couldn't make it.
     fn standing(&mut self, one: &Named<'h>, signature: &Signature, facts: &Facts) -> Result<Standing, (Code, String)> {
         let unusable = |why: &str| (Code::UnusableKey, why.to_owned());
         let (signed, now) = (u64::from(facts.created), self.now);

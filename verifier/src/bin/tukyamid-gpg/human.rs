@@ -18,8 +18,8 @@ pub fn shown(octets: &[u8]) -> String {
     text
 }
 
-/// Whether a character is shown as itself: it is neither a control character nor one that turns the direction or has no
-/// width.
+/// Whether a character is shown as itself: it is neither a control character nor one that changes the direction or has
+/// no width.
 fn is_plain(character: char) -> bool {
     let is_odd = matches!(character,
         '\u{ad}' | '\u{61c}' | '\u{115f}' | '\u{1160}' | '\u{180e}' | '\u{200b}'..='\u{200f}' | '\u{2028}'..='\u{202e}'

@@ -24,7 +24,7 @@ impl Names {
         }
     }
 
-    /// The descriptor that a name stands for.
+    /// The descriptor that a name refers to.
     pub fn descriptor_of(&self, name: &OsStr) -> Option<i32> {
         match name.as_bytes() {
             b"-" => Some(0),

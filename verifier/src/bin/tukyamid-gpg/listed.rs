@@ -24,7 +24,7 @@ impl Listed {
         Listed { fingerprint: String::new(), named: Vec::new(), levels: Vec::new() }
     }
 
-    /// Puts the validities into the lines of this key. Where the lines aren't those of this key or of this user ID, the
+    /// Puts the validities into the lines of this key. If the lines aren't those of this key or of this user ID, the
     /// keyring has changed meanwhile: there the validity is unknown.
     pub fn show_in(&self, lines: &mut [Vec<u8>]) {
         let is_it = self.is_shown_by(lines);

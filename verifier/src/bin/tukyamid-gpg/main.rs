@@ -178,7 +178,7 @@ fn become_real(program: Program, words: &[OsString]) -> u8 {
 }
 
 fn fatal(why: &str) -> u8 {
-    // With nobody to hear it, the exit status has to do.
+    // If nobody reads it, the exit status has to do.
     let _ = writeln!(std::io::stderr(), "tukyamid-gpg: {why}");
     FATAL
 }

@@ -13,7 +13,7 @@ use crate::names::Program;
 
 /// Folders that are looked into after those of PATH.
 const FOLDERS: &[&str] = &["/usr/bin", "/bin", "/usr/local/bin"];
-/// Holds the number of the process that started a real program. So one that turns out to be this program notices.
+/// Holds the number of the process that started a real program. So one that is in fact this program notices.
 const STARTED_BY: &str = "TUKYAMID_GPG_STARTED_BY";
 
 /// The real program: the first on PATH that isn't this one.

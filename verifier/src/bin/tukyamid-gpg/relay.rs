@@ -14,7 +14,7 @@ use tukyamid_verify::fingerprint::Fingerprint;
 use tukyamid_verify::said::Said;
 use tukyamid_verify::signature::Issuer;
 
-use crate::answer::{settle, Answer, Outcome};
+use crate::answer::{under_policy, Answer, Outcome};
 use crate::blocks::{Block, Blocks, Next, Valid};
 use crate::config::{Config, Policy};
 use crate::contents::{aside, Target};
@@ -66,7 +66,7 @@ impl Relay<'_> {
         };
         let mut child = self.command(&write, held.as_ref())?.spawn()?;
         drop(write);
-        let is_refused = self.pass_on(read, answer)?;
+        let is_refused = self.relay(read, answer)?;
         let exit = child.wait()?.code().and_then(|code| u8::try_from(code).ok());
         if exit.is_none() {
             answer.status.failure("verify", Code::General);
@@ -108,7 +108,7 @@ impl Relay<'_> {
     }
 
     /// Passes status lines on. Whether anything is refused.
-    fn pass_on(&self, read: File, answer: &mut Answer) -> io::Result<bool> {
+    fn relay(&self, read: File, answer: &mut Answer) -> io::Result<bool> {
         let mut reader = BufReader::new(read);
         let mut blocks = Blocks::default();
         let mut is_refused = false;
@@ -134,11 +134,11 @@ impl Relay<'_> {
         match self.outcomes(&blocks) {
             Ok(found) => {
                 let (said, outcomes): (Vec<_>, Vec<_>) = found.into_iter().unzip();
-                let settled = settle(outcomes, self.policy);
-                for ((block, said), outcome) in blocks.iter().zip(&said).zip(&settled) {
+                let outcomes = under_policy(outcomes, self.policy);
+                for ((block, said), outcome) in blocks.iter().zip(&said).zip(&outcomes) {
                     self.answer_one(block, said.as_ref(), outcome.as_ref(), answer);
                 }
-                settled.iter().flatten().any(|outcome| outcome.exit() == 2)
+                outcomes.iter().flatten().any(|outcome| outcome.exit() == 2)
             }
             Err(away) => {
                 for block in &blocks {

@@ -27,7 +27,7 @@ pub fn list_programs(words: &[OsString]) -> io::Result<u8> {
     Ok(listed.status.code().and_then(|code| u8::try_from(code).ok()).unwrap_or(2))
 }
 
-/// `gpg:DESCRIPTION:PATH:`, with another path; any other line as it stands.
+/// `gpg:DESCRIPTION:PATH:`, with another path; any other line unchanged.
 fn renamed(line: &[u8], own: &Path) -> Vec<u8> {
     let mut fields: Vec<&[u8]> = line.split(|octet| *octet == b':').collect();
     if fields.len() < 3 || fields[0] != b"gpg" {

@@ -101,7 +101,7 @@ impl Connection {
         }
     }
 
-    /// Reads more behind what is held.
+    /// Reads more after what is held.
     fn more(&mut self) -> Result<(), Away> {
         self.held.drain(..self.taken);
         self.taken = 0;

@@ -33,7 +33,7 @@ pub struct Signed {
     pub bodies: Vec<Vec<u8>>,
     pub data: Data,
     pub again: Again,
-    /// What a user should hear.
+    /// What a user should know.
     pub notes: Vec<String>,
 }
 
@@ -118,7 +118,7 @@ impl Data {
         }
     }
 
-    /// Opens what isn't open yet. Of several files, those that a caller may make in turn are left for later.
+    /// Opens what isn't open yet. Of several files, those that a caller may make one after another are left for later.
     pub fn opened(self, names: &Names) -> Result<Opened, Failed> {
         match self {
             Data::Apart(files) => {
@@ -135,7 +135,7 @@ impl Data {
     }
 }
 
-/// Data whose files are open, but for those that are opened only when their turn comes.
+/// Data whose files are open, except those that are opened only when they are read.
 pub enum Opened {
     Apart(Vec<(OsString, Option<Source>)>),
     Within(Message, File),

@@ -27,7 +27,7 @@ pub fn start(socket: &Path) -> io::Result<UnixStream> {
     let mut command = Command::new(SERVER);
     command.args(["serve", "--idle", IDLE, "--socket"]).arg(socket).current_dir("/");
     command.stdin(Stdio::null()).stdout(Stdio::null()).stderr(Stdio::null());
-    unsafe { command.pre_exec(stand_alone) };
+    unsafe { command.pre_exec(detach) };
     let mut service = command.spawn()?;
     let end = Instant::now() + PATIENCE;
     let mut is_over = false;
@@ -46,7 +46,7 @@ pub fn start(socket: &Path) -> io::Result<UnixStream> {
 }
 
 /// In the new process: it outlives the caller, and holds nothing of the caller's open, who may wait for its end.
-fn stand_alone() -> io::Result<()> {
+fn detach() -> io::Result<()> {
     unsafe {
         libc::setsid();
         for number in 3..1 << 16 {

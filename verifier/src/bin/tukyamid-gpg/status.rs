@@ -21,7 +21,7 @@ impl Status {
         self.raw(format!("{MARK}{text}\n").as_bytes());
     }
 
-    /// Octets as they stand: whole lines.
+    /// Octets unchanged: whole lines.
     pub fn raw(&mut self, octets: &[u8]) {
         self.0.write(octets);
     }

@@ -67,7 +67,7 @@ impl Stream {
     }
 }
 
-/// Writes everything, also where the descriptor doesn't block, unless nobody takes anything for a long time.
+/// Writes everything, even if the descriptor doesn't block, unless nobody takes anything for a long time.
 pub fn write_all(file: &mut File, mut octets: &[u8]) -> io::Result<()> {
     let mut end = Instant::now() + PATIENCE;
     while !octets.is_empty() {

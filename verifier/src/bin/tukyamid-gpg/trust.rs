@@ -13,7 +13,7 @@ use tukyamid_verify::said::Said;
 
 /// From this amount on a signer is marginally trusted.
 const MARGINAL: u32 = 40;
-/// A certificate's user IDs behind these aren't asked about.
+/// A certificate's user IDs after these aren't asked about.
 const MOST_USER_IDS: usize = 256;
 const NO_USER_ID: &[u8] = b"[?]";
 

@@ -11,7 +11,7 @@ use tukyamid_verify::said::Said;
 use tukyamid_verify::signature::Issuer;
 use tukyamid_verify::spool;
 
-use crate::answer::{settle, Answer, Outcome};
+use crate::answer::{under_policy, Answer, Outcome};
 use crate::config::{Config, Policy};
 use crate::contents::Target;
 use crate::examine::{said_of, sought_for, Code, Examination, Found, Verdict};
@@ -159,7 +159,7 @@ impl Verifying<'_> {
         let found = examination.finish();
         let outcomes: Result<Vec<_>, Failed> =
             found.into_iter().map(|one| outcome(one, &mut trust).map(Some)).collect();
-        Ok((settle(outcomes?, self.policy).into_iter().flatten().collect(), content))
+        Ok((under_policy(outcomes?, self.policy).into_iter().flatten().collect(), content))
     }
 
     /// Leaves this process nothing but what is open, unless a file still has to be opened: one of several data, or the

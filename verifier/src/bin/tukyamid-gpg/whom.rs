@@ -18,7 +18,7 @@ pub enum Whom {
 }
 
 impl Whom {
-    /// `@example.org` is a domain, `carol@example.org` an address, and any other text a user ID as it stands.
+    /// `@example.org` is a domain, `carol@example.org` an address, and any other text is a whole user ID.
     pub fn read(text: &str) -> Result<Whom, String> {
         if let Some(domain) = text.strip_prefix('@') {
             let address = address_of(format!("someone@{domain}").as_bytes());

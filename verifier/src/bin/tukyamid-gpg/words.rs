@@ -77,12 +77,12 @@ impl Call {
         }
     }
 
-    /// Reads the words behind gpg's name. Reading stops at an option that gpg doesn't have, which is `foreign` then.
+    /// Reads the words after gpg's name. Reading stops at an option that gpg doesn't have, which is `foreign` then.
     pub fn of_gpg(words: &[OsString]) -> Call {
         Reader::new(words, Call::new(Command::Guess), GPG).read()
     }
 
-    /// Reads the words behind gpgv's name.
+    /// Reads the words after gpgv's name.
     pub fn of_gpgv(words: &[OsString]) -> Call {
         Reader::new(words, Call::new(Command::Verify), GPGV).read()
     }
@@ -122,7 +122,7 @@ impl Reader {
                 [b'-', b'-', name @ ..] => self.long(name),
                 [b'-', letters @ ..] if !letters.is_empty() && !is_special(octets) => self.short(letters),
                 _ => {
-                    // Behind the first file gpg takes nothing for an option.
+                    // After the first file gpg takes nothing for an option.
                     self.words.push_front(word);
                     break;
                 }

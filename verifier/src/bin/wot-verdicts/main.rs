@@ -1,11 +1,11 @@
 //! Verifies the signatures of OpenPGP keyrings, and writes the script for the engine; and those on data.
 
 mod issuers;
-mod judge;
 mod pending;
 mod progress;
 mod script;
 mod stats;
+mod verdict;
 mod words;
 mod writing;
 
@@ -25,9 +25,9 @@ use tukyamid_verify::keyring;
 use tukyamid_verify::notice::Notice;
 
 use issuers::Issuers;
-use judge::Judge;
 use script::Script;
 use stats::Stats;
+use verdict::Verifier;
 use words::{DataWords, Request, ScriptWords};
 
 /// The engine reads no more than this in one run.
@@ -113,7 +113,7 @@ fn run(request: Request) -> Result<Done, Failed> {
         Request::Help => print(words::HELP),
         Request::Version => print(&version()),
         Request::Script(words) => confined().and_then(|()| write_script(&words)),
-        Request::Data(words) => confined().and_then(|()| judge_data(&words)),
+        Request::Data(words) => confined().and_then(|()| verify_data(&words)),
     }
 }
 
@@ -166,7 +166,7 @@ fn write_script(words: &ScriptWords) -> Result<Done, Failed> {
     let certificates = keyring::without_doubles(keyring::cut(&texts, words.public, &mut notices));
     let mut script = Script::new(BufWriter::with_capacity(1 << 16, io::stdout().lock()));
     if words.certificates {
-        tell(&notices);
+        report(&notices);
         certificates.iter().try_for_each(|certificate| script.import(certificate))?;
         script.flush()?;
         return Ok(Done::with(&notices));
@@ -175,11 +175,11 @@ fn write_script(words: &ScriptWords) -> Result<Done, Failed> {
     certificates.iter().for_each(|certificate| issuers.add(certificate));
     // Of these only the public keys are used, whatever else is there.
     keyring::cut(&others, true, &mut notices).iter().for_each(|certificate| issuers.add(certificate));
-    tell(&notices);
+    report(&notices);
 
     let end = words.seconds.map(|seconds| begun + Duration::from_secs(seconds.into()));
-    let judge = Judge { issuers, all: words.all, pending, end };
-    let counts = writing::write(&certificates, &judge, jobs, &mut script)?;
+    let verifier = Verifier { issuers, all: words.all, pending, end };
+    let counts = writing::write(&certificates, &verifier, jobs, &mut script)?;
     if script.octets >= ENGINE_INPUT {
         eprintln!("wot-verdicts: the script has {} octets, but the engine reads at most 2^30 a run", script.octets);
     }
@@ -193,7 +193,7 @@ fn write_script(words: &ScriptWords) -> Result<Done, Failed> {
     Ok(Done::with(&notices))
 }
 
-fn judge_data(words: &DataWords) -> Result<Done, Failed> {
+fn verify_data(words: &DataWords) -> Result<Done, Failed> {
     let mut notices = Vec::new();
     let texts = read(&words.inputs, &mut notices)?;
     limit_memory(&texts)?;
@@ -209,7 +209,7 @@ fn judge_data(words: &DataWords) -> Result<Done, Failed> {
     closed()?;
     let texts = dearmored(texts, &mut notices)?;
     let certificates = keyring::without_doubles(keyring::cut(&texts, true, &mut notices));
-    tell(&notices);
+    report(&notices);
     let opened = files.open();
     let outside = opened.outside();
     let mut output = io::stdout().lock();
@@ -231,6 +231,6 @@ fn dearmored(texts: Vec<Raw>, notices: &mut Vec<Notice>) -> Result<Vec<Text>, Fa
     texts.map_err(|error| Failed::Input(error.to_string()))
 }
 
-fn tell(notices: &[Notice]) {
+fn report(notices: &[Notice]) {
     notices.iter().for_each(|notice| eprintln!("wot-verdicts: {notice}"));
 }

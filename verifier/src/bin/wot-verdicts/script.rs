@@ -7,27 +7,27 @@ use tukyamid_verify::certificate::Certificate;
 use tukyamid_verify::digits::digits;
 use tukyamid_verify::number::Number;
 
-use crate::judge::Verdict;
+use crate::verdict::Verdict;
 
 /// Writes lines and counts their octets.
 pub struct Script<W> {
     to: W,
-    told: HashSet<Number>,
+    written: HashSet<Number>,
     pub octets: u64,
 }
 
 impl<W: Write> Script<W> {
     pub fn new(to: W) -> Script<W> {
-        Script { to, told: HashSet::new(), octets: 0 }
+        Script { to, written: HashSet::new(), octets: 0 }
     }
 
     pub fn import(&mut self, certificate: &Certificate) -> io::Result<()> {
         self.line(&format!("import {}\n", digits(&certificate.octets())))
     }
 
-    /// The verdict on a number, where none was written yet.
+    /// The verdict on a number, unless one was written already.
     pub fn verdict(&mut self, number: &Number, verdict: &Verdict) -> io::Result<()> {
-        if !self.told.insert(*number) {
+        if !self.written.insert(*number) {
             return Ok(());
         }
         let number = digits(number);

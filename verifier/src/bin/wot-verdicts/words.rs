@@ -14,7 +14,7 @@ Usage: wot-verdicts [OPTION..] FILE|FOLDER..
 Standard output gets one line `import` for each certificate, with its packets unchanged, and one line `verdict`
 for each certification, direct key signature, key revocation and certification revocation whose issuer is there.
 With --data it gets one line `signature` for each signature on that data, and a line `outside before` or
-`outside after` if unsigned text stands before or after a signed message or text.
+`outside after` if there is unsigned text before or after a signed message or text.
 
 Arguments:
   FILE|FOLDER..      Keyrings, binary or armored (- is standard input), or certificate directories
@@ -96,7 +96,7 @@ struct Given {
 }
 
 impl Request {
-    /// Reads the words behind the program's name. An Err says what is wrong with them.
+    /// Reads the words after the program's name. An Err says what is wrong with them.
     pub fn read(words: impl IntoIterator<Item = OsString> + 'static) -> Result<Request, lexopt::Error> {
         let mut parser = lexopt::Parser::from_args(words);
         let mut given = Given::default();
@@ -142,13 +142,13 @@ impl Given {
         if self.jobs == Some(0) {
             return Err("--jobs takes a number, at least 1".into());
         }
-        let is_judging = self.pending
+        let is_verifying = self.pending
             || self.all
             || self.stats
             || self.jobs.is_some()
             || self.seconds.is_some()
             || !self.with.is_empty();
-        if self.certificates && is_judging {
+        if self.certificates && is_verifying {
             return Err("--certificates goes only with --public".into());
         }
         let Given { inputs, with, all, public, certificates, pending, stats, jobs, seconds, .. } = self;

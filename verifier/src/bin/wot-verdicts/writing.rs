@@ -8,7 +8,7 @@ use std::thread;
 
 use tukyamid_verify::certificate::Certificate;
 
-use crate::judge::{Judge, Judged};
+use crate::verdict::{CertificateVerdicts, Verifier};
 use crate::progress::Progress;
 use crate::script::Script;
 use crate::stats::Counts;
@@ -17,7 +17,7 @@ use crate::stats::Counts;
 /// certificates.
 pub fn write<W: Write>(
     certificates: &[Certificate],
-    judge: &Judge,
+    verifier: &Verifier,
     jobs: usize,
     script: &mut Script<W>,
 ) -> io::Result<Counts> {
@@ -30,13 +30,13 @@ pub fn write<W: Write>(
         for _ in 0..jobs.min(certificates.len()) {
             let sender = sender.clone();
             let next = &next;
-            scope.spawn(move || judge_next(certificates, judge, next, &sender));
+            scope.spawn(move || verify_next(certificates, verifier, next, &sender));
         }
         drop(sender);
-        in_order(receiver).try_for_each(|(index, judged)| {
-            counts += judged.counts;
+        in_order(receiver).try_for_each(|(index, found)| {
+            counts += found.counts;
             progress.add(certificates[index].signatures().len() as u64);
-            write_lines(&certificates[index], &judged, judge.pending.is_none(), script)
+            write_lines(&certificates[index], &found, verifier.pending.is_none(), script)
         })
     });
     progress.end();
@@ -44,10 +44,15 @@ pub fn write<W: Write>(
 }
 
 /// Takes one certificate after the other that nobody has taken, and sends what it comes to.
-fn judge_next(certificates: &[Certificate], judge: &Judge, next: &AtomicUsize, sender: &Sender<(usize, Judged)>) {
+fn verify_next(
+    certificates: &[Certificate],
+    verifier: &Verifier,
+    next: &AtomicUsize,
+    sender: &Sender<(usize, CertificateVerdicts)>,
+) {
     let mut index = next.fetch_add(1, Ordering::Relaxed);
     while let Some(certificate) = certificates.get(index) {
-        if sender.send((index, judge.certificate(certificate))).is_err() {
+        if sender.send((index, verifier.certificate(certificate))).is_err() {
             return; // Nobody listens any more, since writing failed.
         }
         index = next.fetch_add(1, Ordering::Relaxed);
@@ -56,26 +61,26 @@ fn judge_next(certificates: &[Certificate], judge: &Judge, next: &AtomicUsize, s
 
 fn write_lines<W: Write>(
     certificate: &Certificate,
-    judged: &Judged,
+    found: &CertificateVerdicts,
     is_imported: bool,
     script: &mut Script<W>,
 ) -> io::Result<()> {
     if is_imported {
         script.import(certificate)?;
     }
-    judged.verdicts.iter().try_for_each(|(number, verdict)| script.verdict(number, verdict))
+    found.verdicts.iter().try_for_each(|(number, verdict)| script.verdict(number, verdict))
 }
 
 /// What comes with numbers from 0 on, in any order, in the order of these numbers.
 fn in_order<T>(receiver: Receiver<(usize, T)>) -> impl Iterator<Item = (usize, T)> {
-    let mut early = BTreeMap::new();
+    let mut ahead = BTreeMap::new();
     let mut next = 0;
     std::iter::from_fn(move || {
-        while !early.contains_key(&next) {
+        while !ahead.contains_key(&next) {
             let (index, item) = receiver.recv().ok()?;
-            early.insert(index, item);
+            ahead.insert(index, item);
         }
-        let item = early.remove(&next)?;
+        let item = ahead.remove(&next)?;
         next += 1;
         Some((next - 1, item))
     })

@@ -21,7 +21,7 @@ pub enum Verdict {
 /// The processor time that the signatures of one certificate may take: seconds. All those of Debian's keyring take 10.
 const CERTIFICATE_SECONDS: f64 = 10.0;
 
-pub struct Judge {
+pub struct Verifier {
     pub issuers: Issuers,
     /// Whether signatures on attributes and subkeys are verified too.
     pub all: bool,
@@ -32,19 +32,19 @@ pub struct Judge {
 }
 
 #[derive(Default)]
-pub struct Judged {
+pub struct CertificateVerdicts {
     pub verdicts: Vec<(Number, Verdict)>,
     pub counts: Counts,
 }
 
-impl Judge {
-    pub fn certificate(&self, certificate: &Certificate) -> Judged {
-        let mut judged = Judged::default();
+impl Verifier {
+    pub fn certificate(&self, certificate: &Certificate) -> CertificateVerdicts {
+        let mut found = CertificateVerdicts::default();
         let own = match certificate.fingerprint() {
             Some(fingerprint) => [Issuer::Fingerprint(fingerprint)],
             None => {
-                judged.counts.other += certificate.signatures().len() as u64;
-                return judged;
+                found.counts.other += certificate.signatures().len() as u64;
+                return found;
             }
         };
         let mut seen = HashSet::new();
@@ -52,17 +52,17 @@ impl Judge {
             let number = number_of(certificate.key(), placed.place, placed.component, placed.body);
             let is_asked = self.pending.as_ref().map_or(true, |pending| pending.contains(&number));
             if !is_asked || !seen.insert(number) {
-                judged.counts.other += 1;
+                found.counts.other += 1;
                 continue;
             }
-            if self.is_late(&judged.counts) {
-                judged.counts.late += 1;
+            if self.is_late(&found.counts) {
+                found.counts.late += 1;
                 continue;
             }
-            let verdict = self.signature(certificate.key(), &own, &placed, &mut judged.counts);
-            judged.verdicts.extend(verdict.map(|verdict| (number, verdict)));
+            let verdict = self.signature(certificate.key(), &own, &placed, &mut found.counts);
+            found.verdicts.extend(verdict.map(|verdict| (number, verdict)));
         }
-        judged
+        found
     }
 
     /// Whether the time of all, or that of a certificate with these counts, is up.
@@ -70,7 +70,7 @@ impl Judge {
         counts.verifying_seconds > CERTIFICATE_SECONDS || self.end.map_or(false, |end| Instant::now() >= end)
     }
 
-    /// The verdict on a signature, counted; None where nothing can be said.
+    /// The verdict on a signature, counted; None if nothing can be said.
     fn signature(
         &self,
         key: &[u8],
@@ -116,7 +116,7 @@ impl Judge {
         }
     }
 
-    /// Whether a signature of a kind has an effect where it stands, and is asked for.
+    /// Whether a signature of this type has an effect at its place, and is asked for.
     fn has_effect(&self, place: Place, kind: u8) -> bool {
         let certifies =
             matches!(kind, kind::CERTIFICATION_FIRST..=kind::CERTIFICATION_LAST | kind::CERTIFICATION_REVOCATION);
