@@ -26,24 +26,26 @@ SAID = re.compile(r"\bin turn\b", re.IGNORECASE)
 
 
 @cache
-def table() -> tuple[dict[str, str], frozenset[str]]:
-    """What to write in place of each word, and the names that stay."""
+def table() -> tuple[dict[str, str], dict[str, tuple[str, ...]]]:
+    """What to write in place of each word; and the names that stay, each with the paths below which it does."""
     advice: dict[str, str] = {}
-    stays: set[str] = set()
+    stays: dict[str, tuple[str, ...]] = {}
     for line in TABLE.read_text(encoding="utf-8").splitlines():
         if line.startswith("= "):
-            stays.update(line[2:].split())
+            kept, _, places = line[2:].partition(" in ")
+            stays |= dict.fromkeys(kept.split(), tuple(places.split()) or PLACES)
         elif line and not line.startswith("#"):
             listed, instead = line.split(" => ")
             advice |= dict.fromkeys(listed.split(), instead)
-    return advice, frozenset(stays)
+    return advice, stays
 
 
-def word_of(name: str) -> str | None:
-    """The word of the table that a name has, if it may not stay."""
+def word_of(name: str, path: str) -> str | None:
+    """The word of the table that a name in a file has, if it may not stay."""
     advice, stays = table()
-    parts = PART.findall(name)
-    return None if name in stays else next((part.lower() for part in parts if part.lower() in advice), None)
+    if name in stays and path.startswith(stays[name]):
+        return None
+    return next((part.lower() for part in PART.findall(name) if part.lower() in advice), None)
 
 
 def names_of(tree: Tree, path: str) -> Iterator[tuple[int, str]]:
@@ -72,7 +74,7 @@ def names(tree: Tree) -> Iterator[Finding]:
             continue
         try:
             for number, name in names_of(tree, path):
-                if (word := word_of(name)) is not None:
+                if (word := word_of(name, path)) is not None:
                     yield Finding(path, number, f"the name {name}", f"write {table()[0][word]}")
         except (SyntaxError, tokenize.TokenError):
             pass  # The rule on programs reports it.

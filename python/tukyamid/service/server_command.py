@@ -41,8 +41,8 @@ the database failed, or the database is damaged; 2 wrong arguments."""
 def parser() -> argparse.ArgumentParser:
     words = argparse.ArgumentParser(prog="tukyamid-server", description=_DESCRIPTION, epilog=_EPILOG)
     commands = words.add_subparsers(dest="command", metavar="COMMAND", required=True)
-    for name, (call, told) in COMMANDS.items():
-        one = commands.add_parser(name, help=told, description=told.capitalize() + ".")
+    for name, (call, purpose) in COMMANDS.items():
+        one = commands.add_parser(name, help=purpose, description=purpose.capitalize() + ".")
         one.set_defaults(call=call)
         one.add_argument("--database", metavar="FILE|URL", default=None,
                          help="a file, or a URL such as postgresql://HOST,HOST/NAME of a database that machines share "

@@ -77,13 +77,13 @@ class Watch:
     def _looked(self, client: Client, now: int) -> Iterator[Notice]:
         """What is to be reported: of all amounts since the last report those that differ from the one before."""
         number = int(client.status()["change"])
-        told = client.told()
-        self._is_begun = not any(isinstance(one, Gone) for one in told)
+        lines = client.told()
+        self._is_begun = not any(isinstance(one, Gone) for one in lines)
         answer = client.ask(NAME, self._subject.fpr, self._subject.wanted, self._subject.user_id)
         waiting = client.unverified()
         keys = frozenset({self._subject.fpr, *self._subject.roots, *_keys_of(answer)})
         causes = _Causes(client, self._last, number, keys)
-        for amount in (*(one.amount for one in told if isinstance(one, Watched)), answer.amount):
+        for amount in (*(one.amount for one in lines if isinstance(one, Watched)), answer.amount):
             last = self._last
             if last is None or last.amount != amount:
                 yield Notice(self._subject, now, amount, None if last is None else last.amount, number, keys,

@@ -106,16 +106,16 @@ class Keyrings:
 
     async def watch(self) -> None:
         """Looks after the keyrings, for ever."""
-        told = ""
+        reported = ""
         while True:
             try:
                 await self._look_around()
-                told = ""
+                reported = ""
             except Exception as error:  # Whatever it was, the keyrings are looked after again.
                 said = str(error) if isinstance(error, (DatabaseFault, OSError)) else repr(error)
-                if said != told:
+                if said != reported:
                     self._hub.report(said)
-                told = said
+                reported = said
             await self._files.wait(all(one.is_verified for one in self._records.known))
 
     async def _look_around(self) -> None:

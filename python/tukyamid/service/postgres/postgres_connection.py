@@ -90,13 +90,13 @@ class Servers:
 
     def connect(self, is_primary: bool) -> "Wire":
         """A connection to the primary, or to any server; DatabaseFault if there is none."""
-        told: list[str] = []
+        errors: list[str] = []
         fault: DatabaseFault | None = None
         for server in self._servers:
             try:
                 wire = self._connect(server, "read-write" if is_primary else "any")
             except psycopg.Error as error:
-                told.append(text_of(error))
+                errors.append(text_of(error))
                 continue
             except DatabaseFault as found:
                 fault = found if fault is None or isinstance(found, Lacking) else fault
@@ -104,7 +104,7 @@ class Servers:
             # Several threads connect: none may meet a list that lacks a server.
             self._servers = [server, *(other for other in self._servers if other is not server)]
             return wire
-        raise fault or DatabaseFault(f"{self.name}: {'; '.join(told)}")
+        raise fault or DatabaseFault(f"{self.name}: {'; '.join(errors)}")
 
     def _connect(self, server: dict[str, str], wanted: str) -> "Wire":
         """A connection to this server; a DatabaseFault if it lacks what was acknowledged."""

@@ -159,7 +159,7 @@ class Postgres:
     def apply(self, changes: Sequence[Change]) -> list[int]:
         locked = self._locked()
         if locked is None:
-            raise DatabaseFault(f"{self.name}: the turn is over")
+            raise DatabaseFault(f"{self.name}: the lock has ended")
         statements = Statements(locked)
         writing, now = SharedWriting(statements, self._machine), int(statements.row(NOW)[0])
         numbers = [writing.make(change, now) for change in changes]

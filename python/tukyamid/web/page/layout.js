@@ -46,7 +46,7 @@ function gather(paths, keys) {
   return [...edges.values()].filter((edge) => edge.step.issuer !== edge.step.target);
 }
 
-/** A key stands as far from the target as its longest way there. */
+/** A key is as far from the target as its longest way there. */
 function note(keys, fpr, far) {
   const known = keys.get(fpr);
   if (!known) keys.set(fpr, { fpr, far });

@@ -18,7 +18,7 @@ export function word(term, text = term) {
   return box;
 }
 
-/** A text without names as nodes, in which each term is explained where it stands first. */
+/** A text without names as nodes, in which each term is explained at its first occurrence. */
 export const explained = (text) => parts(curly(text)).filter((part) => part.text).map((part) =>
   (part.term ? word(part.term, part.text) : part.text));
 
