@@ -10,7 +10,7 @@ import os
 import random
 import subprocess
 import sys
-from collections.abc import Iterable, Iterator
+from collections.abc import Callable, Iterable, Iterator
 from typing import IO
 
 TOP = os.path.dirname(os.path.dirname(os.path.abspath(__file__)))
@@ -38,9 +38,20 @@ def fingerprint(key: bytes) -> bytes:
     return hashlib.sha1(b"\x99" + len(key).to_bytes(2, "big") + key).digest()
 
 
+def numbered(key: bytes, place: int, component: bytes) -> Callable[[bytes], bytes]:
+    """What gives the number of each signature on a component."""
+    fields = b"wot1", key, bytes([place]), component
+    front = hashlib.sha256(b"".join(len(field).to_bytes(4, "big") + field for field in fields))
+
+    def digest(signature: bytes) -> bytes:
+        whole = front.copy()
+        whole.update(len(signature).to_bytes(4, "big") + signature)
+        return whole.digest()
+    return digest
+
+
 def number(key: bytes, place: int, component: bytes, signature: bytes) -> str:
-    fields = b"wot1", key, bytes([place]), component, signature
-    return hashlib.sha256(b"".join(len(field).to_bytes(4, "big") + field for field in fields)).hexdigest()
+    return numbered(key, place, component)(signature).hex()
 
 
 def signature(
