@@ -155,8 +155,8 @@ def _make_part(first: int, folder: Path) -> Path:
             rows = Rows([], [], [], [])
             for index in making.network.places(start, _PIECE):
                 making.network.put(index, rows, making.fingerprint)
-            for (table, columns), some in zip(_TABLES.items(), rows):
-                marks = ", ".join("?" for _ in columns.split(","))
+            for table, some in rows._asdict().items():
+                marks = ", ".join("?" for _ in _TABLES[table].split(","))
                 connection.executemany(f"INSERT INTO {table} VALUES ({marks})", some)
         connection.execute("COMMIT")
     return path

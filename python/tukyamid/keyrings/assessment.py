@@ -45,6 +45,11 @@ class Other(Value):
         self.certification, self.word, self.meaning = certification, word, meaning
 
 
+class Others(tuple[Other, ...]):
+    """Certifications that are on no path. `written` keeps what was written about all of them."""
+    written: str | None = None
+
+
 class Assessment(Value):
     """An answer with what is said about it. `word` is the target's, `ok` if it is in order. `expired` says which other
     programs treat the key as expired, and `strict` that the answer then isn't reached. `brief` is for long lists:
@@ -52,7 +57,7 @@ class Assessment(Value):
     __slots__ = ("fpr", "user_id", "wanted", "amount", "paths", "word", "others", "expired", "strict", "brief")
 
     def __init__(self, fpr: str, user_id: bytes, wanted: int, amount: int, paths: tuple[ShownPath, ...],
-                 word: TargetWord | MissingWord, others: tuple[Other, ...], expired: Expired | None = None,
+                 word: TargetWord | MissingWord, others: tuple[Other, ...] = (), expired: Expired | None = None,
                  strict: bool = False, brief: bool = False) -> None:
         self.fpr, self.user_id, self.wanted, self.amount = fpr, user_id, wanted, amount
         self.paths, self.word, self.others = paths, word, others
@@ -90,6 +95,10 @@ class Report(Value):
 
 def elsewhere(view: View, fpr: str) -> Expired | None:
     """Which other programs treat a key as expired at the view's time."""
+    return view.once(("elsewhere", fpr), lambda: _expired(view, fpr))
+
+
+def _expired(view: View, fpr: str) -> Expired | None:
     certificate = view.keyring.certificate(fpr)
     if certificate is None:
         return None
@@ -98,8 +107,8 @@ def elsewhere(view: View, fpr: str) -> Expired | None:
 
 def brief(view: View, binding: Binding, wanted: int) -> Assessment:
     """A binding with its amount, as in a long list."""
-    return Assessment(binding.fpr, binding.user_id, wanted, binding.amount, (), TargetWord.OK, (),
-                      elsewhere(view, binding.fpr), brief=True)
+    return Assessment(binding.fpr, binding.user_id, wanted, binding.amount, (), TargetWord.OK,
+                      expired=elsewhere(view, binding.fpr), brief=True)
 
 
 class Question:
@@ -127,13 +136,20 @@ class Question:
         reasons = self.explanation.reasons if self.explanation is not None else ()
         return [reason for reason in reasons if reason.number not in self.used]
 
-    def others(self, reasons: Iterable[Reason]) -> tuple[Other, ...]:
+    def others(self, reasons: Iterable[Reason]) -> Others:
         """What is said about these certifications."""
         if self.explanation is None:
-            return ()
+            return Others()
         why = _WhyUnused(self.view, self.fpr, self.explanation.word, self.amount >= self.wanted)
-        return tuple(_other(self.view, self.fpr, self.user_id, reason, why, reason.number in self.used)
-                     for reason in reasons)
+        return Others(_other(self.view, self.fpr, self.user_id, reason, why, reason.number in self.used)
+                      for reason in reasons)
+
+    def all_others(self, every: bool) -> Others:
+        """What is said about the certifications that are on no path, or about `every` one. It depends on what the paths
+        use, and on whether the wanted amount is reached, not on the amounts."""
+        of = "others", self.fpr, self.user_id, every, self.amount >= self.wanted, frozenset(self.used)
+        return self.view.once(of, lambda: self.others(self.explanation.reasons if every and self.explanation else
+                                                      self.unused()), lambda found: 2 * len(found))
 
 
 def assess(view: View, fpr: str, user_id: bytes, wanted: int, every: bool = False) -> Assessment:
@@ -141,8 +157,8 @@ def assess(view: View, fpr: str, user_id: bytes, wanted: int, every: bool = Fals
     paths are among the others too."""
     asked = Question(view, fpr, user_id, wanted)
     if asked.explanation is None:
-        return Assessment(fpr, user_id, wanted, asked.amount, asked.paths, asked.word, ())
-    others = asked.others(asked.explanation.reasons if every else asked.unused())
+        return Assessment(fpr, user_id, wanted, asked.amount, asked.paths, asked.word)
+    others = asked.all_others(every)
     expired = elsewhere(view, fpr) if asked.word is TargetWord.OK else None
     return Assessment(fpr, user_id, wanted, asked.amount, asked.paths, asked.word, others, expired)
 

@@ -15,13 +15,17 @@ from ..protocol.refusals import RefusedAbsent, RefusedView
 
 # What starts programs and reads files is imported when it is needed: a service that runs needs none of it.
 if TYPE_CHECKING:
-    from collections.abc import Callable, Iterable, Iterator, Mapping, Sequence
+    from collections.abc import Callable, Hashable, Iterable, Iterator, Mapping, Sequence
+    from typing import TypeVar
 
     from ..client.connection import Connection
     from ..client.listing import Listing
     from ..protocol.replies import Answer, Binding, Explanation
     from ..protocol.service_lines import Waiting
+    from .kept_answers import Kept
     from .verified_cache import Entry, Held, Store
+
+    T = TypeVar("T")
 
 VIEW = "client"
 WHOLE = "whole"  # The view of what holds without what is supposed.
@@ -194,6 +198,10 @@ class Keyring:
         return View(self, name, time, dict(roots))
 
 
+def _certifications(found: Explanation | None) -> int:
+    return 0 if found is None else len(found.reasons)
+
+
 class View:
     """A keyring at a time, from some roots."""
 
@@ -202,21 +210,25 @@ class View:
         self.name = name
         self.time = time
         self.roots = roots
-        self._reached: dict[str, bool] | None = None
+        self._kept: Kept | None = None
 
-    def keep_reached(self) -> None:
-        """From now on each key is asked about once by `reaches`, for whoever knows when the keyring changes."""
-        self._reached = {}
+    def keep_in(self, kept: Kept) -> None:
+        """From now on what doesn't depend on the wanted amount is asked for once, unless too much is kept. For whoever
+        knows when the keyring changes, and then takes another view."""
+        self._kept = kept
+
+    def once(self, question: Hashable, ask: Callable[[], T], size: Callable[[T], int] = lambda value: 0) -> T:
+        """What `ask` returns, or what it returned for this question before if that is kept; `size` counts its
+        certifications."""
+        return ask() if self._kept is None else self._kept.of((self, question), ask, size)
 
     def reaches(self, fpr: str) -> bool:
         """Whether any user ID of the key is reached at all."""
-        if self._reached is not None and fpr in self._reached:
-            return self._reached[fpr]
+        return self.once(("reaches", fpr), lambda: self._is_reached(fpr))
+
+    def _is_reached(self, fpr: str) -> bool:
         certificate = self.keyring.certificate(fpr)
-        found = certificate is not None and any(self.ask(fpr, 1, uid).amount for uid in certificate.user_ids)
-        if self._reached is not None:
-            self._reached[fpr] = found
-        return found
+        return certificate is not None and any(self.ask(fpr, 1, uid).amount for uid in certificate.user_ids)
 
     def ask(self, fpr: str, wanted: int, user_id: bytes | str) -> Answer:
         """How confident one can be that the user ID belongs to the key, up to the wanted amount."""
@@ -224,6 +236,9 @@ class View:
 
     def explain(self, fpr: str, user_id: bytes | str) -> Explanation | None:
         """What each certification of a user ID comes to; None if there is no such certificate or user ID."""
+        return self.once(("explain", fpr, user_id), lambda: self._explained(fpr, user_id), _certifications)
+
+    def _explained(self, fpr: str, user_id: bytes | str) -> Explanation | None:
         try:
             return self.keyring.engine.explain(self.name, fpr, user_id)
         except RefusedAbsent:

@@ -14,8 +14,9 @@ from ..command.key_names import resolve
 from ..command.parsed_words import Given
 from ..command.questions import Found
 from ..command.trust_roots import Roots
-from ..formats.json_form import as_object
+from ..formats.json_form import as_written
 from ..keyrings.assessment import Report, brief
+from ..keyrings.kept_answers import Kept
 from ..keyrings.keyring import Keyring, View
 from ..keyrings.service_keyring import served_keyring
 from ..openpgp.addresses import address_of
@@ -30,6 +31,7 @@ if TYPE_CHECKING:
 
 PATIENCE = 60.0
 MOST_KEPT = 20_000
+MOST_CERTIFICATIONS = 100_000  # Of what is kept of answers: some 60 MB.
 
 
 class _NoNames:
@@ -48,6 +50,7 @@ class Answering:
         self._state = ""
         self._keyring: Keyring | None = None
         self._waiting: Waiting | None = None
+        self._kept = Kept(MOST_CERTIFICATIONS)
         self._views: dict[tuple[int, tuple[tuple[str, int], ...]], View] = {}
         self._listed: tuple[object, list[Binding]] | None = None
         self.whole: Whole | None = None  # The network that the page was shown last.
@@ -58,6 +61,7 @@ class Answering:
         if state != self._state or keyring is None or keyring.kept() > MOST_KEPT:
             self._state, self._listed, self.whole = state, None, None
             self._views.clear()
+            self._kept = Kept(MOST_CERTIFICATIONS)
             self._keyring = served_keyring(self.client)
             self._waiting = self._keyring.index.waiting()
 
@@ -87,6 +91,7 @@ class Answering:
             self._client.end_at_once()
         self._client = self._keyring = self._listed = self.whole = None
         self._views.clear()
+        self._kept = Kept(MOST_CERTIFICATIONS)
 
     def view(self, time: int, roots: Mapping[str, int]) -> View:
         """A view, which is kept for the questions that follow."""
@@ -95,7 +100,7 @@ class Answering:
             if len(self._views) == 8:
                 self._views.clear()
             self._views[of] = self.keyring.view(time, roots, f"public{len(self._views)}")
-            self._views[of].keep_reached()
+            self._views[of].keep_in(self._kept)
         return self._views[of]
 
     def ask(self, call: str, time: int, roots: dict[str, int], asked: Mapping[str, Any]) -> dict[str, Any]:
@@ -115,7 +120,7 @@ class Answering:
         shown = tuple(one.but(strict=given.strict) for one in found.assessments)
         said = (*notes, *found.notes, *notes_on_waiting(self.keyring, shown, self._waiting))
         roots = found.roots or roots
-        return as_object(Report(given.question or "", given.amount, time, roots, shown, _NoNames(), said))
+        return as_written(Report(given.question or "", given.amount, time, roots, shown, _NoNames(), said))
 
     def _list(self, given: Given, time: int, roots: dict[str, int], notes: tuple[str, ...],
               asked: Mapping[str, Any]) -> dict[str, Any]:

@@ -10,6 +10,7 @@ import sys
 from typing import Any
 
 from ..command.exit_statuses import NoAnswer, WrongWords, reason_of
+from ..formats.json_form import compact
 from ..protocol.refusals import ServiceEnded, TukyamidError
 from .answering import Answering
 from .page_answering import ask_page
@@ -27,7 +28,7 @@ def main(socket: str) -> None:
     answering = Answering(socket)
     for line in sys.stdin.buffer:
         status, answer = _reply(answering, line)
-        body = json.dumps(answer, ensure_ascii=False, separators=(",", ":")).encode("utf-8", "backslashreplace")
+        body = compact(answer).encode("utf-8", "backslashreplace")
         if len(body) > MOST_OCTETS:
             status, body = 503, json.dumps(_error(3, f"the answer has more than {MOST_OCTETS} bytes")).encode()
         sys.stdout.buffer.write(b"%d %d\n%s" % (status, len(body), body))
