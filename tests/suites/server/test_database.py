@@ -1,12 +1,14 @@
 """The database: what is wrong with it is said, and it goes to a copy, to a script, and back."""
 
 import os
+import random
 import shutil
 import sqlite3
 import subprocess
 import tempfile
 import unittest
 from contextlib import closing
+from dataclasses import replace
 from pathlib import Path
 
 from outside import PATIENCE, PROGRAM, PYTHON, SERVER, Client, Server, alone, needs_engine, script_of
@@ -74,6 +76,30 @@ class Changes(InAFolder):
         self.assertEqual([one.what for one in self.finder.log(3)], ["e", "d", "b"])
         self.assertEqual(self.finder.log(1)[0].actor, NOBODY)
         self.assertEqual((script_of(self.database), self.database.check()), (self.script, []))
+
+    def test_verdicts_in_one_change_are_those_of_one_after_another(self):
+        """Among them are first ones, others, bad ones, those on signatures that nobody carries, by unknown keys, taken
+        away, and given twice."""
+        draw, fprs = random.Random(5), [bytes.fromhex(fpr.decode()) for fpr in self.world.fprs]
+        numbers = [bytes.fromhex(number.decode()) for number, _ in self.world.verdicts]
+        self.database.apply([Change("a", NOBODY, tuple(SetVerdict(number, None) for number in numbers[::2]))])
+        other = Sqlite(self.folder / "other.db")
+        self.addCleanup(other.close)
+        other.fill(script_of(self.database).splitlines(), "filled", NOBODY)
+        finder = other.finder()
+        self.addCleanup(finder.close)
+        for some in range(30):
+            verdicts = [SetVerdict(draw.choice([*numbers, *[bytes([place]) * 32 for place in range(9)]]),
+                                   draw.choice([*fprs, *fprs, b"", b"\7" * 20, None]))
+                        for _ in range(draw.randrange(1, 40))]
+            if some == 0:
+                verdicts = [SetVerdict(number, fprs[0]) for number in numbers[::2]]
+            at_once = self.database.apply([Change("b", NOBODY, tuple(verdicts))])
+            singly = other.apply([Change("b", NOBODY, (verdict,)) for verdict in verdicts])
+            self.assertEqual(script_of(self.database), script_of(other))
+            self.assertEqual((self.database.check(), other.check()), ([], []))
+            self.assertEqual(*(replace(one.figures(), change=0, octets=0) for one in (self.finder, finder)))
+            self.assertLessEqual(at_once[-1], singly[-1])
 
     def test_a_dropped_certificate_keeps_its_verdicts(self):
         fpr = bytes.fromhex(self.world.fprs[0].decode())

@@ -54,6 +54,9 @@ class ReplyCutter:
         """The replies that end within these octets, with their line feeds."""
         for line in self._lines.cut(octets):
             assert line is not None
+            if not self._reply and line.startswith(b"ok"):
+                yield line + b"\n"
+                continue
             self._reply.append(line)
             if self._items:
                 self._items -= 1

@@ -7,8 +7,11 @@ import asyncio
 from collections import deque
 from collections.abc import Awaitable, Callable, Sequence
 
+from ..engines.conversation import EngineGone
 from ..engines.in_flight import ignore
 from ..sessions.views import Value
+from ..sliced.line_queue import Asked
+from ..sliced.partial_engine import BudgetExceeded
 from ..sliced.reader_thread import Reader
 from ..sliced.sliced_keyring import Sliced
 from ..storage.certificate_rows import brought
@@ -23,6 +26,7 @@ from .published import LONGEST_WAIT, Published
 _Notes = list[tuple[int, bytes]]  # Lines of clients, by their numbers.
 _NOBODY = Actor(0, 0)
 _MOST_KEPT, _LONGEST_KEPT, _LONGEST_ASKED = 2048, 4096, 512  # Replies, and octets of one, and of its question.
+_MOST_TOGETHER = 16
 _LONGEST_MOMENT = 60.0  # Seconds: PostgreSQL keeps what is read, however old it is.
 
 
@@ -41,6 +45,7 @@ class FollowingSliced(Sliced):
         self._unwritten: dict[int, _Notes] = {}  # Those of each client's last line in the queue.
         self._kept: dict[tuple[Value, bytes], bytes] = {}
         self._kept_behind = -1
+        self._alone = 0  # How many of the next questions are asked alone.
         self._moment = MomentReader(access, database, published, lambda: self.count, self._catch_up)
         super().__init__(program, access, database, budget)
         self._task = asyncio.get_running_loop().create_task(self._keep_fresh())
@@ -94,7 +99,8 @@ class FollowingSliced(Sliced):
             if self._unwritten.get(session) is noted:
                 del self._unwritten[session]
 
-    def enqueue_inner(self, work: Callable[[], Awaitable[None]], fail: Callable[[Exception], None]) -> None:
+    def enqueue_inner(self, work: Callable[[], Awaitable[None]], fail: Callable[[Exception], None],
+                   asked: Asked | None = None) -> None:
         noted, self._to_note = self._to_note, []
         self._unwritten.update({session: noted for session, _ in noted})
 
@@ -107,7 +113,7 @@ class FollowingSliced(Sliced):
                 self._write(noted)
                 self._moment.release()
 
-        super().enqueue_inner(noted_work, fail)
+        super().enqueue_inner(noted_work, fail, asked)
 
     async def _ask(self, word: bytes, value: Value, rest: bytes) -> bytes:
         """What the engine has said to a question since the last change is its reply until the next one."""
@@ -115,13 +121,31 @@ class FollowingSliced(Sliced):
             return await super()._ask(word, value, rest)
         if self._kept_behind != self.count or len(self._kept) == _MOST_KEPT:
             self._kept, self._kept_behind = {}, self.count
-        kept, known = self._kept, self._kept.get((value, rest))
+        known = self._kept.get((value, rest))
         if known is not None:
             return known
-        reply = await super()._ask(word, value, rest)
-        if reply.startswith(b"amount ") and len(reply) <= _LONGEST_KEPT and self._kept_behind == self.count:
-            kept[value, rest] = reply
-        return reply
+        replies = await self._asked_together(value, rest)
+        if rest not in replies:
+            replies = {rest: await super()._ask(word, value, rest)}
+        if self._kept_behind == self.count:
+            self._kept.update({(value, one): reply for one, reply in replies.items()
+                               if reply.startswith(b"amount ") and len(reply) <= _LONGEST_KEPT})
+        return replies[rest]
+
+    async def _asked_together(self, value: Value, rest: bytes) -> dict[bytes, bytes]:
+        """The replies to a question and to those that wait behind it and aren't kept, by what they ask. If an engine
+        ends, or hasn't room for all, there are none: each is asked alone."""
+        rests = [rest, *dict.fromkeys(
+            one for one in self._line_queue.asked_next(value, _MOST_TOGETHER)
+            if len(one) <= _LONGEST_ASKED and one != rest and (value, one) not in self._kept)]
+        if self._alone:
+            self._alone -= 1
+            return {}
+        try:
+            return dict(zip(rests, await self._asker.ask_all(value, rests)))
+        except (BudgetExceeded, EngineGone):
+            self._alone = _MOST_TOGETHER
+            return {}
 
     async def _begin_again(self) -> None:
         self._kept_behind = -1

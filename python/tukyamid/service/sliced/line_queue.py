@@ -6,22 +6,28 @@ from __future__ import annotations
 import asyncio
 from collections import deque
 from collections.abc import Awaitable, Callable, Iterator
+from itertools import islice
 
+from ..sessions.views import Value
 from ..storage.journal import Change, Done, Verdicts
 from .merging_engine import dropped
 
+Asked = tuple[Value, bytes]
 _MOST_CHANGES = 512
 _MOST_OCTETS = 4 << 20
 _MOST_CERTIFICATES = 1024
 
 
 class Queued:
-    """Work in the queue, and what is called if it raises something."""
-    __slots__ = ("work", "fail")
+    """Work in the queue, and what is called if it raises something. A line `ask` says what it asks: its view, and the
+    rest of the line."""
+    __slots__ = ("work", "fail", "asked")
 
-    def __init__(self, work: Callable[[], Awaitable[None]], fail: Callable[[Exception], None]) -> None:
+    def __init__(self, work: Callable[[], Awaitable[None]], fail: Callable[[Exception], None],
+                 asked: Asked | None = None) -> None:
         self.work = work
         self.fail = fail
+        self.asked = asked
 
 
 class Once:
@@ -56,6 +62,11 @@ class LineQueue:
         self._queue.append(item)
         self._since.append(self._now())
         self._woken.set()
+
+    def asked_next(self, value: Value, most: int) -> list[bytes]:
+        """What the next lines ask from a view of this value, as far as they are among the next `most`."""
+        return [item.asked[1] for item in islice(self._queue, most)
+                if isinstance(item, Queued) and item.asked is not None and item.asked[0] == value]
 
     def lag(self) -> float:
         """For how many seconds the next one has waited."""

@@ -16,11 +16,17 @@ from ..storage.partial_reads import Part
 
 # Reads the parts of these certificates that are kept.
 Fetch = Callable[[Sequence[bytes]], Awaitable[list[Part]]]
+# Makes the lines that follow once what they need is loaded.
+Then = Callable[[], list[bytes]]
 REFUSED_BUDGET = b"refused full budget\n"
 _AT_ONCE = 256
 _MOST_OCTETS = 64 << 20  # Of certificates, unless a question needs more at once.
 _MOST_IN_VIEWS = 1 << 17  # Views times loaded certificates.
 _MOST_MOVED = 86_400  # Seconds: what has begun or ended within a day is little of a keyring.
+
+
+def _nothing() -> list[bytes]:
+    return []
 
 
 class BudgetExceeded(Exception):
@@ -63,19 +69,35 @@ class Loader:
     async def load(self, base: Collection[bytes], beside: Collection[bytes], fetch: Fetch) -> None:
         """Has the engine hold these certificates, as far as they are kept. `base` is the same object again and again
         as long as it has the same members. BudgetExceeded if they aren't all held at once."""
+        await self._load(base, beside, fetch, _nothing)
+
+    async def load_and_ask(self, base: Collection[bytes], beside: Collection[bytes], fetch: Fetch, value: Value,
+                           lines: Callable[[bytes], Sequence[bytes]]) -> list[bytes]:
+        """As `load`, and then `ask`, in one conversation."""
+        asked: list[bytes] = []
+
+        def then() -> list[bytes]:
+            before = list(self._lines_for(value))
+            asked[:] = lines(self._views[value])
+            return [*before, *asked]
+
+        return (await self._load(base, beside, fetch, then))[-len(asked):]
+
+    async def _load(self, base: Collection[bytes], beside: Collection[bytes], fetch: Fetch, then: Then) -> list[bytes]:
+        """Returns the replies to the lines of `then`, which is called just before they are sent."""
         try:
             if base is not self._base:
                 self._base = ()
-                await self._hold(base, base, fetch)
+                await self._hold(base, base, fetch, _nothing)
                 self._base = base
-            await self._hold(beside, base, fetch)
+            return await self._hold(beside, base, fetch, then)
         except (BudgetExceeded, DatabaseFault):
             raise  # Between two conversations: what the engine holds is known.
         except BaseException:
             self.end()
             raise
 
-    async def _hold(self, fprs: Collection[bytes], base: Collection[bytes], fetch: Fetch) -> None:
+    async def _hold(self, fprs: Collection[bytes], base: Collection[bytes], fetch: Fetch, then: Then) -> list[bytes]:
         missing = []
         for fpr in fprs:
             if fpr in self._loaded:
@@ -84,24 +106,30 @@ class Loader:
                 missing.append(fpr)
         for start in range(0, len(missing), _AT_ONCE):
             parts = await fetch(missing[start:start + _AT_ONCE])
-            await self._put(parts, base, fprs)
+            is_last = start + _AT_ONCE >= len(missing)
+            replies = await self._put(parts, base, fprs, then if is_last else _nothing)
+        return replies if missing else await self._talk.run(then())
 
-    async def _put(self, parts: list[Part], base: Collection[bytes], needed: Collection[bytes]) -> None:
+    async def _put(self, parts: list[Part], base: Collection[bytes], needed: Collection[bytes],
+                   then: Then) -> list[bytes]:
         room = self.budget - len(parts)
-        await self._drop(self._oldest(len(self._loaded) - room, base, needed))
+        drops = self._dropped(self._oldest(len(self._loaded) - room, base, needed))
         if len(self._loaded) > room:
+            await self._talk.run(drops)
             raise BudgetExceeded
         octets = self._octets + sum(len(part.octets) for part in parts) - _MOST_OCTETS
         if octets > 0 and len(self._loaded) > len(base) + len(needed):
-            await self._drop(self._oldest(0, base, needed, octets))
+            drops += self._dropped(self._oldest(0, base, needed, octets))
         lines = [line for part in parts for line in part.lines()]
-        replies = await self._talk.run(lines)
-        if not all(reply.startswith(b"ok") for reply in replies):
+        replies = (await self._talk.run([*drops, *lines, *then()]))[len(drops):]
+        if not all(reply.startswith(b"ok") for reply in replies[:len(lines)]):
             await self._make_room(parts, lines, replies, base, needed)
+            replies[len(lines):] = await self._talk.run(then())
         for part in parts:
             self._loaded[part.fpr] = tuple(number for number, _ in part.verdicts)
             self._sizes[part.fpr] = len(part.octets)
             self._octets += len(part.octets)
+        return replies[len(lines):]
 
     async def _make_room(self, parts: list[Part], lines: list[bytes], replies: list[bytes], base: Collection[bytes],
                          needed: Collection[bytes]) -> None:
@@ -137,13 +165,16 @@ class Loader:
             raise
 
     async def _drop(self, fprs: Iterable[bytes]) -> None:
+        await self._talk.run(self._dropped(fprs))
+
+    def _dropped(self, fprs: Iterable[bytes]) -> list[bytes]:
+        """The lines that drop these certificates, which count as dropped."""
         lines = []
         for fpr in fprs:
             self._octets -= self._sizes.pop(fpr)
             lines.append(b"drop " + hexlify(fpr))
             lines += [b"verdict %s none" % hexlify(number) for number in self._loaded.pop(fpr)]
-        if lines:
-            await self._talk.run(lines)
+        return lines
 
     async def ask(self, value: Value | None, lines: Callable[[bytes], Sequence[bytes]]) -> list[bytes]:
         """The replies to the lines that are made with the name of a view of this value."""

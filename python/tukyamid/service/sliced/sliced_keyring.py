@@ -20,7 +20,7 @@ from ..storage.group_commit import FAULT, Barrier
 from ..storage.journal import Change, Done, Verdicts
 from ..storage.partial_reads import HasParts, Parts
 from ..storage.locked_changes import Begun
-from .line_queue import LineQueue, Once, Queued
+from .line_queue import Asked, LineQueue, Once, Queued
 from .merging_engine import Merging, touched_by
 from .partial_engine import Loader
 from .reader_thread import Reader
@@ -131,7 +131,8 @@ class Sliced:
             self.enqueue(partial(self.go_over, value, wanted_of(rest) or 1, lambda asker: asker.listed(value, rest)),
                          done)
         else:
-            self.enqueue(partial(self.answer, partial(self._ask, word, value, rest)), done)
+            self.enqueue(partial(self.answer, partial(self._ask, word, value, rest)), done,
+                         (value, rest) if word == b"ask" else None)
 
     def keys(self, done: Callable[[bytes | Pieces | None, int], None]) -> None:
         """The reply to `keys`, in pieces, from the database as it is when the lines before it are answered."""
@@ -145,14 +146,15 @@ class Sliced:
             self._committer.add(Barrier(done))
         self.enqueue_inner(work, lambda _: done(None))
 
-    def enqueue(self, work: Callable[[Done], Awaitable[None]], done: Done) -> None:
+    def enqueue(self, work: Callable[[Done], Awaitable[None]], done: Done, asked: Asked | None = None) -> None:
         """Has a line answered, once, after those before it, whatever `work` raises."""
         once = Once(done)
-        self.enqueue_inner(partial(work, once), lambda _: once(FAULT, self.count))
+        self.enqueue_inner(partial(work, once), lambda _: once(FAULT, self.count), asked)
 
-    def enqueue_inner(self, work: Callable[[], Awaitable[None]], fail: Callable[[Exception], None]) -> None:
+    def enqueue_inner(self, work: Callable[[], Awaitable[None]], fail: Callable[[Exception], None],
+                      asked: Asked | None = None) -> None:
         """Has something done after the lines so far; `fail` is called if that raises something."""
-        self._line_queue.add(Queued(work, fail))
+        self._line_queue.add(Queued(work, fail, asked))
 
     async def go_over(self, value: Value, wanted: int, work: Work, done: Done) -> None:
         """Has work done that goes over a whole list: here, or in an engine of its own if it is long."""

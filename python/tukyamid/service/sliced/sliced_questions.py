@@ -50,6 +50,13 @@ class Asker:
             return reply if reply == _REFUSED_LINE else REFUSED_BUDGET
         return await self._say(word, value, rest)
 
+    async def ask_all(self, value: Value, rests: Sequence[bytes]) -> list[bytes]:
+        """The replies to lines `ask` from a view, each of which names a certificate, in one conversation."""
+        targets = frozenset(fpr for rest in rests if (fpr := target_of(rest[1:])) is not None)
+        needed, ready = await self._read(partial(self._gather_all, value, targets))
+        return await self.loader.load_and_ask(needed.base, needed.beside, partial(self._fetch, ready), value,
+                                              lambda name: [b"ask %s%s" % (name, rest) for rest in rests])
+
     async def _say(self, word: bytes, value: Value, rest: bytes) -> bytes:
         return (await self.loader.ask(value, lambda name: [b"%s %s%s" % (word, name, rest)]))[0]
 
@@ -62,14 +69,20 @@ class Asker:
 
     def _gather(self, word: bytes, value: Value, rest: bytes, parts: Parts) -> tuple[Rest, list[Part]]:
         """What the reply rests on, and what isn't loaded of it beside the slice, if that isn't much."""
-        needed = rest_of(word, value, rest[1:], self.slices, parts, self.loader.budget)
+        return self._with_missing(rest_of(word, value, rest[1:], self.slices, parts, self.loader.budget), parts)
+
+    def _gather_all(self, value: Value, targets: frozenset[bytes], parts: Parts) -> tuple[Rest, list[Part]]:
+        return self._with_missing(Rest(slice_of(value, self.slices, parts), targets), parts)
+
+    def _with_missing(self, needed: Rest, parts: Parts) -> tuple[Rest, list[Part]]:
         missing = [fpr for fpr in needed.beside if not self.loader.holds(fpr)]
         return needed, _parts_of(missing[:_BATCH], parts)
 
     async def _fetch(self, ready: list[Part], fprs: Sequence[bytes]) -> list[Part]:
+        """Those that are at hand already, or all of them from the database."""
         known = {part.fpr: part for part in ready}
-        if len(fprs) == 1 and fprs[0] in known:
-            return [known[fprs[0]]]
+        if all(fpr in known for fpr in fprs):
+            return [known[fpr] for fpr in fprs]
         return await self._read(partial(_parts_of, fprs))
 
     async def targets(self, value: Value) -> tuple[Collection[bytes], list[bytes]]:

@@ -3,6 +3,7 @@ PostgreSQL understand alike, but for the indexes that they name for SQLite."""
 
 from abc import ABC, abstractmethod
 from collections.abc import Collection, Iterator
+from typing import cast
 
 from .partial_reads import Part, Sizes
 
@@ -87,8 +88,7 @@ class QueriedParts(ABC):
             return None
         place, octets = row
         assert isinstance(octets, bytes)
-        return Part(fpr, octets, tuple((number, issuer) for number, issuer in self._rows(_VERDICTS, place)
-                                       if isinstance(number, bytes) and isinstance(issuer, bytes)))
+        return Part(fpr, octets, tuple(cast("Iterator[tuple[bytes, bytes]]", self._rows(_VERDICTS, place))))
 
     def has(self, fpr: bytes) -> bool:
         return next(self._rows(_HAS, fpr), None) is not None

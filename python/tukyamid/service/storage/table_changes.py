@@ -3,6 +3,7 @@ PostgreSQL understand alike; `table_check` says whether they have done it."""
 
 from collections import Counter
 from collections.abc import Iterable, Sequence
+from itertools import takewhile
 from typing import Any, Protocol
 
 from .certificate_rows import Described, describe
@@ -14,6 +15,9 @@ COUNTED = ("certificates", "octets", "user_ids", "signatures", "verdicts", "pend
 _TABLES = ("awaited", "unlooked", "verdicts", "user_ids", "subkeys", "certificates")
 LIST_SUBKEY = "INSERT INTO subkeys (certificate, key_id) VALUES (?, ?) ON CONFLICT DO NOTHING"
 _ADOPT = "UPDATE verdicts SET certificate = ?, depth = ? WHERE number = ? AND certificate IS NULL"
+_SET_FIRST = "UPDATE verdicts SET issuer = keys.id FROM keys WHERE fingerprint = ? AND number = ? " \
+    "AND certificate IS NOT NULL AND issuer IS NULL"
+_MANY = 8
 _BRING = "INSERT INTO verdicts (number, certificate, depth) SELECT ?, ?, ? " \
     "WHERE NOT EXISTS (SELECT 1 FROM verdicts WHERE number = ?)"
 
@@ -52,7 +56,10 @@ class Writing:
 
     def make(self, change: Change, now: int) -> int:
         """Makes a change, and gives the number of the last change so far."""
-        if any([self._is_made(effect) for effect in change.effects]):
+        verdicts = list(takewhile(lambda effect: isinstance(effect, SetVerdict), change.effects))
+        made = self._make_first(verdicts)
+        rest = change.effects if made < len(verdicts) else change.effects[made:]
+        if any([made > 0, *[self._is_made(effect) for effect in rest]]):
             self._log(change, now)
         return self._number
 
@@ -87,6 +94,17 @@ class Writing:
             self._connection.execute(f"UPDATE counts SET {', '.join(f'{name} = {name} + ?' for name in COUNTED)}",
                                      [self._more[name] for name in COUNTED])
         self._more.clear()
+
+    def _make_first(self, effects: Sequence[Effect]) -> int:
+        """Of some verdicts, makes those that are the first on a signature of a kept certificate, by a kept key, and
+        returns how many these are. To make one again changes nothing."""
+        if len(effects) < _MANY:
+            return 0
+        made = self._connection.executemany(_SET_FIRST, [
+            (effect.issuer, effect.number) for effect in effects if isinstance(effect, SetVerdict)]).rowcount
+        self._more["verdicts"] += made
+        self._more["pending"] -= made
+        return made
 
     def _is_made(self, effect: Effect) -> bool:
         """Makes an effect, and says whether anything is other than before."""
