@@ -100,7 +100,7 @@ class FollowingSliced(Sliced):
                 del self._unwritten[session]
 
     def enqueue_inner(self, work: Callable[[], Awaitable[None]], fail: Callable[[Exception], None],
-                   asked: Asked | None = None) -> None:
+                      asked: Asked | None = None) -> None:
         noted, self._to_note = self._to_note, []
         self._unwritten.update({session: noted for session, _ in noted})
 
@@ -119,7 +119,7 @@ class FollowingSliced(Sliced):
         """What the engine has said to a question since the last change is its reply until the next one."""
         if word != b"ask" or len(rest) > _LONGEST_ASKED:
             return await super()._ask(word, value, rest)
-        if self._kept_behind != self.count or len(self._kept) == _MOST_KEPT:
+        if self._kept_behind != self.count or len(self._kept) + _MOST_TOGETHER >= _MOST_KEPT:
             self._kept, self._kept_behind = {}, self.count
         known = self._kept.get((value, rest))
         if known is not None:

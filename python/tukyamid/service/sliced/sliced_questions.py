@@ -51,7 +51,7 @@ class Asker:
         return await self._say(word, value, rest)
 
     async def ask_all(self, value: Value, rests: Sequence[bytes]) -> list[bytes]:
-        """The replies to lines `ask` from a view, each of which names a certificate, in one conversation."""
+        """The replies to lines `ask` from a view, in one conversation with the engine."""
         targets = frozenset(fpr for rest in rests if (fpr := target_of(rest[1:])) is not None)
         needed, ready = await self._read(partial(self._gather_all, value, targets))
         return await self.loader.load_and_ask(needed.base, needed.beside, partial(self._fetch, ready), value,
