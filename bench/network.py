@@ -204,7 +204,7 @@ def _add(connection: sqlite3.Connection, part: Path) -> None:
         order = " ORDER BY fingerprint" if table == "keys" else ""
         connection.execute(f"INSERT INTO main.{table} SELECT * FROM part.{table}{order}")
     connection.execute("""UPDATE counts SET (certificates, octets, user_ids, signatures, verdicts) =
-        (SELECT certificates + count(*), octets + sum(length(part.certificates.octets)), user_ids + count(*),
+        (SELECT certificates + count(*), counts.octets + sum(length(part.certificates.octets)), user_ids + count(*),
                 signatures + (SELECT count(*) FROM part.verdicts), verdicts + (SELECT count(*) FROM part.verdicts)
          FROM part.certificates)""")
     connection.execute("INSERT OR IGNORE INTO changes VALUES (1, ?, 0, 0, 'bench')", (NOW,))
