@@ -2,7 +2,7 @@
 
 Each certificate has one user ID with its key's own certification and ten by other keys. One certification in 500 is a
 trust signature, of depth 1 to 3. Few keys certify much, as on a keyserver: with a million certificates, the first key
-has made some twenty thousand certifications. Issuers come before the certificate, or soon after it, so the first
+has made some eighteen thousand certifications. Issuers come before the certificate, or soon after it, so the first
 certificates of a network are a network. Keys and signatures are as long as those of Ed25519. Their material is random,
 and each names its issuer, so a verifier that trusts what a signature says takes all of them.
 
