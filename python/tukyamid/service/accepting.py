@@ -12,6 +12,7 @@ from functools import partial
 from ..client.socket_peers import peer_of
 from .sessions.client_rights import NOBODY
 from .sessions.command_kinds import REFUSED_CLIENTS
+from .user_accounts import account_of
 
 _TAKEN_AT_ONCE = 128  # Each costs some 20 us.
 _BEGUN_AT_ONCE = 8    # Each costs some 0.5 ms.
@@ -127,7 +128,7 @@ def _is_gone(connected: socket.socket) -> bool:
 
 def _user_of(connected: socket.socket) -> int:
     try:
-        return peer_of(connected).user
+        return account_of(peer_of(connected).user)
     except OSError:
         return NOBODY
 

@@ -8,6 +8,7 @@ from collections.abc import Callable
 from ..line_intake import LineIntake
 from ..storage.log_growth import LogGrowth
 from .session import Session
+from .user_shares import Share
 
 _PATIENCE_AT_THE_END = 4
 _LARGEST_LOG = 128 << 20  # Octets.
@@ -54,12 +55,12 @@ class TendedSessions:
 
     def _drop_largest(self) -> None:
         """Of a user whose unread replies take too much of the disk, drops those that have waited for longest."""
-        taken: dict[int, int] = {}
+        taken: dict[Share, int] = {}
         spooling = [session for session in self._sessions if session.outbox.spooled]
         for session in sorted(spooling, key=lambda one: -one.outbox.spooled_since):
-            user = session.actor.uid
-            taken[user] = taken.get(user, 0) + session.outbox.spooled
-            if taken[user] > _MOST_SPOOLED:
+            share = session.intake.share
+            taken[share] = taken.get(share, 0) + session.outbox.spooled
+            if taken[share] > _MOST_SPOOLED:
                 session.drop("leaves too long a reply unread")
 
     async def end(self) -> None:

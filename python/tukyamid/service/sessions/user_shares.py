@@ -11,6 +11,7 @@ from dataclasses import dataclass
 from pathlib import Path
 from typing import Protocol
 
+from ..user_accounts import account_of
 from .command_kinds import ASK
 from .views import ViewBudget
 
@@ -208,6 +209,7 @@ class Shares:
 
     def of(self, uid: int) -> Share:
         """A user's share, for a client that is counted already."""
+        uid = account_of(uid)
         share = self._shares.get(uid)
         if share is None:
             self._shares = {user: one for user, one in self._shares.items() if one.is_used}
