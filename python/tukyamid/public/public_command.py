@@ -90,7 +90,9 @@ def run(words: Sequence[str]) -> int:
     try:
         asyncio.run(_serve(given))
     except ModuleNotFoundError as error:
-        raise NoAnswer(f"it needs Python's {error.name}: apt-get install python3-aiohttp") from None
+        if (error.name or "").partition(".")[0] == "tukyamid":
+            raise  # A part of the package.
+        raise NoAnswer(f"it needs Python's {error.name}: apt-get install python3-aiohttp, and start it again") from None
     return REACHED
 
 

@@ -1,23 +1,15 @@
-"""`tukyamid watch`: its words, the binding that they name, and what is done with each report."""
+"""`tukyamid watch`: its words, and what is done with each report."""
 
 from __future__ import annotations
 
-import time
-
-from ..command import option_values
-from ..command.configured import configure
-from ..command.exit_statuses import NO_ANSWER, NOT_REACHED, REACHED, NoAnswer, WrongWords
-from ..command.key_names import resolve
-from ..command.keyring_choice import Inputs
-from ..command.output import say, write
-from ..command.trust_roots import Roots
+from ..command.exit_statuses import NO_ANSWER, NOT_REACHED, REACHED, WrongWords
+from ..command.output import write
 from ..command.user_service import service
 from ..fast_imports import TYPE_CHECKING
-from ..keyrings.service_keyring import served_keyring
 from . import notice_command, watch_words
 from .watch_loop import Watch
-from .watch_notice import Subject
 from .watch_state import StateFile
+from .watch_subject import NamedSubject
 
 if TYPE_CHECKING:
     from collections.abc import Sequence
@@ -34,9 +26,10 @@ def run(words: Sequence[str]) -> int:
         return REACHED
     if len(given.words) != 2:
         raise WrongWords("watch takes: KEY USERID")
-    subject = _subject_of(given)
+    named = NamedSubject(words)
+    subject = named.read()
     state = StateFile(given.state, subject) if given.state else None
-    watch = Watch(subject, service, given.every, state.read() if state else None)
+    watch = Watch(subject, service, given.every, state.read() if state else None, named=named)
     for notice in watch.notices():
         _report(notice, given)
         if state is not None:
@@ -57,22 +50,3 @@ def _report(notice: Notice, given: Wanted) -> None:
 def _status_of(notice: Notice) -> int:
     """What waits to be verified may change an answer that isn't reached."""
     return REACHED if notice.is_reached else NO_ANSWER if notice.waiting else NOT_REACHED
-
-
-def _subject_of(given: Wanted) -> Subject:
-    """The binding that the words name, and the roots: those of the words, or the user's own."""
-    key, user_id = given.words
-    try:
-        fpr, sought = option_values.read_key(key), option_values.read_user_id(user_id)
-    except ValueError as error:
-        raise WrongWords(str(error)) from None
-    configure(given)
-    if given.gpg or given.gpg_keyring or given.keyring or given.directory:
-        raise NoAnswer("watch asks about the service's keyring, and your configuration names other inputs")
-    with service() as client:
-        inputs = Inputs(given, say)
-        inputs.keyring = served_keyring(client)
-        chosen = Roots(given, inputs).find(int(time.time()))
-        for note in chosen.notes:
-            say(note)
-        return Subject(resolve(inputs.keyring, fpr), sought, given.amount, chosen.amounts)

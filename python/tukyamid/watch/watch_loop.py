@@ -11,7 +11,7 @@ import time
 from ..fast_imports import TYPE_CHECKING
 from ..protocol.refusals import TukyamidError
 from ..protocol.replies import Gone, Watched
-from .watch_notice import Notice, are_about
+from .watch_notice import Notice, Subject, are_about
 from .watch_state import Last
 
 if TYPE_CHECKING:
@@ -20,7 +20,7 @@ if TYPE_CHECKING:
     from ..client import Client
     from ..protocol.replies import Answer
     from ..protocol.service_lines import Change
-    from .watch_notice import Subject
+    from .watch_subject import NamedSubject
 
     Connect = Callable[[], Client]
 
@@ -28,32 +28,47 @@ NAME = "w"
 MOST_CHANGES = 100_000
 PATIENCE = 60.0
 _PAUSE = 0.5
+_LOOK_SECONDS = 2.0
+_PATIENCE_WITH_ROOTS = 5.0  # Longer than an editor takes to write a file.
 
 
 class Watch:
-    """A watch over one binding. `last` is what was reported last."""
+    """A watch over one binding. `last` is what was reported last, and `named` has the roots as they are later on."""
 
     def __init__(self, subject: Subject, connect: Connect, every: float, last: Last | None = None,
-                 patience: float = PATIENCE) -> None:
+                 patience: float = PATIENCE, named: NamedSubject | None = None) -> None:
         self._subject, self._connect, self._every, self._patience = subject, connect, every, patience
-        self._last = last
+        self._last, self._named = last, named
         self._answered = float("-inf")  # When the service last answered.
         self._is_begun = False
 
     def notices(self) -> Iterator[Notice]:
         """The amount, unless it was reported before, and then each change of it. If the service goes away, it is
-        looked for again; the error of a service that stays away is raised."""
+        looked for again; the error of a service that stays away is raised, and that of roots that can't be read."""
         while True:
+            patience = _PATIENCE_WITH_ROOTS
             try:
+                self._take_roots()
+                patience = self._patience
                 with self._connect() as client:
                     yield from self._over(client)
             except TukyamidError:
-                if time.monotonic() - self._answered > self._patience:
+                if time.monotonic() - self._answered > patience:
                     raise
                 time.sleep(_PAUSE)
 
+    def _take_roots(self) -> None:
+        """Takes other roots, if the configuration has changed."""
+        if self._named is None or not self._named.has_changed:
+            return
+        roots, old = self._named.roots(), self._subject
+        if roots != old.roots:
+            self._subject = Subject(old.fpr, old.user_id, old.wanted, roots)
+            if self._last is not None:
+                self._last = Last(self._last.amount, self._last.number, self._last.keys, are_roots_new=True)
+
     def _over(self, client: Client) -> Iterator[Notice]:
-        """What is to be reported over one connection, as long as it lasts."""
+        """What is to be reported over one connection, as long as it and the roots last."""
         self._is_begun = False
         while True:
             now = int(time.time())
@@ -62,7 +77,20 @@ class Watch:
                 yield notice  # Whoever takes it may fail, and then it wasn't reported.
                 self._last = Last(notice.amount, notice.number, notice.keys)
             self._answered = time.monotonic()
-            client.wait(self._every)
+            if not self._wait(client):
+                return  # Its view has the roots of before.
+
+    def _wait(self, client: Client) -> bool:
+        """Waits until the amount may have changed. False if the roots may have, which is looked at regularly."""
+        end = time.monotonic() + self._every
+        try:
+            while self._named is None or not self._named.has_changed:
+                left = end - time.monotonic()
+                if left <= 0 or client.wait(min(left, _LOOK_SECONDS)):
+                    return True
+            return False
+        finally:
+            self._answered = time.monotonic()  # Until now there was a service.
 
     def _begin(self, client: Client, now: int) -> None:
         """Moves the view on to the present. The watch is begun if it isn't there."""

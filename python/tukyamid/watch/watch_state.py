@@ -60,7 +60,7 @@ class StateFile:
         """Keeps a report. An OSError if that can't be done."""
         fpr, user_id, wanted = self._binding()
         said = {"form": _FORM, "fingerprint": fpr, "user_id": user_id, "wanted": wanted, "amount": notice.amount,
-                "change": notice.number, "keys": sorted(notice.keys), "roots": self._subject.roots}
+                "change": notice.number, "keys": sorted(notice.keys), "roots": notice.subject.roots}
         with Output(os.fspath(self._path)) as output:
             output.write([json.dumps(said, indent=1).encode() + b"\n"])
             output.keep()

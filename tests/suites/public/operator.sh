@@ -20,4 +20,5 @@ chmod 755 /etc/tukyamid /srv /srv/dump
 chmod 644 /srv/dump/*.pgp
 python3 -c 'import fcntl, socket, struct
 fcntl.ioctl(socket.socket(), 0x8914, struct.pack("16sh", b"lo", 1))'  # Brings the loopback interface up.
+systemd-sysusers "$UNITS/../sysusers/tukyamid.conf"  # As the package does.
 sh -eu "$2"

@@ -22,7 +22,7 @@ VERIFIER = ROOT / "verifier" / "out" / "wot-verdicts"
 SPACES = ["unshare", "--mount", "--net", "--pid", "--fork", "--kill-child", "--mount-proc"]
 NEEDED = ("nginx", "caddy", "curl", "systemd-analyze")
 PATH = "/usr/sbin:/usr/bin:/sbin:/bin"
-HOST_USER, PUBLIC_USER = 64001, 64002
+HOST_USER, PUBLIC_USER, STRANGER = 64001, 64002, 64003
 
 
 def missing():
@@ -63,11 +63,14 @@ def script(fpr, user_id):
     through_caddy = asked.replace("wot.example.org", "wot.example.org:81").replace("curl ", "curl --retry 60 "
                                                                                  "--retry-connrefused --retry-delay 1 ")
     lines = [f"{line}; echo" if line.startswith("curl ") else line for line in lines]
+    by_socket = next(line for line in lines if "--unix-socket" in line).removesuffix("; echo")
     proof = asked.replace("authenticate", "proof")
     network = "curl http://wot.example.org/call/network?q=" + quote('{"time": 1764547200, "set": "friends"}')
     return "\n".join([*lines, f"{asked}; echo", "caddy start --config /run/Caddyfile --adapter caddyfile 2> /dev/null",
                       f"{through_caddy}; echo", f"{proof}; echo", f"{network}; echo",
-                      "curl http://wot.example.org/", ""])
+                      "curl http://wot.example.org/",
+                      f"setpriv --reuid {STRANGER} --regid {STRANGER} --clear-groups {by_socket} || "
+                      "echo \"a stranger's curl: $?\"", ""])
 
 
 @needs_page
@@ -108,3 +111,5 @@ class Operator(unittest.TestCase):
         self.assertEqual({one["id"] for one in network["nodes"]} & set(people.fpr.values()),
                          {people.fpr[name] for name in ("Alice", "Bob", "Carol", "Dave")})
         self.assertIn('<html lang="en" data-public="yes">', done.stdout)
+        # Who connects is believed whose request it is, and could take all connections.
+        self.assertIn("a stranger's curl: 7\n", done.stdout)
