@@ -7,6 +7,7 @@ mod blocks;
 mod callers;
 mod colons;
 mod config;
+mod connecting;
 mod contents;
 mod examine;
 mod homes;

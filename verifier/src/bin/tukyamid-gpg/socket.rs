@@ -1,6 +1,5 @@
 //! The connection to the service: lines out, lines in, until a moment at which it is given up.
 
-use std::env;
 use std::fmt;
 use std::fs;
 use std::io::{self, Read, Write};
@@ -11,6 +10,7 @@ use std::os::unix::net::UnixStream;
 use std::path::{Path, PathBuf};
 use std::time::{Duration, Instant};
 
+use crate::connecting::{connect, own_socket};
 use crate::starting::{has_keyring, start};
 
 /// Where the service of a host listens to those who may only ask.
@@ -48,19 +48,27 @@ pub struct Connection {
 
 impl Connection {
     /// To the socket of the configuration. Without one, to the user's own service, which is started if it is needed and
-    /// the user has a keyring; or else to that of the host.
+    /// the user has a keyring; or else to that of the host, whatever there is in the place of one's own.
     pub fn open(configured: Option<&Path>) -> Result<Connection, Away> {
-        let path = configured.map_or_else(own_socket, Path::to_owned);
-        let away = |error: io::Error| Away(format!("the service isn't running: {}: {error}", path.display()));
-        match UnixStream::connect(&path) {
-            Ok(stream) => Connection::over(stream, &path),
-            Err(error) if configured.is_some() => Err(away(error)),
-            Err(_) if has_keyring() => Connection::over(start(&path).map_err(away)?, &path),
-            Err(error) => match UnixStream::connect(HOST_SOCKET) {
-                Ok(stream) => Connection::over(stream, Path::new(HOST_SOCKET)),
-                Err(_) => Err(away(error)),
-            },
+        if let Some(path) = configured {
+            return Connection::to(path);
         }
+        let own = own_socket().map_err(|error| Away(format!("the service isn't running: {error}")));
+        let own = own.and_then(|path| match connect(&path) {
+            Err(error) if error.kind() != io::ErrorKind::TimedOut && has_keyring() => {
+                Connection::over(start(&path).map_err(|error| not_running(&path, error))?, &path)
+            }
+            Err(error) => Err(not_running(&path, error)),
+            Ok(stream) => Connection::over(stream, &path),
+        });
+        match own {
+            Err(away) if !has_keyring() => Connection::to(Path::new(HOST_SOCKET)).map_err(|_| away),
+            own => own,
+        }
+    }
+
+    fn to(path: &Path) -> Result<Connection, Away> {
+        Connection::over(connect(path).map_err(|error| not_running(path, error))?, path)
     }
 
     fn over(stream: UnixStream, path: &Path) -> Result<Connection, Away> {
@@ -146,11 +154,8 @@ impl Connection {
     }
 }
 
-/// The socket of the user's own service.
-fn own_socket() -> PathBuf {
-    let folder = env::var_os("XDG_RUNTIME_DIR").filter(|folder| !folder.is_empty()).map(PathBuf::from);
-    let folder = folder.unwrap_or_else(|| PathBuf::from(format!("/tmp/tukyamid-{}", unsafe { libc::getuid() })));
-    folder.join("tukyamid.socket")
+fn not_running(path: &Path, error: io::Error) -> Away {
+    Away(format!("the service isn't running: {}: {error}", path.display()))
 }
 
 /// Whoever listens is the user, root, or the host's service: nobody else may answer in its place.

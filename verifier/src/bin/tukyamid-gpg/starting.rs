@@ -9,6 +9,8 @@ use std::process::{Command, Stdio};
 use std::thread::sleep;
 use std::time::{Duration, Instant};
 
+use crate::connecting::connect;
+
 const SERVER: &str = "tukyamid-server";
 /// The service ends after this number of seconds without a client.
 const IDLE: &str = "600";
@@ -32,7 +34,7 @@ pub fn start(socket: &Path) -> io::Result<UnixStream> {
     let end = Instant::now() + PATIENCE;
     let mut is_over = false;
     loop {
-        if let Ok(stream) = UnixStream::connect(socket) {
+        if let Ok(stream) = connect(socket) {
             return Ok(stream);
         }
         // Another one may be starting meanwhile.
