@@ -2,7 +2,7 @@
 use Rattle.std.proofs.Common.{◌≡◌, ℕ, ◌≤◌, Bool, true, false, List, [], ◌∷◌, length, Option, Some, None, refl, arith}
 use Rattle.std.specs.Prelude.{codes, IfSome, if◌then◌else◌}
 use Rattle.std.specs.Option.{option_map, option_or}
-use Rattle.std.specs.List.{list_all}
+use Rattle.std.specs.List.{find, list_all}
 use Rattle.std.specs.Str.{bytes_eq}
 use Rattle.std.proofs.lemmas.Bool.{and_parts}
 use Rattle.wot_types.specs.Fpr.{fpr_of_digits}
@@ -21,10 +21,9 @@ use Rattle.wot_reply_lines.specs.declared.question.Question.{Question}
 use Rattle.wot_reply_lines.proofs.ClaimBounds.{claim_spelled, field_keeps, labels_rise, positive_wanted}
 use Rattle.wot_reply_lines.proofs.Questions.{question_wants}
 use Rattle.wot_script.proofs.WordLines.{When, when}
-use Rattle.wot_script.specs.Grammar.{about_of, checked_of, command_for, command_of, drop_of}
-use Rattle.wot_script.specs.Grammar.{explained_of, export_of, listed_of, load_of, other_of, over_of}
-use Rattle.wot_script.specs.Grammar.{paced_of, single_of, store_of, view_of, watch_of, watched_of}
-use Rattle.wot_script.specs.OneWord.{has_word, named_among, one_words, word_of}
+use Rattle.wot_script.specs.Grammar.{about_of, checked_of, command_for, command_of, explained_of, other_of, over_of}
+use Rattle.wot_script.specs.Grammar.{paced_of, single_of, view_of, watch_of, watched_of}
+use Rattle.wot_script.specs.OneWord.{has_word, word_of}
 use Rattle.wot_script.specs.Spelling.{HasSpelling, FitsLine}
 use Rattle.wot_fields.specs.Uid.{unescaped}
 use Rattle.wot_script.specs.declared.command.Command.{Command}
@@ -33,7 +32,7 @@ use Rattle.wot_script.specs.declared.read.About.TheVariants.{Asked, Listed, Expl
 use Rattle.wot_script.specs.declared.read.About.TheVariants.{Watched}
 use Rattle.wot_script.specs.declared.command.Command.TheVariants.{Import, Load, Store, Remove, Ask, Explain, Export}
 use Rattle.wot_script.specs.declared.command.Command.TheVariants.{Absence, CursorOver, CursorNext, CursorClose}
-use Rattle.wot_script.specs.declared.command.Command.TheVariants.{WatchOn, WatchOff}
+use Rattle.wot_script.specs.declared.command.Command.TheVariants.{WatchOn, WatchOff, Pending, Keys, Dump}
 
 module _ (size : ℕ) where
   abbrev pub Spelled : Option Command → Type 0
@@ -61,21 +60,17 @@ module _ (size : ℕ) where
   chosen true command other h k = h
   chosen false command other h k = k
 
-  load_spelled : (text : List ℕ) → Spelled (load_of text)
-  unfolding load_of
+  load_spelled : (text : List ℕ) → Spelled (option_map Load (entry_of text))
   load_spelled text = mapped Load (entry_of text) (λ name e. (tt, tt))
 
-  store_spelled : (text : List ℕ) → Spelled (store_of text)
-  unfolding store_of
-  store_spelled text = mapped Store (fpr_of_digits text) (λ fpr e. (tt, tt))
+  store_spelled : (digits : List ℕ) → Spelled (option_map Store (fpr_of_digits digits))
+  store_spelled digits = mapped Store (fpr_of_digits digits) (λ fpr e. (tt, tt))
 
-  drop_spelled : (text : List ℕ) → Spelled (drop_of text)
-  unfolding drop_of
-  drop_spelled text = mapped Remove (fpr_of_digits text) (λ fpr e. (tt, tt))
+  drop_spelled : (digits : List ℕ) → Spelled (option_map Remove (fpr_of_digits digits))
+  drop_spelled digits = mapped Remove (fpr_of_digits digits) (λ fpr e. (tt, tt))
 
-  export_spelled : (text : List ℕ) → Spelled (export_of text)
-  unfolding export_of
-  export_spelled text = mapped Export (fpr_of_digits text) (λ fpr e. (tt, tt))
+  export_spelled : (digits : List ℕ) → Spelled (option_map Export (fpr_of_digits digits))
+  export_spelled digits = mapped Export (fpr_of_digits digits) (λ fpr e. (tt, tt))
 
   -- a command of one word asks for no number, and has no octets
   word_spelled : (command : Command)
@@ -84,12 +79,12 @@ module _ (size : ℕ) where
   word_spelled _ = (tt, tt)
 
   among_spelled : (commands : List Command) (line : List ℕ) → list_all has_word commands ≡ true
-      → Spelled (named_among commands line)
+      → Spelled (find (λ command. bytes_eq line (word_of command)) commands)
   among_spelled [] line h = tt
   among_spelled (command ∷ commands) line h =
       let words = and_parts (has_word command) (list_all has_word commands) h in
       let fits = word_spelled command in
-      chosen (bytes_eq line (word_of command)) command (named_among commands line) (
+      chosen (bytes_eq line (word_of command)) command (find (λ other. bytes_eq line (word_of other)) commands) (
         when (has_word command) (HasSpelling command) words.0 fits.0,
         when (has_word command) (FitsLine size command) words.0 fits.1,
       )
@@ -97,7 +92,7 @@ module _ (size : ℕ) where
 
   single_spelled : (line : List ℕ) → Spelled (single_of line)
   unfolding single_of
-  single_spelled line = among_spelled one_words line refl
+  single_spelled line = among_spelled (Pending ∷ Keys ∷ Dump ∷ []) line refl
 
   asked_spelled : (view text : List ℕ) → Spelled (about_of Asked view text)
   asked_spelled view text =
@@ -121,8 +116,7 @@ module _ (size : ℕ) where
         omega (arith, short, paths.1, cut_short 32 text first f, cut_short 32 first.1 second s),
       ))))))))
 
-  listed_spelled : (view digits : List ℕ) → Spelled (listed_of view digits)
-  unfolding listed_of
+  listed_spelled : (view digits : List ℕ) → Spelled (about_of Listed view digits)
   listed_spelled view digits =
       mapped (Command.List view) (positive_up_to 4294967295 digits)
       (λ wanted e. (positive_wanted 4294967295 digits wanted e, tt))
@@ -207,27 +201,31 @@ module _ (size : ℕ) where
   unfolding other_of
   other_spelled line short =
       let tail : Option Command = single_of line in
-      let store : Option Command = read_behind (behind (codes "store ") line) store_of tail in
+      let loaded : List ℕ → Option Command = λ text. option_map Load (entry_of text) in
+      let dropped : List ℕ → Option Command = λ digits. option_map Remove (fpr_of_digits digits) in
+      let exported : List ℕ → Option Command = λ digits. option_map Export (fpr_of_digits digits) in
+      let stored : List ℕ → Option Command = λ digits. option_map Store (fpr_of_digits digits) in
+      let store : Option Command = read_behind (behind (codes "store ") line) stored tail in
       let watch : Option Command = read_behind (behind (codes "watch ") line) (view_of Watched) store in
       let cursor : Option Command = read_behind (behind (codes "cursor ") line) (view_of Paced) watch in
-      let export : Option Command = read_behind (behind (codes "export ") line) export_of cursor in
+      let export : Option Command = read_behind (behind (codes "export ") line) exported cursor in
       let check : Option Command = read_behind (behind (codes "check ") line) (view_of Checked) export in
       let absence : Option Command = read_behind (behind (codes "absence ") line) (view_of Missed) check in
       let explain : Option Command = read_behind (behind (codes "explain ") line) (view_of Explained) absence in
       let list : Option Command = read_behind (behind (codes "list ") line) (view_of Listed) explain in
       let ask : Option Command = read_behind (behind (codes "ask ") line) (view_of Asked) list in
-      let remove : Option Command = read_behind (behind (codes "drop ") line) drop_of ask in
-      behind_either (behind (codes "load ") line) load_of remove load_spelled (
-      behind_either (behind (codes "drop ") line) drop_of ask drop_spelled (
+      let remove : Option Command = read_behind (behind (codes "drop ") line) dropped ask in
+      behind_either (behind (codes "load ") line) loaded remove load_spelled (
+      behind_either (behind (codes "drop ") line) dropped ask drop_spelled (
       behind_word (codes "ask ") line (view_of Asked) list short (view_spelled Asked) (
       behind_word (codes "list ") line (view_of Listed) explain short (view_spelled Listed) (
       behind_word (codes "explain ") line (view_of Explained) absence short (view_spelled Explained) (
       behind_word (codes "absence ") line (view_of Missed) check short (view_spelled Missed) (
       behind_word (codes "check ") line (view_of Checked) export short (view_spelled Checked) (
-      behind_either (behind (codes "export ") line) export_of cursor export_spelled (
+      behind_either (behind (codes "export ") line) exported cursor export_spelled (
       behind_word (codes "cursor ") line (view_of Paced) watch short (view_spelled Paced) (
       behind_word (codes "watch ") line (view_of Watched) store short (view_spelled Watched) (
-      behind_either (behind (codes "store ") line) store_of tail store_spelled (
+      behind_either (behind (codes "store ") line) stored tail store_spelled (
       single_spelled line)))))))))))
 
   -- the command of a line that sets a part of the state asks for no number

@@ -14,8 +14,8 @@ use Rattle.wot_fields.specs.Fields.{◌>>=◌, cut}
 use Rattle.wot_reply_lines.specs.Entry.{entry_of}
 use Rattle.wot_reply_lines.specs.Question.{question_of}
 use Rattle.wot_reply_lines.specs.declared.question.Question.{Question}
-use Rattle.wot_script.specs.Grammar.{about_of, checked_of, command_for, command_of, drop_of, explained_of}
-use Rattle.wot_script.specs.Grammar.{export_of, listed_of, load_of, other_of, store_of, view_of, over_of}
+use Rattle.wot_script.specs.Grammar.{about_of, checked_of, command_for, command_of, explained_of, other_of, over_of}
+use Rattle.wot_script.specs.Grammar.{view_of}
 use Rattle.wot_script.specs.Grammar.{paced_of, watch_of, watched_of}
 use Rattle.wot_fields.specs.Texts.{joined}
 use Rattle.wot_fields.specs.Uid.{unescaped}
@@ -39,24 +39,24 @@ set_reads line e = rw e refl
 
 pub load_reads : (text : List ℕ) (name : Name) → entry_of text ≡ Some name
     → command_of (joined (codes "load " ∷ text ∷ [])) ≡ Some (Load name)
-unfolding command_of other_of state_line_of load_of
+unfolding command_of other_of state_line_of
 load_reads text name e = ap (λ rest. option_map Load (entry_of rest)) (append-nil text) ∙ ap (option_map Load) e
 
 pub store_reads : (digits : List ℕ) (fpr : Fpr) → fpr_of_digits digits ≡ Some fpr
     → command_of (joined (codes "store " ∷ digits ∷ [])) ≡ Some (Store fpr)
-unfolding command_of other_of state_line_of store_of
+unfolding command_of other_of state_line_of
 store_reads digits fpr e =
     ap (λ text. option_map Store (fpr_of_digits text)) (append-nil digits) ∙ ap (option_map Store) e
 
 pub drop_reads : (digits : List ℕ) (fpr : Fpr) → fpr_of_digits digits ≡ Some fpr
     → command_of (joined (codes "drop " ∷ digits ∷ [])) ≡ Some (Remove fpr)
-unfolding command_of other_of state_line_of drop_of
+unfolding command_of other_of state_line_of
 drop_reads digits fpr e =
     ap (λ text. option_map Remove (fpr_of_digits text)) (append-nil digits) ∙ ap (option_map Remove) e
 
 pub export_reads : (digits : List ℕ) (fpr : Fpr) → fpr_of_digits digits ≡ Some fpr
     → command_of (joined (codes "export " ∷ digits ∷ [])) ≡ Some (Export fpr)
-unfolding command_of other_of state_line_of export_of
+unfolding command_of other_of state_line_of
 export_reads digits fpr e =
     ap (λ text. option_map Export (fpr_of_digits text)) (append-nil digits) ∙ ap (option_map Export) e
 
@@ -85,7 +85,7 @@ absence_reads name text q h e =
 
 pub list_reads : (name ws : List ℕ) (wanted : ℕ) → is_view_name name ≡ true → positive_up_to 4294967295 ws ≡ Some wanted
     → command_of (joined (codes "list " ∷ name ∷ codes " " ∷ ws ∷ [])) ≡ Some (Command.List name wanted)
-unfolding command_of other_of state_line_of listed_of
+unfolding command_of other_of state_line_of
 list_reads name ws wanted h e =
     view_reads Listed name (ws ++ []) (Command.List name wanted) h
     (ap (λ text. option_map (Command.List name) (positive_up_to 4294967295 text)) (append-nil ws)

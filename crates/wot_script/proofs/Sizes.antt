@@ -3,7 +3,7 @@ use Rattle.std.proofs.Common.{◌≡◌, ℕ, ◌≤◌, true, List, [], ◌∷�
 use Rattle.std.specs.Prelude.{codes, nat_le}
 use Rattle.std.specs.Fmt.{decimal}
 use Rattle.std.proofs.lemmas.Bool.{leb-true}
-use Rattle.wot_script.specs.Replies.{number_line, number_of, reply_text, words_before}
+use Rattle.wot_script.specs.Replies.{number_of, reply_text, words_before}
 use Rattle.wot_fields.specs.Texts.{joined_line}
 use Rattle.wot_script.specs.declared.reply.Reply.{Reply}
 use Rattle.wot_script.specs.declared.reply.Reply.TheVariants.{Long}
@@ -11,6 +11,11 @@ use Rattle.wot_script.specs.declared.reply.Reply.TheVariants.{Long}
 pub length-taken : (a b c : List ℕ) → length a ≤ 20 → length b ≤ 20 → length c ≤ 20
     → length (joined_line (codes "ok taken " ∷ a ∷ codes " skipped " ∷ b ∷ codes " new " ∷ c ∷ [])) ≤ 128
 length-taken a b c ha hb hc = omega (arith, length-append {A = ℕ})
+
+-- the line with these words and this number
+abbrev number_line : List ℕ → Option ℕ → List ℕ
+number_line words (Some number) = joined_line (words ∷ decimal number ∷ [])
+number_line words None = []
 
 -- the text, if there is a number
 abbrev if_number : Option ℕ → List ℕ → List ℕ

@@ -1,5 +1,6 @@
 -- The command that a line spells.
-use Rattle.std.specs.Prelude.{ℕ, if◌then◌else◌, List, Option, Some, None, codes}
+use Rattle.std.specs.Prelude.{ℕ, if◌then◌else◌, List, [], ◌∷◌, Option, Some, None, codes}
+use Rattle.std.specs.List.{find}
 use Rattle.std.specs.Str.{bytes_eq}
 use Rattle.std.specs.Option.{option_map, option_or}
 use Rattle.wot_types.specs.Fpr.{fpr_of_digits}
@@ -10,7 +11,7 @@ use Rattle.wot_reply_lines.specs.Question.{question_of}
 use Rattle.wot_fields.specs.Decimal.{positive_up_to}
 use Rattle.wot_fields.specs.Fields.{◌>>=◌, behind, cut, read_behind}
 use Rattle.wot_fields.specs.StateLine.{state_line_of}
-use Rattle.wot_script.specs.OneWord.{named_among, one_words}
+use Rattle.wot_script.specs.OneWord.{word_of}
 use Rattle.wot_fields.specs.Uid.{unescaped}
 use Rattle.wot_fields.specs.declared.state_line.StateLine.{StateLine}
 use Rattle.wot_fields.specs.declared.state_line.StateLine.TheVariants as lines
@@ -20,7 +21,7 @@ use Rattle.wot_script.specs.declared.read.About.TheVariants.{Asked, Listed, Expl
 use Rattle.wot_script.specs.declared.read.About.TheVariants.{Paced, Watched}
 use Rattle.wot_script.specs.declared.command.Command.TheVariants.{Import, Load, Store, Remove, Good, Bad, Unjudge, Time}
 use Rattle.wot_script.specs.declared.command.Command.TheVariants.{Root, Close, Ask, Explain}
-use Rattle.wot_script.specs.declared.command.Command.TheVariants.{Export, Absence, Check}
+use Rattle.wot_script.specs.declared.command.Command.TheVariants.{Export, Absence, Check, Pending, Keys, Dump}
 use Rattle.wot_script.specs.declared.command.Command.TheVariants.{CursorOver, CursorNext, CursorClose}
 use Rattle.wot_script.specs.declared.command.Command.TheVariants.{WatchOn, WatchOff}
 
@@ -33,22 +34,6 @@ command_for (lines.Unjudge number) = Unjudge number
 command_for (lines.Time view t) = Time view t
 command_for (lines.Root view fpr amount) = Root view fpr amount
 command_for (lines.Close view) = Close view
-
--- after `load `: NAME
-unfoldable pub load_of : List ℕ → Option Command
-load_of text = option_map Load (entry_of text)
-
--- after `store `: FPR
-unfoldable pub store_of : List ℕ → Option Command
-store_of digits = option_map Store (fpr_of_digits digits)
-
--- after `drop `: FPR
-unfoldable pub drop_of : List ℕ → Option Command
-drop_of digits = option_map Remove (fpr_of_digits digits)
-
--- after `list V `: N
-unfoldable pub listed_of : List ℕ → List ℕ → Option Command
-listed_of view digits = option_map (Command.List view) (positive_up_to 4294967295 digits)
 
 -- after `explain V `: FPR UID; UID is the rest of the line
 unfoldable pub explained_of : List ℕ → List ℕ → Option Command
@@ -101,10 +86,10 @@ watched_of watch text =
     if bytes_eq text (codes "off") then Some (WatchOff watch) else None)
 
 -- what follows the name of a view, a cursor or a watch, by what the line is about; `ask V ` and `absence V ` are
--- followed by a question
+-- followed by a question, `list V ` by N
 abbrev pub about_of : About → List ℕ → List ℕ → Option Command
 about_of Asked view text = option_map (λ q. Ask view q.fpr q.wanted q.uid) (question_of text)
-about_of Listed view text = listed_of view text
+about_of Listed view text = option_map (Command.List view) (positive_up_to 4294967295 text)
 about_of Explained view text = explained_of view text
 about_of Missed view text = option_map (λ q. Absence view q.fpr q.wanted q.uid) (question_of text)
 about_of Checked view text = checked_of view text
@@ -118,28 +103,24 @@ view_of about text = do
   view ← view_name_of first.0
   about_of about view first.1
 
--- after `export `: FPR
-unfoldable pub export_of : List ℕ → Option Command
-export_of digits = option_map Export (fpr_of_digits digits)
-
 -- a line without any of these prefixes: a command of one word
 unfoldable pub single_of : List ℕ → Option Command
-single_of line = named_among one_words line
+single_of line = find (λ command. bytes_eq line (word_of command)) (Pending ∷ Keys ∷ Dump ∷ [])
 
--- a line that sets no part of the state
+-- a line that sets no part of the state: `load NAME`, `drop FPR`, `export FPR`, `store FPR`, or one of those above
 unfoldable pub other_of : List ℕ → Option Command
 other_of line =
-    read_behind (behind (codes "load ") line) load_of (
-    read_behind (behind (codes "drop ") line) drop_of (
+    read_behind (behind (codes "load ") line) (λ text. option_map Load (entry_of text)) (
+    read_behind (behind (codes "drop ") line) (λ digits. option_map Remove (fpr_of_digits digits)) (
     read_behind (behind (codes "ask ") line) (view_of Asked) (
     read_behind (behind (codes "list ") line) (view_of Listed) (
     read_behind (behind (codes "explain ") line) (view_of Explained) (
     read_behind (behind (codes "absence ") line) (view_of Missed) (
     read_behind (behind (codes "check ") line) (view_of Checked) (
-    read_behind (behind (codes "export ") line) export_of (
+    read_behind (behind (codes "export ") line) (λ digits. option_map Export (fpr_of_digits digits)) (
     read_behind (behind (codes "cursor ") line) (view_of Paced) (
     read_behind (behind (codes "watch ") line) (view_of Watched) (
-    read_behind (behind (codes "store ") line) store_of (
+    read_behind (behind (codes "store ") line) (λ digits. option_map Store (fpr_of_digits digits)) (
     single_of line)))))))))))
 
 -- the command that a line spells; None if it isn't a command

@@ -19,27 +19,6 @@ use Rattle.wot_script.specs.declared.reply.Reply.TheVariants.{CheckedNoTable, Pi
 use Rattle.wot_script.specs.declared.reply.Reply.TheVariants.{NoCursor, FullCursors, WatchAmount, WatchGone}
 use Rattle.wot_script.specs.declared.reply.Reply.TheVariants.{NoWatch, FullWatches}
 
--- ---- replies of one line that ends with a number: a row of two lines for each, here and in `src/numbered.rt`
-
--- the words before the number; no octets for any other reply
-abbrev pub words_before : Reply → List ℕ
-words_before (Stored octets) = codes "ok stored "
-words_before (Reached sum) = codes "absence reached "
-words_before (CheckedYes sum) = codes "checked yes "
-words_before _ = []
-
--- the number; None for any other reply
-abbrev pub number_of : Reply → Option ℕ
-number_of (Stored octets) = Some octets
-number_of (Reached sum) = Some sum
-number_of (CheckedYes sum) = Some sum
-number_of _ = None
-
--- the line with these words and this number
-abbrev pub number_line : List ℕ → Option ℕ → List ℕ
-number_line words (Some number) = joined_line (words ∷ decimal number ∷ [])
-number_line words None = []
-
 -- ---- all replies
 
 -- the octets of a reply, with its line feeds
@@ -47,6 +26,7 @@ unfoldable pub reply_text : Reply → List ℕ
 reply_text (Taken taken skipped new) =
     joined_line (codes "ok taken " ∷ decimal taken ∷ codes " skipped " ∷ decimal skipped ∷ codes " new "
     ∷ decimal new ∷ [])
+reply_text (Stored octets) = joined_line (codes "ok stored " ∷ decimal octets ∷ [])
 reply_text Done = joined_line (codes "ok" ∷ [])
 reply_text (Amount sum paths lines) =
     joined_line (codes "amount " ∷ decimal sum ∷ codes " paths " ∷ decimal paths ∷ []) ++ flat_map answer_line lines
@@ -61,6 +41,8 @@ reply_text (Dump count lines) = joined_line (codes "dump " ∷ decimal count ∷
 reply_text (Missed sum claims labels) =
     joined_line (codes "absence missed " ∷ decimal sum ∷ [])
     ++ joined_line (codes "claim " ∷ field_text claim_text claims ∷ codes " " ∷ field_text label_text labels ∷ [])
+reply_text (Reached sum) = joined_line (codes "absence reached " ∷ decimal sum ∷ [])
+reply_text (CheckedYes sum) = joined_line (codes "checked yes " ∷ decimal sum ∷ [])
 reply_text CheckedNoPaths = joined_line (codes "checked no paths" ∷ [])
 reply_text CheckedNoTable = joined_line (codes "checked no table" ∷ [])
 reply_text Long = refused (codes "long" ∷ [])
@@ -86,7 +68,22 @@ reply_text (WatchAmount watch sum) = joined_line (codes "watch " ∷ watch ∷ c
 reply_text (WatchGone watch) = joined_line (codes "watch " ∷ watch ∷ codes " gone" ∷ [])
 reply_text NoWatch = refused (codes "watch" ∷ [])
 reply_text FullWatches = refused (codes "full watches" ∷ [])
-reply_text reply = number_line (words_before reply) (number_of reply)
+
+-- ---- replies of one line that ends with a number: what `src/numbered.rt` returns, a row in each of both for each
+
+-- the words before the number; no octets for any other reply
+abbrev pub words_before : Reply → List ℕ
+words_before (Stored octets) = codes "ok stored "
+words_before (Reached sum) = codes "absence reached "
+words_before (CheckedYes sum) = codes "checked yes "
+words_before _ = []
+
+-- the number; None for any other reply
+abbrev pub number_of : Reply → Option ℕ
+number_of (Stored octets) = Some octets
+number_of (Reached sum) = Some sum
+number_of (CheckedYes sum) = Some sum
+number_of _ = None
 
 -- ---- words
 

@@ -5,12 +5,13 @@
 //! command with fields is a function here and a clause there.
 ghost use Rattle.std.specs.Prelude.{◌≡◌, length, Some, None, IfOk, IsErrOf};
 ghost use Rattle.std.specs.Option.{option_map};
-ghost use Rattle.wot_script.specs.Grammar.{about_of, checked_of, command_for, command_of, drop_of, view_of};
-ghost use Rattle.wot_script.specs.Grammar.{explained_of, export_of, listed_of, load_of, other_of, over_of};
-ghost use Rattle.wot_script.specs.Grammar.{paced_of, store_of, watch_of, watched_of};
-ghost use Rattle.wot_script.specs.declared.read.About.TheVariants.{Asked, Missed};
+ghost use Rattle.wot_script.specs.Grammar.{about_of, checked_of, command_for, command_of, explained_of, other_of};
+ghost use Rattle.wot_script.specs.Grammar.{over_of, paced_of, view_of, watch_of, watched_of};
+ghost use Rattle.wot_script.specs.declared.read.About.TheVariants.{Asked, Listed, Missed};
 ghost use Rattle.wot_script.specs.Spelling.{HasSpelling, FitsLine};
 ghost use Rattle.wot_fields.specs.Decimal.{positive_up_to};
+ghost use Rattle.wot_reply_lines.specs.Entry.{entry_of};
+ghost use Rattle.wot_types.specs.Fpr.{fpr_of_digits};
 
 use crate::Command;
 use crate::one_word::read_single;
@@ -44,33 +45,29 @@ fn command_for(line: StateLine) -> Command
     }
 }
 
-#[tactic(auto, unfolding(crate::specs::Grammar::load_of))]
 fn read_load(text: &[u8]) -> Option<Command>
-    ensures { result ≡ load_of text.now }
+    ensures { result ≡ option_map Command.Load (entry_of text.now) }
 {
     let name = read_entry(text)?;
     Some(Command::Load(name))
 }
 
-#[tactic(auto, unfolding(crate::specs::Grammar::store_of))]
 fn read_store(digits: &[u8]) -> Option<Command>
-    ensures { result ≡ store_of digits.now }
+    ensures { result ≡ option_map Command.Store (fpr_of_digits digits.now) }
 {
     let fpr = Fpr::read(digits)?;
     Some(Command::Store(fpr))
 }
 
-#[tactic(auto, unfolding(crate::specs::Grammar::drop_of))]
 fn read_drop(digits: &[u8]) -> Option<Command>
-    ensures { result ≡ drop_of digits.now }
+    ensures { result ≡ option_map Command.Remove (fpr_of_digits digits.now) }
 {
     let fpr = Fpr::read(digits)?;
     Some(Command::Remove(fpr))
 }
 
-#[tactic(auto, unfolding(crate::specs::Grammar::export_of))]
 fn read_export(digits: &[u8]) -> Option<Command>
-    ensures { result ≡ export_of digits.now }
+    ensures { result ≡ option_map Command.Export (fpr_of_digits digits.now) }
 {
     let fpr = Fpr::read(digits)?;
     Some(Command::Export(fpr))
@@ -124,9 +121,8 @@ fn read_checked(alloc: Global, view: ViewName, text: &[u8]) -> Result<Option<Com
     Ok(Some(Command::Check(view, fpr, claims, labels, uid)))
 }
 
-#[tactic(auto, unfolding(crate::specs::Grammar::listed_of))]
 fn read_listed(view: ViewName, digits: &[u8]) -> Option<Command>
-    ensures { result ≡ listed_of view digits.now }
+    ensures { result ≡ about_of Listed view digits.now }
 {
     let wanted = read_positive(u32::MAX, digits)?;
     Some(Command::List(view, wanted))
