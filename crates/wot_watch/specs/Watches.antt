@@ -16,17 +16,13 @@ pub record Watch : Type 0 where
 abbrev pub Watches : Type 0
 Watches = Table Watch
 
--- the limit on the number of watches
-abbrev pub most : ℕ
-most = 64
-
 -- the watch of a name; none if it isn't there
 abbrev pub watch_at : Watches → List ℕ → Option Watch
 watch_at watches name = entry_at watches name
 
--- whether a watch of this name would exceed the limit
+-- whether a watch of this name would exceed the limit of 64 watches
 abbrev pub is_full : Watches → List ℕ → Bool
-is_full watches name = tables.is_full most watches name
+is_full watches name = tables.is_full 64 watches name
 
 -- with this watch, in place of an earlier one of the name
 abbrev pub with_watch : Watches → List ℕ → Watch → Watches
