@@ -1,4 +1,4 @@
--- The commands of one word: a row of two lines for each, here and in `src/one_word.rt`.
+-- The word of each command of one word, as in `src/one_word.rt`. `single_of` lists these commands.
 use Rattle.std.specs.Prelude.{ℕ, Bool, true, false, List, [], ◌∷◌, codes}
 use Rattle.wot_script.specs.declared.command.Command.{Command}
 use Rattle.wot_script.specs.declared.command.Command.TheVariants.{Pending, Keys, Dump}

@@ -1,7 +1,7 @@
 //! The replies of one line that ends with a number: the words before it, and the number.
 //!
-//! The table is in `specs/Replies.antt`, and `tell` and `short` go by it. A further reply of this kind is a row there,
-//! and a row in each of the two functions here.
+//! The tables are in `specs/Replies.antt`, and `tell` and `short` go by them. A further reply of this kind is a row in
+//! `reply_text` and in both tables there, and a row in each of the two functions here.
 ghost use Rattle.std.specs.Prelude.{◌≡◌};
 ghost use Rattle.wot_script.specs.Replies.{number_of, words_before};
 

@@ -1,7 +1,7 @@
 //! The commands of one word: the word of each, and the reading of a line that is one of these words.
 //!
 //! The table is in `specs/OneWord.antt`, and `read`, `spell` and `spelled` go by it. A further command of one word is a
-//! row there, and a row in each of `command_word` and `read_single` here.
+//! row there, its name in the list of `single_of`, and a row in each of `command_word` and `read_single` here.
 ghost use Rattle.std.specs.Prelude.{◌≡◌};
 ghost use Rattle.wot_script.specs.Grammar.{single_of};
 ghost use Rattle.wot_script.specs.OneWord.{word_of};
