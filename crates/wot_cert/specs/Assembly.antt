@@ -52,11 +52,8 @@ certificate_with key cut = record {
 }
 
 -- the certificate of a key and the packets after it
-abbrev pub certificate_behind : List ℕ → List Spelled → Certificate
-certificate_behind key packets = certificate_with key (cut_at begins_component packets)
-
 abbrev pub certificate_of : Section → Certificate
-certificate_of section = certificate_behind section.0.body section.1
+certificate_of section = certificate_with section.0.body (cut_at begins_component section.1)
 
 -- ---- all of them
 

@@ -1,5 +1,6 @@
 -- Why a list of packets isn't a list of certificates: the first fault in the order of the packets.
 use Rattle.std.specs.Prelude.{Bool, false, ◌||◌, ◌==◌, if◌then◌else◌, List, [], ◌∷◌, Option, Some, None}
+use Rattle.std.specs.Option.{option_or}
 use Rattle.wot_packet.specs.Spelling.{Spelled}
 use Rattle.wot_cert.specs.declared.fault.CertFault.{CertFault}
 use Rattle.wot_cert.specs.declared.fault.CertFault.TheVariants.{Compressed, Secret, Kind, Order, Empty}
@@ -14,14 +15,10 @@ fault_at behind_key p =
     else if is_signature p.kind || is_component p.kind then (if behind_key then None else Some (Order p.at))
     else Some (Kind p.kind p.at)
 
-abbrev pub or_else : {A : Type 0} → Option A → Option A → Option A
-or_else (Some x) y = Some x
-or_else None y = y
-
 -- the first fault of these packets, after a key or before the first one
 abbrev pub fault_from : Bool → List Spelled → Option CertFault
 fault_from behind_key [] = if behind_key then None else Some Empty
-fault_from behind_key (p ∷ ps) = or_else (fault_at behind_key p) (fault_from (behind_key || is_key p.kind) ps)
+fault_from behind_key (p ∷ ps) = option_or (fault_at behind_key p) (fault_from (behind_key || is_key p.kind) ps)
 
 -- the first fault
 abbrev pub first_fault : List Spelled → Option CertFault

@@ -5,8 +5,8 @@
 ghost use Rattle.std.specs.Prelude.{◌≡◌, ◌<◌, ◌≤◌, ◌^◌, ◌+◌, ◌++◌, OnOk, IfOk, length, take, drop};
 ghost use Rattle.std.specs.List.{AllByRecursion};
 ghost use Rattle.wot_packet.specs.Spelling.{AreShort, spelled_all, spelled_of};
-ghost use Rattle.wot_cert.specs.Packets.{is_key};
-ghost use Rattle.wot_cert.specs.Assembly.{cut_at, certificate_behind, certificates_of, skipped_in};
+ghost use Rattle.wot_cert.specs.Packets.{begins_component, is_key};
+ghost use Rattle.wot_cert.specs.Assembly.{cut_at, certificate_with, certificates_of, skipped_in};
 ghost use Rattle.wot_cert.specs.Answers.{IsWhereReadable, TellsFirstFault};
 ghost use Rattle.wot_cert.specs.Drafting.{seen, sketched, BeginsWithKey, certs_in, skipped_by};
 ghost use Rattle.wot_component.specs.Whole.{IsCertificate};
@@ -53,7 +53,8 @@ fn before_key(packets: &[Packet]) -> usize
 /// The certificate of a key and the packets after it; `None` if and only if the key can't be parsed.
 fn certificate(alloc: Global, key: &[u8], behind: &[Packet]) -> Result<Option<Cert>, Memory>
     requires short { AreShort (spelled_all behind.now) }
-    ensures certificate { IfOk result (IsWhereReadable key.now (certificate_behind key.now (spelled_all behind.now))) }
+    ensures certificate { IfOk result
+        (IsWhereReadable key.now (certificate_with key.now (cut_at begins_component (spelled_all behind.now)))) }
 {
     let draft = draft_of(alloc, behind)?;
     Cert::drafted(alloc, key, &draft)

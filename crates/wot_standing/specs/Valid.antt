@@ -15,9 +15,6 @@ abbrev pub is_valid : Entries → Fpr → ℕ → Binding → List Signature →
 is_valid verdicts fpr t binding sigs s =
     is_binding binding s && (counts_by verdicts fpr s && (is_live t s && is_unrevoked verdicts fpr t sigs s))
 
-abbrev pub valid : Entries → Fpr → ℕ → Binding → List Signature → List Signature
-valid verdicts fpr t binding sigs = filter (is_valid verdicts fpr t binding sigs) sigs
-
 -- the newest of the valid ones
 abbrev pub newest_valid : Entries → Fpr → ℕ → Binding → List Signature → Option Signature
-newest_valid verdicts fpr t binding sigs = greatest newness (valid verdicts fpr t binding sigs)
+newest_valid verdicts fpr t binding sigs = greatest newness (filter (is_valid verdicts fpr t binding sigs) sigs)
