@@ -1,7 +1,7 @@
 -- What agrees at a certificate and at those who certified it is explained alike.
 use Rattle.std.proofs.Common.{◌≡◌, ℕ, Bool, true, false, List, [], ◌∷◌, ◌++◌, map, Option, Some, None, refl, ap, subst}
 use Rattle.std.proofs.Common.{◌∙◌, zero, suc}
-use Rattle.std.specs.Prelude.{not, filter}
+use Rattle.std.specs.Prelude.{is_some, not, filter}
 use Rattle.std.specs.List.{AllByRecursion, slice_get}
 use Rattle.std.specs.Map.{lookup}
 use Rattle.std.specs.Option.{option_and_then, option_map}
@@ -12,6 +12,7 @@ use Rattle.wot_verdict.specs.Verdicts.{Entries, verdict_at}
 use Rattle.wot_verdict.specs.declared.verdict.Verdict.{Verdict}
 use Rattle.wot_component.specs.Certificate.{Certificate, Component, Signature, sig_cmp}
 use Rattle.wot_component.specs.Counts.{all_sigs, parts_in, sigs_on}
+use Rattle.wot_component.specs.Judged.{is_sound}
 use Rattle.wot_cert.specs.Issuer.{good_by}
 use Rattle.wot_cert.specs.Time.{made_of}
 use Rattle.wot_edge.specs.Path.{step_of}
@@ -30,7 +31,7 @@ use Rattle.wot_explain.specs.Around.{AgreeAround, AgreeAtIssuer}
 use Rattle.wot_explain.specs.Explaining.{explained_at, explained_on, explanation, reasons_on}
 use Rattle.wot_explain.specs.Reasons.{Reason, issuer_standing, issuer_words, is_revoked_by, is_older_by, reason_of}
 use Rattle.wot_explain.specs.Reasons.{reason_with, reason_word, reason_words, standing_by, step_by, time_words}
-use Rattle.wot_explain.specs.Reasons.{verdict_words, counting_words}
+use Rattle.wot_explain.specs.Reasons.{counting_words}
 use Rattle.wot_explain.specs.Target.{target_word}
 use Rattle.wot_explain.specs.Words.{Word, first_word, is_so}
 use Rattle.wot_explain.specs.declared.explained.Explained.{Explained}
@@ -109,8 +110,9 @@ module _ (standings : DecideStandings) (user_ids : DecideUserIds)
         ∙ ap (λ (said : Option Verdict). first_word
         (reason_words verdicts t uid s said (issuer_standing other others t said)))
         agree.0
-        ∙ ap (λ (words : List Word). first_word (verdict_words s (verdict_at other s.number)
-        ++ counting_words s (good_by (verdict_at other s.number)) ++ words
+        ∙ ap (λ (words : List Word). first_word ((1, not (is_sound s)) ∷ (2, not (is_some (verdict_at other s.number)))
+        ∷ (3, not (is_some (good_by (verdict_at other s.number))))
+        ∷ counting_words s (good_by (verdict_at other s.number)) ++ words
         ++ issuer_words (made_of s) (issuer_standing other others t (verdict_at other s.number))))
         (time_same s (good_by (verdict_at other s.number)))
 

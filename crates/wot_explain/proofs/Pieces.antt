@@ -20,12 +20,12 @@ use Rattle.wot_keyring_spec.specs.Keyring.{Entries, stripped}
 use Rattle.wot_keyring_spec.specs.Kept.{AreNamed}
 use Rattle.wot_explain.specs.declared.bind.Bind.{Bind}
 use Rattle.wot_explain.specs.Listing.{Pair, pair_of, pairs_in, pairs_of, pairs_of_all, IsListed, AddsListed}
-use Rattle.wot_explain.specs.Piece.{AddsPiece, IsThePiece, binds_after, comes_after, fpr_at, is_bind_after, piece_of}
+use Rattle.wot_explain.specs.Piece.{AddsPiece, IsThePiece, binds_after, comes_after, fpr_at, piece_of}
 use Rattle.wot_explain.proofs.Listed.{joined, pairs_named, split, walked, with_bind}
 
 module _ (network : List ℕ → Record) (roots : List (Fpr × ℕ)) (wanted : ℕ) (after : Option Place) (count : ℕ) where
   after_joined : (xs ys : List Bind) → binds_after after (xs ++ ys) ≡ binds_after after xs ++ binds_after after ys
-  after_joined xs ys = filter-append (is_bind_after after) xs ys
+  after_joined xs ys = filter-append (λ (bind : Bind). comes_after after (bind.fpr, bind.uid)) xs ys
 
   -- ---- steps
 

@@ -21,12 +21,9 @@ abbrev pub comes_after : Option Place → Pair → Bool
 comes_after None pair = true
 comes_after (Some place) pair = is_gt (ordering_then (fpr_cmp pair.0 place.fpr) (slice_cmp nat_cmp pair.1 place.uid))
 
-abbrev pub is_bind_after : Option Place → Bind → Bool
-is_bind_after after bind = comes_after after (bind.fpr, bind.uid)
-
 -- the elements of a list that come after it
 abbrev pub binds_after : Option Place → List Bind → List Bind
-binds_after after binds = filter (is_bind_after after) binds
+binds_after after binds = filter (λ bind. comes_after after (bind.fpr, bind.uid)) binds
 
 -- the first of them, at most this many
 abbrev pub piece_of : Option Place → ℕ → List Bind → List Bind

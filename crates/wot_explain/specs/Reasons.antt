@@ -49,17 +49,6 @@ is_older_by verdicts t uid s issuer =
 
 -- ---- the table, in four parts
 
--- by the verdict on it
-abbrev pub verdict_words : Signature → Option Verdict → List Word
-verdict_words s said =
-    -- it isn't valid
-    (1, not (is_sound s))
-    -- it has no verdict
-    ∷ (2, not (is_some said))
-    -- its verdict is bad
-    ∷ (3, not (is_some (good_by said)))
-    ∷ []
-
 -- by the issuer of the good verdict
 abbrev pub counting_words : Signature → Option Fpr → List Word
 counting_words s issuer =
@@ -111,8 +100,13 @@ good_words k t uid s issuer = counting_words s (Some issuer) ++ counted_words k 
 -- by the verdict on it, and by the issuer's standing
 abbrev pub reason_words : Entries → ℕ → Component → Signature → Option Verdict → Option Standing → List Word
 reason_words verdicts t uid s said issuer =
-    verdict_words s said ++ counting_words s (good_by said)
-    ++ time_words verdicts t uid s (good_by said) ++ issuer_words (made_of s) issuer
+    -- it isn't valid
+    (1, not (is_sound s))
+    -- it has no verdict
+    ∷ (2, not (is_some said))
+    -- its verdict is bad
+    ∷ (3, not (is_some (good_by said)))
+    ∷ counting_words s (good_by said) ++ time_words verdicts t uid s (good_by said) ++ issuer_words (made_of s) issuer
 
 -- the word of a certification on a user ID; 0 means that it is a usable edge
 abbrev pub reason_word : Entries → Certificates → ℕ → Component → Signature → ℕ
