@@ -201,8 +201,12 @@ fn allows<R: Roads>(roads: &R, reach: &Reach, place: usize, number: u8, edge: &E
     ensures allows { result ≡ true → Allows (R.network roads.now) (number_at reach.now) number edge.now }
 {
     let facts = edge.facts();
+    // Most edges have depth 0.
+    if facts.amount == 0 || facts.depth <= number {
+        return true;
+    }
     let passed_on = reach.get_near(place, &facts.issuer).saturating_sub(1);
-    if facts.amount == 0 || facts.depth.min(passed_on) <= number {
+    if facts.depth.min(passed_on) <= number {
         return true;
     }
     !roads.usable(edge)

@@ -6,7 +6,7 @@ ghost use Rattle.std.specs.Prelude.{ℕ, List};
 ghost use Rattle.wot_types.specs.declared.fpr.Fpr.{Fpr as Print};
 ghost use Rattle.wot_reach.specs.Slots.{AreSlots, HasNumber, HasNumberIfSome};
 
-use crate::slots::{Slot, Slots, number_by, number_from};
+use crate::slots::{Slot, Slots, number_by_place, number_from};
 use std::alloc::Global;
 use std::collections::BTreeMap;
 use wot_edge::Roads;
@@ -101,9 +101,10 @@ fn slot_of(fpr: &Fpr, slots: &Slots, numbers: &BTreeMap<Fpr, u8>) -> Slot
     requires { AreSlots numbers.now.entries slots.now.slots.items }
     ensures { HasNumber numbers.now.entries result.fpr result.number }
 {
+    let place = slots.short_place(fpr);
     Slot {
         fpr: *fpr,
-        number: number_by(slots, numbers, fpr),
-        place: slots.short_place(fpr),
+        number: number_by_place(slots, numbers, place, fpr),
+        place,
     }
 }

@@ -66,6 +66,17 @@ impl Slots {
         }
     }
 
+    /// The number of a fingerprint that was found at this place, if it was.
+    fn find_at(&self, place: Option<u32>, fpr: &Fpr) -> Option<u8>
+        ensures tells { (numbers : List (Print × ℕ)) → AreSlots numbers self.now.slots.items
+            → HasNumberIfSome numbers fpr.now result }
+    {
+        match place {
+            None => None,
+            Some(place) => number_from(&self.slots, place as usize, fpr),
+        }
+    }
+
     /// The place of a fingerprint; `None` if it isn't found.
     pub(crate) fn place(&self, fpr: &Fpr) -> Option<usize> {
         match self.starts.get(part_of(fpr, self.slots.len())) {
@@ -119,6 +130,22 @@ pub(crate) fn number_by(slots: &Slots, numbers: &BTreeMap<Fpr, u8>, fpr: &Fpr) -
     ensures number { result ≡ number_of numbers.now.entries fpr.now }
 {
     match slots.find(fpr) {
+        Some(number) => number,
+        None => number_in(numbers, fpr),
+    }
+}
+
+/// The number of a fingerprint, from the slot at this place if it was found there.
+pub(crate) fn number_by_place(
+    slots: &Slots,
+    numbers: &BTreeMap<Fpr, u8>,
+    place: Option<u32>,
+    fpr: &Fpr,
+) -> u8
+    requires slots { AreSlots numbers.now.entries slots.now.slots.items }
+    ensures number { result ≡ number_of numbers.now.entries fpr.now }
+{
+    match slots.find_at(place, fpr) {
         Some(number) => number,
         None => number_in(numbers, fpr),
     }
