@@ -12,7 +12,7 @@ use Rattle.std.proofs.lemmas.Cmp.{nat_cmp_total}
 use Rattle.wot_keyring_spec.specs.Keyring.{Keyring}
 use Rattle.wot_answers.specs.declared.answers.KeptAnswer.{KeptAnswer}
 use Rattle.wot_answers.specs.Answers.{AreFew, AreRight, Entries, IsGood, IsRight, IsSameBut, looked_by, looked_in}
-use Rattle.wot_looked.specs.Looked.{Amounts}
+use Rattle.wot_answers.specs.Looked.{Amounts}
 use Rattle.wot_answers.specs.EntryLaws.{each_inserted, length_inserted}
 
 pub right_put : (k : Keyring) (roots : Amounts) (revision : ℕ) (entries : Entries) (a : KeptAnswer) →

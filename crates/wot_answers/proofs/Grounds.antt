@@ -23,16 +23,16 @@ use Rattle.wot_network.specs.Local.{AgreeAt, IsLocal}
 use Rattle.wot_network.specs.Records.{record_of}
 use Rattle.wot_answers.specs.declared.answers.KeptAnswer.{KeptAnswer}
 use Rattle.wot_answers.specs.declared.reach.KeptReach.{KeptReach}
-use Rattle.wot_looked.specs.declared.looked.Looked.{Looked}
+use Rattle.wot_answers.specs.declared.looked.Looked.{Looked}
 use Rattle.wot_auth.specs.declared.answer.Answer.{Answer}
 use Rattle.wot_answers.specs.declared.asked.Asked.{Asked}
 use Rattle.wot_answers.specs.declared.parts.Parts.{Parts}
 use Rattle.wot_answers.specs.Answers.{AllLead, AllLeadIn, AllLed, AllStill, RestsOnLeadsIn}
 use Rattle.wot_answers.specs.Answers.{Grounds, IsTheAnswer, AreRight, Entries, IsFound}
 use Rattle.wot_answers.specs.Asked.{IsAnswered, IsConsulted, IsFoundOver, IsKeptNow, kept_by}
-use Rattle.wot_looked.specs.Looked.{Amounts, AreStill}
+use Rattle.wot_answers.specs.Looked.{Amounts, AreStill}
 use Rattle.wot_answers.specs.Answers.{IsGood, IsReaching, IsRight, IsSameBut, question_at}
-use Rattle.wot_looked.specs.Looked.{IsStill, look}
+use Rattle.wot_answers.specs.Looked.{IsStill, look}
 use Rattle.wot_answers.specs.Question.{IsAnswerAround}
 use Rattle.wot_answers.specs.RightLaws.{stamped_there, stamp_past}
 

@@ -18,8 +18,8 @@ use Rattle.wot_network.specs.Records.{record_of}
 use Rattle.wot_reach.specs.Making.{IsMaking}
 use Rattle.wot_answers.specs.declared.answers.KeptAnswer.{KeptAnswer}
 use Rattle.wot_answers.specs.declared.reach.KeptReach.{KeptReach}
-use Rattle.wot_looked.specs.declared.looked.Looked.{Looked}
-use Rattle.wot_looked.specs.Looked.{Amounts, AreStill}
+use Rattle.wot_answers.specs.declared.looked.Looked.{Looked}
+use Rattle.wot_answers.specs.Looked.{Amounts, AreStill}
 use Rattle.wot_answers.specs.Names.{is_name}
 
 -- ---- what an answer depends on

@@ -1,4 +1,5 @@
 pub mod Names
+pub mod Looked
 pub mod Answers
 pub mod Question
 pub mod Asked

@@ -15,9 +15,9 @@ use Rattle.wot_keyring_spec.specs.Keyring.{Keyring}
 use Rattle.wot_keyring_spec.specs.Later.{IsLater}
 use Rattle.wot_answers.specs.declared.answers.KeptAnswer.{KeptAnswer}
 use Rattle.wot_answers.specs.declared.reach.KeptReach.{KeptReach}
-use Rattle.wot_looked.specs.declared.looked.Looked.{Looked}
+use Rattle.wot_answers.specs.declared.looked.Looked.{Looked}
 use Rattle.wot_answers.specs.Answers.{AllAnswers, AllLed, AreAllRight, AreRight, AreRightIn, Entries, IsGood}
-use Rattle.wot_looked.specs.Looked.{Amounts}
+use Rattle.wot_answers.specs.Looked.{Amounts}
 use Rattle.wot_answers.specs.Answers.{IsReaching, IsRight, OfView}
 use Rattle.wot_answers.specs.Names.{is_name}
 use Rattle.std.specs.Option.{option_map_or}

@@ -19,6 +19,7 @@ ghost use Rattle.wot_answers.specs.Question.{present_in};
 use crate::asked::Asked;
 use crate::budget::Budget;
 use crate::key::key_of;
+use crate::looked::{Looked, are_still};
 use crate::parts::Parts;
 use crate::reach::KeptReach;
 use crate::roots::{are_same, listed};
@@ -29,7 +30,6 @@ use wot_auth::Answer;
 use wot_edge::Roots;
 use wot_keyring::Keyring;
 use wot_keyring::laws::later_is_order;
-use wot_looked::{Looked, are_still};
 use wot_search::{Making, Reach};
 use wot_types::{Fpr, Memory, UserId};
 

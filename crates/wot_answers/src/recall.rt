@@ -10,12 +10,12 @@ ghost use Rattle.wot_answers.specs.Asked.{AreSettled, IsAnswered, IsConsulted, I
 use crate::answers::{Answers, KeptAnswer};
 use crate::asked::Asked;
 use crate::key::key_of;
+use crate::looked::{Looked, look_at};
 use crate::parts::Parts;
 use std::alloc::Global;
 use std::collections::BTreeMap;
 use wot_auth::Answer;
 use wot_keyring::laws::later_is_order;
-use wot_looked::{Looked, look_at};
 use wot_network::laws::records_agree;
 use wot_search::Consulted;
 use wot_types::{Memory, UserId, ViewName};

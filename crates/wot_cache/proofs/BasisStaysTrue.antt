@@ -21,12 +21,12 @@ use Rattle.wot_keyring_spec.specs.Kept.{AreStamped}
 use Rattle.wot_keyring_spec.specs.Later.{IsLater, IsLaterAt, IsUnaltered, SaysSame}
 use Rattle.wot_index.specs.Log.{HasChangedSince, Logged, is_listed}
 use Rattle.wot_answers.specs.declared.answers.KeptAnswer.{KeptAnswer}
-use Rattle.wot_looked.specs.declared.looked.Looked.{Looked}
+use Rattle.wot_answers.specs.declared.looked.Looked.{Looked}
 use Rattle.wot_answers.specs.declared.fault.AskFault.{AskFault}
 use Rattle.wot_answers.specs.declared.fault.AskFault.TheVariants as asked
 use Rattle.wot_cache.specs.declared.view.View.{View}
 use Rattle.wot_answers.specs.Answers.{AllAnswers, AllStill, IsOf, IsRight}
-use Rattle.wot_looked.specs.Looked.{Amounts, AreStill}
+use Rattle.wot_answers.specs.Looked.{Amounts, AreStill}
 use Rattle.wot_cache.specs.Basis.{AllIn, AreCalm, AreViewsOn, Basis, CarriesOn, HasAmount, HasGrown, Includes, IsFreeOf}
 use Rattle.wot_cache.specs.Basis.{IsKeptAt, IsKeptOn, IsKeyringOn, IsPresent, IsSameOrClosed, IsUndisturbed, RestsAt}
 use Rattle.wot_cache.specs.Basis.{RestsOn, is_in, question_on}

@@ -10,7 +10,7 @@ use Rattle.wot_answers.specs.declared.parts.Parts.{Parts}
 use Rattle.wot_answers.specs.Answers.{AllAnswers, AreAllRight, AreRight, Entries, IsFoundBy, OfView, OthersKept}
 use Rattle.wot_answers.specs.Answers.{RestsOnLeads, WereKeptOr, answers_for}
 use Rattle.wot_types.specs.declared.fpr.Fpr.{Fpr}
-use Rattle.wot_looked.specs.Looked.{Amounts}
+use Rattle.wot_answers.specs.Looked.{Amounts}
 use Rattle.wot_cache.specs.declared.view.View.{View}
 use Rattle.wot_cache.specs.Consulted.{ConsultsLeads, IsFoundFrom}
 use Rattle.wot_cache.specs.Inside.{Networks}

@@ -10,7 +10,7 @@ use Rattle.wot_keyring_spec.specs.Keyring.{Keyring, certificates_in, is_fpr, sta
 use Rattle.wot_keyring_spec.specs.Later.{IsUnaltered}
 use Rattle.wot_index.specs.Log.{Logged, is_listed}
 use Rattle.wot_network.specs.Records.{record_of}
-use Rattle.wot_looked.specs.declared.looked.Looked.{Looked}
+use Rattle.wot_answers.specs.declared.looked.Looked.{Looked}
 use Rattle.wot_answers.specs.declared.asked.Asked.{Asked}
 use Rattle.wot_cache.specs.declared.view.View.{View}
 use Rattle.wot_cache.specs.Question.{OfQuestion}

@@ -10,9 +10,8 @@ use crate::view::View;
 use std::alloc::Global;
 use std::collections::BTreeSet;
 use std::marker::Model;
-use wot_answers::{AllAnswers, Asked, KeptAnswer};
+use wot_answers::{AllAnswers, Asked, KeptAnswer, Looked, are_still};
 use wot_keyring::Keyring;
-use wot_looked::{Looked, are_still};
 use wot_types::{Fpr, ViewName};
 
 /// If more fingerprints than this changed, the answers aren't checked one by one.

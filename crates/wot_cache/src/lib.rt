@@ -16,5 +16,4 @@ mod views;
 pub use basis::Basis;
 pub use engine::Engine;
 pub use view::{NoView, View, ViewFault};
-pub use wot_answers::{AskFault, Asked, KeptAnswer, Parts};
-pub use wot_looked::Looked;
+pub use wot_answers::{AskFault, Asked, KeptAnswer, Looked, Parts};

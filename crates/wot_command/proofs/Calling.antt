@@ -30,7 +30,7 @@ use Rattle.wot_plain.specs.Outcome.{load}
 use Rattle.wot_command.specs.CommandRun.{StateRun, Seen}
 use Rattle.wot_plain.specs.Served.{Served, unserved}
 use Rattle.wot_command.specs.Stored.{Puts, Stores}
-use Rattle.wot_stored.specs.Stored.{answer_of}
+use Rattle.wot_command.specs.StoredText.{answer_of}
 use Rattle.wot_plain.specs.Storing.{put_from, stored, stored_from, writing}
 use Rattle.wot_plain.proofs.Results.{if_ok}
 

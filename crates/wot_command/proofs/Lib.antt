@@ -9,3 +9,4 @@ pub mod RefusedReplies
 mod Short
 mod FailedPut
 mod ReachedOrMissed
+mod StoredOrRefused

@@ -5,3 +5,4 @@ pub mod EdgeLines
 pub mod Lasting
 pub mod Questions
 pub mod Stored
+pub mod StoredText

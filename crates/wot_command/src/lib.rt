@@ -15,6 +15,7 @@ mod pending;
 mod reasons;
 mod state;
 mod store;
+mod stored;
 
 pub use fresh::dump_makes_the_state_anew;
 pub use state::run_state_command;

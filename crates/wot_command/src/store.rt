@@ -1,5 +1,5 @@
 //! The reply to `store FPR`: a kept certificate is merged with its entry of the certificate directory, and written
-//! back. The keyring doesn't change. It uses wot_certd, and wot_stored for what is written.
+//! back. The keyring doesn't change. It uses wot_certd, and `stored` for what is written.
 ghost use Rattle.std.specs.Prelude.{◌≡◌, ◌≤◌, None, Some, true, IfOk, OnErr};
 ghost use Rattle.wot_policy.specs.declared.rows.PolicyRows.{PolicyRows};
 ghost use Rattle.wot_keyring_spec.specs.Held.{cert_in};
@@ -11,13 +11,13 @@ ghost use Rattle.wot_command.specs.CommandRun.{StoresBy, across, seen};
 ghost use Rattle.wot_command.specs.Stored.{Puts, Stores};
 
 use crate::listing::cert_of;
+use crate::stored::{Unwritten, text_for};
 use std::alloc::Global;
 use wot_cache::Engine;
 use wot_cert::Cert;
 use wot_certd::Shelf;
 use wot_plain::{Missing, Refused, reply_to, reply_to_missing};
 use wot_script::Reply;
-use wot_stored::{Unwritten, text_for};
 use wot_types::{Fpr, Memory, Name};
 
 /// The reply to `store`: writes a certificate, merged with its entry of the certificate directory, in place of the
@@ -59,7 +59,7 @@ fn store_kept<D: Shelf>(
     match shelf.read(&name) {
         Ok(given) => match text_for(alloc, fpr, kept, given) {
             Ok(text) => put(&name, &text, shelf),
-            Err(Unwritten::Told(reply)) => Ok(reply),
+            Err(Unwritten::Refused(reply)) => Ok(reply),
             Err(Unwritten::Memory) => Err(Memory),
         },
         Err(fault) => reply_to(Refused::from(fault)),

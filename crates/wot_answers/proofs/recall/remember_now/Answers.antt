@@ -1,6 +1,6 @@
 use Rattle.std.proofs.Common.{sym, subst, ◌∙◌}
 use Rattle.wot_answers.specs.Answers.{IsFound}
-use Rattle.wot_looked.specs.Looked.{Amounts}
+use Rattle.wot_answers.specs.Looked.{Amounts}
 use Rattle.wot_answers.specs.Asked.{IsFoundOver}
 use Rattle.wot_answers.proofs.WereKept.{kept_as, over_carries}
 use Rattle.wot_answers.proofs.recall.remember_now.Goals as goal

@@ -1,6 +1,6 @@
 use Rattle.std.proofs.Common.{◌≡◌, List, [], ◌∷◌, length, arith}
 use Rattle.wot_types.specs.declared.fpr.Fpr.{Fpr}
-use Rattle.wot_looked.specs.declared.looked.Looked.{Looked}
+use Rattle.wot_answers.specs.declared.looked.Looked.{Looked}
 use Rattle.wot_cache.specs.Basis.{AllIn}
 use Rattle.wot_cache.proofs.basis.add_all.Goals as goal
 

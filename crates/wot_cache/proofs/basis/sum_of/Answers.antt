@@ -1,6 +1,6 @@
 use Rattle.std.proofs.Common.{List, refl, subst}
-use Rattle.wot_looked.specs.declared.looked.Looked.{Looked}
-use Rattle.wot_looked.specs.Looked.{AreStill}
+use Rattle.wot_answers.specs.declared.looked.Looked.{Looked}
+use Rattle.wot_answers.specs.Looked.{AreStill}
 use Rattle.wot_cache.specs.Basis.{AllIn}
 use Rattle.wot_cache.proofs.BasisStaysTrue.{sum_rests}
 use Rattle.wot_cache.proofs.basis.sum_of.Goals as goal

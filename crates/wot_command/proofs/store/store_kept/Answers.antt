@@ -5,7 +5,7 @@ use Rattle.wot_certd.specs.World.{Answer, World, read_answer}
 use Rattle.wot_script.specs.declared.reply.Reply.TheVariants as replies
 use Rattle.wot_plain.specs.Entry.{stores}
 use Rattle.wot_command.specs.CommandRun.{Seen}
-use Rattle.wot_stored.specs.Stored.{answer_of}
+use Rattle.wot_command.specs.StoredText.{answer_of}
 use Rattle.wot_plain.proofs.Faults.{failed}
 use Rattle.wot_plain.proofs.Results.{any_err}
 use Rattle.wot_command.proofs.DirectoryAfterFailure.{on_err_as, puts_none, stored_may}
@@ -26,14 +26,14 @@ returns-in-Ok-text_for-clause-stores g c =
     told c.read.ensures.after
     c.read.ensures.later c.put.ensures.later puts) (rw c.deref.ensures.value at c.put.ensures.puts)
 
-pub returns-in-Err-Told-clause-stores : goal.returns-in-Err-Told-clause-stores
-returns-in-Err-Told-clause-stores g c =
+pub returns-in-Err-Refused-clause-stores : goal.returns-in-Err-Refused-clause-stores
+returns-in-Err-Refused-clause-stores g c =
     let answer : Answer = answer_of c.in-Ok.given in
     let world = g.D.Shelf.world c.args.shelf.now in
-    rw c.in-Err-Told.field-0-is
+    rw c.in-Err-Refused.field-0-is
     (stores_told c.args.fpr.now c.args.kept.now answer world (g.D.Shelf.world c.read.new.self)
     (g.D.Shelf.faults c.args.shelf.now)
-    (g.D.Shelf.faults c.read.new.self) c.in-Err-Told.reply (rw c.in-Err-Told.field-0-is at c.in-Err-Told.ensures.reported)
+    (g.D.Shelf.faults c.read.new.self) c.in-Err-Refused.reply (rw c.in-Err-Refused.field-0-is at c.in-Err-Refused.ensures.reported)
     (told_so world (Cert c.args.fpr.now) answer _ (λ a p. given_is c.in-Ok.given a p) c.in-Ok.ensures.answers)
     c.read.ensures.after
     (λ f. absurd (never_fault c.in-Ok.given f)))

@@ -1,6 +1,6 @@
 use Rattle.std.proofs.Common.{sym, ap, subst, ◌∙◌}
 use Rattle.wot_answers.specs.Answers.{AreRight, AreRightIn, OfView, WereKept}
-use Rattle.wot_looked.specs.Looked.{Amounts}
+use Rattle.wot_answers.specs.Looked.{Amounts}
 use Rattle.wot_answers.proofs.answers.Answers.give.Goals as goal
 
 pub give-requires : goal.give-requires

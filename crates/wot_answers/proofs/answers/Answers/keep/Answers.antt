@@ -1,6 +1,6 @@
 use Rattle.std.proofs.Common.{refl, sym, ap, subst}
 use Rattle.wot_answers.specs.Answers.{AreRightIn, IsFound, IsSameBut, OfView, WereKeptOr}
-use Rattle.wot_looked.specs.Looked.{Amounts}
+use Rattle.wot_answers.specs.Looked.{Amounts}
 use Rattle.wot_answers.proofs.Grounds.{good_at, right_again}
 use Rattle.wot_answers.proofs.WereKept.{but_carries, kept_as, kept_further, kept_or}
 use Rattle.wot_answers.proofs.answers.Answers.keep.Goals as goal

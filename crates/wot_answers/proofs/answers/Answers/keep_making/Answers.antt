@@ -1,6 +1,6 @@
 use Rattle.std.proofs.Common.{sym, ap, subst, ◌∙◌}
 use Rattle.wot_answers.specs.Answers.{AreRightIn, IsReaching, OfView}
-use Rattle.wot_looked.specs.Looked.{Amounts}
+use Rattle.wot_answers.specs.Looked.{Amounts}
 use Rattle.wot_answers.proofs.answers.Answers.keep_making.Goals as goal
 
 pub returns : goal.returns

@@ -2,7 +2,7 @@ use Rattle.std.specs.Prelude.{IfSome}
 use Rattle.std.proofs.Common.{Option, sym, ap, subst, ◌∙◌}
 use Rattle.wot_answers.specs.declared.reach.KeptReach.{KeptReach}
 use Rattle.wot_answers.specs.Answers.{AreRightIn, IsReaching, OfView}
-use Rattle.wot_looked.specs.Looked.{Amounts}
+use Rattle.wot_answers.specs.Looked.{Amounts}
 use Rattle.wot_answers.proofs.answers.Answers.reach.Goals as goal
 
 pub give-requires : goal.give-requires

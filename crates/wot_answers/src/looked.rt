@@ -1,7 +1,7 @@
 //! What a search looked at, as it was then: each fingerprint with its stamp in the keyring and its amount as a root. As
 //! long as both are unchanged, so is the answer.
 ghost use Rattle.std.specs.Prelude.{◌≡◌, true, map, IfOk};
-ghost use Rattle.wot_looked.specs.Looked.{AreStill, look};
+ghost use Rattle.wot_answers.specs.Looked.{AreStill, look};
 
 use std::alloc::Global;
 use wot_edge::Roots;

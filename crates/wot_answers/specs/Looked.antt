@@ -4,7 +4,7 @@ use Rattle.std.specs.List.{AllByRecursion}
 use Rattle.wot_types.specs.declared.fpr.Fpr.{Fpr}
 use Rattle.wot_edge.specs.Roots.{root_amount}
 use Rattle.wot_keyring_spec.specs.Keyring.{Keyring, stamp_at}
-use Rattle.wot_looked.specs.declared.looked.Looked.{Looked}
+use Rattle.wot_answers.specs.declared.looked.Looked.{Looked}
 
 -- roots with their amounts
 abbrev pub Amounts : Type 0

@@ -13,10 +13,10 @@ use Rattle.wot_keyring_spec.specs.declared.refusal.Refusal.{Refusal}
 use Rattle.wot_keyring_spec.specs.declared.refusal.Refusal.TheVariants as refusals
 use Rattle.wot_keyring_spec.specs.Entry.{TellsEntry, entry_in}
 use Rattle.wot_script.specs.declared.reply.Reply.{Reply}
-use Rattle.wot_stored.specs.declared.text.Unwritten.{Unwritten}
-use Rattle.wot_stored.specs.declared.text.Unwritten.TheVariants.{Memory}
+use Rattle.wot_command.specs.declared.stored.Unwritten.{Unwritten}
+use Rattle.wot_command.specs.declared.stored.Unwritten.TheVariants.{Memory}
 use Rattle.wot_plain.specs.Outcome.{refusal}
-use Rattle.wot_stored.specs.Stored.{TellsCert, TellsUnwritten}
+use Rattle.wot_command.specs.StoredText.{TellsCert, TellsUnwritten}
 use Rattle.wot_plain.specs.Storing.{text_unless, united, merged_entry, unless_great}
 
 -- depending on whether it is too large

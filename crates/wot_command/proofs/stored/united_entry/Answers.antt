@@ -1,6 +1,6 @@
 use Rattle.wot_types.specs.declared.name.Name.TheVariants.{Cert}
-use Rattle.wot_stored.proofs.StoredOrRefused.{tells_entry, tells_refused}
-use Rattle.wot_stored.proofs.text.united_entry.Goals as goal
+use Rattle.wot_command.proofs.StoredOrRefused.{tells_entry, tells_refused}
+use Rattle.wot_command.proofs.stored.united_entry.Goals as goal
 
 pub returns-in-Ok : goal.returns-in-Ok
 returns-in-Ok c = record {

@@ -4,8 +4,8 @@ use Rattle.wot_keyring_spec.specs.Entry.{entry_in}
 use Rattle.wot_script.specs.declared.reply.Reply.{Reply}
 use Rattle.wot_plain.specs.Storing.{merged_entry}
 use Rattle.wot_plain.proofs.Results.{if_ok}
-use Rattle.wot_stored.proofs.StoredOrRefused.{if_err, nothing_told, told_refused}
-use Rattle.wot_stored.proofs.text.union_text.Goals as goal
+use Rattle.wot_command.proofs.StoredOrRefused.{if_err, nothing_told, told_refused}
+use Rattle.wot_command.proofs.stored.union_text.Goals as goal
 
 pub returns-in-Ok-clause-text : goal.returns-in-Ok-clause-text
 returns-in-Ok-clause-text c =

@@ -1,8 +1,8 @@
 use Rattle.std.proofs.Common.{ℕ, List, Result, Ok, ap, sym}
 use Rattle.wot_script.specs.declared.reply.Reply.{Reply}
 use Rattle.wot_plain.proofs.Results.{if_ok}
-use Rattle.wot_stored.proofs.StoredOrRefused.{if_err, nothing_told}
-use Rattle.wot_stored.proofs.text.text_for.Goals as goal
+use Rattle.wot_command.proofs.StoredOrRefused.{if_err, nothing_told}
+use Rattle.wot_command.proofs.stored.text_for.Goals as goal
 
 pub returns-in-Bytes-clause-text : goal.returns-in-Bytes-clause-text
 returns-in-Bytes-clause-text c = rw c.in-Bytes.is (rw c.deref.ensures.value at c.union_text.ensures.text)

@@ -1,7 +1,7 @@
 use Rattle.std.proofs.Common.{ap, ◌∙◌}
 use Rattle.wot_component.specs.Certificate.{Certificate, unite, unmarked}
-use Rattle.wot_stored.proofs.StoredOrRefused.{tells_clash, tells_union}
-use Rattle.wot_stored.proofs.text.united.Goals as goal
+use Rattle.wot_command.proofs.StoredOrRefused.{tells_clash, tells_union}
+use Rattle.wot_command.proofs.stored.united.Goals as goal
 
 pub returns-in-Ok-unite : goal.returns-in-Ok-unite
 returns-in-Ok-unite c = record {

@@ -11,8 +11,8 @@ use Rattle.wot_certd.specs.declared.shelf.Given.TheVariants.{Bytes, Absent, Long
 use Rattle.wot_certd.specs.World.{Answer}
 use Rattle.wot_plain.specs.Outcome.{refusal}
 use Rattle.wot_plain.specs.Storing.{text_unless}
-use Rattle.wot_stored.specs.declared.text.Unwritten.{Unwritten}
-use Rattle.wot_stored.specs.declared.text.Unwritten.TheVariants.{Told, Memory}
+use Rattle.wot_command.specs.declared.stored.Unwritten.{Unwritten}
+use Rattle.wot_command.specs.declared.stored.Unwritten.TheVariants.{Refused, Memory}
 
 -- the answer that was returned
 abbrev pub answer_of : Given → Answer
@@ -28,10 +28,10 @@ TellsCert (Err other) written = text_unless written ≡ Err (refusal other)
 
 -- why nothing is written, unless it is out of memory
 abbrev pub TellsUnwritten : Result (List ℕ) Reply → Unwritten → Type 0
-TellsUnwritten written (Told reply) = written ≡ Err reply
+TellsUnwritten written (Refused reply) = written ≡ Err reply
 TellsUnwritten written Memory = Unit {0}
 
 -- the reply is one line
 abbrev pub IsShort : Unwritten → Type 0
-IsShort (Told reply) = is_short reply ≡ true
+IsShort (Refused reply) = is_short reply ≡ true
 IsShort Memory = Unit {0}

@@ -1,11 +1,12 @@
-//! The text that is written: the kept certificate alone if there is no entry, and else merged with the entry's.
+//! The text that `store` writes: the kept certificate alone if there is no entry, and else merged with the entry's. It
+//! uses wot_cert for the merge, and wot_keyring for reading an entry by the rules of `load`.
 ghost use Rattle.std.specs.Prelude.{◌≡◌, ◌<◌, ◌^◌, Ok, length, IfErr, IfOk};
 ghost use Rattle.wot_types.specs.declared.name.Name.TheVariants.{Cert as CertName};
 ghost use Rattle.wot_component.specs.Text.{text_of};
 ghost use Rattle.wot_keyring_spec.specs.Entry.{entry_in};
 ghost use Rattle.wot_certd.specs.Shelf.{FitsEntry};
 ghost use Rattle.wot_plain.specs.Storing.{text_unless, united as united_of, merged_entry, unless_great, writing};
-ghost use Rattle.wot_stored.specs.Stored.{IsShort, answer_of, TellsCert, TellsUnwritten};
+ghost use Rattle.wot_command.specs.StoredText.{IsShort, answer_of, TellsCert, TellsUnwritten};
 
 use std::alloc::Global;
 use wot_cert::laws::marks_weigh_nothing;
@@ -20,7 +21,7 @@ use wot_types::{Fpr, Limit, Limits, Memory, Name};
 #[derive(Drop)]
 pub enum Unwritten {
     /// The reply says why.
-    Told(Reply),
+    Refused(Reply),
     /// Out of memory.
     Memory,
 }
@@ -35,7 +36,7 @@ pub fn text_for(alloc: Global, fpr: &Fpr, kept: &Cert, given: Given) -> Result<V
     match given {
         Given::Bytes(octets) => union_text(alloc, fpr, kept, &octets),
         Given::Absent => cert_text(alloc, kept),
-        Given::Long => Err(Unwritten::Told(Reply::Long)),
+        Given::Long => Err(Unwritten::Refused(Reply::Long)),
     }
 }
 
@@ -63,7 +64,7 @@ fn union_text(alloc: Global, fpr: &Fpr, kept: &Cert, octets: &[u8]) -> Result<Ve
     match united_entry(alloc, fpr, kept, octets) {
         Ok(union) => cert_text(alloc, &union),
         Err(refusal) => match reply_to(Refused::Keyring(refusal)) {
-            Ok(reply) => Err(Unwritten::Told(reply)),
+            Ok(reply) => Err(Unwritten::Refused(reply)),
             Err(Memory) => Err(Unwritten::Memory),
         },
     }

@@ -1,6 +1,6 @@
 use Rattle.std.proofs.Common.{◌≡◌, ◌++◌, map}
-use Rattle.wot_looked.specs.Looked.{look}
-use Rattle.wot_looked.proofs.looked.look_at.Given as goal
+use Rattle.wot_answers.specs.Looked.{look}
+use Rattle.wot_answers.proofs.looked.look_at.Given as goal
 
 abbrev pub invariant-fprs : goal.invariant-fprs
 invariant-fprs l =
