@@ -12,10 +12,11 @@ from ..command.exit_statuses import NoAnswer, WrongWords
 from ..command.key_names import resolve
 from ..command.keyring_choice import Inputs
 from ..command.output import say
-from ..command.trust_roots import Roots, own_directory
+from ..command.trust_roots import Roots
 from ..command.user_service import service
 from ..configuration.config_file import HOST_FILE, user_file
 from ..fast_imports import TYPE_CHECKING
+from ..keyrings.directory_entries import own_directory
 from ..keyrings.service_keyring import served_keyring
 from . import watch_words
 from .watch_notice import Subject
