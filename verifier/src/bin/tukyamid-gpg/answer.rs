@@ -5,7 +5,7 @@
 
 use crate::config::Policy;
 use crate::examine::{By, Code, Standing, Verdict};
-use crate::human::{self, date, grouped, shown};
+use crate::human::{self, date, grouped, on_one_line, shown};
 use crate::status::{key_id, upper, Status};
 use crate::streams::Stream;
 use crate::trust::{Level, Signer};
@@ -103,7 +103,7 @@ pub struct Answer<'s> {
 
 impl Answer<'_> {
     pub fn say(&mut self, text: &str) {
-        self.text.write(format!("gpg: {text}\n").as_bytes());
+        self.text.write(format!("gpg: {}\n", on_one_line(text)).as_bytes());
     }
 
     pub fn signature(&mut self, said: &Said, outcome: &Outcome) {

@@ -11,11 +11,25 @@ pub fn shown(octets: &[u8]) -> String {
         match character {
             '\\' => text.push_str("\\\\"),
             '"' => text.push_str("\\\""),
-            _ if is_plain(character) => text.push(character),
-            _ => text.push_str(&format!("\\u{{{:x}}}", u32::from(character))),
+            _ => push(&mut text, character),
         }
     }
     text
+}
+
+/// A line of this program's own, in which a file's name may hold anything.
+pub fn on_one_line(text: &str) -> String {
+    text.chars().fold(String::new(), |mut line, character| {
+        push(&mut line, character);
+        line
+    })
+}
+
+fn push(text: &mut String, character: char) {
+    match is_plain(character) {
+        true => text.push(character),
+        false => text.push_str(&format!("\\u{{{:x}}}", u32::from(character))),
+    }
 }
 
 /// Whether a character is shown as itself: it is neither a control character nor one that changes the direction or has
@@ -108,6 +122,7 @@ mod tests {
         assert_eq!(shown("Zoë <z@x>".as_bytes()), "Zoë <z@x>");
         assert_eq!(shown(b"a\n[GNUPG:] b\r\x1b\"\\\xff"), "a\\u{a}[GNUPG:] b\\u{d}\\u{1b}\\\"\\\\\u{fffd}");
         assert_eq!(shown("\u{202e}x\u{200b}".as_bytes()), "\\u{202e}x\\u{200b}");
+        assert_eq!(on_one_line("'a\n\x1b' \\u{a} \u{202e}ü"), "'a\\u{a}\\u{1b}' \\u{a} \\u{202e}ü");
     }
 
     #[test]

@@ -9,6 +9,7 @@ use std::process::{Child, Stdio};
 use crate::colons::Key;
 use crate::config::{Config, Policy};
 use crate::listed::Listed;
+use crate::human::on_one_line;
 use crate::names::Program;
 use crate::real;
 use crate::relay::fingerprint;
@@ -118,7 +119,7 @@ impl<'c> Listing<'c> {
 }
 
 fn failed(why: &str) -> u8 {
-    let _ = writeln!(io::stderr(), "tukyamid-gpg: {why}");
+    let _ = writeln!(io::stderr(), "tukyamid-gpg: {}", on_one_line(why));
     2
 }
 

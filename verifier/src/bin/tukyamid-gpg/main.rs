@@ -180,6 +180,6 @@ fn become_real(program: Program, words: &[OsString]) -> u8 {
 
 fn fatal(why: &str) -> u8 {
     // If nobody reads it, the exit status has to do.
-    let _ = writeln!(std::io::stderr(), "tukyamid-gpg: {why}");
+    let _ = writeln!(std::io::stderr(), "tukyamid-gpg: {}", human::on_one_line(why));
     FATAL
 }

@@ -117,7 +117,7 @@ impl Request {
                     request.verifications = Some(file.to_owned())
                 }
                 (name, _) if is_options && name.starts_with("--") => {
-                    return Err((Exit::UnsupportedOption, format!("{name} isn't known")));
+                    return Err((Exit::UnsupportedOption, format!("{} isn't known", human::on_one_line(name))));
                 }
                 _ => files.push(word.clone()),
             }
@@ -296,7 +296,7 @@ fn path_of(name: &str) -> Result<PathBuf> {
     match name.strip_prefix("@FD:") {
         Some(number) if number.bytes().all(|digit| digit.is_ascii_digit()) => Ok(Path::new("/dev/fd").join(number)),
         None if !name.starts_with('@') => Ok(PathBuf::from(name)),
-        _ => Err((Exit::UnsupportedPrefix, format!("{name}: this name isn't known"))),
+        _ => Err((Exit::UnsupportedPrefix, format!("{}: this name isn't known", human::on_one_line(name)))),
     }
 }
 
@@ -305,10 +305,10 @@ fn failed(error: io::Error) -> (Exit, String) {
 }
 
 fn missing(name: &str, error: &io::Error) -> (Exit, String) {
-    (Exit::MissingInput, format!("{name}: {error}"))
+    (Exit::MissingInput, format!("{}: {error}", human::on_one_line(name)))
 }
 
 fn unwritten(name: &str, error: &io::Error) -> (Exit, String) {
     let exit = if error.kind() == io::ErrorKind::AlreadyExists { Exit::OutputExists } else { Exit::Failed };
-    (exit, format!("{name}: {error}"))
+    (exit, format!("{}: {error}", human::on_one_line(name)))
 }
