@@ -94,14 +94,14 @@ class Ending(unittest.TestCase):
         self.begin()
         self.assertEqual(self.server.stop(), 0)
         slow = self.folder / "slow"
-        slow.write_text(SLEEPER)
+        slow.write_text(f"#!/bin/sh\n: >{slow}.begun\nexec sleep 1000\n")
         slow.chmod(0o755)
         starting = subprocess.Popen([self.server.process.args[0], self.server.process.args[1], "--socket",
                                      self.server.path, "--database", self.server.database, "--engine", slow])
-        time.sleep(2)
-        begun = time.monotonic()
-        starting.terminate()
         try:
+            self.server.wait_for(Path(f"{slow}.begun").exists)
+            begun = time.monotonic()
+            starting.terminate()
             self.assertEqual(starting.wait(60), 0)
         finally:
             starting.kill()

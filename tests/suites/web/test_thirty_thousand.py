@@ -1,8 +1,10 @@
 """30,000 keys of a keyserver's network in the browser: the start page, a key, an answer, and the overview. What is
 authenticated is looked for here in the certifications themselves."""
 
+import contextlib
 import json
 import os
+import sqlite3
 import subprocess
 import sys
 from collections import defaultdict
@@ -22,11 +24,11 @@ def made(path):
     network = Network(KEYS)
     fill(path, network)
     depths = defaultdict(set)
-    for piece in network.pieces():
-        for one in piece:
-            for signed in one.signed:
-                if signed.issuer != one.place:
-                    depths[signed.issuer, one.place].add(signed.depth)
+    with contextlib.closing(sqlite3.connect(path)) as connection:
+        # The rows of keys and certificates are numbered from 1, in the order of the network.
+        for issuer, target, depth in connection.execute("SELECT issuer, certificate, depth FROM verdicts"):
+            if issuer != target:
+                depths[issuer - 1, target - 1].add(depth)
     return network, depths
 
 
@@ -58,7 +60,7 @@ class ThirtyThousand(Places):
         cls.network, cls.depths = made(database)
         cls.reached = reached(cls.depths, max)
         assert cls.reached == reached(cls.depths, min), "which certification counts is decided by their times"
-        cls.page = Page([], [cls.network.fprs[ROOT].hex()], NOW, database=database)
+        cls.page = Page([], [cls.network.fingerprint(ROOT).hex()], NOW, database=database)
         cls.addClassCleanup(cls.page.close)
         cls.browser = Browser()
         cls.addClassCleanup(cls.browser.close)
@@ -112,7 +114,7 @@ class ThirtyThousand(Places):
     def test_what_is_there_so_far_is_shown(self):
         """The lines that an overview writes: how far it is, and no table that was there is gone later."""
         [socket] = self.page.runtime.rglob("*.socket")
-        asked = json.dumps({"time": NOW, "roots": {self.network.fprs[ROOT].hex(): 120}})
+        asked = json.dumps({"time": NOW, "roots": {self.network.fingerprint(ROOT).hex(): 120}})
         made = subprocess.run(
             [sys.executable, "-m", "tukyamid.web.overview_process", str(socket)], input=asked.encode(), check=True,
             stdout=subprocess.PIPE, env={**os.environ, "PYTHONPATH": os.pathsep.join(sys.path)})
