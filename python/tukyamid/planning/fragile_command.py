@@ -78,7 +78,7 @@ def words_parser() -> parser.Parser:
     group = made.add_argument_group("what is looked for")
     parser.add_time_and_amount(group)
     group.add_argument("--days", metavar="N", type=parser.typed(read_threshold), default=DAYS,
-                       help=f"what ends within so many days ({DAYS})")
+                       help=f"what ends within this many days ({DAYS})")
     group.add_argument("--format", choices=("tree", "json"), default="tree", help=argparse.SUPPRESS)
     parser.add_programs(made)
     made.set_defaults(question="fragile", words=[], paths=False, strict=False, email=False, suppose=[])
