@@ -1,5 +1,6 @@
 """The commands of the protocol, one type each. `line()` returns a command's line, without its line feed. A field that
-has no spelling is a ValueError when the command is made.
+has no spelling is a ValueError when the command is made. `script_reader` reads the lines of all types with a `form`, so
+a type's parameters are the fields of its form, in their order.
 
 >>> Ask("me", "fac804259d6b2997afe074fcd2112d7c6c04741c", 120, "Alice").line()
 b'ask me fac804259d6b2997afe074fcd2112d7c6c04741c 120 Alice'
@@ -131,16 +132,21 @@ class Absence(WantedQuestion, Command[Reached | Missed]):
 class Check(Question, Command[Accepted | Rejected]):
     """Asks whether these paths and this table show that no more is there."""
     __slots__ = ("paths", "table")
-    form, replies = "check {0.view} {0.fpr} {0.claim} {0.uid}", (Accepted, Rejected)
+    form, replies = "check {0.view} {0.fpr} {0.paths_text} {0.table_text} {0.uid}", (Accepted, Rejected)
 
     def __init__(self, view: str, fpr: str, paths: Iterable[Claim], table: Iterable[Label], user_id: UserId) -> None:
         super().__init__(view, fpr, user_id)
         self.paths, self.table = claims.paths(paths), claims.table(table)
 
     @property
-    def claim(self) -> str:
-        """The paths and the table as a line spells them."""
-        return f"{claims.write_paths(self.paths)} {claims.write_table(self.table)}"
+    def paths_text(self) -> str:
+        """The paths as a line spells them."""
+        return claims.write_paths(self.paths)
+
+    @property
+    def table_text(self) -> str:
+        """The table as a line spells it."""
+        return claims.write_table(self.table)
 
 
 class List(ListingCommand[Binding]):

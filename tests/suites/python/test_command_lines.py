@@ -31,6 +31,8 @@ class Lines(unittest.TestCase):
             (commands.CursorClose("c"), b"cursor c close"), (commands.WatchOff("w"), b"watch w off"),
             (commands.WatchOn("w", "v", A, 1, "a b"), f"watch w on v {A} 1 a b".encode()),
         ]
+        types = {made for made in vars(commands).values() if isinstance(made, type) and "form" in vars(made)}
+        self.assertEqual({type(command) for command, _ in table}, types)
         for command, line in table:
             with self.subTest(line):
                 self.assertEqual(command.line(), line)
