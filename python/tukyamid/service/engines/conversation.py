@@ -54,7 +54,7 @@ class Talk:
         try:
             process = await self._started()
             assert process.stdin is not None and process.stdout is not None
-            process.stdin.write(b"".join([line + b"\n" for line in lines]))
+            process.stdin.write(b"\n".join([*lines, b""]))
             while len(self._replies) < len(lines):
                 octets = await process.stdout.read(_PIECE)
                 if not octets:

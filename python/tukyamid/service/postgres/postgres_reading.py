@@ -11,6 +11,10 @@ class PostgresMoments:
     def __init__(self, servers: Servers) -> None:
         self.parts = PostgresParts(servers)
 
+    @property
+    def is_local(self) -> bool:
+        return False
+
     def begin(self) -> int:
         place, _ = self.parts.renew()
         return place.number

@@ -3,20 +3,26 @@
 from __future__ import annotations
 
 from collections.abc import Awaitable, Callable
-from dataclasses import dataclass
-from typing import Generic, Protocol, TypeVar, runtime_checkable
+from time import monotonic
+from typing import Protocol, TypeVar, runtime_checkable
 
-from ..sliced.reader_thread import Reader
+from ..sliced.reader_thread import Found, Reader
 from ..storage.database import DatabaseFault
 from ..storage.database_threads import Access
 from ..storage.partial_reads import HasParts, Parts
 from .published import Published
 
 _R = TypeVar("_R")
+_LONGEST_HERE = 0.002  # Seconds. What takes longer waits for the disk.
+_ELSEWHERE = 64
 
 
 class Moments(Protocol):
     """One thread uses it at a time."""
+
+    @property
+    def is_local(self) -> bool:
+        """Whether what is in this machine's memory is read without waiting for anybody."""
 
     @property
     def parts(self) -> Parts:
@@ -39,11 +45,6 @@ class HasMoments(HasParts, Protocol):
     def moments(self) -> Moments: ...
 
 
-@dataclass(frozen=True)
-class _Found(Generic[_R]):
-    value: _R
-
-
 class MomentReader(Reader):
     """Reads at one moment for as long as one line is answered. `count` is the number of the last change that was taken.
     If the database has later ones, `catch_up` is called with the number of the last of these before anything is
@@ -57,18 +58,33 @@ class MomentReader(Reader):
         self._count = count
         self._catch_up = catch_up
         self._has_begun = False
+        self._elsewhere = 0  # How many of the next short calls are made in the thread that reads.
+
+    def here(self, call: Callable[[Parts], _R]) -> Found[_R] | None:
+        """A call that went to the disk has those after it made in the thread that reads, so that clients don't wait."""
+        if self._elsewhere or not self._moments.is_local:
+            self._elsewhere = max(0, self._elsewhere - 1)
+            return None
+        begun = monotonic()
+        found = Found(self._asked(call)) if self._has_begun else self._begun(call)
+        if monotonic() - begun > _LONGEST_HERE:
+            self._elsewhere = _ELSEWHERE
+        if isinstance(found, Found):
+            return found
+        self._has_begun = False  # There are changes to take.
+        return None
 
     async def __call__(self, call: Callable[[Parts], _R], /) -> _R:
         if not self._has_begun:
             found = await self._access.read(lambda: self._begun(call))
-            if isinstance(found, _Found):
+            if isinstance(found, Found):
                 return found.value
             await self._catch_up(found)
         return await self._access.read(lambda: self._asked(call))
 
     async def renew(self) -> None:
         """Reads what is committed now from now on."""
-        await self._catch_up(await self._access.read(self.begin))
+        await self._catch_up(self.begin() if self._moments.is_local else await self._access.read(self.begin))
 
     async def frozen(self) -> Parts:
         await self(lambda parts: None)
@@ -84,12 +100,12 @@ class MomentReader(Reader):
         self._has_begun = not self._moments.end()
         return parts
 
-    def _begun(self, call: Callable[[Parts], _R]) -> _Found[_R] | int:
+    def _begun(self, call: Callable[[Parts], _R]) -> Found[_R] | int:
         number = self.begin()
-        return _Found(self._asked(call)) if number == self._count() else number
+        return Found(self._asked(call)) if number == self._count() else number
 
     def begin(self) -> int:
-        """Begins a moment, in the thread that reads."""
+        """Begins a moment, while nothing is read in the other thread."""
         published = self._published.number  # Before: what is published is committed.
         self._has_begun = False
         number = self._moments.begin()

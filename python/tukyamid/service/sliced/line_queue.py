@@ -90,8 +90,8 @@ class LineQueue:
                 self._report(repr(error))
 
     async def _do_next(self) -> None:
-        changes = list(self._next_changes())
-        if changes:
+        if isinstance(self._queue[0], Change):
+            changes = list(self._next_changes())
             try:
                 await self._make(changes)
             except Exception as error:

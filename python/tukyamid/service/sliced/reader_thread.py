@@ -3,12 +3,18 @@
 from __future__ import annotations
 
 from collections.abc import Callable
-from typing import TypeVar
+from dataclasses import dataclass
+from typing import Generic, TypeVar
 
 from ..storage.database_threads import Access
 from ..storage.partial_reads import HasParts, Parts
 
 _R = TypeVar("_R")
+
+
+@dataclass(frozen=True)
+class Found(Generic[_R]):
+    value: _R
 
 
 class Reader:
@@ -19,6 +25,10 @@ class Reader:
 
     async def __call__(self, call: Callable[[Parts], _R], /) -> _R:
         return await self._access.read(lambda: call(self._opened()))
+
+    def here(self, call: Callable[[Parts], _R]) -> Found[_R] | None:
+        """What a short call has read, if it could be made at once, in the caller's thread."""
+        return None
 
     def _opened(self) -> Parts:
         if self._parts is None:

@@ -12,6 +12,7 @@ from ..storage.group_commit import FAULT
 from ..storage.journal import Done
 from ..storage.partial_reads import Parts
 from .partial_engine import Loader
+from .reader_thread import Found
 from .sliced_questions import Asker
 
 _AT_ONCE = 2
@@ -83,3 +84,6 @@ class FrozenReader:
         finally:
             if timer is not None:
                 timer.cancel()
+
+    def here(self, call: Callable[[Parts], _R]) -> Found[_R] | None:
+        return None

@@ -13,6 +13,7 @@ from tukyamid.protocol.spelling import write_user_id
 from ..sessions.views import Value
 from ..storage.partial_reads import Part, Parts
 from .partial_engine import REFUSED_BUDGET, BudgetExceeded, Loader
+from .reader_thread import Found
 from .reply_dependencies import Rest, rest_of, roots_of, slice_of, target_of
 from .slices import Slices
 
@@ -26,6 +27,9 @@ _MOST_WANTED = 2**32 - 1
 class Read(Protocol):
     def __call__(self, call: Callable[[Parts], _R], /) -> Awaitable[_R]:
         """Reads parts of the database, in a thread of its own."""
+
+    def here(self, call: Callable[[Parts], _R]) -> Found[_R] | None:
+        """What a short call has read, if it could be made at once, in the caller's thread."""
 
 
 class Asker:
@@ -53,7 +57,9 @@ class Asker:
     async def ask_all(self, value: Value, rests: Sequence[bytes]) -> list[bytes]:
         """The replies to lines `ask` from a view, in one conversation with the engine."""
         targets = frozenset(fpr for rest in rests if (fpr := target_of(rest[1:])) is not None)
-        needed, ready = await self._read(partial(self._gather_all, value, targets))
+        gather = partial(self._gather_all, value, targets)
+        found = None if self.slices.kept(roots_of(value)) is None else self._read.here(gather)
+        needed, ready = found.value if found is not None else await self._read(gather)
         return await self.loader.load_and_ask(needed.base, needed.beside, partial(self._fetch, ready), value,
                                               lambda name: [b"ask %s%s" % (name, rest) for rest in rests])
 

@@ -59,6 +59,10 @@ class QueriedParts(ABC):
     def _rows(self, query: str, *values: object) -> Iterator[tuple[object, ...]]:
         """The rows of a statement, as they are found; DatabaseFault where it can't be done."""
 
+    def _all(self, query: str, *values: object) -> list[tuple[object, ...]]:
+        """The rows of a statement, which are few."""
+        return list(self._rows(query, *values))
+
     def _scan(self, query: str) -> Iterator[tuple[object, ...]]:
         """The rows of a statement, which may be many."""
         return self._rows(query)
@@ -83,12 +87,12 @@ class QueriedParts(ABC):
         return self._one("SELECT certificates FROM counts")
 
     def part(self, fpr: bytes) -> Part | None:
-        row = next(self._rows(_OCTETS, fpr), None)
-        if row is None:
+        rows = self._all(_OCTETS, fpr)
+        if not rows:
             return None
-        place, octets = row
+        place, octets = rows[0]
         assert isinstance(octets, bytes)
-        return Part(fpr, octets, tuple(cast("Iterator[tuple[bytes, bytes]]", self._rows(_VERDICTS, place))))
+        return Part(fpr, octets, tuple(cast("list[tuple[bytes, bytes]]", self._all(_VERDICTS, place))))
 
     def has(self, fpr: bytes) -> bool:
         return next(self._rows(_HAS, fpr), None) is not None

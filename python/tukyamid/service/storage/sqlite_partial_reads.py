@@ -40,5 +40,11 @@ class SqliteParts(QueriedParts):
         except sqlite3.Error as error:
             raise DatabaseFault(f"{self._path}: {error}") from None
 
+    def _all(self, query: str, *values: object) -> list[tuple[object, ...]]:
+        try:
+            return self._connection.execute(query, values).fetchall()
+        except sqlite3.Error as error:
+            raise DatabaseFault(f"{self._path}: {error}") from None
+
     def close(self) -> None:
         self._connection.close()

@@ -34,6 +34,10 @@ class SqliteMoments:
         self._parts: SqliteParts | None = None
 
     @property
+    def is_local(self) -> bool:
+        return True
+
+    @property
     def parts(self) -> SqliteParts:
         if self._parts is None:
             self._parts = self._database.parts()
