@@ -24,13 +24,14 @@ _Waiting = tuple[socket.socket, Serve]
 
 
 class Acceptor:
-    """Takes connections from sockets, which listen already, and has `serve` serve them.
-    `has_room` says whether a user may have one more client, with that many that wait."""
+    """Takes connections from sockets, which listen already, and has `serve` serve them. `has_room` says whether a user
+    may have one more client, after that many of its own and that many of all that aren't served yet."""
 
-    def __init__(self, has_room: Callable[[int, int], bool], report: Callable[[str], None]) -> None:
+    def __init__(self, has_room: Callable[[int, int, int], bool], report: Callable[[str], None]) -> None:
         self._has_room, self._report = has_room, report
         self._loop = asyncio.get_running_loop()
         self._waiting: dict[int, deque[_Waiting]] = {}
+        self._unserved = 0  # How many wait.
         self._beginning: set[asyncio.Task[object]] = set()
         self._sockets: list[socket.socket] = []
         self._is_scheduled = False
@@ -74,10 +75,11 @@ class Acceptor:
             return
         user = _user_of(connected)
         waiting = self._waiting.get(user, ())
-        if not self._has_room(user, len(waiting)):
+        if not self._has_room(user, len(waiting), self._unserved + len(self._beginning)):
             _refuse(connected)
             return
         self._waiting.setdefault(user, deque()).append((connected, serve))
+        self._unserved += 1
         self._begin_soon()
 
     def _begin_soon(self) -> None:
@@ -98,6 +100,7 @@ class Acceptor:
         self._begin_soon()
 
     def _begin(self, connected: socket.socket, serve: Serve) -> None:
+        self._unserved -= 1
         task: asyncio.Task[object] = self._loop.create_task(serve(connected))
         self._beginning.add(task)
         task.add_done_callback(partial(self._has_begun, connected))

@@ -11,7 +11,7 @@ from unittest import mock
 
 from tukyamid.service import accepting
 from tukyamid.service.sessions.command_kinds import FREE
-from tukyamid.service.sessions.user_shares import Share
+from tukyamid.service.sessions.user_shares import Bounds, Share, Shares
 
 FULL = b"refused full clients\n"
 TURN = 256  # Lines, as docs/SERVICE.md says.
@@ -53,7 +53,7 @@ class Accepting(unittest.IsolatedAsyncioTestCase):
     async def serve(self, connected):
         await asyncio.get_running_loop().connect_accepted_socket(lambda: Told(self.order), connected)
 
-    def accept(self, has_room=lambda user, waiting: True):
+    def accept(self, has_room=lambda user, waiting, of_all: True):
         acceptor = accepting.Acceptor(has_room, self.said.append)
         self.addCleanup(acceptor.close)
         acceptor.listen(self.listening, self.serve)
@@ -99,7 +99,7 @@ class Accepting(unittest.IsolatedAsyncioTestCase):
     async def test_no_room(self):
         client = self.connect()
         client.setblocking(False)
-        self.accept(lambda user, waiting: False)
+        self.accept(lambda user, waiting, of_all: False)
         self.assertEqual(await asyncio.get_running_loop().sock_recv(client, 100), FULL)
         self.assertEqual(self.order, [])
 
@@ -108,9 +108,32 @@ class Accepting(unittest.IsolatedAsyncioTestCase):
         self.users_asked = []
         for _ in range(301):
             self.connect()
-        self.accept(lambda user, waiting: self.users_asked.append((user, waiting)) or waiting < 10)
+        self.accept(lambda user, waiting, of_all: self.users_asked.append((user, waiting)) or waiting < 10)
         await self.until(lambda: 2 in [self.users[one] for one in self.order])
         self.assertEqual(max(waiting for _, waiting in self.users_asked), 10)
+
+    async def test_those_of_all_users_count(self):
+        """However many users connect at once, no more are let in than there may be clients: descriptors are left."""
+        serving = asyncio.Event()
+
+        async def serve(connected):
+            await serving.wait()
+            await self.serve(connected)
+
+        shares = Shares(Bounds(clients=20, of_a_user=10), lambda: 0.0)
+        with mock.patch.object(accepting, "_user_of", lambda connected: connected.fileno()):
+            acceptor = accepting.Acceptor(shares.has_room, self.said.append)
+            self.addCleanup(acceptor.close)
+            clients = [self.connect() for _ in range(200)]
+            acceptor.listen(self.listening, serve)
+            loop = asyncio.get_running_loop()
+            for client in clients:
+                client.setblocking(False)
+            refused = [await loop.sock_recv(client, 100) for client in clients[20:]]
+            self.assertEqual(refused, [FULL] * 180)
+            serving.set()
+            self.assertEqual([await loop.sock_recv(client, 100) for client in clients[:20]], [b"here\n"] * 20)
+        self.assertEqual(len(self.order), 20)
 
     async def test_too_many_open_files(self):
         """It says so, and goes on later."""
@@ -118,7 +141,7 @@ class Accepting(unittest.IsolatedAsyncioTestCase):
         listening = mock.Mock(wraps=self.listening, accept=accepted)
         client = self.connect()
         client.setblocking(False)
-        acceptor = accepting.Acceptor(lambda user, waiting: True, self.said.append)
+        acceptor = accepting.Acceptor(lambda user, waiting, of_all: True, self.said.append)
         self.addCleanup(acceptor.close)
         with mock.patch.object(accepting, "_PAUSE", 0.01):
             acceptor.listen(listening, self.serve)

@@ -193,10 +193,11 @@ class Shares:
         self._clients = 0
         self._shares: dict[int, Share] = {}
 
-    def has_room(self, uid: int, more: int) -> bool:
-        """Whether a user may have one more client, after that many."""
+    def has_room(self, uid: int, more: int, of_all: int) -> bool:
+        """Whether a user may have one more client, after that many more of its own, and of all users."""
         share = self._shares.get(uid)
-        return (share.clients if share else 0) + more < self._most.of_a_user
+        return ((share.clients if share else 0) + more < self._most.of_a_user
+                and self._clients + of_all < self._most.clients)
 
     def join(self, uid: int) -> Share | None:
         """A user's share, for one more client; None if there are too many."""
