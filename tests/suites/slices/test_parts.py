@@ -9,9 +9,11 @@ from pathlib import Path
 
 import cutting
 from outside import Client, Server, alone, needs_engine, script_of
+from signed import SignedNetwork
 from tukyamid.service.storage.sqlite_database import Sqlite
 
 SMALL = Path(__file__).resolve().parent / "parts_server.py"
+MEETING = Path(__file__).resolve().parent / "meeting_verifier.py"
 
 
 def add(client, path):
@@ -81,3 +83,19 @@ class Parts(unittest.TestCase):
 
 if __name__ == "__main__":
     unittest.main()
+
+
+@needs_engine
+class AtOnce(unittest.TestCase):
+    def test_two_parts_are_verified_at_once(self):
+        """Neither verifier ends before the other has begun."""
+        folder = Path(self.enterContext(tempfile.TemporaryDirectory(prefix="tukyamid-parts-")))
+        meeting, file = folder / "meeting", folder / "keyring.pgp"
+        meeting.mkdir()
+        network = SignedNetwork(8, 3)
+        file.write_bytes(b"".join(map(network.certificate, range(network.count))))
+        with Server("--engines", "1", "--verifier", MEETING, folder=folder, program=SMALL, environment={
+                "PARTS": "2", "MEETING": str(meeting), "PATIENCE": "300"}) as server, Client(server.path) as client:
+            self.assertEqual(add(client, file), b"ok keyring 8 32")
+            self.assertEqual(unverified(client), b"service unverified 0")
+        self.assertEqual(len(list(meeting.iterdir())), 4)

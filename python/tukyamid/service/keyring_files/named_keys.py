@@ -2,6 +2,7 @@
 
 from __future__ import annotations
 
+import asyncio
 import contextlib
 from collections.abc import Sequence
 
@@ -19,6 +20,7 @@ class NamedKeys:
     def __init__(self, hub: LineIntake) -> None:
         self._hub = hub
         self._kept: dict[bytes, bytes] = {}  # By its ID, the packets of each kept key that has this ID.
+        self._lock = asyncio.Lock()
 
     def forget(self) -> None:
         """Certificates may have been dropped."""
@@ -27,6 +29,10 @@ class NamedKeys:
     async def named_by(self, part: Sequence[Unlooked]) -> tuple[list[bytes], frozenset[bytes]]:
         """The kept keys that signatures of these certificates name, and the IDs that they name and that no kept key
         has."""
+        async with self._lock:  # Another part would look up the same keys.
+            return await self._found(part)
+
+    async def _found(self, part: Sequence[Unlooked]) -> tuple[list[bytes], frozenset[bytes]]:
         named = frozenset[bytes]().union(*(one.named for one in part))
         unknown = named.difference(self._kept)
         found = await self._hub.search(lambda finder: finder.keys_of_ids(unknown))

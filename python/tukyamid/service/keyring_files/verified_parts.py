@@ -5,6 +5,7 @@ from __future__ import annotations
 import asyncio
 import contextlib
 import tempfile
+from collections import deque
 from collections.abc import AsyncGenerator, Iterable, Iterator, Sequence, Set
 from contextlib import aclosing
 from dataclasses import dataclass
@@ -17,6 +18,8 @@ from .verifier_program import LATE, VerifierRun
 
 # What is verified at a time: certificates, and their octets.
 _MOST_CERTIFICATES, _MOST_OCTETS = 2000, 8 << 20
+# How many parts are verified at once: while one is prepared, or ends, processors have work with the other.
+_AT_ONCE = 2
 # For how many seconds it verifies before other lines are answered.
 _SECONDS = 60
 
@@ -53,16 +56,31 @@ class VerifiedParts:
         now = asyncio.get_running_loop().time
         end = now() + _SECONDS
         slow, self._slow, self.has_left = self._slow, set(), False
-        async with aclosing(self._parts(slow)) as parts:
-            async for part in parts:
-                if now() >= end:
-                    self._slow |= slow
-                    self.has_left = True
-                    return
-                verified = await self._verified(words, part, end - now(), progress)
-                self._slow |= verified.late
-                yield verified
-        self.has_left = bool(self._slow)
+        under_way: deque[asyncio.Task[Verified]] = deque()
+        try:
+            async with aclosing(self._parts(slow)) as parts:
+                async for part in parts:
+                    if now() >= end:
+                        self._slow |= slow
+                        self.has_left = True
+                        break
+                    under_way.append(asyncio.create_task(self._verified(words, part, end - now(), progress)))
+                    if len(under_way) == _AT_ONCE:
+                        yield await self._first(under_way)
+            while under_way:
+                yield await self._first(under_way)
+            self.has_left |= bool(self._slow)
+        finally:
+            for task in under_way:
+                task.cancel()
+            await asyncio.gather(*under_way, return_exceptions=True)
+
+    async def _first(self, under_way: deque[asyncio.Task[Verified]]) -> Verified:
+        """The first of these parts, once it is verified."""
+        verified = await under_way[0]
+        under_way.popleft()
+        self._slow |= verified.late
+        return verified
 
     async def _parts(self, slow: Set[int]) -> AsyncGenerator[list[Unlooked], None]:
         """What waits, each once."""
