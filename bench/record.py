@@ -1,9 +1,9 @@
 """What a bench measured, as a file that `bench/compare` and `bench/plot` read.
 
 Every bench takes `--json FILE` beside its own words. The file has the bench, the commit, the program's digest, the
-machine with its load, and the rows. A row has a name, a value with its unit, and, if there are any, the size that it
-grows with, what it stands beside (a peer in the same run, or a limit) and the ratio to that: 1 is equal, more is worse.
-It may also say what is wanted on an idle machine.
+machine with its load, how much of its time the host gave to others, and the rows. A row has a name, a value with its
+unit, and, if there are any, the size that it grows with, what it stands beside (a peer in the same run, or a limit) and
+the ratio to that: 1 is equal, more is worse. It may also say what is wanted on an idle machine.
 """
 
 import hashlib
@@ -48,6 +48,12 @@ def machine() -> dict[str, Any]:
     }
 
 
+def processor_ticks() -> tuple[int, int]:
+    """How much time all processors have had since the system's start, and how much of it the host gave to others."""
+    ticks = [int(word) for word in Path("/proc/stat").read_text(encoding="utf-8").split(maxsplit=11)[1:9]]
+    return sum(ticks), ticks[-1]
+
+
 def digest(program: str) -> str:
     """The SHA-256 of the measured program, or the empty text if it isn't built."""
     path = Path(program)
@@ -74,6 +80,7 @@ class Record:
         self.rows: list[Row] = []
         self.head = {"bench": bench, "commit": commit(), "program": digest(program), "machine": machine()}
         self.begun, self.load = time.time(), os.getloadavg()[0]
+        self.ticks = processor_ticks()
 
     def add(
         self,
@@ -110,7 +117,9 @@ class Record:
         if self.file is not None:
             load = {"begin": round(self.load, 2), "end": round(os.getloadavg()[0], 2)}
             when = time.strftime("%Y-%m-%dT%H:%M:%SZ", time.gmtime(self.begun))
-            told = {**self.head, "begun": when, "seconds": round(time.time() - self.begun, 1), "load": load}
+            spent, taken = (after - before for before, after in zip(self.ticks, processor_ticks()))
+            told = {**self.head, "begun": when, "seconds": round(time.time() - self.begun, 1), "load": load,
+                    "stolen": round(taken / max(1, spent), 3)}
             self.file.parent.mkdir(parents=True, exist_ok=True)
             self.file.write_text(json.dumps({**told, "rows": self.rows}, indent=1) + "\n", encoding="utf-8")
 
