@@ -11,9 +11,9 @@ const HASHES: [&str; 9] =
 const LONGEST_LINE: u64 = 1 << 24;
 const LONGEST_SIGNATURES: u64 = 1 << 24;
 
-/// Whether a line begins such a text.
+/// Whether a line begins such a text. Spaces at its end aren't seen, and gpg lets them pass.
 pub fn is_begun_by(line: &[u8]) -> bool {
-    line.without_end() == BEGIN
+    line.without_end().strip_prefix(BEGIN).map_or(false, |rest| rest.trim_spaces().is_empty())
 }
 
 /// Whether a line ends what is signed, and begins the signatures.
@@ -130,6 +130,7 @@ mod tests {
         assert_eq!(apart(&text).unwrap(), expected);
         let empty = format!("{HEAD}\n-----BEGIN PGP SIGNATURE-----\r\n");
         assert_eq!(apart(&empty).unwrap().0, "");
+        assert_eq!(apart(&empty.replace("MESSAGE-----", "MESSAGE----- \t")).unwrap().0, "");
     }
 
     #[test]

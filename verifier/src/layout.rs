@@ -84,7 +84,10 @@ impl Layout {
                 self.end = at + line.len() as u64;
                 Within::After
             }
-            Within::After if is_begin => return Err(invalid("it holds more than one armored text")),
+            // Inside a block it would have the library begin at another line than this program.
+            Within::Armor | Within::After if is_begin => {
+                return Err(invalid("it holds more than one armored text"));
+            }
             Within::After => {
                 self.outside.after |= !is_blank;
                 Within::After
@@ -136,6 +139,7 @@ mod tests {
             format!("{ARMOR}{ARMOR}"),
             format!("{CLEAR}\n{CLEAR}"),
             format!("{CLEAR}\nb\n{ARMOR}"),
+            format!("-----BEGIN PGP X-----\na\n{ARMOR}"),
             format!("{}{ARMOR}", "a\n".repeat(1 << 20)),
         ] {
             assert!(layout(&text).is_err(), "{:?}", &text[..text.len().min(60)]);

@@ -131,6 +131,14 @@ impl Visitor for Message {
         self.literals += 1;
         Ok(())
     }
+
+    /// Other programs take a signature around it for one on the packet, and not on the data inside.
+    fn compressed(&mut self) -> io::Result<()> {
+        match self.one_passes.is_empty() && self.signatures.is_empty() {
+            true => Ok(()),
+            false => Err(invalid("a signature on a compressed packet")),
+        }
+    }
 }
 
 struct Copy<'t> {
@@ -175,6 +183,9 @@ pub fn signatures_of(text: &[u8]) -> io::Result<Vec<Vec<u8>>> {
             return Err(invalid("no armored text begins here"));
         }
         for (_, block) in blocks {
+            if block.split_inclusive(|octet| *octet == b'\n').next().map_or(false, cleartext::is_begun_by) {
+                return Err(invalid("a text with a cleartext signature, which isn't on other data"));
+            }
             Reader::from_bytes(block, ReaderMode::Tolerant(None)).read_to_end(&mut octets)?;
         }
     }

@@ -17,6 +17,10 @@ pub trait Visitor {
     fn signature(&mut self, body: Vec<u8>) -> io::Result<()>;
     /// The data; what isn't read of them is skipped.
     fn literal(&mut self, data: &mut dyn Read) -> io::Result<()>;
+    /// A compressed packet begins. An Err says that none belongs here.
+    fn compressed(&mut self) -> io::Result<()> {
+        Ok(())
+    }
 }
 
 /// Visits the packets of a message. An error of kind InvalidData or UnexpectedEof says that it isn't well-formed.
@@ -67,6 +71,7 @@ impl Walk<'_> {
         if self.depth == DEEPEST {
             return Err(invalid("compressed packets are nested too deep".to_owned()));
         }
+        self.visitor.compressed()?;
         let algorithm = octet(body)?;
         let packed = BufReader::new(body);
         let mut inner: Box<dyn BufRead + '_> = match algorithm {

@@ -116,7 +116,7 @@ class Host:
             os.close(write)
             output, text = run.communicate(given, timeout=120)
         with open(read, "rb") as status:
-            return Answer(run.returncode, read_lines(status.read()), text.decode(), output)
+            return Answer(run.returncode, read_lines(status.read()), text.decode("utf-8", "replace"), output)
 
     def ours(self, *words, **how):
         return self.run(*words, **how)

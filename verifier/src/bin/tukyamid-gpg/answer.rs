@@ -31,9 +31,10 @@ impl Outcome {
             (Verdict::Made(..), None) => {
                 Outcome::Refused(Code::General, "nobody was asked about its signer".to_owned())
             }
+            // gpg ends with 1 then, and with 0 if only the key has expired or is revoked.
+            (Verdict::Made(by, _), Some(signer)) if is_over => Outcome::ExpiredSignature(by, signer),
             (Verdict::Made(by, Standing::Revoked), Some(signer)) => Outcome::RevokedKey(by, signer),
             (Verdict::Made(by, Standing::Expired(end)), Some(signer)) => Outcome::ExpiredKey(by, signer, end),
-            (Verdict::Made(by, Standing::Usable), Some(signer)) if is_over => Outcome::ExpiredSignature(by, signer),
             (Verdict::Made(by, Standing::Usable), Some(signer)) => Outcome::Good(by, signer),
         }
     }

@@ -33,6 +33,7 @@ pub enum Code {
     HashAlgorithm = 5,
     NoKey = 9,
     UnusableKey = 53,
+    TimeConflict = 58,
 }
 
 /// The standing of a key that made a signature, now.
@@ -175,6 +176,9 @@ impl<'s, 'h> Examination<'s, 'h> {
         if signed > now + CLOCKS_DIFFER {
             return Err((Code::General, "it was created in the future".to_owned()));
         }
+        if signed < created(one.key) {
+            return Err((Code::TimeConflict, "it is older than its key".to_owned()));
+        }
         if signature.version != one.key[0] {
             return Err(unusable("its version isn't that of its key"));
         }
@@ -186,12 +190,7 @@ impl<'s, 'h> Examination<'s, 'h> {
         let bound = bound.as_ref().ok_or_else(|| unusable("the algorithm of its certificate's key isn't known"))?;
         // A keyring may have the newest bindings alone.
         let could_sign = bound.could_sign(one.key, signed).or_else(|why| {
-            let could_now = bound.could_sign(one.key, now).is_ok() && created(one.key) <= signed;
-            if could_now {
-                Ok(())
-            } else {
-                Err(why)
-            }
+            bound.could_sign(one.key, now).map_err(|_| why)
         });
         if bound.is_meant_for_signing(one.key) && bound.has_revoked(one.key, now) {
             return Ok(Standing::Revoked);

@@ -59,7 +59,7 @@ pub fn run(words: &[OsString]) -> u8 {
             "verify" => Request::read(rest, false).and_then(|request| request.verify()),
             "inline-verify" => Request::read(rest, true).and_then(|request| request.inline_verify()),
             "help" | "--help" => print(HELP),
-            other => Err((Exit::UnsupportedSubcommand, format!("{other} isn't known\n{HELP}"))),
+            other => Err((Exit::UnsupportedSubcommand, format!("{} isn't known\n{HELP}", human::on_one_line(other)))),
         },
     };
     match done {
