@@ -1,6 +1,7 @@
 """The package's scripts on a host that isn't fresh: names that persons have, and mounts in the service's folder. They
-run in a mount namespace, over accounts and a folder of their own."""
+run in a mount namespace, over accounts and a folder of their own. And what its units say of a service that fails."""
 
+import configparser
 import shlex
 import subprocess
 import tempfile
@@ -43,7 +44,7 @@ class Scripts(unittest.TestCase):
             with self.subTest(passwd=passwd, group=group):
                 status, text, _ = self.run_script("preinst", "install", passwd, group)
                 self.assertEqual(status, 1)
-                self.assertRegex(text, r"^tukyamid-server: there is a (user|group) tukyamid\S* already, with the number")
+                self.assertRegex(text, r"^tukyamid-server: there is a (user|group) tukyamid\S* already, with the num")
 
     def test_the_services_own_accounts_stay(self):
         own = ["tukyamid:x:996:996::/var/lib/tukyamid:/usr/sbin/nologin"], ["tukyamid:x:996:", "tukyamid-web:x:995:"]
@@ -74,3 +75,15 @@ class Scripts(unittest.TestCase):
         before = "mount -t tmpfs none /var/lib/tukyamid\necho keyring > /var/lib/tukyamid/keyring.db"
         status, _, left = self.run_script("postrm", "purge", before=before, after="ls -A /var/lib/tukyamid")
         self.assertEqual((status, left), (0, []))
+
+
+class Units(unittest.TestCase):
+    def test_a_service_that_fails_leaves_its_sockets(self):
+        """When systemd gives up a service, the sockets that start it fail too, and nobody is answered any more."""
+        for file in sorted((plain.ROOT / "packaging" / "systemd").glob("*/tukyamid.service")):
+            unit = configparser.ConfigParser(strict=False, interpolation=None)
+            unit.read(file)
+            self.assertEqual(unit["Unit"].get("StartLimitIntervalSec"), "0", file)
+            self.assertEqual(unit["Service"]["Restart"], "on-failure", file)
+            # Meanwhile it shouldn't keep a processor busy.
+            self.assertGreaterEqual(int(unit["Service"].get("RestartSec", "0")), 1, file)
