@@ -62,6 +62,7 @@ pub mod opening;
 mod own;
 pub mod packets;
 pub mod said;
+pub mod shown;
 pub mod signature;
 mod signature_id;
 mod signing;

@@ -7,11 +7,13 @@ import contextlib
 import sys
 from collections.abc import Callable, Sequence
 from pathlib import Path
+from typing import NoReturn
 
 from tukyamid.client.engine_program import find_program
 from tukyamid.keyrings.verifier import find_verifier
 from tukyamid.output_files import Output
 from tukyamid.protocol.refusals import TukyamidError
+from tukyamid.protocol.spelling import for_people
 
 from . import event_loop
 from .ending import Ending
@@ -38,8 +40,15 @@ _EPILOG = """Exit status: 0 done, or ended by SIGTERM, SIGINT or because there w
 the database failed, or the database is damaged; 2 wrong arguments."""
 
 
+class Parser(argparse.ArgumentParser):
+    """A parser whose errors quote what was given without what steers a terminal."""
+
+    def error(self, message: str) -> NoReturn:
+        super().error(for_people(message.encode("utf-8", "surrogateescape"), "\\"))
+
+
 def parser() -> argparse.ArgumentParser:
-    words = argparse.ArgumentParser(prog="tukyamid-server", description=_DESCRIPTION, epilog=_EPILOG)
+    words = Parser(prog="tukyamid-server", description=_DESCRIPTION, epilog=_EPILOG)
     commands = words.add_subparsers(dest="command", metavar="COMMAND", required=True)
     for name, (call, purpose) in COMMANDS.items():
         one = commands.add_parser(name, help=purpose, description=purpose.capitalize() + ".")

@@ -130,6 +130,13 @@ class Words(unittest.TestCase):
             self.assertFalse((self.folder / "s").exists())
         self.assertEqual((self.folder / "text").read_bytes(), b"no database" * 100)
 
+    def test_words_that_steer_a_terminal(self):
+        for words in (["--x\x1b[2J\n\u202e"], ["check", "x\x1b[2J\n\u202e"], ["serve", "--idle", "x\x1b[2J\n\u202e"],
+                      ["check", "--database", "x\x1b[2J\n\u202e"]):
+            _, said = self.run_server(*words)
+            self.assertIn("x\\x1b[2J", said)
+            self.assertNotRegex(said, "[\x1b\u202e]")
+
     def test_a_socket_or_a_database_that_is_served_already(self):
         with Server() as server:
             self.assertEqual(server.path.stat().st_mode & 0o777, 0o600)

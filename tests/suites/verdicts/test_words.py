@@ -32,6 +32,14 @@ class Words(OverRing):
         version = subprocess.run([PROGRAM, "--version"], capture_output=True, text=True).stdout
         self.assertRegex(version, r"^wot-verdicts [0-9.]+ \(sequoia-openpgp [0-9.]+\)\n$")
 
+    def test_names_that_steer_a_terminal(self):
+        """Neither a file's name nor a word makes a line of its own."""
+        name = "x\x1b[2J\nimport \u202e"
+        for words in [name], ["--data", name, self.file], ["--" + name], [self.write(name, b"hello\n")]:
+            said = subprocess.run([PROGRAM, *words], capture_output=True, text=True).stderr
+            self.assertEqual(said.count("\n"), 1, said)
+            self.assertIn("x\\u{1b}[2J\\u{a}import \\u{202e}", said)
+
     def test_certificates_alone(self):
         everything = Script(self.file)
         script = Script("--certificates", self.file)

@@ -3,6 +3,8 @@
 use std::ffi::CString;
 
 use tukyamid_verify::fingerprint::Fingerprint;
+pub use tukyamid_verify::shown::on_one_line;
+use tukyamid_verify::shown::push;
 
 /// A text that a stranger wrote, on one line and without what alters how the rest is shown.
 pub fn shown(octets: &[u8]) -> String {
@@ -15,31 +17,6 @@ pub fn shown(octets: &[u8]) -> String {
         }
     }
     text
-}
-
-/// A line of this program's own, in which a file's name may hold anything.
-pub fn on_one_line(text: &str) -> String {
-    text.chars().fold(String::new(), |mut line, character| {
-        push(&mut line, character);
-        line
-    })
-}
-
-fn push(text: &mut String, character: char) {
-    match is_plain(character) {
-        true => text.push(character),
-        false => text.push_str(&format!("\\u{{{:x}}}", u32::from(character))),
-    }
-}
-
-/// Whether a character is shown as itself: it is neither a control character nor one that changes the direction or has
-/// no width.
-fn is_plain(character: char) -> bool {
-    let is_odd = matches!(character,
-        '\u{ad}' | '\u{61c}' | '\u{115f}' | '\u{1160}' | '\u{180e}' | '\u{200b}'..='\u{200f}' | '\u{2028}'..='\u{202e}'
-        | '\u{2060}'..='\u{206f}' | '\u{3164}' | '\u{fe00}'..='\u{fe0f}' | '\u{feff}' | '\u{ffa0}'
-        | '\u{fff0}'..='\u{fffb}' | '\u{e0000}'..='\u{e0fff}');
-    !is_odd && !character.is_control()
 }
 
 /// `Thu Feb 22 22:13:20 2024 UTC`, in the local time.
@@ -122,7 +99,6 @@ mod tests {
         assert_eq!(shown("Zoë <z@x>".as_bytes()), "Zoë <z@x>");
         assert_eq!(shown(b"a\n[GNUPG:] b\r\x1b\"\\\xff"), "a\\u{a}[GNUPG:] b\\u{d}\\u{1b}\\\"\\\\\u{fffd}");
         assert_eq!(shown("\u{202e}x\u{200b}".as_bytes()), "\\u{202e}x\\u{200b}");
-        assert_eq!(on_one_line("'a\n\x1b' \\u{a} \u{202e}ü"), "'a\\u{a}\\u{1b}' \\u{a} \\u{202e}ü");
     }
 
     #[test]

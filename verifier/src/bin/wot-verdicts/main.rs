@@ -23,6 +23,7 @@ use tukyamid_verify::holders::Holders;
 use tukyamid_verify::input::{self, Raw, Text};
 use tukyamid_verify::keyring;
 use tukyamid_verify::notice::Notice;
+use tukyamid_verify::shown::on_one_line;
 
 use issuers::Issuers;
 use script::Script;
@@ -87,7 +88,7 @@ fn main() -> ExitCode {
     match request.and_then(run) {
         Ok(done) => ExitCode::from(done as u8),
         Err(failed) => {
-            eprintln!("wot-verdicts: {failed}");
+            eprintln!("wot-verdicts: {}", on_one_line(&failed.to_string()));
             ExitCode::from(failed.status())
         }
     }
@@ -232,5 +233,5 @@ fn dearmored(texts: Vec<Raw>, notices: &mut Vec<Notice>) -> Result<Vec<Text>, Fa
 }
 
 fn report(notices: &[Notice]) {
-    notices.iter().for_each(|notice| eprintln!("wot-verdicts: {notice}"));
+    notices.iter().for_each(|notice| eprintln!("wot-verdicts: {}", on_one_line(&notice.to_string())));
 }
