@@ -18,7 +18,9 @@ use Rattle.wot_cache.specs.declared.view.ViewFault.{ViewFault}
 use Rattle.wot_cache.specs.declared.view.ViewFault.TheVariants as faults
 use Rattle.wot_cache.specs.State.{State, Engine, IsStateAfter, state_of}
 use Rattle.wot_cache.specs.Views.{TellsFault}
-use Rattle.wot_plain.specs.Outcome.{unless, view_refusal, refusal, import, imports, load, set_verdict}
+use Rattle.wot_plain.specs.Classes.{change_of}
+use Rattle.wot_plain.specs.Outcome.{unless, view_refusal, refusal, imports, load, set_verdict}
+use Rattle.wot_plain.specs.declared.class.Change.TheVariants as changes
 use Rattle.wot_plain.specs.LineStep.{ComesTo}
 
 pub view_gives : (s new changed : State) (o : Option ViewFault) (fault : ViewFault) (reply : Reply)
@@ -45,7 +47,7 @@ under_gives demand rows old new octets told reply std (inr e) same is = let m : 
 pub import_gives : (rows : PolicyRows) (old new : Engine) (octets : List ℕ) (told : Refusal) (reply : Reply) →
     old.keyring.limits ≡ standard_limits
     → ImportReturns (Err told) rows old.keyring octets → new ≡ old → (reply ≡ refusal told) × (told ≢ refusals.Memory) →
-    ComesTo (import rows (state_of old) octets) reply (state_of new)
+    ComesTo (change_of rows (state_of old) (changes.Import octets)) reply (state_of new)
 import_gives rows old new octets told reply std answers same is = under_gives any rows old new octets told reply std
     answers same is
 
@@ -72,7 +74,7 @@ under_taken demand rows old new octets counts std (inr e) is = absurd cc
 pub import_taken : (rows : PolicyRows) (old new : Engine) (octets : List ℕ) (counts : Imported)
     → old.keyring.limits ≡ standard_limits → ImportReturns (Ok counts) rows old.keyring octets
     → IsStateAfter (importing rows octets) old new
-    → ComesTo (import rows (state_of old) octets) (replies.Taken counts.taken counts.skipped counts.fresh)
+    → ComesTo (change_of rows (state_of old) (changes.Import octets)) (replies.Taken counts.taken counts.skipped counts.fresh)
     (state_of new)
 import_taken rows old new octets counts std answers is = under_taken any rows old new octets counts std answers is
 

@@ -9,7 +9,9 @@ ghost use Rattle.wot_component.specs.Certificate.{Certificate};
 ghost use Rattle.wot_component.specs.Text.{size_of};
 ghost use Rattle.wot_keyring_spec.specs.Held.{held_of, cert_in};
 ghost use Rattle.wot_cache.specs.State.{state_of};
-ghost use Rattle.wot_plain.specs.Outcome.{key_line_of, keys as keys_of, export as export_of, dump as dump_of};
+ghost use Rattle.wot_plain.specs.Classes.{reading};
+ghost use Rattle.wot_plain.specs.Outcome.{key_line_of};
+ghost use Rattle.wot_plain.specs.declared.class.Read.TheVariants as reads;
 ghost use Rattle.wot_plain.specs.Fresh.{IsMadeAnew};
 
 use crate::fresh::dump_makes_the_state_anew;
@@ -35,7 +37,7 @@ fn key_lines(alloc: Global, certs: CertsIter<'_>) -> Result<KeyLines, Memory>
 
 /// The reply to `keys`: a line for each certificate.
 pub fn keys(alloc: Global, engine: &Engine) -> Result<Reply, Memory>
-    ensures keys { IfOk result (λ reply. reply ≡ (keys_of (state_of engine.now)).reply) }
+    ensures keys { IfOk result (λ reply. reply ≡ reading (state_of engine.now) reads.Keys) }
 {
     let lines = key_lines(alloc, engine.keyring().certs())?;
     Ok(Reply::Keys(lines.items().len() as u64, lines))
@@ -50,7 +52,7 @@ pub fn cert_of<'a>(engine: &'a Engine, fpr: &Fpr) -> Option<&'a Cert>
 
 /// The reply to `export`: the octets of a certificate (RFC 9580, section 10.1), or that it is absent.
 pub fn export(alloc: Global, engine: &Engine, fpr: &Fpr) -> Result<Reply, Memory>
-    ensures export { IfOk result (λ reply. reply ≡ (export_of (state_of engine.now) fpr.now).reply) }
+    ensures export { IfOk result (λ reply. reply ≡ reading (state_of engine.now) (reads.Export fpr.now)) }
 {
     let Some(cert) = cert_of(engine, fpr) else {
         return Ok(reply_to_missing(Missing::Named));
@@ -63,7 +65,7 @@ pub fn export(alloc: Global, engine: &Engine, fpr: &Fpr) -> Result<Reply, Memory
 /// The reply to `dump`: the commands that restore the state.
 pub fn dump(alloc: Global, engine: &Engine) -> Result<Reply, Memory>
     requires standard { engine.now.keyring.limits ≡ standard_limits }
-    ensures dump { IfOk result (λ reply. reply ≡ (dump_of (state_of engine.now)).reply) }
+    ensures dump { IfOk result (λ reply. reply ≡ reading (state_of engine.now) reads.Dump) }
     ensures anew { OnOk result ((rows : PolicyRows) → IsMadeAnew rows (state_of engine.now)) }
 {
     dump_makes_the_state_anew();

@@ -1,7 +1,9 @@
 //! The reply to `pending`: a line for each well-formed signature without a verdict. The verifier reads these lines.
 ghost use Rattle.std.specs.Prelude.{◌≡◌, map, IfOk};
 ghost use Rattle.wot_cache.specs.State.{state_of};
-ghost use Rattle.wot_plain.specs.Listing.{hint_of, pending as pending_of, pending_line as pending_line_of};
+ghost use Rattle.wot_plain.specs.Classes.{reading};
+ghost use Rattle.wot_plain.specs.Listing.{hint_of, pending_line as pending_line_of};
+ghost use Rattle.wot_plain.specs.declared.class.Read.TheVariants as reads;
 
 use std::alloc::Global;
 use wot_cache::Engine;
@@ -11,7 +13,7 @@ use wot_types::{Fpr, Memory};
 
 /// The reply to `pending`: a line for each well-formed signature without a verdict.
 pub fn pending(alloc: Global, engine: &Engine) -> Result<Reply, Memory>
-    ensures pending { IfOk result (λ reply. reply ≡ (pending_of (state_of engine.now)).reply) }
+    ensures pending { IfOk result (λ reply. reply ≡ reading (state_of engine.now) reads.Pending) }
 {
     let found = engine.keyring().pending(alloc)?;
     let lines = pending_lines(alloc, found.as_slice())?;

@@ -6,7 +6,6 @@ use Rattle.wot_edge.specs.Record.{Record}
 use Rattle.wot_edge.specs.declared.path.Step.{Step}
 use Rattle.wot_keyring_spec.specs.Keyring.{Keyring, certificates_in}
 use Rattle.wot_keyring_spec.specs.declared.pending.Pending.{Pending}
-use Rattle.wot_keyring_spec.specs.Pending.{pending_in}
 use Rattle.wot_network.specs.Records.{record_of}
 use Rattle.wot_reply_lines.specs.declared.lines.BindLine.{BindLine}
 use Rattle.wot_reply_lines.specs.declared.lines.Hint.{Hint}
@@ -18,13 +17,11 @@ use Rattle.wot_script.specs.declared.reply.Reply.{Reply}
 use Rattle.wot_script.specs.declared.reply.Reply.TheVariants as replies
 use Rattle.wot_cache.specs.declared.view.View.{View}
 use Rattle.wot_cache.specs.State.{State}
-use Rattle.wot_cache.specs.Views.{view_at}
 use Rattle.wot_explain.specs.declared.bind.Bind.{Bind}
 use Rattle.wot_explain.specs.declared.explained.Explained.{Explained}
 use Rattle.wot_explain.specs.Explaining.{explanation}
 use Rattle.wot_explain.specs.Listing.{IsListed, pairs_in}
 use Rattle.wot_explain.specs.Reasons.{Reason}
-use Rattle.wot_plain.specs.Outcome.{Outcome, only}
 
 -- ---- `list`
 
@@ -70,10 +67,6 @@ abbrev pub explained_from : State → Option View → Fpr → List ℕ → Reply
 explained_from s None fpr uid = replies.View
 explained_from s (Some view) fpr uid = explained (explanation s.held.certs s.held.verdicts view.time fpr uid)
 
--- `explain`: the reply from an open view, at its time
-abbrev pub explain : State → List ℕ → Fpr → List ℕ → Outcome
-explain s view fpr uid = only s (explained_from s (view_at s.views view) fpr uid)
-
 -- the explanation from a keyring, at a time
 abbrev pub Explains : Keyring → ℕ → Fpr → List ℕ → Reply → Type 0
 Explains keyring t fpr uid reply =
@@ -90,7 +83,3 @@ hint_of None None = hints.Nothing
 -- a signature's line: its number, its certificate, and a hint of its issuer
 abbrev pub pending_line : Pending → PendingLine
 pending_line sig = record { 0 = sig.number; 1 = sig.fpr; 2 = hint_of sig.issuer sig.hint }
-
--- `pending`: a line for each well-formed signature without a verdict, by certificate and then in the order of its text
-abbrev pub pending : State → Outcome
-pending s = only s (replies.Pending (length (pending_in s.held)) (map pending_line (pending_in s.held)))

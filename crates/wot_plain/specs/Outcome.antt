@@ -1,5 +1,5 @@
 -- The outcome of each command that isn't a question: its reply, and the new state.
-use Rattle.std.specs.Prelude.{ℕ, if◌then◌else◌, List, length, map, Option, Some, None, is_some, Result, Ok, Err}
+use Rattle.std.specs.Prelude.{ℕ, if◌then◌else◌, List, length, Option, Some, None, is_some, Result, Ok, Err}
 use Rattle.wot_types.specs.declared.fpr.Fpr.{Fpr}
 use Rattle.wot_types.specs.declared.limits.Limit.TheVariants as words
 use Rattle.wot_types.specs.declared.name.Name.{Name}
@@ -18,9 +18,8 @@ use Rattle.wot_component.specs.Text.{text_of}
 use Rattle.wot_keyring_spec.specs.declared.imported.Imported.{Imported}
 use Rattle.wot_keyring_spec.specs.declared.refusal.Refusal.{Refusal}
 use Rattle.wot_keyring_spec.specs.declared.refusal.Refusal.TheVariants as refusals
-use Rattle.wot_keyring.specs.Dump.{lines_of}
 use Rattle.wot_keyring_spec.specs.Held.{cert_in, removing, verdict_set, verdict_cleared}
-use Rattle.wot_keyring_spec.specs.Import.{answer_to, answer_under, importing, is_entry}
+use Rattle.wot_keyring_spec.specs.Import.{answer_under, importing, is_entry}
 use Rattle.wot_keyring_spec.specs.Verdict.{is_over}
 use Rattle.wot_certd.specs.World.{Answer}
 use Rattle.wot_reply_lines.specs.declared.lines.KeyLine.{KeyLine}
@@ -28,9 +27,8 @@ use Rattle.wot_script.specs.declared.reply.Reply.{Reply}
 use Rattle.wot_script.specs.declared.reply.Reply.TheVariants as replies
 use Rattle.wot_cache.specs.declared.view.ViewFault.{ViewFault}
 use Rattle.wot_cache.specs.declared.view.ViewFault.TheVariants as faults
-use Rattle.wot_cache.specs.Views.{view_at, time_fault, root_fault}
-use Rattle.wot_cache.specs.State.{State, with_held, timing, rooting, closing}
-use Rattle.wot_cache.specs.Dump.{commands_of}
+use Rattle.wot_cache.specs.Views.{view_at}
+use Rattle.wot_cache.specs.State.{State, with_held, closing}
 
 -- a reply, and the new state
 pub record Outcome : Type 0 where
@@ -65,16 +63,13 @@ refusal refusals.Clash = replies.Clash
 refusal (refusals.Full limit) = replies.Full limit
 refusal refusals.Memory = replies.Clash
 
+-- all certificates of the octets are merged, or none, by the answer to the import
 abbrev pub imports : PolicyRows → State → List ℕ → Result Imported Refusal → Outcome
 imports rows s octets (Ok counts) = record {
   reply = replies.Taken counts.taken counts.skipped counts.fresh;
   state = with_held s (importing rows octets s.held);
 }
 imports rows s octets (Err why) = only s (refusal why)
-
--- `import`: takes all certificates of the octets, or none
-abbrev pub import : PolicyRows → State → List ℕ → Outcome
-import rows s octets = imports rows s octets (answer_to rows standard_limits s.held.certs octets)
 
 -- `load`: takes the one certificate of an entry, by what the certificate directory returned
 abbrev pub load : PolicyRows → State → Name → Answer → Outcome
@@ -116,15 +111,6 @@ abbrev pub unless : State → Option ViewFault → State → Outcome
 unless s (Some fault) new = only s (view_refusal fault)
 unless s None new = done new
 
--- `view V time T`
-abbrev pub time : State → List ℕ → ℕ → Outcome
-time s view t = unless s (time_fault standard_limits s.views view) (timing view t s)
-
--- `view V root FPR A`
-abbrev pub root : State → List ℕ → Fpr → ℕ → Outcome
-root s view fpr amount =
-    unless s (root_fault standard_limits (view_at s.views view) fpr amount) (rooting view fpr amount s)
-
 -- `view V close`
 abbrev pub close : State → List ℕ → Outcome
 close s view = if is_some (view_at s.views view) then done (closing view s) else only s replies.View
@@ -135,18 +121,7 @@ close s view = if is_some (view_at s.views view) then done (closing view s) else
 abbrev pub key_line_of : Certificate → KeyLine
 key_line_of c = record { 0 = fpr_of c.key; 1 = length c.user_ids; 2 = signatures_of c }
 
--- `keys`: a line for each certificate, in the order of the fingerprints
-abbrev pub keys : State → Outcome
-keys s = only s (replies.Keys (length s.held.certs) (map (λ (e : Fpr × Certificate). key_line_of e.1) s.held.certs))
-
+-- the octets of a certificate, if it is there
 abbrev pub exported : Option Certificate → Reply
 exported (Some c) = replies.Export (text_of c)
 exported None = replies.Absent
-
--- `export`
-abbrev pub export : State → Fpr → Outcome
-export s fpr = only s (exported (cert_in s.held fpr))
-
--- `dump`: the commands that restore this state, each on its line
-abbrev pub dump : State → Outcome
-dump s = only s (replies.Dump (length (commands_of s)) (lines_of (commands_of s)))

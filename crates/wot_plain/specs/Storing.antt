@@ -12,12 +12,10 @@ use Rattle.wot_component.specs.Text.{size_of, text_of}
 use Rattle.wot_keyring_spec.specs.declared.refusal.Refusal.{Refusal}
 use Rattle.wot_keyring_spec.specs.declared.refusal.Refusal.TheVariants as refusals
 use Rattle.wot_keyring_spec.specs.Entry.{entry_in}
-use Rattle.wot_keyring_spec.specs.Held.{cert_in}
 use Rattle.wot_certd.specs.World.{Answer}
 use Rattle.wot_script.specs.declared.reply.Reply.{Reply}
 use Rattle.wot_script.specs.declared.reply.Reply.TheVariants as replies
-use Rattle.wot_cache.specs.State.{State}
-use Rattle.wot_plain.specs.Outcome.{Outcome, only, refusal}
+use Rattle.wot_plain.specs.Outcome.{refusal}
 use Rattle.wot_plain.specs.Served.{Served}
 
 -- a certificate, unless it is larger than the limit
@@ -51,13 +49,10 @@ stored fails (Err reply) = reply
 stored true (Ok octets) = replies.Shelf
 stored false (Ok octets) = replies.Stored (length octets)
 
+-- the reply to `store`: a certificate is merged with its entry and written in place of the entry
 abbrev pub stored_from : Option Certificate → Fpr → Served → Reply
 stored_from None fpr given = replies.Absent
 stored_from (Some kept) fpr given = stored given.fails (writing fpr kept given.read)
-
--- `store`: a certificate is merged with its entry and written in place of the entry. What is held doesn't change.
-abbrev pub store : State → Fpr → Served → Outcome
-store s fpr given = only s (stored_from (cert_in s.held fpr) fpr given)
 
 -- the octets that replace the entry, if any
 abbrev pub put_from : Option Certificate → Fpr → Answer → Option (List ℕ)
