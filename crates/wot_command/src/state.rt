@@ -22,7 +22,7 @@ ghost use Rattle.wot_plain.specs.Fresh.{IsMadeAnew, OnDump};
 ghost use Rattle.wot_plain.specs.LineStep.{ComesTo};
 ghost use Rattle.wot_plain.specs.Made.{ChangesMarks, MakesFor};
 ghost use Rattle.wot_command.specs.CommandRun.{StateRunOver, over};
-ghost use Rattle.wot_plain.specs.Session.{AreTurned, RevisedBy, turning_in};
+ghost use Rattle.wot_plain.specs.Session.{RevisedBy};
 
 use crate::absence::absence;
 use crate::answer::ask;
@@ -114,7 +114,7 @@ fn change_view(engine: &mut Engine, view: &ViewName, what: &ViewChange) -> Resul
     requires turnable { engine.old.revisions.count < 2 ^ 64 - 1 }
     ensures gives { IfOk result (λ reply.
         ComesTo (view_change_of (state_of engine.old) view.now what.now) reply (state_of engine.new)) }
-    ensures turned { AreTurned (turning_in view.now what.now)
+    ensures turned { RevisedBy (OfState (kinds.View view.now what.now))
         engine.old.views engine.old.revisions engine.new.views engine.new.revisions }
     ensures short { IfOk result (λ reply. is_short reply ≡ true) }
     ensures kept { OnErr result (engine.new ≡ engine.old) }

@@ -44,7 +44,7 @@ use Rattle.wot_plain.specs.Classes.{call_of, change_of, reading, view_change_of}
 use Rattle.wot_plain.specs.LineStep.{StateStep, ComesTo}
 use Rattle.wot_plain.specs.Served.{Served}
 use Rattle.wot_plain.specs.Outcome.{Outcome, close, done, imports, load, only, set_verdict, unless}
-use Rattle.wot_plain.specs.Session.{AreTurned, Turning, turning_in, turning_of}
+use Rattle.wot_plain.specs.Session.{AreTurned, Turning, turning_of}
 use Rattle.wot_plain.proofs.Entries.{AllValues, AreInOrder, all_found, all_put, all_set, all_weaker, all_without}
 use Rattle.wot_plain.proofs.Entries.{apart, found_put, found_set, gone_without, other_put, other_set, other_without}
 use Rattle.wot_plain.proofs.Entries.{rising_put, rising_set, rising_without}
@@ -171,7 +171,8 @@ call_keeps rows s (calls.Store fpr) answer = refl
 
 -- a change of a view
 pub changes_view : (s : State) (view : List ℕ) (change : ViewChange) (r : Reply) (m : State)
-    → ComesTo (view_change_of s view change) r m → AreViewsBy (turning_in view change) s.views m.views
+    → ComesTo (view_change_of s view change) r m
+    → AreViewsBy (turning_of (OfState (kinds.View view change))) s.views m.views
 changes_view s view (alterings.Time t) r m =
     given (Turning.turning view) s (view_change_of s view (alterings.Time t)) r m
     (unless_view view s (timing view t s) (time_fault standard_limits s.views view) (time_view view t s.views))

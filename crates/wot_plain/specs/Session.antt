@@ -8,7 +8,6 @@ use Rattle.wot_watch.specs.Watches.{Watches}
 use Rattle.wot_plain.specs.declared.class.Class.{Class}
 use Rattle.wot_plain.specs.declared.class.Class.TheVariants.{State as OfState}
 use Rattle.wot_plain.specs.declared.class.StateCommand.TheVariants as kinds
-use Rattle.wot_plain.specs.declared.class.ViewChange.{ViewChange}
 use Rattle.wot_plain.specs.declared.class.ViewChange.TheVariants as alterings
 
 -- the state, the count of changes, the turns of views, and cursors and watches by name
@@ -49,13 +48,9 @@ pub data Turning : Type 0 where
   closing : List ℕ → Turning
   leaving : Turning
 
-abbrev pub turning_in : List ℕ → ViewChange → Turning
-turning_in view (alterings.Time t) = turning view
-turning_in view (alterings.Root fpr amount) = turning view
-turning_in view alterings.Close = closing view
-
 abbrev pub turning_of : Class → Turning
-turning_of (OfState (kinds.View view change)) = turning_in view change
+turning_of (OfState (kinds.View view alterings.Close)) = closing view
+turning_of (OfState (kinds.View view change)) = turning view
 turning_of _ = leaving
 
 -- how it changes them, by what it did to the view
