@@ -12,12 +12,13 @@ use Rattle.wot_component.specs.Text.{size_of, text_of}
 use Rattle.wot_keyring_spec.specs.declared.refusal.Refusal.{Refusal}
 use Rattle.wot_keyring_spec.specs.declared.refusal.Refusal.TheVariants as refusals
 use Rattle.wot_keyring_spec.specs.Entry.{TellsEntry, entry_in}
+use Rattle.wot_keyring_spec.specs.Import.{◌>>=◌}
 use Rattle.wot_script.specs.declared.reply.Reply.{Reply}
 use Rattle.wot_command.specs.declared.stored.Unwritten.{Unwritten}
 use Rattle.wot_command.specs.declared.stored.Unwritten.TheVariants.{Memory}
 use Rattle.wot_plain.specs.Outcome.{refusal}
 use Rattle.wot_command.specs.StoredText.{TellsCert, TellsUnwritten}
-use Rattle.wot_plain.specs.Storing.{text_unless, united, merged_entry, unless_great}
+use Rattle.wot_plain.specs.Storing.{text_unless, united, unless_great}
 
 -- depending on whether it is too large
 abbrev unless_so : Bool → Certificate → Result Certificate Refusal
@@ -66,23 +67,23 @@ tells_clash kept entry apart = by (bytes_eq kept.key entry.key) refl
 
 pub tells_entry : (kept c : Certificate) (name : Name) (octets : List ℕ) (r : Result Certificate Refusal) →
     entry_in name octets ≡ Ok c → TellsCert r (united kept c)
-    → TellsCert r (merged_entry kept (entry_in name octets))
+    → TellsCert r (entry_in name octets >>= united kept)
 tells_entry kept c name octets r e t =
-    subst (λ (told : Result Certificate Refusal). TellsCert r (merged_entry kept told)) (sym e) t
+    subst (λ (told : Result Certificate Refusal). TellsCert r (told >>= united kept)) (sym e) t
 
 pub tells_refused : (kept : Certificate) (name : Name) (octets : List ℕ) (why : Refusal) →
     TellsEntry (Err why) name octets
-    → TellsCert (Err why) (merged_entry kept (entry_in name octets))
+    → TellsCert (Err why) (entry_in name octets >>= united kept)
 tells_refused kept name octets (refusals.Packet fault) t =
-    ap (λ (told : Result Certificate Refusal). text_unless (merged_entry kept told)) t
+    ap (λ (told : Result Certificate Refusal). text_unless (told >>= united kept)) t
 tells_refused kept name octets (refusals.Cert fault) t =
-    ap (λ (told : Result Certificate Refusal). text_unless (merged_entry kept told)) t
+    ap (λ (told : Result Certificate Refusal). text_unless (told >>= united kept)) t
 tells_refused kept name octets refusals.Misfiled t =
-    ap (λ (told : Result Certificate Refusal). text_unless (merged_entry kept told)) t
+    ap (λ (told : Result Certificate Refusal). text_unless (told >>= united kept)) t
 tells_refused kept name octets refusals.Clash t =
-    ap (λ (told : Result Certificate Refusal). text_unless (merged_entry kept told)) t
+    ap (λ (told : Result Certificate Refusal). text_unless (told >>= united kept)) t
 tells_refused kept name octets (refusals.Full limit) t =
-    ap (λ (told : Result Certificate Refusal). text_unless (merged_entry kept told)) t
+    ap (λ (told : Result Certificate Refusal). text_unless (told >>= united kept)) t
 tells_refused kept name octets refusals.Memory t = tt
 
 -- ---- replies

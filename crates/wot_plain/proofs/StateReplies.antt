@@ -29,7 +29,7 @@ use Rattle.wot_keyring_spec.specs.declared.refusal.Refusal.{Refusal}
 use Rattle.wot_keyring_spec.specs.declared.refusal.Refusal.TheVariants as refusals
 use Rattle.wot_keyring_spec.specs.Entry.{entry_in}
 use Rattle.wot_keyring_spec.specs.Held.{cert_in, removing, verdict_set, verdict_cleared}
-use Rattle.wot_keyring_spec.specs.Import.{answer_to, answer_under, is_entry}
+use Rattle.wot_keyring_spec.specs.Import.{◌>>=◌, answer_to, answer_under, is_entry}
 use Rattle.wot_keyring_spec.specs.Keyring.{Certificates, is_fpr}
 use Rattle.wot_keyring_spec.specs.Verdict.{is_over}
 use Rattle.wot_network.specs.Records.{user_id_place}
@@ -74,7 +74,7 @@ use Rattle.wot_plain.specs.LineStep.{DoesTo, ComesTo}
 use Rattle.wot_plain.specs.Outcome.{Outcome, cert_refusal, done, exported, imports, load, only, refusal, unless}
 use Rattle.wot_plain.specs.Outcome.{view_refusal}
 use Rattle.wot_plain.specs.Served.{Served}
-use Rattle.wot_plain.specs.Storing.{stored, stored_from, text_unless, merged_entry, writing}
+use Rattle.wot_plain.specs.Storing.{stored, stored_from, text_unless, united, writing}
 
 -- ---- what holds of the reply
 
@@ -228,7 +228,7 @@ writing_replies : (fpr : Fpr) (kept : Certificate) (answer : Answer) → IfErr (
 writing_replies fpr kept Answer.fault = tt
 writing_replies fpr kept Answer.absent = tt
 writing_replies fpr kept Answer.long = tt
-writing_replies fpr kept (Answer.entry octets) = text_replies (merged_entry kept (entry_in (names.Cert fpr) octets))
+writing_replies fpr kept (Answer.entry octets) = text_replies (entry_in (names.Cert fpr) octets >>= united kept)
 
 store_replies : (kept : Option Certificate) (fpr : Fpr) (given : Served) → IsStateReply (stored_from kept fpr given)
 store_replies None fpr given = tt

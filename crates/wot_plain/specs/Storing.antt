@@ -12,6 +12,7 @@ use Rattle.wot_component.specs.Text.{size_of, text_of}
 use Rattle.wot_keyring_spec.specs.declared.refusal.Refusal.{Refusal}
 use Rattle.wot_keyring_spec.specs.declared.refusal.Refusal.TheVariants as refusals
 use Rattle.wot_keyring_spec.specs.Entry.{entry_in}
+use Rattle.wot_keyring_spec.specs.Import.{◌>>=◌}
 use Rattle.wot_certd.specs.World.{Answer}
 use Rattle.wot_script.specs.declared.reply.Reply.{Reply}
 use Rattle.wot_script.specs.declared.reply.Reply.TheVariants as replies
@@ -26,10 +27,6 @@ unless_great c = if nat_lt standard_limits.certificate (size_of c) then Err (ref
 abbrev pub united : Certificate → Certificate → Result Certificate Refusal
 united kept c = if bytes_eq kept.key c.key then unless_great (unite kept c) else Err refusals.Clash
 
-abbrev pub merged_entry : Certificate → Result Certificate Refusal → Result Certificate Refusal
-merged_entry kept (Err why) = Err why
-merged_entry kept (Ok c) = united kept c
-
 -- the text of a certificate, or the reply to a refusal
 abbrev pub text_unless : Result Certificate Refusal → Result (List ℕ) Reply
 text_unless (Err why) = Err (refusal why)
@@ -41,7 +38,7 @@ abbrev pub writing : Fpr → Certificate → Answer → Result (List ℕ) Reply
 writing fpr kept Answer.fault = Err replies.Shelf
 writing fpr kept Answer.long = Err replies.Long
 writing fpr kept Answer.absent = Ok (text_of kept)
-writing fpr kept (Answer.entry octets) = text_unless (merged_entry kept (entry_in (Cert fpr) octets))
+writing fpr kept (Answer.entry octets) = text_unless (entry_in (Cert fpr) octets >>= united kept)
 
 -- the reply, by what is to be written and whether the replace fails
 abbrev pub stored : Bool → Result (List ℕ) Reply → Reply

@@ -1,8 +1,9 @@
 use Rattle.std.proofs.Common.{ℕ, List, Result, Ok, ap, sym, ◌∙◌}
 use Rattle.wot_types.specs.declared.name.Name.TheVariants.{Cert}
 use Rattle.wot_keyring_spec.specs.Entry.{entry_in}
+use Rattle.wot_keyring_spec.specs.Import.{◌>>=◌}
 use Rattle.wot_script.specs.declared.reply.Reply.{Reply}
-use Rattle.wot_plain.specs.Storing.{merged_entry}
+use Rattle.wot_plain.specs.Storing.{united}
 use Rattle.wot_plain.proofs.Results.{if_ok}
 use Rattle.wot_command.proofs.StoredOrRefused.{if_err, nothing_told, told_refused}
 use Rattle.wot_command.proofs.stored.union_text.Goals as goal
@@ -17,6 +18,6 @@ returns-in-Ok-clause-reported c = if_err c.cert_text.result _ _ (λ why e. nothi
 
 pub returns-in-Ok-reply_to-clause-reported : goal.returns-in-Ok-reply_to-clause-reported
 returns-in-Ok-reply_to-clause-reported c =
-    told_refused (merged_entry c.args.kept.now (entry_in (Cert c.args.fpr.now) c.args.octets.now)) c.in-Err.refusal
+    told_refused (entry_in (Cert c.args.fpr.now) c.args.octets.now >>= united c.args.kept.now) c.in-Err.refusal
     c.in-Ok-reply_to.reply
     c.in-Err.ensures.union c.in-Ok-reply_to.ensures.reply
