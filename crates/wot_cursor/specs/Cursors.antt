@@ -2,7 +2,7 @@
 use Rattle.std.specs.Prelude.{ℕ, Bool, List, Option, Some, None}
 use Rattle.wot_types.specs.declared.place.Place.{Place}
 use Rattle.wot_table.specs.Table as tables
-use Rattle.wot_table.specs.Table.{Table, entry_at, with_changed, with_entry, without_entry}
+use Rattle.wot_table.specs.Table.{Table, with_changed}
 use Rattle.wot_cursor.specs.declared.stamps.Stamps.{Stamps}
 
 -- A cursor: the view and the wanted amount of the bindings that it lists, the stamps at its start, and the last binding
@@ -21,22 +21,10 @@ begun view wanted stamps = record { view = view; wanted = wanted; stamps = stamp
 abbrev pub Cursors : Type 0
 Cursors = Table Cursor
 
--- the cursor of a name; none if it isn't there
-abbrev pub cursor_at : Cursors → List ℕ → Option Cursor
-cursor_at cursors name = entry_at cursors name
-
 -- whether a cursor of this name would exceed the limit of 16 cursors
 abbrev pub is_full : Cursors → List ℕ → Bool
 is_full cursors name = tables.is_full 16 cursors name
 
--- with this cursor, in place of an earlier one of the name
-abbrev pub with_cursor : Cursors → List ℕ → Cursor → Cursors
-with_cursor cursors name cursor = with_entry cursors name cursor
-
 -- the cursors after this one, which is there, listed this binding
 abbrev pub with_place : Cursors → List ℕ → Place → Cursors
 with_place cursors name place = with_changed (λ cursor. record cursor { place = Some place }) cursors name
-
--- the cursors without that one
-abbrev pub without_cursor : Cursors → List ℕ → Cursors
-without_cursor cursors name = without_entry cursors name

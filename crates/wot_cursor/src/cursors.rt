@@ -2,7 +2,8 @@
 //! adds what a cursor remembers.
 ghost use Rattle.std.specs.Prelude.{◌≡◌, [], Err, true, is_some, OnOk, OnErr};
 ghost use Rattle.std.specs.Option.{option_copied};
-ghost use Rattle.wot_cursor.specs.Cursors.{begun, cursor_at, is_full, with_cursor, with_place, without_cursor};
+ghost use Rattle.wot_table.specs.Table.{entry_at, with_entry, without_entry};
+ghost use Rattle.wot_cursor.specs.Cursors.{begun, is_full, with_place};
 ghost use Rattle.wot_cursor.specs.declared.cursors.BeginFault.TheVariants as faults;
 ghost use Rattle.wot_cursor.specs.Telling.{TellsFull};
 
@@ -66,7 +67,7 @@ impl Cursors {
         stamps: Stamps,
     ) -> Result<(), BeginFault>
         ensures full { TellsFull result (is_full self.old name) }
-        ensures begun { OnOk result (self.new ≡ with_cursor self.old name (begun view wanted stamps)) }
+        ensures begun { OnOk result (self.new ≡ with_entry self.old name (begun view wanted stamps)) }
         ensures kept { OnErr result (self.new ≡ self.old) }
     {
         let cursor = Cursor::new(view, wanted, stamps);
@@ -78,14 +79,14 @@ impl Cursors {
 
     /// The cursor of a name. `None` if and only if there is none.
     pub fn get(&self, name: &ViewName) -> Option<&Cursor>
-        ensures found { option_copied result ≡ cursor_at self.now name.now }
+        ensures found { option_copied result ≡ entry_at self.now name.now }
     {
         self.cursors.get(name)
     }
 
     /// Records the last binding that the cursor listed. Returns whether the cursor is there.
     pub fn advance(&mut self, name: &ViewName, place: Place) -> bool
-        ensures there { result ≡ is_some (cursor_at self.old name.now) }
+        ensures there { result ≡ is_some (entry_at self.old name.now) }
         ensures advanced { self.new ≡ with_place self.old name.now place }
     {
         match self.cursors.get_mut(name) {
@@ -99,8 +100,8 @@ impl Cursors {
 
     /// Removes a cursor. Returns whether it was there.
     pub fn end(&mut self, name: &ViewName) -> bool
-        ensures there { result ≡ is_some (cursor_at self.old name.now) }
-        ensures ended { self.new ≡ without_cursor self.old name.now }
+        ensures there { result ≡ is_some (entry_at self.old name.now) }
+        ensures ended { self.new ≡ without_entry self.old name.now }
     {
         self.cursors.remove(name).is_some()
     }

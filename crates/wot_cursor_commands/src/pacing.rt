@@ -2,10 +2,11 @@
 //! only once the piece was written. It uses wot_cursor and wot_explain. wot_laws says that the pieces
 //! join to the list.
 ghost use Rattle.std.specs.Prelude.{◌≡◌, ◌≤◌, None, Some, false, true, length, IfOk, OnErr, is_ok, is_some};
+ghost use Rattle.wot_table.specs.Table.{entry_at};
 ghost use Rattle.wot_script.specs.Replies.{is_short};
 ghost use Rattle.wot_cache.specs.State.{StaysButMarks};
 ghost use Rattle.wot_cache.specs.Views.{view_at};
-ghost use Rattle.wot_cursor.specs.Cursors.{Cursors as TheCursors, cursor_at};
+ghost use Rattle.wot_cursor.specs.Cursors.{Cursors as TheCursors};
 ghost use Rattle.wot_plain.specs.declared.class.CursorCommand.TheVariants as paces;
 ghost use Rattle.wot_plain.specs.Pacing.{ReturnsPiece, OnTold, PacesCursor, TellsPiece, behind, settled};
 ghost use Rattle.wot_plain.specs.Made.{CursorMakes, PieceMakes};
@@ -36,7 +37,7 @@ pub fn run_cursor_command(
     ensures paces { OnTold result cursors.new
         (PacesCursor (session_of engine.old cursors.old) name.now command.now) }
     ensures stays { StaysButMarks engine.old engine.new }
-    ensures makes { CursorMakes result (cursor_at cursors.old name.now) command.now engine.old engine.new
+    ensures makes { CursorMakes result (entry_at cursors.old name.now) command.now engine.old engine.new
         steps.old.made steps.new.made }
     ensures quiet { IfOk result (λ drafted. is_short drafted.reply ≡ false → cursors.new ≡ cursors.old) }
     ensures moves { IfOk result (λ drafted. is_some drafted.moved ≡ true → cursors.new ≡ cursors.old) }
@@ -110,7 +111,7 @@ pub fn next(
     ensures goes { OnTold result cursors.now
         (PacesCursor (session_of engine.old cursors.now) name.now (paces.Next count)) }
     ensures stays { StaysButMarks engine.old engine.new }
-    ensures makes { PieceMakes result (cursor_at cursors.now name.now) engine.old engine.new
+    ensures makes { PieceMakes result (entry_at cursors.now name.now) engine.old engine.new
         steps.old.made steps.new.made }
 {
     let Some(cursor) = cursors.get(name) else {

@@ -14,6 +14,7 @@ use Rattle.wot_component.specs.Certificate.{Certificate}
 use Rattle.wot_edge.specs.Record.{IsRecord}
 use Rattle.wot_keyring_spec.specs.Keyring.{Certificates}
 use Rattle.wot_network.specs.Records.{record_of}
+use Rattle.wot_table.specs.Table.{entry_at, with_entry}
 use Rattle.wot_script.specs.Grammar.{command_of}
 use Rattle.wot_script.specs.Spelling.{HasSpelling}
 use Rattle.wot_script.specs.declared.command.Command.{Command}
@@ -23,7 +24,7 @@ use Rattle.wot_script.specs.declared.reply.Reply.{Reply}
 use Rattle.wot_script.specs.declared.reply.Reply.TheVariants as replies
 use Rattle.wot_cache.specs.declared.view.View.{View}
 use Rattle.wot_cache.specs.Views.{view_at}
-use Rattle.wot_cursor.specs.Cursors.{Cursors, begun, cursor_at, is_full, with_cursor}
+use Rattle.wot_cursor.specs.Cursors.{Cursors, begun, is_full}
 use Rattle.wot_explain.specs.declared.bind.Bind.{Bind}
 use Rattle.wot_explain.specs.Listing.{HasList, HasOneList, IsOfEachList, pairs_in}
 use Rattle.wot_explain.specs.Piece.{binds_after}
@@ -66,7 +67,7 @@ reached_sound rows =
 record BeganFrom (s : Session) (name view : List ℕ) (wanted : ℕ) (cursors : Cursors) : Type 0 where
   shown : View
   seen : view_at s.state.views view ≡ Some shown
-  cursors_are : cursors ≡ with_cursor s.cursors name (begun view wanted (stamps_in s view))
+  cursors_are : cursors ≡ with_entry s.cursors name (begun view wanted (stamps_in s view))
 
 began_from : (s : Session) (name view : List ℕ) (wanted : ℕ) (cursors : Cursors) (o : Option View)
     → view_at s.state.views view ≡ o
@@ -76,7 +77,7 @@ began_from s name view wanted cursors (Some shown) e l = by (is_full s.cursors n
   where
     by : (b : Bool)
         → MatchBool b (Leaves replies.FullCursors s.cursors replies.Done cursors)
-        (Leaves replies.Done (with_cursor s.cursors name (begun view wanted (stamps_in s view))) replies.Done cursors)
+        (Leaves replies.Done (with_entry s.cursors name (begun view wanted (stamps_in s view))) replies.Done cursors)
         → BeganFrom s name view wanted cursors
     by true l = let never : replies.Done ≡ replies.FullCursors = l.0 in absurd (cc never)
     by false l = record { shown = shown; seen = e; cursors_are = l.1 }
@@ -155,7 +156,7 @@ module _
                 cursor = record {
                   place = None;
                   there =
-                      ap (λ (cs : Cursors). cursor_at cs name) from.cursors_are
+                      ap (λ (cs : Cursors). entry_at cs name) from.cursors_are
                       ∙ found_put view_name_cmp nat_list_cmp_total name (begun view wanted (stamps_in w view))
                       w.cursors;
                   come = at_first list.0;

@@ -23,9 +23,8 @@ use Rattle.wot_cache.specs.declared.view.View.{View}
 use Rattle.wot_cache.specs.Revisions.{revision_at}
 use Rattle.wot_cache.specs.Views.{view_at}
 use Rattle.wot_cursor.specs.Age.{age_of}
-use Rattle.wot_table.specs.Table.{is_name}
-use Rattle.wot_cursor.specs.Cursors.{Cursor, Cursors, begun, cursor_at, is_full, with_cursor, with_place}
-use Rattle.wot_cursor.specs.Cursors.{without_cursor}
+use Rattle.wot_table.specs.Table.{entry_at, is_name, with_entry, without_entry}
+use Rattle.wot_cursor.specs.Cursors.{Cursor, Cursors, begun, is_full, with_place}
 use Rattle.wot_cursor.specs.declared.stamps.Age.{Age}
 use Rattle.wot_cursor.specs.declared.stamps.Age.TheVariants as ages
 use Rattle.wot_explain.specs.declared.bind.Bind.{Bind}
@@ -130,27 +129,27 @@ other_name : (name other : List ℕ) → is_name name other ≡ false → is_nam
 other_name name other e = ap is_eq (nat_list_cmp_total.antisymm other name) ∙ turned_eq (view_name_cmp name other) ∙ e
 
 module _ (name other : List ℕ) (cursors : Cursors) (e : is_name name other ≡ false) where
-  others_begun : (cursor : Cursor) → cursor_at (with_cursor cursors other cursor) name ≡ cursor_at cursors name
+  others_begun : (cursor : Cursor) → entry_at (with_entry cursors other cursor) name ≡ entry_at cursors name
   others_begun cursor =
       other_put view_name_cmp nat_list_cmp_total other name cursor cursors
       (apart view_name_cmp nat_list_cmp_total other name (other_name name other e))
 
-  others_ended : cursor_at (without_cursor cursors other) name ≡ cursor_at cursors name
+  others_ended : entry_at (without_entry cursors other) name ≡ entry_at cursors name
   others_ended = other_without view_name_cmp nat_list_cmp_total other name cursors
       (apart view_name_cmp nat_list_cmp_total other name (other_name name other e))
 
-  others_moved : (place : Place) → cursor_at (with_place cursors other place) name ≡ cursor_at cursors name
-  others_moved place = by (cursor_at cursors other)
+  others_moved : (place : Place) → entry_at (with_place cursors other place) name ≡ entry_at cursors name
+  others_moved place = by (entry_at cursors other)
     where
       by : (o : Option Cursor)
-          → cursor_at (option_map_or (λ cursor. set_value (is_name other) cursors
-          (record cursor { place = Some place })) o cursors) name ≡ cursor_at cursors name
+          → entry_at (option_map_or (λ cursor. set_value (is_name other) cursors
+          (record cursor { place = Some place })) o cursors) name ≡ entry_at cursors name
       by None = refl
       by (Some cursor) =
           other_set view_name_cmp nat_list_cmp_total other name (record cursor { place = Some place }) cursors
           (apart view_name_cmp nat_list_cmp_total other name (other_name name other e))
 
-  others_behind : (binds : List Bind) → cursor_at (behind cursors other binds) name ≡ cursor_at cursors name
+  others_behind : (binds : List Bind) → entry_at (behind cursors other binds) name ≡ entry_at cursors name
   others_behind [] = refl
   others_behind (bind ∷ binds) = others_moved (last_place bind binds)
 
@@ -159,10 +158,10 @@ module _ (name other : List ℕ) (cursors : Cursors) (e : is_name name other ≡
 module _ (now : Session) (name other : List ℕ) (count : ℕ) (reply : Reply) (cursors : Cursors)
     (e : is_name name other ≡ false) where
   abbrev Same : Type 0
-  Same = cursor_at cursors name ≡ cursor_at now.cursors name
+  Same = entry_at cursors name ≡ entry_at now.cursors name
 
   same_left : cursors ≡ now.cursors → Same
-  same_left left = ap (λ (cs : Cursors). cursor_at cs name) left
+  same_left left = ap (λ (cs : Cursors). entry_at cs name) left
 
   gives_other : (cursor : Cursor) (view : View) → GivesPiece now other count cursor view reply cursors → Same
   gives_other cursor view = by (cursor.wanted == 0)
@@ -174,7 +173,7 @@ module _ (now : Session) (name other : List ℕ) (count : ℕ) (reply : Reply) (
           (behind now.cursors other (piece_of cursor.place count all)) reply cursors)
           → Same
       by true g = same_left g.1
-      by false g = ap (λ (cs : Cursors). cursor_at cs name) g.2.1 ∙ others_behind name other now.cursors e
+      by false g = ap (λ (cs : Cursors). entry_at cs name) g.2.1 ∙ others_behind name other now.cursors e
           (piece_of cursor.place count g.0)
 
   goes_other_by : (age : Age) (cursor : Cursor) (view : View) → GoesBy age now other count cursor view reply cursors
@@ -222,15 +221,15 @@ module _ (name view : List ℕ) (wanted : ℕ) (was : Session) (shown : View) (a
   -- the cursor exists, and has come this far
   pub record HasCursor (cursors : Cursors) (given : List Given) : Type 0 where
     pub place : Option Place
-    pub there : cursor_at cursors name ≡ Some (at_place place)
+    pub there : entry_at cursors name ≡ Some (at_place place)
     pub come : HasCome all place given
 
-  stays : (old new : Cursors) (given : List Given) → cursor_at new name ≡ cursor_at old name → HasCursor old given
+  stays : (old new : Cursors) (given : List Given) → entry_at new name ≡ entry_at old name → HasCursor old given
       → HasCursor new given
   stays old new given e h = record { place = h.place; there = e ∙ h.there; come = h.come }
 
   left : (old new : Cursors) (given : List Given) → new ≡ old → HasCursor old given → HasCursor new given
-  left old new given e h = stays old new given (ap (λ (cs : Cursors). cursor_at cs name) e) h
+  left old new given e h = stays old new given (ap (λ (cs : Cursors). entry_at cs name) e) h
 
   more_of : (cursors : Cursors) (given more : List Given) → more ≡ [] → HasCursor cursors given
       → HasCursor cursors (given ++ more)
@@ -253,11 +252,11 @@ module _ (name view : List ℕ) (wanted : ℕ) (was : Session) (shown : View) (a
       subst (IsNext was now view count) (sym l.0) next,
     )
 
-    moved : (p : List Bind) → cursor_at (behind now.cursors name p) name ≡ Some (at_place (place_behind h.place p))
+    moved : (p : List Bind) → entry_at (behind now.cursors name p) name ≡ Some (at_place (place_behind h.place p))
     moved [] = h.there
     moved (bind ∷ binds) =
         let place = last_place bind binds in
-        ap (λ (o : Option Cursor). cursor_at
+        ap (λ (o : Option Cursor). entry_at
         (option_map_or (λ cursor. set_value (is_name name) now.cursors (record cursor { place = Some place })) o
         now.cursors) name) h.there
         ∙ found_set (is_name name) (at_place (Some place)) now.cursors (ap is_some h.there)
@@ -272,7 +271,7 @@ module _ (name view : List ℕ) (wanted : ℕ) (was : Session) (shown : View) (a
           subst (λ (r : Reply). HasCursor cursors (given ++ given_by count (Some r))) (sym l.0)
               (record {
                 place = place_behind h.place p;
-                there = ap (λ (cs : Cursors). cursor_at cs name) l.1 ∙ moved p;
+                there = ap (λ (cs : Cursors). entry_at cs name) l.1 ∙ moved p;
                 come = next_piece all h.place given count began.rising h.come;
               }),
           subst (IsNext was now view count) (sym l.0) (same, sym (length-map p bind_line), few),
@@ -328,7 +327,7 @@ module _ (name view : List ℕ) (wanted : ℕ) (was : Session) (shown : View) (a
     goes_from (Some v) seen g = goes_by (age_of (stamps_in was view) (stamps_in now view)) v seen
         (aged (stamps_in was view) (stamps_in now view)) g
 
-    pub goes_own : Goes (cursor_at now.cursors name) now name count reply cursors → Goal
+    pub goes_own : Goes (entry_at now.cursors name) now name count reply cursors → Goal
     goes_own g =
         goes_from (view_at now.state.views view) refl
         (subst (λ (o : Option Cursor). Goes o now name count reply cursors) h.there g)
@@ -348,32 +347,32 @@ module _ (name view : List ℕ) (wanted : ℕ) (was : Session) (shown : View) (a
       where
         by : (b : Bool)
             → MatchBool b (Leaves replies.FullCursors now.cursors reply cursors)
-            (Leaves replies.Done (with_cursor now.cursors other (begun from n (stamps_in now from))) reply cursors)
+            (Leaves replies.Done (with_entry now.cursors other (begun from n (stamps_in now from))) reply cursors)
             → HasCursor cursors (given ++ [])
         by true l = more_of cursors given [] refl (left now.cursors cursors given l.1 h)
         by false l =
             let apart = not_restart (is_name name other) (ap (λ (r : Reply). is_name name other && is_done (Some r))
             (sym l.0) ∙ fresh) in
             more_of cursors given [] refl
-            (stays now.cursors cursors given (ap (λ (cs : Cursors). cursor_at cs name) l.1
+            (stays now.cursors cursors given (ap (λ (cs : Cursors). entry_at cs name) l.1
             ∙ others_begun name other now.cursors apart (begun from n (stamps_in now from))) h)
 
     close_comes : (other : List ℕ) → Ends now other reply cursors → Comes (OfCursor other paces.Close)
-    close_comes other l fresh = by (is_some (cursor_at now.cursors other)) l
+    close_comes other l fresh = by (is_some (entry_at now.cursors other)) l
       where
         by : (b : Bool)
-            → MatchBool b (Leaves replies.Done (without_cursor now.cursors other) reply cursors)
+            → MatchBool b (Leaves replies.Done (without_entry now.cursors other) reply cursors)
             (Leaves replies.NoCursor now.cursors reply cursors)
             → HasCursor cursors (given ++ [])
         by true l =
             let apart = not_restart (is_name name other) (ap (λ (r : Reply). is_name name other && is_done (Some r))
             (sym l.0) ∙ fresh) in
             more_of cursors given [] refl
-            (stays now.cursors cursors given (ap (λ (cs : Cursors). cursor_at cs name) l.1
+            (stays now.cursors cursors given (ap (λ (cs : Cursors). entry_at cs name) l.1
             ∙ others_ended name other now.cursors apart) h)
         by false l = more_of cursors given [] refl (left now.cursors cursors given l.1 h)
 
-    next_comes : (other : List ℕ) (count : ℕ) → Goes (cursor_at now.cursors other) now other count reply cursors
+    next_comes : (other : List ℕ) (count : ℕ) → Goes (entry_at now.cursors other) now other count reply cursors
         → Comes (OfCursor other (paces.Next count))
     next_comes other count g fresh = by (is_name name other) refl
       where
@@ -381,12 +380,12 @@ module _ (name view : List ℕ) (wanted : ℕ) (was : Session) (shown : View) (a
             → HasCursor cursors (given ++ (if b then given_by count (Some reply) else []))
         by true e =
             (goes_own now count reply cursors given later h
-            (subst (λ (n : List ℕ). Goes (cursor_at now.cursors n) now n count reply cursors)
+            (subst (λ (n : List ℕ). Goes (entry_at now.cursors n) now n count reply cursors)
             (sym (same_name name other e)) g)).0
         by false e =
             more_of cursors given [] refl
             (stays now.cursors cursors given (goes_other now name other count reply cursors e
-            (cursor_at now.cursors other) g) h)
+            (entry_at now.cursors other) g) h)
 
     comes : (class : Class) → Paces now class reply cursors → Comes class
     comes class p fresh = by (is_pacing class) refl

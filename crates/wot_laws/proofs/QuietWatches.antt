@@ -15,8 +15,8 @@ use Rattle.wot_script.specs.declared.reply.Reply.TheVariants as replies
 use Rattle.wot_cache.specs.declared.view.View.{View}
 use Rattle.wot_cache.specs.State.{IsState, State}
 use Rattle.wot_cache.specs.Views.{view_at}
-use Rattle.wot_table.specs.Table.{is_name}
-use Rattle.wot_watch.specs.Watches.{Watch, Watches, is_full, watch_at, with_watch, without_watch}
+use Rattle.wot_table.specs.Table.{entry_at, is_name, with_entry, without_entry}
+use Rattle.wot_watch.specs.Watches.{Watch, Watches, is_full}
 use Rattle.wot_plain.specs.declared.class.Class.{Class}
 use Rattle.wot_plain.specs.Classes.{IsFit, class_of}
 use Rattle.wot_plain.specs.Entry.{use_of}
@@ -39,18 +39,18 @@ use Rattle.wot_laws.proofs.WatchLines.{AreByName, same_name}
 -- the last amount reported for each watch is its current one
 abbrev AreNow : State → Watches → Type 0
 AreNow s watches =
-    (name : List ℕ) (watch : Watch) → watch_at watches name ≡ Some watch
+    (name : List ℕ) (watch : Watch) → entry_at watches name ≡ Some watch
     → IsAmountOf s (view_at s.views watch.view) watch watch.told
 
 -- a watch begins with its current amount
 begun_now : (s : State) (watches : Watches) (name : List ℕ) (new : Watch)
-    → IsAmountOf s (view_at s.views new.view) new new.told → AreNow s watches → AreNow s (with_watch watches name new)
+    → IsAmountOf s (view_at s.views new.view) new new.told → AreNow s watches → AreNow s (with_entry watches name new)
 begun_now s watches name new is now other watch e = by (is_name name other) refl
   where
     by : (b : Bool) → is_name name other ≡ b → IsAmountOf s (view_at s.views watch.view) watch watch.told
     by true h =
-        let there : watch_at (with_watch watches name new) name ≡ Some watch =
-        subst (λ (n : List ℕ). watch_at (with_watch watches name new) n ≡ Some watch) (sym (same_name name other h))
+        let there : entry_at (with_entry watches name new) name ≡ Some watch =
+        subst (λ (n : List ℕ). entry_at (with_entry watches name new) n ≡ Some watch) (sym (same_name name other h))
         e in
         let same : new ≡ watch =
         same_Some new watch (sym (found_put view_name_cmp nat_list_cmp_total name new watches) ∙ there) in
@@ -62,13 +62,13 @@ begun_now s watches name new is now other watch e = by (is_name name other) refl
 
 -- a watch is removed
 off_now : (s : State) (watches : Watches) (name : List ℕ) → AreByName watches → AreNow s watches
-    → AreNow s (without_watch watches name)
+    → AreNow s (without_entry watches name)
 off_now s watches name order now other watch e = by (is_name name other) refl
   where
     by : (b : Bool) → is_name name other ≡ b → IsAmountOf s (view_at s.views watch.view) watch watch.told
     by true h =
-        let none : watch_at (without_watch watches name) other ≡ None =
-        subst (λ (n : List ℕ). watch_at (without_watch watches name) n ≡ None) (same_name name other h)
+        let none : entry_at (without_entry watches name) other ≡ None =
+        subst (λ (n : List ℕ). entry_at (without_entry watches name) n ≡ None) (same_name name other h)
         (gone_without view_name_cmp nat_list_cmp_total name watches order) in
         let never : None ≡ Some watch = sym none ∙ e in
         absurd (cc never)
@@ -96,17 +96,17 @@ opens_now s name view target wanted uid (Some there) reply watches some e p now 
     by : (b : Bool)
         → MatchBool b (LeavesWatches replies.FullWatches s.watches reply watches)
         (LeavesWatches (replies.WatchAmount name p.0)
-        (with_watch s.watches name (opened view target wanted uid p.0)) reply watches)
+        (with_entry s.watches name (opened view target wanted uid p.0)) reply watches)
         → AreNow s.state watches
     by true l = subst (AreNow s.state) (sym l.1) now
     by false l = subst (AreNow s.state) (sym l.1) (begun_now s.state s.watches name new is now)
 
 takes_now : (s : Session) (name : List ℕ) (reply : Reply) (watches : Watches) → TakesOff s name reply watches
     → AreByName s.watches → AreNow s.state s.watches → AreNow s.state watches
-takes_now s name reply watches l order now = by (is_some (watch_at s.watches name)) l
+takes_now s name reply watches l order now = by (is_some (entry_at s.watches name)) l
   where
     by : (b : Bool)
-        → MatchBool b (LeavesWatches replies.Done (without_watch s.watches name) reply watches)
+        → MatchBool b (LeavesWatches replies.Done (without_entry s.watches name) reply watches)
         (LeavesWatches replies.NoWatch s.watches reply watches)
         → AreNow s.state watches
     by true l = subst (AreNow s.state) (sym l.1) (off_now s.state s.watches name order now)

@@ -14,6 +14,7 @@ use Rattle.wot_keyring_spec.specs.declared.refusal.Refusal.{Refusal}
 use Rattle.wot_keyring_spec.specs.Held.{cert_in, verdict_set, removing, verdict_cleared}
 use Rattle.wot_keyring_spec.specs.Import.{answer_to, answer_under, is_entry}
 use Rattle.wot_keyring_spec.specs.Verdict.{is_over}
+use Rattle.wot_table.specs.Table.{entry_at, with_entry, without_entry}
 use Rattle.wot_script.specs.declared.command.Command.{Command}
 use Rattle.wot_script.specs.declared.reply.Reply.{Reply}
 use Rattle.wot_script.specs.declared.reply.Reply.TheVariants as replies
@@ -38,7 +39,7 @@ use Rattle.wot_plain.specs.Outcome.{Outcome, only, done, imports, load, set_verd
 use Rattle.wot_plain.specs.LineStep.{LineStep, ReadLineStep, StateStep, ComesTo, CommandStep, Stays}
 use Rattle.wot_cache.specs.declared.view.View.{View}
 use Rattle.wot_cursor.specs.Age.{age_of}
-use Rattle.wot_cursor.specs.Cursors.{Cursor, Cursors, begun, cursor_at, is_full, with_cursor, without_cursor}
+use Rattle.wot_cursor.specs.Cursors.{Cursor, Cursors, begun, is_full}
 use Rattle.wot_cursor.specs.declared.stamps.Age.{Age}
 use Rattle.wot_cursor.specs.declared.stamps.Age.TheVariants as ages
 use Rattle.wot_explain.specs.Piece.{piece_of}
@@ -146,7 +147,7 @@ begins_left s name view wanted None reply cursors l = left replies.View reply s.
 begins_left s name view wanted (Some there) reply cursors l =
     if_left (is_full s.cursors name) _ _ reply s.cursors cursors (left replies.FullCursors reply s.cursors s.cursors
     cursors (λ e. refl))
-    (left replies.Done reply s.cursors (with_cursor s.cursors name (begun view wanted (stamps_in s view))) cursors
+    (left replies.Done reply s.cursors (with_entry s.cursors name (begun view wanted (stamps_in s view))) cursors
     (λ e. absurd (cc e))) l
 
 gives_left : (s : Session) (name : List ℕ) (count : ℕ) (cursor : Cursor) (view : View) (reply : Reply) (cursors : Cursors)
@@ -182,8 +183,8 @@ goes_left (Some cursor) s name count reply cursors g = from_left (view_at s.stat
 ends_left : (s : Session) (name : List ℕ) (reply : Reply) (cursors : Cursors) → Ends s name reply cursors →
     is_refused reply ≡ true → cursors ≡ s.cursors
 ends_left s name reply cursors l =
-    if_left (is_some (cursor_at s.cursors name)) _ _ reply s.cursors cursors
-    (left replies.Done reply s.cursors (without_cursor s.cursors name) cursors (λ e. absurd (cc e)))
+    if_left (is_some (entry_at s.cursors name)) _ _ reply s.cursors cursors
+    (left replies.Done reply s.cursors (without_entry s.cursors name) cursors (λ e. absurd (cc e)))
     (left replies.NoCursor reply s.cursors s.cursors cursors (λ e. refl)) l
 
 paces_left : (s : Session) (class : Class) (reply : Reply) (cursors : Cursors) → is_pacing class ≡ true →
@@ -191,7 +192,7 @@ paces_left : (s : Session) (class : Class) (reply : Reply) (cursors : Cursors) �
 paces_left s class reply cursors e =
     paced_cases (λ (c : Class). Paces s c reply cursors → is_refused reply ≡ true → cursors ≡ s.cursors)
     (λ name view wanted. begins_left s name view wanted (view_at s.state.views view) reply cursors)
-    (λ name count. goes_left (cursor_at s.cursors name) s name count reply cursors)
+    (λ name count. goes_left (entry_at s.cursors name) s name count reply cursors)
     (λ name. ends_left s name reply cursors) class e
 
 -- ---- everything that is kept

@@ -3,11 +3,12 @@ use Rattle.std.proofs.Common.{◌≡◌, ℕ, Bool, true, false, List, Option, S
 use Rattle.std.proofs.Common.{refl, sym, ap, ◌∙◌}
 use Rattle.std.specs.Prelude.{MatchBool, is_some}
 use Rattle.wot_types.specs.declared.fpr.Fpr.{Fpr}
+use Rattle.wot_table.specs.Table.{entry_at, with_entry, without_entry}
 use Rattle.wot_script.specs.declared.reply.Reply.{Reply}
 use Rattle.wot_script.specs.declared.reply.Reply.TheVariants as replies
 use Rattle.wot_cache.specs.declared.view.View.{View}
 use Rattle.wot_cache.specs.Views.{view_at}
-use Rattle.wot_watch.specs.Watches.{Watches, is_full, watch_at, with_watch, without_watch}
+use Rattle.wot_watch.specs.Watches.{Watches, is_full}
 use Rattle.wot_plain.specs.declared.class.Class.{Class}
 use Rattle.wot_laws.specs.OneLine.{is_refused}
 use Rattle.wot_plain.specs.Watching.{LeavesWatches}
@@ -26,16 +27,16 @@ opens_left s name view target wanted uid (Some there) reply watches p e = by (is
   where
     by : (b : Bool)
         → MatchBool b (LeavesWatches replies.FullWatches s.watches reply watches)
-        (LeavesWatches (replies.WatchAmount name p.0) (with_watch s.watches name (opened view target wanted uid p.0))
+        (LeavesWatches (replies.WatchAmount name p.0) (with_entry s.watches name (opened view target wanted uid p.0))
         reply watches) → watches ≡ s.watches
     by true l = l.1
     by false l = refused_not (replies.WatchAmount name p.0) reply (watches ≡ s.watches) l.0 refl e
 
 off_left : (s : Session) (name : List ℕ) (reply : Reply) (watches : Watches) → TakesOff s name reply watches →
     is_refused reply ≡ true → watches ≡ s.watches
-off_left s name reply watches l e = by (is_some (watch_at s.watches name)) l
+off_left s name reply watches l e = by (is_some (entry_at s.watches name)) l
   where
-    by : (b : Bool) → MatchBool b (LeavesWatches replies.Done (without_watch s.watches name) reply watches)
+    by : (b : Bool) → MatchBool b (LeavesWatches replies.Done (without_entry s.watches name) reply watches)
         (LeavesWatches replies.NoWatch s.watches reply watches)
         → watches ≡ s.watches
     by true l = refused_not replies.Done reply (watches ≡ s.watches) l.0 refl e

@@ -5,14 +5,15 @@ use Rattle.std.proofs.Common.{subst}
 use Rattle.std.specs.Prelude.{MatchBool, ◌==◌, is_some}
 use Rattle.wot_types.specs.declared.fpr.Fpr.{Fpr}
 use Rattle.wot_policy.specs.declared.rows.PolicyRows.{PolicyRows}
+use Rattle.wot_table.specs.Table.{entry_at, with_entry, without_entry}
 use Rattle.wot_watch.specs.Watches as watching
-use Rattle.wot_watch.specs.Watches.{Watches, watch_at, with_watch, without_watch}
+use Rattle.wot_watch.specs.Watches.{Watches}
 use Rattle.wot_script.specs.declared.reply.Reply.{Reply}
 use Rattle.wot_script.specs.declared.reply.Reply.TheVariants as replies
 use Rattle.wot_cache.specs.declared.view.View.{View}
 use Rattle.wot_cache.specs.Views.{view_at}
 use Rattle.wot_cursor.specs.Age.{age_of}
-use Rattle.wot_cursor.specs.Cursors.{Cursor, Cursors, begun, cursor_at, is_full, with_cursor, without_cursor}
+use Rattle.wot_cursor.specs.Cursors.{Cursor, Cursors, begun, is_full}
 use Rattle.wot_cursor.specs.declared.stamps.Age.{Age}
 use Rattle.wot_cursor.specs.declared.stamps.Age.TheVariants as ages
 use Rattle.wot_explain.specs.Piece.{piece_of}
@@ -87,7 +88,7 @@ begins_told : (s : Session) (name view : List ℕ) (wanted : ℕ) (o : Option Vi
 begins_told s name view wanted None reply cursors l = left replies.View reply s.cursors cursors tt l
 begins_told s name view wanted (Some there) reply cursors l =
     if_told (is_full s.cursors name) _ _ reply (left replies.FullCursors reply s.cursors cursors tt)
-    (left replies.Done reply (with_cursor s.cursors name (begun view wanted (stamps_in s view))) cursors tt) l
+    (left replies.Done reply (with_entry s.cursors name (begun view wanted (stamps_in s view))) cursors tt) l
 
 gives_told : (s : Session) (name : List ℕ) (count : ℕ) (cursor : Cursor) (view : View) (reply : Reply) (cursors : Cursors)
     → GivesPiece s name count cursor view reply cursors → D reply
@@ -121,7 +122,7 @@ goes_told s name count (Some cursor) reply cursors g = goes_from s name count cu
 
 ends_told : (s : Session) (name : List ℕ) (reply : Reply) (cursors : Cursors) → Ends s name reply cursors → D reply
 ends_told s name reply cursors l =
-    if_told (is_some (cursor_at s.cursors name)) _ _ reply (left replies.Done reply (without_cursor s.cursors name)
+    if_told (is_some (entry_at s.cursors name)) _ _ reply (left replies.Done reply (without_entry s.cursors name)
     cursors tt)
     (left replies.NoCursor reply s.cursors cursors tt) l
 
@@ -130,7 +131,7 @@ paces_told : (s : Session) (class : Class) (reply : Reply) (cursors : Cursors) �
 paces_told s class reply cursors e p =
     paced_cases (λ (c : Class). Paces s c reply cursors → D reply)
     (λ name view wanted. begins_told s name view wanted (view_at s.state.views view) reply cursors)
-    (λ name count. goes_told s name count (cursor_at s.cursors name) reply cursors)
+    (λ name count. goes_told s name count (entry_at s.cursors name) reply cursors)
     (λ name. ends_told s name reply cursors) class e p
 
 -- ---- watches
@@ -151,13 +152,13 @@ opens_told : (s : Session) (name view : List ℕ) (target : Fpr) (wanted : ℕ) 
 opens_told s name view target wanted uid None reply watches l = watched_left replies.View reply s.watches watches tt l
 opens_told s name view target wanted uid (Some there) reply watches p =
     if_differ (watching.is_full s.watches name) _ _ reply (watched_left replies.FullWatches reply s.watches watches tt)
-    (watched_left (replies.WatchAmount name p.0) reply (with_watch s.watches name (opened view target wanted uid p.0))
+    (watched_left (replies.WatchAmount name p.0) reply (with_entry s.watches name (opened view target wanted uid p.0))
     watches tt) p.2
 
 off_told : (s : Session) (name : List ℕ) (reply : Reply) (watches : Watches) → TakesOff s name reply watches → E reply
 off_told s name reply watches l =
-    if_differ (is_some (watch_at s.watches name)) _ _ reply
-    (watched_left replies.Done reply (without_watch s.watches name) watches tt)
+    if_differ (is_some (entry_at s.watches name)) _ _ reply
+    (watched_left replies.Done reply (without_entry s.watches name) watches tt)
     (watched_left replies.NoWatch reply s.watches watches tt) l
 
 watching_told : (s : Session) (class : Class) (reply : Reply) (watches : Watches) → is_watching class ≡ true

@@ -25,8 +25,8 @@ use Rattle.wot_cache.specs.declared.view.View.{View}
 use Rattle.wot_cache.specs.Question.{question_in}
 use Rattle.wot_cache.specs.State.{State}
 use Rattle.wot_cache.specs.Views.{view_at}
-use Rattle.wot_table.specs.Table.{is_name}
-use Rattle.wot_watch.specs.Watches.{Watch, Watches, is_full, watch_at, with_watch, without_watch}
+use Rattle.wot_table.specs.Table.{entry_at, is_name, with_entry, without_entry}
+use Rattle.wot_watch.specs.Watches.{Watch, Watches, is_full}
 use Rattle.wot_plain.specs.declared.class.Class.{Class}
 use Rattle.wot_plain.specs.Classes.{IsFit, class_of}
 use Rattle.wot_laws.proofs.Fit.{fit_of}
@@ -62,7 +62,7 @@ wants watch = 1 ≤ watch.wanted
 pub record AreTold (told : List Reply) (watches : Watches) : Type 0 where
   pub order : AreByName watches
   pub some : AllValues wants watches
-  pub last : (name : List ℕ) (watch : Watch) → watch_at watches name ≡ Some watch → IsLast (amounts_in name told) watch.told
+  pub last : (name : List ℕ) (watch : Watch) → entry_at watches name ≡ Some watch → IsLast (amounts_in name told) watch.told
 
 amounts_behind : (name : List ℕ) (told : List Reply) (reply : Reply)
     → amounts_in name (told ++ reply ∷ []) ≡ amounts_in name told ++ (amount_in name reply ++ [])
@@ -88,14 +88,14 @@ module _ (told : List Reply) where
 
   -- a watch that begins
   begun_told : (watches : Watches) (name : List ℕ) (new : Watch) → wants new → AreTold told watches
-      → AreTold (told ++ replies.WatchAmount name new.told ∷ []) (with_watch watches name new)
+      → AreTold (told ++ replies.WatchAmount name new.told ∷ []) (with_entry watches name new)
   begun_told watches name new some t = record {
     order = rising_put view_name_cmp nat_list_cmp_total name new watches t.order;
     some = all_put wants view_name_cmp name new watches some t.some;
     last = λ other watch e. by other watch (is_name name other) refl e;
   }
     where
-      own : (watch : Watch) → watch_at (with_watch watches name new) name ≡ Some watch
+      own : (watch : Watch) → entry_at (with_entry watches name new) name ≡ Some watch
           → IsLast (amounts_in name (told ++ replies.WatchAmount name new.told ∷ [])) watch.told
       own watch e =
           let same : new ≡ watch =
@@ -107,15 +107,15 @@ module _ (told : List Reply) where
           )
 
       by : (other : List ℕ) (watch : Watch) (b : Bool) → is_name name other ≡ b
-          → watch_at (with_watch watches name new) other ≡ Some watch
+          → entry_at (with_entry watches name new) other ≡ Some watch
           → IsLast (amounts_in other (told ++ replies.WatchAmount name new.told ∷ [])) watch.told
       by other watch true h e =
           subst
-          (λ (n : List ℕ). watch_at (with_watch watches name new) n ≡ Some watch
+          (λ (n : List ℕ). entry_at (with_entry watches name new) n ≡ Some watch
           → IsLast (amounts_in n (told ++ replies.WatchAmount name new.told ∷ [])) watch.told)
           (same_name name other h) (own watch) e
       by other watch false h e =
-          let was : watch_at watches other ≡ Some watch =
+          let was : entry_at watches other ≡ Some watch =
           sym (other_put view_name_cmp nat_list_cmp_total name other new watches
           (apart view_name_cmp nat_list_cmp_total name other h)) ∙ e in
           let none : amount_in other (replies.WatchAmount name new.told) ≡ [] =
@@ -124,7 +124,7 @@ module _ (told : List Reply) where
           (sym (no_more other told (replies.WatchAmount name new.told) none)) (t.last other watch was)
 
   -- a watch that is removed
-  off_told : (watches : Watches) (name : List ℕ) → AreTold told watches → AreTold told (without_watch watches name)
+  off_told : (watches : Watches) (name : List ℕ) → AreTold told watches → AreTold told (without_entry watches name)
   off_told watches name t = record {
     order = rising_without view_name_cmp nat_list_cmp_total (is_name name) watches t.order;
     some = all_without wants (is_name name) watches t.some;
@@ -132,10 +132,10 @@ module _ (told : List Reply) where
   }
     where
       by : (other : List ℕ) (watch : Watch) (b : Bool) → is_name name other ≡ b
-          → watch_at (without_watch watches name) other ≡ Some watch → IsLast (amounts_in other told) watch.told
+          → entry_at (without_entry watches name) other ≡ Some watch → IsLast (amounts_in other told) watch.told
       by other watch true h e =
-          let none : watch_at (without_watch watches name) other ≡ None =
-          subst (λ (n : List ℕ). watch_at (without_watch watches name) n ≡ None) (same_name name other h)
+          let none : entry_at (without_entry watches name) other ≡ None =
+          subst (λ (n : List ℕ). entry_at (without_entry watches name) n ≡ None) (same_name name other h)
           (gone_without view_name_cmp nat_list_cmp_total name watches t.order) in
           let never : None ≡ Some watch = sym none ∙ e in
           absurd (cc never)
@@ -166,26 +166,26 @@ module _ (told : List Reply) where
       by : (b : Bool)
           → MatchBool b (LeavesWatches replies.FullWatches s.watches reply watches)
           (LeavesWatches (replies.WatchAmount name p.0)
-          (with_watch s.watches name (opened view target wanted uid p.0)) reply watches)
+          (with_entry s.watches name (opened view target wanted uid p.0)) reply watches)
           → AreTold (told ++ reply ∷ []) watches
       by true l =
           left_told replies.FullWatches reply s.watches watches l
           (still_told s.watches replies.FullWatches (λ n. refl) t)
       by false l =
-          left_told (replies.WatchAmount name p.0) reply (with_watch s.watches name new) watches l
+          left_told (replies.WatchAmount name p.0) reply (with_entry s.watches name new) watches l
           (begun_told s.watches name new some t)
 
   takes_told : (s : Session) (name : List ℕ) (reply : Reply) (watches : Watches) → TakesOff s name reply watches
       → AreTold told s.watches → AreTold (told ++ reply ∷ []) watches
-  takes_told s name reply watches l t = by (is_some (watch_at s.watches name)) l
+  takes_told s name reply watches l t = by (is_some (entry_at s.watches name)) l
     where
       by : (b : Bool)
-          → MatchBool b (LeavesWatches replies.Done (without_watch s.watches name) reply watches)
+          → MatchBool b (LeavesWatches replies.Done (without_entry s.watches name) reply watches)
           (LeavesWatches replies.NoWatch s.watches reply watches)
           → AreTold (told ++ reply ∷ []) watches
       by true l =
-          left_told replies.Done reply (without_watch s.watches name) watches l
-          (still_told (without_watch s.watches name) replies.Done (λ n. refl) (off_told s.watches name t))
+          left_told replies.Done reply (without_entry s.watches name) watches l
+          (still_told (without_entry s.watches name) replies.Done (λ n. refl) (off_told s.watches name t))
       by false l =
           left_told replies.NoWatch reply s.watches watches l (still_told s.watches replies.NoWatch (λ n. refl) t)
 
@@ -269,7 +269,7 @@ amount_is s (Some view) was amount some h = by (was.wanted == 0) refl h.1
 -- what holds of a reached state, by everything reported so far
 pub record IsTold (told : List Reply) (w : Session) : Type 0 where
   pub are : AreTold told w.watches
-  pub now : (name : List ℕ) (watch : Watch) → watch_at w.watches name ≡ Some watch
+  pub now : (name : List ℕ) (watch : Watch) → entry_at w.watches name ≡ Some watch
       → IsAmountOf w.state (view_at w.state.views watch.view) watch watch.told
 
 tells_told : (told lines : List Reply) (old new : Session) → ReportsWatches old lines new → AreTold told old.watches
@@ -296,21 +296,21 @@ tells_told told lines old new tells t = subst (IsTold (told ++ lines)) (sym tell
 
 -- each watch is found by its name
 pub each_found : (Q : List ℕ → Watch → Type 0) (watches : Watches) → AreByName watches
-    → ((name : List ℕ) (watch : Watch) → watch_at watches name ≡ Some watch → Q name watch)
+    → ((name : List ℕ) (watch : Watch) → entry_at watches name ≡ Some watch → Q name watch)
     → AllByRecursion (λ (e : List ℕ × Watch). Q e.0 e.1) watches
 each_found Q [] r f = tt
 each_found Q (x ∷ xs) r f = (
-  f x.0 x.1 (ap (λ (b : Bool). cond b (Some x.1) (watch_at xs x.0)) (is_itself x.0)),
+  f x.0 x.1 (ap (λ (b : Bool). cond b (Some x.1) (entry_at xs x.0)) (is_itself x.0)),
   each_found Q xs r.1 (λ name watch e. f name watch (further name watch (is_name name x.0) refl e)),
 )
   where
-    further : (name : List ℕ) (watch : Watch) (b : Bool) → is_name name x.0 ≡ b → watch_at xs name ≡ Some watch
-        → watch_at (x ∷ xs) name ≡ Some watch
+    further : (name : List ℕ) (watch : Watch) (b : Bool) → is_name name x.0 ≡ b → entry_at xs name ≡ Some watch
+        → entry_at (x ∷ xs) name ≡ Some watch
     further name watch true h e =
-        let none : watch_at xs name ≡ None = none_of name xs (behind name x.0 x.1 xs h r.0) in
+        let none : entry_at xs name ≡ None = none_of name xs (behind name x.0 x.1 xs h r.0) in
         let never : None ≡ Some watch = sym none ∙ e in
         absurd (cc never)
-    further name watch false h e = ap (λ (b : Bool). cond b (Some x.1) (watch_at xs name)) h ∙ e
+    further name watch false h e = ap (λ (b : Bool). cond b (Some x.1) (entry_at xs name)) h ∙ e
 
 with_news : (told : List Reply) (name : List ℕ) (was : ℕ) (amount : Option ℕ) (line : Option Reply)
     (others : List Reply)

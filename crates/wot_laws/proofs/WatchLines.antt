@@ -16,8 +16,8 @@ use Rattle.std.specs.Ordering.{is_eq}
 use Rattle.wot_types.specs.ViewName.{view_name_cmp}
 use Rattle.wot_cache.specs.State.{State}
 use Rattle.wot_cache.specs.Views.{view_at}
-use Rattle.wot_table.specs.Table.{is_name}
-use Rattle.wot_watch.specs.Watches.{Watch, Watches, watch_at, with_told, without_watch}
+use Rattle.wot_table.specs.Table.{entry_at, is_name, without_entry}
+use Rattle.wot_watch.specs.Watches.{Watch, Watches, with_told}
 use Rattle.wot_plain.specs.Watching.{HasAmount, AreLines, IsLine, IsWatchLine, line_by, told_all, told_by, with_line}
 use Rattle.wot_script.specs.declared.reply.Reply.{Reply}
 use Rattle.wot_script.specs.declared.reply.Reply.TheVariants as replies
@@ -61,48 +61,48 @@ left_all name found [] = found
 left_all name found (line ∷ lines) = left_all name (left_by name found line) lines
 
 amount_left : (name other : List ℕ) (amount : ℕ) (watches : Watches)
-    → watch_at (told_by watches (replies.WatchAmount other amount)) name
-    ≡ left_by name (watch_at watches name) (replies.WatchAmount other amount)
+    → entry_at (told_by watches (replies.WatchAmount other amount)) name
+    ≡ left_by name (entry_at watches name) (replies.WatchAmount other amount)
 amount_left name other amount watches = by (is_name name other) refl
   where
     new : Watch → Watch
     new w = record w { told = amount }
 
-    at_it : (o : Option Watch) → watch_at watches other ≡ o
-        → watch_at
+    at_it : (o : Option Watch) → entry_at watches other ≡ o
+        → entry_at
         (option_map_or (λ (w : Watch). set_value (is_name other) watches (record w { told = amount })) o watches) other
         ≡ option_map (λ (w : Watch). record w { told = amount }) o
     at_it None h = h
     at_it (Some w) h = found_set (is_name other) (record w { told = amount }) watches (ap is_some h)
 
     elsewhere : is_name name other ≡ false → (o : Option Watch)
-        → watch_at
+        → entry_at
         (option_map_or (λ (w : Watch). set_value (is_name other) watches (record w { told = amount })) o watches) name
-        ≡ watch_at watches name
+        ≡ entry_at watches name
     elsewhere e None = refl
     elsewhere e (Some w) =
         other_set view_name_cmp nat_list_cmp_total other name (record w { told = amount }) watches
         (apart view_name_cmp nat_list_cmp_total other name (other_way name other e))
 
     by : (b : Bool) → is_name name other ≡ b
-        → watch_at (told_by watches (replies.WatchAmount other amount)) name
+        → entry_at (told_by watches (replies.WatchAmount other amount)) name
         ≡ (if b then option_map (λ (w : Watch). record w { told = amount })
-        (watch_at watches name) else watch_at watches name)
+        (entry_at watches name) else entry_at watches name)
     by true e =
-        subst (λ (n : List ℕ). watch_at (with_told watches other amount) n
-        ≡ option_map (λ (w : Watch). record w { told = amount }) (watch_at watches n))
-        (sym (same_name name other e)) (at_it (watch_at watches other) refl)
-    by false e = elsewhere e (watch_at watches other)
+        subst (λ (n : List ℕ). entry_at (with_told watches other amount) n
+        ≡ option_map (λ (w : Watch). record w { told = amount }) (entry_at watches n))
+        (sym (same_name name other e)) (at_it (entry_at watches other) refl)
+    by false e = elsewhere e (entry_at watches other)
 
 gone_left : (name other : List ℕ) (watches : Watches) → AreByName watches
-    → watch_at (told_by watches (replies.WatchGone other)) name
-    ≡ left_by name (watch_at watches name) (replies.WatchGone other)
+    → entry_at (told_by watches (replies.WatchGone other)) name
+    ≡ left_by name (entry_at watches name) (replies.WatchGone other)
 gone_left name other watches r = by (is_name name other) refl
   where
     by : (b : Bool) → is_name name other ≡ b
-        → watch_at (without_watch watches other) name ≡ (if b then None else watch_at watches name)
+        → entry_at (without_entry watches other) name ≡ (if b then None else entry_at watches name)
     by true e =
-        subst (λ (n : List ℕ). watch_at (without_watch watches other) n ≡ None) (sym (same_name name other e))
+        subst (λ (n : List ℕ). entry_at (without_entry watches other) n ≡ None) (sym (same_name name other e))
         (gone_without view_name_cmp nat_list_cmp_total other watches r)
     by false e =
         other_without view_name_cmp nat_list_cmp_total other name watches
@@ -110,7 +110,7 @@ gone_left name other watches r = by (is_name name other) refl
 
 told_order : (name : List ℕ) (amount : ℕ) (watches : Watches) → AreByName watches
     → AreByName (with_told watches name amount)
-told_order name amount watches r = by (watch_at watches name)
+told_order name amount watches r = by (entry_at watches name)
   where
     by : (o : Option Watch)
         → AreByName
@@ -119,12 +119,12 @@ told_order name amount watches r = by (watch_at watches name)
     by (Some w) = rising_set view_name_cmp (is_name name) (record w { told = amount }) watches r
 
 one_left : (name : List ℕ) (told : Reply) (watches : Watches) → AreByName watches → IsWatchLine told
-    → watch_at (told_by watches told) name ≡ left_by name (watch_at watches name) told
+    → entry_at (told_by watches told) name ≡ left_by name (entry_at watches name) told
 one_left name told watches r (inl is) =
-    subst (λ (l : Reply). watch_at (told_by watches l) name ≡ left_by name (watch_at watches name) l) (sym is.2)
+    subst (λ (l : Reply). entry_at (told_by watches l) name ≡ left_by name (entry_at watches name) l) (sym is.2)
     (amount_left name is.0 is.1 watches)
 one_left name told watches r (inr is) =
-    subst (λ (l : Reply). watch_at (told_by watches l) name ≡ left_by name (watch_at watches name) l) (sym is.1)
+    subst (λ (l : Reply). entry_at (told_by watches l) name ≡ left_by name (entry_at watches name) l) (sym is.1)
     (gone_left name is.0 watches r)
 
 one_order : (told : Reply) (watches : Watches) → AreByName watches → IsWatchLine told → AreByName (told_by watches told)
@@ -140,9 +140,9 @@ module _ (P : Watch → Type 0)
   one_keeps : (told : Reply) (watches : Watches) → AllValues P watches → IsWatchLine told
       → AllValues P (told_by watches told)
   one_keeps told watches all (inl is) =
-      subst (λ (l : Reply). AllValues P (told_by watches l)) (sym is.2) (by (watch_at watches is.0) refl)
+      subst (λ (l : Reply). AllValues P (told_by watches l)) (sym is.2) (by (entry_at watches is.0) refl)
     where
-      by : (o : Option Watch) → watch_at watches is.0 ≡ o
+      by : (o : Option Watch) → entry_at watches is.0 ≡ o
           → AllValues P
           (option_map_or (λ (w : Watch). set_value (is_name is.0) watches (record w { told = is.1 })) o watches)
       by None e = all
@@ -160,7 +160,7 @@ module _ (P : Watch → Type 0)
 
 all_left : (name : List ℕ) (lines : List Reply) (watches : Watches) → AreByName watches
     → AllByRecursion IsWatchLine lines
-    → watch_at (told_all watches lines) name ≡ left_all name (watch_at watches name) lines
+    → entry_at (told_all watches lines) name ≡ left_all name (entry_at watches name) lines
 all_left name [] watches r all = refl
 all_left name (line ∷ lines) watches r all =
     all_left name lines (told_by watches line) (one_order line watches r all.0) all.1
@@ -283,26 +283,26 @@ behind name other watch (x ∷ xs) e all = (
   behind name other watch xs e all.1,
 )
 
-pub none_of : (name : List ℕ) (watches : Watches) → AreOthers name watches → watch_at watches name ≡ None
+pub none_of : (name : List ℕ) (watches : Watches) → AreOthers name watches → entry_at watches name ≡ None
 none_of name [] all = refl
-none_of name (x ∷ xs) all = ap (λ (b : Bool). cond b (Some x.1) (watch_at xs name)) all.0 ∙ none_of name xs all.1
+none_of name (x ∷ xs) all = ap (λ (b : Bool). cond b (Some x.1) (entry_at xs name)) all.0 ∙ none_of name xs all.1
 
-pub missing : (name : List ℕ) (watches : Watches) → watch_at watches name ≡ None → AreOthers name watches
+pub missing : (name : List ℕ) (watches : Watches) → entry_at watches name ≡ None → AreOthers name watches
 missing name [] e = tt
 missing name (x ∷ xs) e = by (missing name xs) (is_name name x.0) refl e
   where
-    by : (watch_at xs name ≡ None → AreOthers name xs) → (b : Bool) → is_name name x.0 ≡ b
-        → cond b (Some x.1) (watch_at xs name) ≡ None → AreOthers name (x ∷ xs)
+    by : (entry_at xs name ≡ None → AreOthers name xs) → (b : Bool) → is_name name x.0 ≡ b
+        → cond b (Some x.1) (entry_at xs name) ≡ None → AreOthers name (x ∷ xs)
     by rest true h g = absurd (cc g)
     by rest false h g = (h, rest g)
 
 lines_of : (s : State) (watches : Watches) (lines : List Reply) (name : List ℕ) (watch : Watch) → AreByName watches
-    → AreLines s watches lines → watch_at watches name ≡ Some watch → AreLinesOf s name watch lines
+    → AreLines s watches lines → entry_at watches name ≡ Some watch → AreLinesOf s name watch lines
 lines_of s [] lines name watch r p e = absurd (cc e)
 lines_of s (x ∷ xs) lines name watch r p e = by (lines_of s xs p.1 name watch r.1 p.3) (is_name name x.0) refl e
   where
-    by : (watch_at xs name ≡ Some watch → AreLinesOf s name watch p.1) → (b : Bool) → is_name name x.0 ≡ b
-        → cond b (Some x.1) (watch_at xs name) ≡ Some watch → AreLinesOf s name watch lines
+    by : (entry_at xs name ≡ Some watch → AreLinesOf s name watch p.1) → (b : Bool) → is_name name x.0 ≡ b
+        → cond b (Some x.1) (entry_at xs name) ≡ Some watch → AreLinesOf s name watch lines
     by rest true h g =
         subst (λ (w : Watch). AreLinesOf s name w lines) (same_Some x.1 watch g)
         (subst (AreLinesOf s name x.1) (sym p.4)
@@ -318,18 +318,18 @@ lines_of s (x ∷ xs) lines name watch r p e = by (lines_of s xs p.1 name watch 
 -- now.
 pub record WasThere (s : State) (watches : Watches) (lines : List Reply) (name : List ℕ) (watch : Watch) : Type 0 where
   pub was : Watch
-  pub there : watch_at watches name ≡ Some was
+  pub there : entry_at watches name ≡ Some was
   pub same : watch ≡ record was { told = watch.told }
   pub has : HasAmount s (view_at s.views was.view) was.target was.wanted was.uid (Some watch.told)
   pub amounts : amounts_in name lines ≡ (if watch.told == was.told then [] else watch.told ∷ [])
 
 pub was_there : (s : State) (watches : Watches) (lines : List Reply) (name : List ℕ) (watch : Watch) → AreByName watches
-    → AllByRecursion IsWatchLine lines → AreLines s watches lines → watch_at (told_all watches lines) name ≡ Some watch
+    → AllByRecursion IsWatchLine lines → AreLines s watches lines → entry_at (told_all watches lines) name ≡ Some watch
     → WasThere s watches lines name watch
 was_there s watches lines name watch r all p e =
-    by (watch_at watches name) refl (sym (all_left name lines watches r all) ∙ e)
+    by (entry_at watches name) refl (sym (all_left name lines watches r all) ∙ e)
   where
-    at_amount : (was : Watch) → watch_at watches name ≡ Some was
+    at_amount : (was : Watch) → entry_at watches name ≡ Some was
         → (of : AreLinesOf s name was lines) (amount : Option ℕ)
         → of.amount ≡ amount → option_map (λ (a : ℕ). record was { told = a }) amount ≡ Some watch
         → WasThere s watches lines name watch
@@ -347,7 +347,7 @@ was_there s watches lines name watch r all p e =
           amounts = of.amounts ∙ ap (new_amounts was.told) (f ∙ ap (λ (t : ℕ). Some t) now);
         }
 
-    by : (found : Option Watch) → watch_at watches name ≡ found → left_all name found lines ≡ Some watch
+    by : (found : Option Watch) → entry_at watches name ≡ found → left_all name found lines ≡ Some watch
         → WasThere s watches lines name watch
     by None h g =
         let never : None ≡ Some watch = sym ((nothing_for s watches lines name (missing name watches h) p).0 None)

@@ -7,6 +7,7 @@ use Rattle.wot_policy.specs.declared.rows.PolicyRows.{PolicyRows}
 use Rattle.wot_edge.specs.declared.path.Path.{Path}
 use Rattle.wot_edge.specs.Answer.{IsAnswer, amount_of}
 use Rattle.wot_component.specs.Ranked.{IsRising}
+use Rattle.wot_table.specs.Table.{entry_at}
 use Rattle.wot_script.specs.declared.reply.Reply.{Reply}
 use Rattle.wot_script.specs.declared.reply.Reply.TheVariants as replies
 use Rattle.wot_certd.specs.World.{World}
@@ -14,7 +15,7 @@ use Rattle.wot_cache.specs.declared.view.View.{View}
 use Rattle.wot_cache.specs.Question.{question_in}
 use Rattle.wot_cache.specs.State.{State}
 use Rattle.wot_cache.specs.Views.{view_at}
-use Rattle.wot_watch.specs.Watches.{Watch, watch_at}
+use Rattle.wot_watch.specs.Watches.{Watch}
 use Rattle.wot_plain.specs.Scene.{Scene, Step, opening}
 use Rattle.wot_plain.specs.Transcript.{Run, listed}
 use Rattle.wot_laws.specs.Numbers.{amount_in}
@@ -48,7 +49,7 @@ pub record IsTrue (s : State) (reported : List Reply) (name : List ℕ) (watch :
 abbrev pub WatchesAreTrue : PolicyRows → Type 0
 WatchesAreTrue rows =
     (world : World) (lines : List (List ℕ)) (reported : List Reply) (last : Scene) (name : List ℕ) (watch : Watch)
-    → Run rows (opening world) lines reported last → watch_at last.whole.watches name ≡ Some watch
+    → Run rows (opening world) lines reported last → entry_at last.whole.watches name ≡ Some watch
     → IsTrue last.whole.state reported name watch
 
 -- ---- the watch lines after a line

@@ -4,6 +4,7 @@ use Rattle.std.proofs.Common.{OnOk, refl, sym, ap, subst}
 use Rattle.std.specs.Prelude.{is_ok}
 use Rattle.wot_keyring_spec.specs.Held.{held_of}
 use Rattle.wot_keyring_spec.specs.Keyring.{Keyring}
+use Rattle.wot_table.specs.Table.{entry_at}
 use Rattle.wot_script.specs.declared.command.Command.{Command}
 use Rattle.wot_cache.specs.declared.view.View.{View}
 use Rattle.wot_cache.specs.Marks.{End, IsMadeFor, IsRefreshed, end_at}
@@ -22,7 +23,7 @@ use Rattle.wot_plain.specs.declared.class.WatchCommand.{WatchCommand}
 use Rattle.wot_plain.specs.declared.class.WatchCommand.TheVariants as commands
 use Rattle.wot_plain.specs.Classes.{class_of}
 use Rattle.wot_plain.specs.Lines.{command_in_line, is_silent, longest}
-use Rattle.wot_cursor.specs.Cursors.{Cursor, Cursors, cursor_at}
+use Rattle.wot_cursor.specs.Cursors.{Cursor, Cursors}
 use Rattle.wot_plain.specs.Made.{ChangesMarks, CursorMakes, LineMakes, Makes, MakesFor, PieceMakes, WatchMakesMarks}
 use Rattle.wot_plain.proofs.StepsByKind.{heard_read}
 
@@ -102,7 +103,7 @@ module _ {A B T E : Type 0} (r : Result A B) (s : Result T E) (less : is_ok s �
       Makes r class cursors old new before after → Makes s class cursors old new before after
   makes_as (OfState command) cursors old new before after m = makes_for_as command old new before after m
   makes_as (OfCursor name command) cursors old new before after m =
-      cursor_makes_as (cursor_at cursors name) command old new before after m
+      cursor_makes_as (entry_at cursors name) command old new before after m
   makes_as (OfWatch name command) cursors old new before after m = watch_makes_as command old new before after m
 
   pub line_makes_as : (command : Option Command) (cursors : Cursors) (old new : Engine) (before after : ℕ) →

@@ -7,6 +7,7 @@ use Rattle.std.proofs.lemmas.Option.{same_Some}
 use Rattle.std.proofs.lemmas.Bool.{eqb-false}
 use Rattle.wot_types.specs.declared.fpr.Fpr.{Fpr}
 use Rattle.wot_types.specs.declared.place.Place.{Place}
+use Rattle.wot_table.specs.Table.{entry_at, with_entry, without_entry}
 use Rattle.wot_script.specs.declared.reply.Reply.{Reply}
 use Rattle.wot_script.specs.declared.reply.Reply.TheVariants as replies
 use Rattle.wot_script.specs.Replies.{HasWords}
@@ -17,8 +18,7 @@ use Rattle.wot_cache.specs.State.{IsState, State}
 use Rattle.wot_cache.specs.Revisions.{Revisions}
 use Rattle.wot_cache.specs.Views.{Views, view_at}
 use Rattle.wot_cursor.specs.Age.{age_of}
-use Rattle.wot_cursor.specs.Cursors.{Cursor, Cursors, begun, cursor_at, is_full, with_cursor, with_place}
-use Rattle.wot_cursor.specs.Cursors.{without_cursor}
+use Rattle.wot_cursor.specs.Cursors.{Cursor, Cursors, begun, is_full, with_place}
 use Rattle.wot_cursor.specs.declared.stamps.Age.{Age}
 use Rattle.wot_watch.specs.Watches.{Watches}
 use Rattle.wot_cursor.specs.declared.stamps.Age.TheVariants as ages
@@ -102,7 +102,7 @@ pub paces_watched : (s : Session) (watches : Watches) (class : Class) (reply : R
 paces_watched s watches class reply cursors e =
     paced_cases (λ (c : Class). Paces s c reply cursors → Paces (watched s watches) c reply cursors)
     (λ name view wanted. begins_watched s watches name view wanted (view_at s.state.views view) reply cursors)
-    (λ name count. goes_watched s watches (cursor_at s.cursors name) name count reply cursors) (λ name p. p) class e
+    (λ name count. goes_watched s watches (entry_at s.cursors name) name count reply cursors) (λ name p. p) class e
 
 -- ---- commands of cursors don't change the state, the turns and the certificate directory
 
@@ -139,7 +139,7 @@ begins_worded : (s : Session) (name view : List ℕ) (wanted : ℕ) (o : Option 
 begins_worded s name view wanted None reply cursors l = left_worded replies.View reply s.cursors cursors tt l
 begins_worded s name view wanted (Some there) reply cursors l =
     if_worded (is_full s.cursors name) _ _ reply (left_worded replies.FullCursors reply s.cursors cursors tt)
-    (left_worded replies.Done reply (with_cursor s.cursors name (begun view wanted (stamps_in s view))) cursors tt) l
+    (left_worded replies.Done reply (with_entry s.cursors name (begun view wanted (stamps_in s view))) cursors tt) l
 
 gives_worded : (s : Session) (name : List ℕ) (count : ℕ) (cursor : Cursor) (view : View) (reply : Reply)
     (cursors : Cursors)
@@ -173,8 +173,8 @@ goes_worded (Some cursor) s name count reply cursors g = from_worded (view_at s.
 ends_worded : (s : Session) (name : List ℕ) (reply : Reply) (cursors : Cursors) → Ends s name reply cursors →
     HasWords reply
 ends_worded s name reply cursors l =
-    if_worded (is_some (cursor_at s.cursors name)) _ _ reply
-    (left_worded replies.Done reply (without_cursor s.cursors name) cursors tt)
+    if_worded (is_some (entry_at s.cursors name)) _ _ reply
+    (left_worded replies.Done reply (without_entry s.cursors name) cursors tt)
     (left_worded replies.NoCursor reply s.cursors cursors tt) l
 
 pub paces_worded : (s : Session) (class : Class) (reply : Reply) (cursors : Cursors) → is_pacing class ≡ true →
@@ -182,7 +182,7 @@ pub paces_worded : (s : Session) (class : Class) (reply : Reply) (cursors : Curs
 paces_worded s class reply cursors e p =
     paced_cases (λ (c : Class). Paces s c reply cursors → HasWords reply)
     (λ name view wanted. begins_worded s name view wanted (view_at s.state.views view) reply cursors)
-    (λ name count. goes_worded (cursor_at s.cursors name) s name count reply cursors)
+    (λ name count. goes_worded (entry_at s.cursors name) s name count reply cursors)
     (λ name. ends_worded s name reply cursors) class e p
 
 -- ---- one reply
@@ -285,38 +285,38 @@ module _
     begins_one name view wanted (Some there) =
         if_one (is_full s.cursors name) (Leaves replies.FullCursors s.cursors) _
         (leaves_one replies.FullCursors s.cursors)
-        (leaves_one replies.Done (with_cursor s.cursors name (begun view wanted (stamps_in s view))))
+        (leaves_one replies.Done (with_entry s.cursors name (begun view wanted (stamps_in s view))))
 
     begins_some : (name view : List ℕ) (wanted : ℕ) (o : Option View) → IsSomeOf (Begins s name view wanted o)
     begins_some name view wanted None = leaves_some replies.View s.cursors
     begins_some name view wanted (Some there) =
         if_some (is_full s.cursors name) (Leaves replies.FullCursors s.cursors) _
         (leaves_some replies.FullCursors s.cursors)
-        (λ room. leaves_some replies.Done (with_cursor s.cursors name (begun view wanted (stamps_in s view))))
+        (λ room. leaves_some replies.Done (with_entry s.cursors name (begun view wanted (stamps_in s view))))
 
     ends_one : (name : List ℕ) → IsOneOf (Ends s name)
     ends_one name =
-        if_one (is_some (cursor_at s.cursors name)) (Leaves replies.Done (without_cursor s.cursors name)) _
-        (leaves_one replies.Done (without_cursor s.cursors name))
+        if_one (is_some (entry_at s.cursors name)) (Leaves replies.Done (without_entry s.cursors name)) _
+        (leaves_one replies.Done (without_entry s.cursors name))
         (leaves_one replies.NoCursor s.cursors)
 
     ends_some : (name : List ℕ) → IsSomeOf (Ends s name)
     ends_some name =
-        if_some (is_some (cursor_at s.cursors name)) (Leaves replies.Done (without_cursor s.cursors name)) _
-        (leaves_some replies.Done (without_cursor s.cursors name))
+        if_some (is_some (entry_at s.cursors name)) (Leaves replies.Done (without_entry s.cursors name)) _
+        (leaves_some replies.Done (without_entry s.cursors name))
         (λ none. leaves_some replies.NoCursor s.cursors)
 
     pub paces_one : (class : Class) → is_pacing class ≡ true → IsState s.state → IsOneOf (Paces s class)
     paces_one class e can =
         paced_cases (λ (c : Class). IsOneOf (Paces s c)) (λ name view wanted. begins_one name view wanted
         (view_at s.state.views view))
-        (λ name count. goes_one (cursor_at s.cursors name) name count can) (λ name. ends_one name) class e
+        (λ name count. goes_one (entry_at s.cursors name) name count can) (λ name. ends_one name) class e
 
     pub paces_some : (class : Class) → is_pacing class ≡ true → IsSomeOf (Paces s class)
     paces_some class e =
         paced_cases (λ (c : Class). IsSomeOf (Paces s c)) (λ name view wanted. begins_some name view wanted
         (view_at s.state.views view))
-        (λ name count. goes_some (cursor_at s.cursors name) name count) (λ name. ends_some name) class e
+        (λ name count. goes_some (entry_at s.cursors name) name count) (λ name. ends_some name) class e
 
 -- ---- places
 

@@ -16,6 +16,7 @@ use Rattle.wot_edge.specs.Record.{IsRecord}
 use Rattle.wot_keyring_spec.specs.Keyring.{Certificates}
 use Rattle.wot_network.specs.Records.{record_of}
 use Rattle.wot_policy.specs.declared.rows.PolicyRows.{PolicyRows}
+use Rattle.wot_table.specs.Table.{entry_at, with_entry, without_entry}
 use Rattle.wot_script.specs.declared.reply.Reply.{Reply}
 use Rattle.wot_script.specs.declared.reply.Reply.TheVariants as replies
 use Rattle.wot_script.specs.Replies.{HasWords, reply_text}
@@ -25,7 +26,7 @@ use Rattle.wot_cache.specs.Question.{question_in}
 use Rattle.wot_cache.specs.State.{IsState, State}
 use Rattle.wot_cache.specs.Revisions.{Revisions}
 use Rattle.wot_cache.specs.Views.{Views, view_at}
-use Rattle.wot_watch.specs.Watches.{Watch, Watches, is_full, watch_at, with_watch, without_watch}
+use Rattle.wot_watch.specs.Watches.{Watch, Watches, is_full}
 use Rattle.wot_plain.specs.declared.class.Class.{Class}
 use Rattle.wot_plain.specs.declared.class.Class.TheVariants.{State as OfState, Cursor as OfCursor, Watch as OfWatch}
 use Rattle.wot_plain.specs.declared.class.WatchCommand.TheVariants as commands
@@ -113,14 +114,14 @@ opens_worded : (s : Session) (name view : List ℕ) (target : Fpr) (wanted : ℕ
 opens_worded s name view target wanted uid None reply watches l = left_worded replies.View reply s.watches watches tt l
 opens_worded s name view target wanted uid (Some there) reply watches p =
     if_worded (is_full s.watches name) _ _ reply (left_worded replies.FullWatches reply s.watches watches tt)
-    (left_worded (replies.WatchAmount name p.0) reply (with_watch s.watches name (opened view target wanted uid p.0))
+    (left_worded (replies.WatchAmount name p.0) reply (with_entry s.watches name (opened view target wanted uid p.0))
     watches tt) p.2
 
 off_worded : (s : Session) (name : List ℕ) (reply : Reply) (watches : Watches) → TakesOff s name reply watches →
     HasWords reply
 off_worded s name reply watches l =
-    if_worded (is_some (watch_at s.watches name)) _ _ reply
-    (left_worded replies.Done reply (without_watch s.watches name) watches tt)
+    if_worded (is_some (entry_at s.watches name)) _ _ reply
+    (left_worded replies.Done reply (without_entry s.watches name) watches tt)
     (left_worded replies.NoWatch reply s.watches watches tt) l
 
 pub watching_worded : (s : Session) (class : Class) (reply : Reply) (watches : Watches) → is_watching class ≡ true →
@@ -290,13 +291,13 @@ begins_one : (old : Watches) (name view : List ℕ) (target : Fpr) (wanted : ℕ
     IsOneOf (BeginsWatch old name view target wanted uid amount)
 begins_one old name view target wanted uid amount =
     if_one (is_full old name) (LeavesWatches replies.FullWatches old) _ (leaves_one replies.FullWatches old)
-    (leaves_one (replies.WatchAmount name amount) (with_watch old name (opened view target wanted uid amount)))
+    (leaves_one (replies.WatchAmount name amount) (with_entry old name (opened view target wanted uid amount)))
 
 begins_some : (old : Watches) (name view : List ℕ) (target : Fpr) (wanted : ℕ) (uid : List ℕ) (amount : ℕ) →
     IsSomeOf (BeginsWatch old name view target wanted uid amount)
 begins_some old name view target wanted uid amount =
     if_some (is_full old name) (LeavesWatches replies.FullWatches old) _ (leaves_some replies.FullWatches old)
-    (leaves_some (replies.WatchAmount name amount) (with_watch old name (opened view target wanted uid amount)))
+    (leaves_some (replies.WatchAmount name amount) (with_entry old name (opened view target wanted uid amount)))
 
 opens_one : AnswerOne → Lawful → (s : Session) (name view : List ℕ) (target : Fpr) (wanted : ℕ) (uid : List ℕ)
     (o : Option View) → IsState s.state
@@ -318,13 +319,13 @@ opens_some some s name view target wanted uid (Some there) =
 
 off_one : (s : Session) (name : List ℕ) → IsOneOf (TakesOff s name)
 off_one s name =
-    if_one (is_some (watch_at s.watches name)) (LeavesWatches replies.Done (without_watch s.watches name)) _
-    (leaves_one replies.Done (without_watch s.watches name)) (leaves_one replies.NoWatch s.watches)
+    if_one (is_some (entry_at s.watches name)) (LeavesWatches replies.Done (without_entry s.watches name)) _
+    (leaves_one replies.Done (without_entry s.watches name)) (leaves_one replies.NoWatch s.watches)
 
 off_some : (s : Session) (name : List ℕ) → IsSomeOf (TakesOff s name)
 off_some s name =
-    if_some (is_some (watch_at s.watches name)) (LeavesWatches replies.Done (without_watch s.watches name)) _
-    (leaves_some replies.Done (without_watch s.watches name)) (leaves_some replies.NoWatch s.watches)
+    if_some (is_some (entry_at s.watches name)) (LeavesWatches replies.Done (without_entry s.watches name)) _
+    (leaves_some replies.Done (without_entry s.watches name)) (leaves_some replies.NoWatch s.watches)
 
 pub watching_one : AnswerOne → Lawful → (s : Session) (class : Class) → is_watching class ≡ true → IsState s.state →
     IsOneOf (Watching s class)
@@ -432,11 +433,11 @@ told_end now first rest all none so = ap (told_all now) (sym (nil_from_length re
 
 pub begins_new : (old : Watches) (name view : List ℕ) (target : Fpr) (wanted : ℕ) (uid : List ℕ) (amount : ℕ)
     (reply : Reply) (watches : Watches) → is_full old name ≡ false
-    → reply ≡ replies.WatchAmount name amount → watches ≡ with_watch old name (opened view target wanted uid amount)
+    → reply ≡ replies.WatchAmount name amount → watches ≡ with_entry old name (opened view target wanted uid amount)
     → BeginsWatch old name view target wanted uid amount reply watches
 begins_new old name view target wanted uid amount reply watches few r w =
     subst (λ (b : Bool). MatchBool b (LeavesWatches replies.FullWatches old reply watches)
-    (LeavesWatches (replies.WatchAmount name amount) (with_watch old name (opened view target wanted uid amount)) reply
+    (LeavesWatches (replies.WatchAmount name amount) (with_entry old name (opened view target wanted uid amount)) reply
     watches)) (sym few) (r, w)
 
 pub begins_full : (old : Watches) (name view : List ℕ) (target : Fpr) (wanted : ℕ) (uid : List ℕ) (amount : ℕ)
@@ -444,7 +445,7 @@ pub begins_full : (old : Watches) (name view : List ℕ) (target : Fpr) (wanted 
     → BeginsWatch old name view target wanted uid amount replies.FullWatches watches
 begins_full old name view target wanted uid amount watches full w =
     subst (λ (b : Bool). MatchBool b (LeavesWatches replies.FullWatches old replies.FullWatches watches)
-    (LeavesWatches (replies.WatchAmount name amount) (with_watch old name (opened view target wanted uid amount))
+    (LeavesWatches (replies.WatchAmount name amount) (with_entry old name (opened view target wanted uid amount))
     replies.FullWatches watches)) (sym full) (refl, w)
 
 -- if the question was answered

@@ -1,5 +1,6 @@
 -- How many edges a line and the watch lines after it make, and how they change marks. No reply depends on either.
 use Rattle.std.specs.Prelude.{◌≡◌, ◌≤◌, ◌⊎◌, ℕ, List, [], ◌∷◌, Option, Some, None, Result, OnOk}
+use Rattle.wot_table.specs.Table.{entry_at}
 use Rattle.wot_script.specs.declared.command.Command.{Command}
 use Rattle.wot_plain.specs.declared.class.Class.{Class}
 use Rattle.wot_plain.specs.declared.class.Class.TheVariants.{State as OfState, Cursor as OfCursor, Watch as OfWatch}
@@ -15,7 +16,7 @@ use Rattle.wot_plain.specs.Classes.{class_of}
 use Rattle.wot_cache.specs.State.{Engine, OtherMarksStay, marks_at}
 use Rattle.wot_cache.specs.Marks.{IsRefreshed}
 use Rattle.wot_cache.specs.Views.{view_at}
-use Rattle.wot_cursor.specs.Cursors.{Cursor, Cursors, cursor_at}
+use Rattle.wot_cursor.specs.Cursors.{Cursor, Cursors}
 use Rattle.wot_watch.specs.Watches.{Watch, Watches}
 
 -- no edge is made, and all marks stay
@@ -53,7 +54,7 @@ CursorMakes result cursor _ old new before after = MakesNothing old new before a
 abbrev pub Makes : {T E : Type 0} → Result T E → Class → Cursors → Engine → Engine → ℕ → ℕ → Type 0
 Makes result (OfState command) cursors old new before after = MakesFor result command old new before after
 Makes result (OfCursor name command) cursors old new before after =
-    CursorMakes result (cursor_at cursors name) command old new before after
+    CursorMakes result (entry_at cursors name) command old new before after
 Makes result (OfWatch name command) cursors old new before after =
     WatchMakesMarks result command old new before after
 

@@ -3,6 +3,7 @@ use Rattle.std.specs.Prelude.{◌≡◌, ◌==◌, ℕ, Bool, true, false, Match
 use Rattle.std.specs.Prelude.{Option, Some, None, Result, IfOk, IfSome, is_some}
 use Rattle.std.specs.Option.{unwrap_or}
 use Rattle.wot_types.specs.declared.place.Place.{Place}
+use Rattle.wot_table.specs.Table.{entry_at, with_entry, without_entry}
 use Rattle.wot_plain.specs.declared.class.Class.{Class}
 use Rattle.wot_plain.specs.declared.class.Class.TheVariants.{Cursor as OfCursor}
 use Rattle.wot_plain.specs.declared.class.CursorCommand.{CursorCommand}
@@ -17,8 +18,8 @@ use Rattle.wot_cache.specs.declared.view.View.{View}
 use Rattle.wot_cache.specs.Revisions.{revision_at}
 use Rattle.wot_cache.specs.Views.{view_at}
 use Rattle.wot_cursor.specs.Age.{age_of}
-use Rattle.wot_cursor.specs.Cursors.{Cursor, Cursors, begun, cursor_at, is_full}
-use Rattle.wot_cursor.specs.Cursors.{with_cursor, with_place, without_cursor}
+use Rattle.wot_cursor.specs.Cursors.{Cursor, Cursors, begun, is_full}
+use Rattle.wot_cursor.specs.Cursors.{with_place}
 use Rattle.wot_cursor.specs.declared.stamps.Age.{Age}
 use Rattle.wot_cursor.specs.declared.stamps.Age.TheVariants as ages
 use Rattle.wot_cursor.specs.declared.stamps.Stamps.{Stamps}
@@ -45,7 +46,7 @@ abbrev pub Begins : Session → List ℕ → List ℕ → ℕ → Option View �
 Begins s name view wanted None reply cursors = Leaves replies.View s.cursors reply cursors
 Begins s name view wanted (Some there) reply cursors =
     MatchBool (is_full s.cursors name) (Leaves replies.FullCursors s.cursors reply cursors)
-    (Leaves replies.Done (with_cursor s.cursors name (begun view wanted (stamps_in s view))) reply cursors)
+    (Leaves replies.Done (with_entry s.cursors name (begun view wanted (stamps_in s view))) reply cursors)
 
 -- ---- `cursor C next K`
 
@@ -134,7 +135,7 @@ is_pacing _ = false
 
 abbrev pub Ends : Session → List ℕ → Reply → Cursors → Type 0
 Ends s name reply cursors =
-    MatchBool (is_some (cursor_at s.cursors name)) (Leaves replies.Done (without_cursor s.cursors name) reply cursors)
+    MatchBool (is_some (entry_at s.cursors name)) (Leaves replies.Done (without_entry s.cursors name) reply cursors)
     (Leaves replies.NoCursor s.cursors reply cursors)
 
 -- ---- all commands
@@ -143,7 +144,7 @@ Ends s name reply cursors =
 abbrev pub PacesCursor : Session → List ℕ → CursorCommand → Reply → Cursors → Type 0
 PacesCursor s name (paces.Over view wanted) reply cursors =
     Begins s name view wanted (view_at s.state.views view) reply cursors
-PacesCursor s name (paces.Next count) reply cursors = Goes (cursor_at s.cursors name) s name count reply cursors
+PacesCursor s name (paces.Next count) reply cursors = Goes (entry_at s.cursors name) s name count reply cursors
 PacesCursor s name paces.Close reply cursors = Ends s name reply cursors
 
 -- What a command does to the cursors, and the reply if it is a command of a cursor. No other command changes them.

@@ -4,6 +4,7 @@ use Rattle.std.specs.Prelude.{Option, Some, None, is_some}
 use Rattle.wot_types.specs.declared.fpr.Fpr.{Fpr}
 use Rattle.wot_edge.specs.declared.path.Path.{Path}
 use Rattle.wot_edge.specs.Answer.{IsAnswer, amount_of}
+use Rattle.wot_table.specs.Table.{entry_at, with_entry, without_entry}
 use Rattle.wot_plain.specs.declared.class.Class.{Class}
 use Rattle.wot_plain.specs.declared.class.Class.TheVariants.{Watch as OfWatch}
 use Rattle.wot_plain.specs.declared.class.WatchCommand.{WatchCommand}
@@ -15,7 +16,7 @@ use Rattle.wot_cache.specs.Question.{question_in}
 use Rattle.wot_cache.specs.State.{Engine, State}
 use Rattle.wot_cache.specs.Views.{view_at}
 use Rattle.wot_cursor.specs.Cursors.{Cursors}
-use Rattle.wot_watch.specs.Watches.{Watch, Watches, is_full, watch_at, with_told, with_watch, without_watch}
+use Rattle.wot_watch.specs.Watches.{Watch, Watches, is_full, with_told}
 use Rattle.wot_plain.specs.Session.{Session, watched, session_of}
 
 -- ---- amounts
@@ -64,7 +65,7 @@ IsWatchLine line =
 -- The watches after a line was reported: an amount becomes the one last reported, and a watch that is gone is removed.
 abbrev pub told_by : Watches → Reply → Watches
 told_by watches (replies.WatchAmount name amount) = with_told watches name amount
-told_by watches (replies.WatchGone name) = without_watch watches name
+told_by watches (replies.WatchGone name) = without_entry watches name
 told_by watches _ = watches
 
 abbrev pub told_all : Watches → List Reply → Watches
@@ -90,7 +91,7 @@ opened view target wanted uid amount =
 abbrev pub BeginsWatch : Watches → List ℕ → List ℕ → Fpr → ℕ → List ℕ → ℕ → Reply → Watches → Type 0
 BeginsWatch old name view target wanted uid amount reply watches =
     MatchBool (is_full old name) (LeavesWatches replies.FullWatches old reply watches)
-    (LeavesWatches (replies.WatchAmount name amount) (with_watch old name (opened view target wanted uid amount))
+    (LeavesWatches (replies.WatchAmount name amount) (with_entry old name (opened view target wanted uid amount))
     reply watches)
 
 -- the reply and the watches when a watch begins from an open view
@@ -105,8 +106,8 @@ Opens s name view target wanted uid (Some there) reply watches =
 -- a watch is removed
 abbrev pub TakesOff : Session → List ℕ → Reply → Watches → Type 0
 TakesOff s name reply watches =
-    MatchBool (is_some (watch_at s.watches name))
-    (LeavesWatches replies.Done (without_watch s.watches name) reply watches)
+    MatchBool (is_some (entry_at s.watches name))
+    (LeavesWatches replies.Done (without_entry s.watches name) reply watches)
     (LeavesWatches replies.NoWatch s.watches reply watches)
 
 -- ---- all commands

@@ -5,7 +5,8 @@
 ghost use Rattle.std.specs.Prelude.{◌≡◌, [], is_some, OnOk, OnErr};
 ghost use Rattle.std.specs.Option.{option_copied};
 ghost use Rattle.std.specs.Iterator.{YieldsFirstBy, item_count};
-ghost use Rattle.wot_watch.specs.Watches.{watch_at, is_full, with_watch, with_told, without_watch};
+ghost use Rattle.wot_table.specs.Table.{entry_at, with_entry, without_entry};
+ghost use Rattle.wot_watch.specs.Watches.{is_full, with_told};
 ghost use Rattle.wot_watch.specs.declared.watches.PutFault.TheVariants as faults;
 ghost use Rattle.wot_watch.specs.Telling.{TellsFull};
 
@@ -63,7 +64,7 @@ impl Watches {
     /// Starts or restarts a watch. On an error all watches are unchanged.
     pub fn put(&mut self, name: ViewName, watch: Watch) -> Result<(), PutFault>
         ensures full { TellsFull result (is_full self.old name) }
-        ensures put { OnOk result (self.new ≡ with_watch self.old name watch) }
+        ensures put { OnOk result (self.new ≡ with_entry self.old name watch) }
         ensures kept { OnErr result (self.new ≡ self.old) }
     {
         if put(&mut self.watches, MOST, name, watch)? {
@@ -74,14 +75,14 @@ impl Watches {
 
     /// The watch of a name. `None` if and only if there is none.
     pub fn get(&self, name: &ViewName) -> Option<&Watch>
-        ensures found { option_copied result ≡ watch_at self.now name.now }
+        ensures found { option_copied result ≡ entry_at self.now name.now }
     {
         self.watches.get(name)
     }
 
     /// Records that this amount was reported for the watch. Returns whether the watch is there.
     pub fn tell(&mut self, name: &ViewName, amount: u32) -> bool
-        ensures there { result ≡ is_some (watch_at self.old name.now) }
+        ensures there { result ≡ is_some (entry_at self.old name.now) }
         ensures reported { self.new ≡ with_told self.old name.now amount }
     {
         match self.watches.get_mut(name) {
@@ -95,8 +96,8 @@ impl Watches {
 
     /// Removes a watch. Returns whether it was there.
     pub fn take(&mut self, name: &ViewName) -> bool
-        ensures there { result ≡ is_some (watch_at self.old name.now) }
-        ensures taken { self.new ≡ without_watch self.old name.now }
+        ensures there { result ≡ is_some (entry_at self.old name.now) }
+        ensures taken { self.new ≡ without_entry self.old name.now }
     {
         self.watches.remove(name).is_some()
     }

@@ -19,8 +19,8 @@ use Rattle.wot_cache.specs.Question.{question_in}
 use Rattle.wot_cache.specs.State.{Engine, State, StaysButMarks, closing, state_of}
 use Rattle.wot_cache.specs.Revisions.{AreRevisionsBy, Revisions, without_revision}
 use Rattle.wot_cache.specs.Views.{Views, view_at}
-use Rattle.wot_table.specs.Table.{is_name}
-use Rattle.wot_watch.specs.Watches.{Watch, Watches, is_full, watch_at, with_watch, without_watch}
+use Rattle.wot_table.specs.Table.{entry_at, is_name, with_entry, without_entry}
+use Rattle.wot_watch.specs.Watches.{Watch, Watches, is_full}
 use Rattle.wot_plain.specs.declared.class.Class.{Class}
 use Rattle.wot_plain.specs.declared.class.Class.TheVariants.{State as OfState}
 use Rattle.wot_plain.specs.declared.class.StateCommand.TheVariants as kinds
@@ -116,7 +116,7 @@ nothing_told engine basis (x ∷ xs) on calm all seen = (
 
 -- a reply that isn't a watch's amount leaves the watches, or removes one
 abbrev LeavesOrTakes : Watches → Watches → Type 0
-LeavesOrTakes old new = (new ≡ old) ⊎ ((name : List ℕ) × (new ≡ without_watch old name))
+LeavesOrTakes old new = (new ≡ old) ⊎ ((name : List ℕ) × (new ≡ without_entry old name))
 
 opens_leaves : (s : Session) (name view : List ℕ) (target : Fpr) (wanted : ℕ) (uid : List ℕ) (o : Option View)
     (reply : Reply) (watches : Watches)
@@ -126,7 +126,7 @@ opens_leaves s name view target wanted uid (Some there) reply watches plain p = 
   where
     by : (b : Bool)
         → MatchBool b (LeavesWatches replies.FullWatches s.watches reply watches)
-        (LeavesWatches (replies.WatchAmount name p.0) (with_watch s.watches name (opened view target wanted uid p.0))
+        (LeavesWatches (replies.WatchAmount name p.0) (with_entry s.watches name (opened view target wanted uid p.0))
         reply watches)
         → LeavesOrTakes s.watches watches
     by true l = inl l.1
@@ -134,10 +134,10 @@ opens_leaves s name view target wanted uid (Some there) reply watches plain p = 
 
 takes_leaves : (s : Session) (name : List ℕ) (reply : Reply) (watches : Watches) → TakesOff s name reply watches
     → LeavesOrTakes s.watches watches
-takes_leaves s name reply watches l = by (is_some (watch_at s.watches name)) l
+takes_leaves s name reply watches l = by (is_some (entry_at s.watches name)) l
   where
     by : (b : Bool)
-        → MatchBool b (LeavesWatches replies.Done (without_watch s.watches name) reply watches)
+        → MatchBool b (LeavesWatches replies.Done (without_entry s.watches name) reply watches)
         (LeavesWatches replies.NoWatch s.watches reply watches)
         → LeavesOrTakes s.watches watches
     by true l = inr (name, l.1)

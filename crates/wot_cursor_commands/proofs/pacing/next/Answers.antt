@@ -2,8 +2,8 @@ use Rattle.std.proofs.Common.{◌≡◌, true, sym, ap, ◌∙◌}
 use Rattle.std.specs.Prelude.{is_some}
 use Rattle.wot_keyring_spec.specs.Keyring.{Keyring}
 use Rattle.wot_cache.specs.Views.{view_at}
+use Rattle.wot_table.specs.Table.{entry_at}
 use Rattle.wot_cursor.specs.Age.{age_of}
-use Rattle.wot_cursor.specs.Cursors.{cursor_at}
 use Rattle.wot_cursor.specs.declared.stamps.Stamps.{Stamps}
 use Rattle.wot_plain.specs.Pacing.{stamps_in}
 use Rattle.wot_plain.specs.Session.{Session, session_of}
@@ -22,6 +22,6 @@ returns-in-Same-clause-goes c =
     (rw c.view.ensures.view at c.in-Some-revision.ensures.revision) in
     let both : age_of c.stamps.result now ≡ age_of c.in-Some.cursor.now.stamps (stamps_in s view) =
     λ i. age_of (c.stamps.ensures.stamps i) (here i) in
-    given_by (cursor_at c.args.cursors.now c.args.name.now) c.in-Some.cursor.now s c.args.name.now c.args.count
+    given_by (entry_at c.args.cursors.now c.args.name.now) c.in-Some.cursor.now s c.args.name.now c.args.count
     c.in-Some.ensures.found shown c.give.result
     (sym both ∙ sym c.in-Same.ensures.first) (c.give.ensures.gives c.args.cursors.now)

@@ -1,6 +1,7 @@
 use Rattle.std.proofs.Common.{List, ℕ, ap, ◌∙◌}
+use Rattle.wot_table.specs.Table.{with_entry}
 use Rattle.wot_script.specs.declared.reply.Reply.TheVariants as replies
-use Rattle.wot_watch.specs.Watches.{Watches, with_watch}
+use Rattle.wot_watch.specs.Watches.{Watches}
 use Rattle.wot_plain.specs.Watching.{opened}
 use Rattle.wot_plain.proofs.Watched.{begins_full, begins_new}
 use Rattle.wot_plain.proofs.Faults.{full_watches}
@@ -17,8 +18,8 @@ returns-in-Ok-clause-begins c =
     (rw c.in_ok-key.ensures.equal at c.in-Ok.ensures.full)
     (ap (λ (n : List ℕ). replies.WatchAmount n a.amount) c.in_ok-shown.ensures.equal)
     (c.in-Ok.ensures.put
-    ∙ (λ i. with_watch old (c.in_ok-key.ensures.equal i) (c.new-2.ensures.whole i))
-    ∙ (λ i. with_watch old a.name.now
+    ∙ (λ i. with_entry old (c.in_ok-key.ensures.equal i) (c.new-2.ensures.whole i))
+    ∙ (λ i. with_entry old a.name.now
     (opened (c.in_ok-view.ensures.equal i) asked.target.now asked.wanted
     (c.in_ok-uid.ensures.copied i) a.amount)))
 
