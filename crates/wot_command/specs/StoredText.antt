@@ -4,13 +4,14 @@ use Rattle.wot_component.specs.Certificate.{Certificate}
 use Rattle.wot_component.specs.Text.{text_of}
 use Rattle.wot_keyring_spec.specs.declared.refusal.Refusal.{Refusal}
 use Rattle.wot_keyring_spec.specs.declared.refusal.Refusal.TheVariants as refusals
+use Rattle.wot_keyring_spec.specs.Import.{◌>>=◌}
 use Rattle.wot_script.specs.declared.reply.Reply.{Reply}
 use Rattle.wot_script.specs.Replies.{is_short}
 use Rattle.wot_certd.specs.declared.shelf.Given.{Given}
 use Rattle.wot_certd.specs.declared.shelf.Given.TheVariants.{Bytes, Absent, Long}
 use Rattle.wot_certd.specs.World.{Answer}
 use Rattle.wot_plain.specs.Outcome.{refusal}
-use Rattle.wot_plain.specs.Storing.{text_unless}
+use Rattle.wot_plain.specs.Storing.{text_unless, united}
 use Rattle.wot_command.specs.declared.stored.Unwritten.{Unwritten}
 use Rattle.wot_command.specs.declared.stored.Unwritten.TheVariants.{Refused, Memory}
 
@@ -19,6 +20,10 @@ abbrev pub answer_of : Given → Answer
 answer_of (Bytes bytes) = Answer.entry bytes.items
 answer_of Absent = Answer.absent
 answer_of Long = Answer.long
+
+-- a certificate merged with that of its entry, or the refusal of either
+abbrev pub merged_entry : Certificate → Result Certificate Refusal → Result Certificate Refusal
+merged_entry kept entry = entry >>= united kept
 
 -- The text of the certificate, or the reply to the refusal, unless it is out of memory.
 abbrev pub TellsCert : Result Certificate Refusal → Result Certificate Refusal → Type 0

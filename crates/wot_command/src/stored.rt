@@ -4,10 +4,9 @@ ghost use Rattle.std.specs.Prelude.{◌≡◌, ◌<◌, ◌^◌, Ok, length, IfE
 ghost use Rattle.wot_types.specs.declared.name.Name.TheVariants.{Cert as CertName};
 ghost use Rattle.wot_component.specs.Text.{text_of};
 ghost use Rattle.wot_keyring_spec.specs.Entry.{entry_in};
-ghost use Rattle.wot_keyring_spec.specs.Import.{◌>>=◌};
 ghost use Rattle.wot_certd.specs.Shelf.{FitsEntry};
 ghost use Rattle.wot_plain.specs.Storing.{text_unless, united as united_of, unless_great, writing};
-ghost use Rattle.wot_command.specs.StoredText.{IsShort, answer_of, TellsCert, TellsUnwritten};
+ghost use Rattle.wot_command.specs.StoredText.{IsShort, answer_of, merged_entry, TellsCert, TellsUnwritten};
 
 use std::alloc::Global;
 use wot_cert::laws::marks_weigh_nothing;
@@ -57,9 +56,9 @@ fn cert_text(alloc: Global, cert: &Cert) -> Result<Vec<u8>, Unwritten>
 fn union_text(alloc: Global, fpr: &Fpr, kept: &Cert, octets: &[u8]) -> Result<Vec<u8>, Unwritten>
     requires short { length octets.now < 2 ^ 29 }
     ensures text { IfOk result (λ text.
-        text_unless (entry_in (CertName fpr.now) octets.now >>= united_of kept.now) ≡ Ok text.items) }
+        text_unless (merged_entry kept.now (entry_in (CertName fpr.now) octets.now)) ≡ Ok text.items) }
     ensures reported { IfErr result
-        (TellsUnwritten (text_unless (entry_in (CertName fpr.now) octets.now >>= united_of kept.now))) }
+        (TellsUnwritten (text_unless (merged_entry kept.now (entry_in (CertName fpr.now) octets.now)))) }
     ensures short { IfErr result IsShort }
 {
     match united_entry(alloc, fpr, kept, octets) {
@@ -74,7 +73,7 @@ fn union_text(alloc: Global, fpr: &Fpr, kept: &Cert, octets: &[u8]) -> Result<Ve
 /// The certificate merged with that of an entry with these octets.
 fn united_entry(alloc: Global, fpr: &Fpr, kept: &Cert, octets: &[u8]) -> Result<Cert, Refusal>
     requires short { length octets.now < 2 ^ 29 }
-    ensures union { TellsCert result (entry_in (CertName fpr.now) octets.now >>= united_of kept.now) }
+    ensures union { TellsCert result (merged_entry kept.now (entry_in (CertName fpr.now) octets.now)) }
 {
     let name = Name::Cert(*fpr);
     match read_entry(alloc, &name, octets) {
