@@ -1,4 +1,5 @@
 pub mod Asked
+pub mod Changes
 pub mod Claimed
 pub mod CommandRun
 pub mod EdgeLines

@@ -9,8 +9,8 @@ ghost use Rattle.wot_cache.specs.State.{marks_at, state_of, OtherMarksStay};
 ghost use Rattle.wot_cache.specs.Revisions.{IsOneClosing, IsOneRevision};
 ghost use Rattle.wot_cache.specs.Views.{view_at};
 ghost use Rattle.wot_command.specs.Asked.{AsksForNew};
+ghost use Rattle.wot_command.specs.Changes.{ChangesTo, ViewChangesTo};
 ghost use Rattle.wot_command.specs.Lasting.{CanChange, ChangesHeld, IsJudging, StaysJudging};
-ghost use Rattle.wot_plain.specs.Classes.{change_of, view_change_of};
 ghost use Rattle.wot_plain.specs.Outcome.{remove as remove_of, set_verdict as set_verdict_of};
 ghost use Rattle.wot_plain.specs.Outcome.{clear_verdict as clear_verdict_of, close as close_of};
 ghost use Rattle.wot_plain.specs.declared.class.Change.TheVariants as changes;
@@ -36,8 +36,7 @@ pub fn import<F: Fn(Ask) -> bool>(
     requires small { length octets.now < 2 ^ 29 }
     requires judging { IsJudging F.Fn policy.old engine.old.keyring }
     ensures gives { IfOk result (λ reply.
-        ComesTo (change_of (rows_of policy.old) (state_of engine.old) (changes.Import octets.now))
-        reply (state_of engine.new)) }
+        ChangesTo (rows_of policy.old) engine.old (changes.Import octets.now) reply engine.new) }
     ensures short { IfOk result (λ reply. is_short reply ≡ true) }
     ensures kept { OnErr result (engine.new ≡ engine.old) }
     ensures held { ChangesHeld engine.old engine.new }
@@ -105,7 +104,7 @@ pub fn time(engine: &mut Engine, view: &ViewName, t: u32) -> Result<Reply, Memor
     requires standard { engine.old.keyring.limits ≡ standard_limits }
     requires turnable { engine.old.revisions.count < 2 ^ 64 - 1 }
     ensures gives { IfOk result (λ reply.
-        ComesTo (view_change_of (state_of engine.old) view.now (revisions.Time t)) reply (state_of engine.new)) }
+        ViewChangesTo engine.old view.now (revisions.Time t) reply engine.new) }
     ensures turned { IsOneRevision view.now engine.old.views engine.old.revisions
         engine.new.views engine.new.revisions }
     ensures short { IfOk result (λ reply. is_short reply ≡ true) }
@@ -126,8 +125,7 @@ pub fn root(engine: &mut Engine, view: &ViewName, fpr: &Fpr, amount: u8) -> Resu
     requires standard { engine.old.keyring.limits ≡ standard_limits }
     requires turnable { engine.old.revisions.count < 2 ^ 64 - 1 }
     ensures gives { IfOk result (λ reply.
-        ComesTo (view_change_of (state_of engine.old) view.now (revisions.Root fpr.now amount))
-        reply (state_of engine.new)) }
+        ViewChangesTo engine.old view.now (revisions.Root fpr.now amount) reply engine.new) }
     ensures turned { IsOneRevision view.now engine.old.views engine.old.revisions
         engine.new.views engine.new.revisions }
     ensures short { IfOk result (λ reply. is_short reply ≡ true) }

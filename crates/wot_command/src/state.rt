@@ -10,6 +10,7 @@ ghost use Rattle.wot_cache.specs.State.{StaysButMarks, state_of};
 ghost use Rattle.wot_cache.specs.Views.{view_at};
 ghost use Rattle.wot_plain.specs.declared.class.Class.TheVariants.{State as OfState};
 ghost use Rattle.wot_plain.specs.declared.class.StateCommand.TheVariants as kinds;
+ghost use Rattle.wot_plain.specs.declared.class.StateCommand.TheVariants.{View as On};
 ghost use Rattle.wot_command.specs.Asked.{AsksBy, CallAsks, ChangeAsks};
 ghost use Rattle.wot_plain.specs.Both.{ends};
 ghost use Rattle.wot_plain.specs.Classes.{AnswersQuestion, IsSmall, IsWanted};
@@ -114,7 +115,7 @@ fn change_view(engine: &mut Engine, view: &ViewName, what: &ViewChange) -> Resul
     requires turnable { engine.old.revisions.count < 2 ^ 64 - 1 }
     ensures gives { IfOk result (λ reply.
         ComesTo (view_change_of (state_of engine.old) view.now what.now) reply (state_of engine.new)) }
-    ensures turned { RevisedBy (OfState (kinds.View view.now what.now))
+    ensures turned { RevisedBy (OfState (On view.now what.now))
         engine.old.views engine.old.revisions engine.new.views engine.new.revisions }
     ensures short { IfOk result (λ reply. is_short reply ≡ true) }
     ensures kept { OnErr result (engine.new ≡ engine.old) }
