@@ -5,7 +5,7 @@ use wot_edge::PathList;
 use wot_types::Memory;
 
 /// The answer to a question: paths, each the next one after those before it.
-#[derive(Drop)]
+#[derive(Debug, Drop)]
 pub struct Answer {
     /// The sum of the paths' amounts.
     pub sum: u32,

@@ -34,5 +34,5 @@ impl From<Memory> for ViewFault {
 }
 
 /// The view isn't open.
-#[derive(Clone, Copy, PartialEq, Eq)]
+#[derive(Clone, Copy, Debug, PartialEq, Eq)]
 pub struct NoView;

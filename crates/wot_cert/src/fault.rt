@@ -19,7 +19,7 @@ pub enum CertFault {
 }
 
 /// Why two certificates weren't merged.
-#[derive(Clone, Copy, PartialEq, Eq)]
+#[derive(Clone, Copy, Debug, PartialEq, Eq)]
 pub enum MergeFault {
     /// Their key bodies differ.
     Clash,

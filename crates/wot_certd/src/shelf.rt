@@ -24,7 +24,7 @@ pub enum Given {
 }
 
 /// Why a call failed.
-#[derive(Clone, Copy, PartialEq, Eq)]
+#[derive(Clone, Copy, Debug, PartialEq, Eq)]
 pub enum ShelfFault {
     /// The directory failed.
     Failed,

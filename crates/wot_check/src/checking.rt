@@ -19,7 +19,7 @@ use wot_edge::{Roads, Roots};
 use wot_types::{Fpr, Memory};
 
 /// The result of checking claimed paths and a table.
-#[derive(Clone, Copy, PartialEq, Eq)]
+#[derive(Clone, Copy, Debug, PartialEq, Eq)]
 pub enum Checked {
     /// The paths are valid, each with its residual amount after those before it, and the table shows that no path is
     /// left after them.

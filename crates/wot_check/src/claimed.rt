@@ -12,14 +12,14 @@ use wot_types::{Fpr, Memory};
 
 /// A claimed step: its issuer, and the place of the certified user ID among the target's, ordered by octets. The target
 /// is the issuer of the next step, or of the last step the target of the path.
-#[derive(Clone, Copy, PartialEq, Eq)]
+#[derive(Clone, Copy, Debug, PartialEq, Eq)]
 pub struct ClaimedStep {
     pub issuer: Fpr,
     pub place: u32,
 }
 
 /// A claimed path: its amount and its steps, from the root on.
-#[derive(Drop)]
+#[derive(Debug, Drop)]
 pub struct Claimed {
     amount: u8,
     steps: Vec<ClaimedStep, Global>,

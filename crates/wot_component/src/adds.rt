@@ -18,7 +18,7 @@ use crate::{Part, Sig};
 use std::cmp::Ordering;
 
 /// What a merge adds.
-#[derive(Clone, Copy, PartialEq, Eq)]
+#[derive(Clone, Copy, Debug, PartialEq, Eq)]
 pub struct Adds {
     /// How many keys, components and signatures.
     pub items: u64,

@@ -2,14 +2,14 @@
 //! changes.
 
 /// What a listing depends on: the keyring's count of changes, and the revision of its view.
-#[derive(Clone, Copy, PartialEq, Eq)]
+#[derive(Clone, Copy, Debug, PartialEq, Eq)]
 pub struct Stamps {
     pub keyring: u64,
     pub view: u64,
 }
 
 /// Whether a listing is current; if not, the first stamp that differs, before and now.
-#[derive(Clone, Copy, PartialEq, Eq)]
+#[derive(Clone, Copy, Debug, PartialEq, Eq)]
 pub enum Age {
     /// Both stamps are the same.
     Same,

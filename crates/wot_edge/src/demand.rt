@@ -12,7 +12,7 @@ use wot_types::{Fpr, compare_fprs};
 
 /// What is demanded of an edge: to be on the wanted user ID, by its place among the target's; or to have at least this
 /// depth, and an issuer other than the target.
-#[derive(Clone, Copy, PartialEq, Eq)]
+#[derive(Clone, Copy, Debug, PartialEq, Eq)]
 pub enum Demand {
     On(Option<u32>),
     Before(u8),

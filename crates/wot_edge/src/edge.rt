@@ -8,7 +8,7 @@ use std::marker::Model;
 use wot_types::{Fpr, Steps};
 
 /// What an edge says: who certifies whose user ID, with which depth and amount.
-#[derive(Clone, Copy, PartialEq, Eq)]
+#[derive(Clone, Copy, Debug, PartialEq, Eq)]
 pub struct EdgeFacts {
     /// The issuer.
     pub issuer: Fpr,

@@ -10,7 +10,7 @@ use std::marker::Model;
 use wot_types::Memory;
 
 /// The steps of a path, from the root to the target.
-#[derive(Drop)]
+#[derive(Debug, Drop)]
 pub struct StepList {
     items: Vec<Step, Global>,
 }
@@ -55,7 +55,7 @@ impl StepList {
 }
 
 /// Paths, in the order in which they were taken.
-#[derive(Drop)]
+#[derive(Debug, Drop)]
 pub struct PathList {
     items: Vec<Path, Global>,
 }

@@ -8,7 +8,7 @@ use crate::StepList;
 use wot_types::{Fpr, Memory};
 
 /// What a path says about one of its edges.
-#[derive(Clone, Copy, PartialEq, Eq)]
+#[derive(Clone, Copy, Debug, PartialEq, Eq)]
 pub struct Step {
     pub issuer: Fpr,
     pub target: Fpr,
@@ -19,7 +19,7 @@ pub struct Step {
 }
 
 /// A path from a root to the target, with its amount.
-#[derive(Drop)]
+#[derive(Debug, Drop)]
 pub struct Path {
     /// The least residual amount among the root's and the edges'.
     pub amount: u8,

@@ -16,7 +16,7 @@ use std::marker::Model;
 use wot_types::{Fpr, Memory};
 
 /// An issuer and a target.
-#[derive(Clone, Copy, PartialEq, Eq, PartialOrd, Ord)]
+#[derive(Clone, Copy, Debug, PartialEq, Eq, PartialOrd, Ord)]
 pub struct Pair {
     pub issuer: Fpr,
     pub target: Fpr,

@@ -54,7 +54,7 @@ pub struct Explained {
     pub certs: ReasonList,
 }
 
-#[derive(Clone, Copy, PartialEq, Eq)]
+#[derive(Clone, Copy, Debug, PartialEq, Eq)]
 pub enum ExplainFault {
     /// The certificate or the user ID isn't there.
     Absent,

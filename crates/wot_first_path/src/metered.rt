@@ -14,7 +14,7 @@ use std::alloc::Global;
 use wot_types::{Fpr, Memory};
 
 /// Why a metered search ended without an answer.
-#[derive(Clone, Copy, PartialEq, Eq)]
+#[derive(Clone, Copy, Debug, PartialEq, Eq)]
 pub enum LookFault {
     /// The limit on looks was reached.
     Spent,

@@ -4,7 +4,7 @@ use wot_edge::Step;
 use wot_types::Fpr;
 
 /// What a search looks for among the suffixes with the fewest edges.
-#[derive(Clone, Copy, PartialEq, Eq)]
+#[derive(Clone, Copy, Debug, PartialEq, Eq)]
 pub enum Goal {
     /// The greatest amount.
     Widest,
@@ -14,7 +14,7 @@ pub enum Goal {
 
 /// What a search keeps of an issuer's suffix: its first edge, how many edges it has, and their least residual amount.
 /// The rest of the suffix is kept at the first edge's target.
-#[derive(Clone, Copy, PartialEq, Eq)]
+#[derive(Clone, Copy, Debug, PartialEq, Eq)]
 pub struct Node {
     pub step: Step,
     pub size: u8,
@@ -22,7 +22,7 @@ pub struct Node {
 }
 
 /// A root, and what a path from it would have.
-#[derive(Clone, Copy, PartialEq, Eq)]
+#[derive(Clone, Copy, Debug, PartialEq, Eq)]
 pub struct Choice {
     pub fpr: Fpr,
     pub width: u8,

@@ -6,7 +6,7 @@ ghost use Rattle.std.specs.Prelude.{◌≡◌};
 ghost use Rattle.wot_key.specs.Key.{is_readable, is_v4, is_v6, key_of};
 
 /// What the body of a public key packet says about the key (RFC 9580, section 5.5.2).
-#[derive(Clone, Copy, PartialEq, Eq)]
+#[derive(Clone, Copy, Debug, PartialEq, Eq)]
 pub struct Key {
     /// The version, which is 4 or 6.
     pub version: u8,

@@ -16,7 +16,7 @@ use wot_types::{Fpr, Memory, SigNumber};
 use wot_verdict::Verdicts;
 
 /// A well-formed signature without a verdict, with what a verifier needs to find the key that made it.
-#[derive(Clone, Copy, PartialEq, Eq)]
+#[derive(Clone, Copy, Debug, PartialEq, Eq)]
 pub struct Pending {
     /// The signature number that waits for a verdict.
     pub number: SigNumber,

@@ -22,11 +22,11 @@ pub enum Refusal {
 }
 
 /// What was named isn't in the keyring.
-#[derive(Clone, Copy, PartialEq, Eq)]
+#[derive(Clone, Copy, Debug, PartialEq, Eq)]
 pub struct Absent;
 
 /// Why a certificate was not exported.
-#[derive(Clone, Copy, PartialEq, Eq)]
+#[derive(Clone, Copy, Debug, PartialEq, Eq)]
 pub enum ExportFault {
     /// It isn't in the keyring.
     Absent,

@@ -8,7 +8,7 @@ ghost use Rattle.wot_packet.specs.declared.packet.ReadFault.TheVariants.{Memory}
 use std::alloc::{AllocError, AllocFailed};
 
 /// A packet of a text (RFC 9580, section 4.2).
-#[derive(Clone, Copy, PartialEq, Eq)]
+#[derive(Clone, Copy, Debug, PartialEq, Eq)]
 pub struct Packet<'a> {
     /// Its type, 0 to 63.
     pub kind: u8,
@@ -51,7 +51,7 @@ pub struct PacketFault {
 }
 
 /// Why a text wasn't read.
-#[derive(Clone, Copy, PartialEq, Eq)]
+#[derive(Clone, Copy, Debug, PartialEq, Eq)]
 pub enum ReadFault {
     /// The text isn't a list of packets; this is its first fault.
     Packet(PacketFault),

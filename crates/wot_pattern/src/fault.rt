@@ -6,7 +6,7 @@ ghost use Rattle.wot_pattern.specs.declared.fault.PatternFault.TheVariants.{Memo
 use std::alloc::{AllocError, AllocFailed};
 
 /// Why a text couldn't be parsed.
-#[derive(Clone, Copy, PartialEq, Eq)]
+#[derive(Clone, Copy, Debug, PartialEq, Eq)]
 pub enum PatternFault {
     /// The text isn't a regular expression of RFC 9580, or exceeds a limit.
     Unreadable,

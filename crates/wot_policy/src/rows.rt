@@ -13,7 +13,7 @@ const SUBKEY_REVOCATION: u8 = 0x28;
 const CERTIFICATION_REVOCATION: u8 = 0x30;
 
 /// What a policy is asked about a signature.
-#[derive(Clone, Copy, PartialEq, Eq)]
+#[derive(Clone, Copy, Debug, PartialEq, Eq)]
 pub struct Ask {
     /// The signature type (RFC 9580, section 5.2.1).
     pub kind: u8,
@@ -24,7 +24,7 @@ pub struct Ask {
 }
 
 /// For which creation times a hash algorithm counts.
-#[derive(Clone, Copy, PartialEq, Eq)]
+#[derive(Clone, Copy, Debug, PartialEq, Eq)]
 pub enum Row {
     Never,
     /// Only before this moment, in seconds since 1970.
@@ -33,7 +33,7 @@ pub enum Row {
 }
 
 /// The rows that decide which signatures count. Item h of either list is the row of hash algorithm h.
-#[derive(Clone, Copy, PartialEq, Eq)]
+#[derive(Clone, Copy, Debug, PartialEq, Eq)]
 pub struct PolicyRows {
     /// For signature types other than revocations.
     pub plain: [Row; 256],

@@ -5,7 +5,7 @@
 use wot_types::Fpr;
 
 /// What the hashed subpackets of a signature say. If several have one type, the last known one counts.
-#[derive(Clone, Copy, PartialEq, Eq)]
+#[derive(Clone, Copy, Debug, PartialEq, Eq)]
 pub struct SigFacts {
     /// The signature type: 0x10 to 0x13 are certifications, 0x1F is on the key, 0x20 and 0x30 revoke.
     pub kind: u8,

@@ -11,7 +11,7 @@ use std::collections::BTreeMap;
 use wot_types::{Fpr, Memory};
 
 /// The issuer of a certification, and the place of the user ID that it is on.
-#[derive(Clone, Copy, PartialEq, Eq, PartialOrd, Ord)]
+#[derive(Clone, Copy, Debug, PartialEq, Eq, PartialOrd, Ord)]
 pub struct Certified {
     /// The key that issued it.
     pub issuer: Fpr,

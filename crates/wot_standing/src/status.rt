@@ -1,7 +1,7 @@
 //! The standing of a key as a value. `governing` makes it, `usable` decides by it, and `wot_explain` finds its words by
 //! it.
 /// Whether a key stands at a time, and what ends it.
-#[derive(Clone, Copy, PartialEq, Eq)]
+#[derive(Clone, Copy, Debug, PartialEq, Eq)]
 pub struct Standing {
     /// Whether a self-signature governs it.
     pub has: bool,

@@ -1,7 +1,7 @@
 //! Why octets aren't a list of subpackets. `Area::new` returns it; `wot_signature` takes a signature with such a hashed
 //! area as malformed.
 /// Why octets aren't a list of subpackets. The first fault from the beginning is returned.
-#[derive(Clone, Copy, PartialEq, Eq)]
+#[derive(Clone, Copy, Debug, PartialEq, Eq)]
 pub enum AreaFault {
     /// Octets of a length are missing.
     CutLength,

@@ -16,7 +16,7 @@ use crate::octets::compare_octets;
 use std::cmp::Ordering;
 
 /// A key's fingerprint (RFC 9580, section 5.5.4). Fingerprints are ordered by their octets.
-#[derive(Clone, Copy, PartialEq, Eq)]
+#[derive(Clone, Copy, Debug, PartialEq, Eq)]
 pub enum Fpr {
     /// Of a version 4 key: a SHA-1 digest.
     V4([u8; 20]),

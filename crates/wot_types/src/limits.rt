@@ -6,7 +6,7 @@ ghost use Rattle.std.specs.Prelude.{◌≡◌};
 ghost use Rattle.wot_types.specs.Limits.{limit_word, standard_limits};
 
 /// What a keyring and its views may hold at most.
-#[derive(Clone, Copy, PartialEq, Eq)]
+#[derive(Clone, Copy, Debug, PartialEq, Eq)]
 pub struct Limits {
     /// The size of one certificate, in octets of its export.
     pub certificate: u64,

@@ -11,7 +11,7 @@ use crate::octets::compare_octets;
 use std::cmp::Ordering;
 
 /// The number of a signature, a SHA-256 digest. Numbers are ordered by their octets.
-#[derive(Clone, Copy, PartialEq, Eq)]
+#[derive(Clone, Copy, Debug, PartialEq, Eq)]
 pub struct SigNumber(pub [u8; 32]);
 
 impl SigNumber {

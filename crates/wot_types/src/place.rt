@@ -3,7 +3,7 @@
 use crate::{Fpr, UserId};
 
 /// The place in a listing of bindings right after this user ID of this key.
-#[derive(Drop, PartialEq, Eq)]
+#[derive(Debug, Drop, PartialEq, Eq)]
 pub struct Place {
     pub fpr: Fpr,
     pub uid: UserId,

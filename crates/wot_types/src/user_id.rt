@@ -7,7 +7,7 @@ use std::alloc::Global;
 use std::marker::Model;
 
 /// A user ID (RFC 9580, section 5.11): any octets, mostly a name and a mail address in UTF-8.
-#[derive(Drop)]
+#[derive(Debug, Drop)]
 pub struct UserId {
     octets: Vec<u8>,
 }

@@ -13,7 +13,7 @@ use std::marker::Model;
 
 /// The name of a view: 1 to 32 of `a` to `z`, `0` to `9`, `-` and `_`. Names are ordered by their
 /// octets.
-#[derive(Drop)]
+#[derive(Debug, Drop)]
 pub struct ViewName {
     octets: Vec<u8>,
 }

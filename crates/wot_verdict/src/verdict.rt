@@ -3,7 +3,7 @@
 use wot_types::Fpr;
 
 /// What a verifier reported about a signature number.
-#[derive(Clone, Copy, PartialEq, Eq)]
+#[derive(Clone, Copy, Debug, PartialEq, Eq)]
 pub enum Verdict {
     /// The signature verifies with the key of this fingerprint.
     Good(Fpr),
