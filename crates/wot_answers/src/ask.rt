@@ -17,7 +17,7 @@ use crate::making::{fprs_of, spend};
 use crate::parts::Parts;
 use crate::recall::{AllAnswers, begin, remember, remember_now};
 use std::alloc::Global;
-use wot_auth::{Answer, Binding, authenticate_metered, authenticate_within};
+use wot_auth::{Answer, authenticate_metered, authenticate_within};
 use wot_edge::laws::{answer_is_one, paths_fit, zero_is_no_path};
 use wot_search::{LookFault, Making, Metered, Reach, make_reach};
 use wot_types::{Memory, ViewName};
@@ -111,15 +111,12 @@ fn search_near(
 {
     let most = of_view.most_looks(parts);
     let mut metered = Metered::new(alloc, most);
-    let binding = Binding {
-        target: asked.target,
-        uid: asked.uid,
-    };
     match authenticate_metered(
         alloc,
         &parts.roads,
         parts.roots,
-        &binding,
+        asked.target,
+        asked.uid,
         asked.wanted,
         &mut metered,
     ) {

@@ -4,17 +4,12 @@ use Rattle.wot_types.specs.declared.fpr.Fpr.{Fpr}
 use Rattle.wot_edge.specs.declared.path.Path.{Path}
 use Rattle.wot_edge.specs.Agree.{Agree}
 use Rattle.wot_edge.specs.Answer.{IsAnswer}
-use Rattle.wot_edge.specs.Path.{Question, asks}
-use Rattle.wot_edge.specs.Record.{Record, Has, IsRecord}
+use Rattle.wot_edge.specs.Path.{Question}
+use Rattle.wot_edge.specs.Record.{Has, IsRecord}
 use Rattle.wot_search.specs.Asked.{HasAll}
 use Rattle.wot_first_path.specs.Looked.{Widens}
 use Rattle.wot_reach.specs.Reach.{Table}
 use Rattle.wot_auth.specs.declared.answer.Answer.{Answer}
-use Rattle.wot_auth.specs.declared.ask.Binding.{Binding}
-
--- the question for the amount of a binding, given what the network says
-abbrev pub asks_for : (List ℕ → Record) → List (Fpr × ℕ) → Binding → Question
-asks_for network roots binding = asks (network binding.uid.now) roots binding.target.now
 
 -- there is no other answer
 abbrev pub IsOnlyAnswer : Question → ℕ → Answer → Type 0

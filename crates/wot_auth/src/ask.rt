@@ -11,7 +11,7 @@ ghost use Rattle.wot_edge.specs.Capacity.{AllFit};
 ghost use Rattle.wot_edge.specs.Leads.{Grows, GainsLeads};
 ghost use Rattle.wot_first_path.specs.Metered.{looks_in};
 ghost use Rattle.wot_search.specs.Asked.{HasItsReach, question_of};
-ghost use Rattle.wot_auth.specs.Agreed.{IsOnlyAnswer, IsAnswerOfAgreeing, IsOnlyOfAgreeing, asks_for};
+ghost use Rattle.wot_auth.specs.Agreed.{IsOnlyAnswer, IsAnswerOfAgreeing, IsOnlyOfAgreeing};
 
 use crate::Answer;
 use crate::take::take;
@@ -20,13 +20,6 @@ use wot_edge::laws::{answer_is_one, paths_fit, zero_is_no_path};
 use wot_edge::{Roads, Roots};
 use wot_search::{Asked, Consulted, LookFault, Metered, Reach, Unnoted};
 use wot_types::{Fpr, Memory};
-
-/// A user ID, and the certificate that it may belong to.
-#[derive(Clone, Copy)]
-pub struct Binding<'a> {
-    pub target: &'a Fpr,
-    pub uid: &'a [u8],
-}
 
 /// Computes to which amount a user ID of the target is authenticated: next paths until their sum reaches the wanted
 /// amount or no valid path of positive amount is left. The last path isn't cut, and the sum isn't claimed to be a
@@ -80,16 +73,17 @@ pub fn authenticate_metered<R: Roads>(
     alloc: Global,
     roads: &R,
     roots: &Roots,
-    binding: &Binding,
+    target: &Fpr,
+    uid: &[u8],
     wanted: u32,
     metered: &mut Metered,
 ) -> Result<Answer, LookFault>
     requires wanted { 1 ≤ wanted }
     requires few { length roots.now ≤ 64 }
-    ensures answer { IfOk result (λ answer. IsAnswer (asks_for (R.network roads.now) roots.now binding.now) wanted
+    ensures answer { IfOk result (λ answer. IsAnswer (asks (R.network roads.now uid.now) roots.now target.now) wanted
         answer.paths) }
     ensures sum { IfOk result (λ answer. answer.sum ≡ amount_of answer.paths) }
-    ensures local { IfOk result (IsAnswerOfAgreeing (asks_for (R.network roads.now) roots.now binding.now) wanted
+    ensures local { IfOk result (IsAnswerOfAgreeing (asks (R.network roads.now uid.now) roots.now target.now) wanted
         metered.new.consulted) }
 
     // An error is `Spent` if and only if the search asked for one look too many.
@@ -101,15 +95,15 @@ pub fn authenticate_metered<R: Roads>(
     ensures paid { length metered.new.consulted + looks_in metered.new.left
         ≤ length metered.old.consulted + looks_in metered.old.left }
     ensures grows { Grows metered.old.consulted metered.new.consulted }
-    ensures leads { GainsLeads (R.network roads.now binding.now.uid.now) binding.now.target.now
-        metered.old.consulted metered.new.consulted }
+    ensures leads { GainsLeads (R.network roads.now uid.now) target.now metered.old.consulted
+        metered.new.consulted }
 {
     let reach = Reach::everywhere(alloc);
     let asked = Asked {
         roots,
         reach: &reach,
-        target: binding.target,
-        uid: binding.uid,
+        target,
+        uid,
     };
     match take(alloc, roads, &asked, wanted, metered) {
         Ok(answer) => Ok(answer),

@@ -11,5 +11,5 @@ mod sum;
 mod take;
 
 pub use answer::Answer;
-pub use ask::{Binding, authenticate, authenticate_metered, authenticate_within};
+pub use ask::{authenticate, authenticate_metered, authenticate_within};
 pub use sum::sum_within;

@@ -8,16 +8,16 @@ ghost use Rattle.wot_plain.specs.Absent.{MissesBy, asked_from, claim_line, claim
 
 use std::alloc::Global;
 use wot_auth::authenticate;
-use wot_cache::{Engine, Parts};
+use wot_cache::{Asked, Engine, Parts};
 use wot_check::Table;
 use wot_check::laws::answers_are_few;
 use wot_edge::{Path, Step};
-use wot_plain::{AskedBinding, Refused, reply_to};
+use wot_plain::{Refused, reply_to};
 use wot_script::{
     ClaimLine, ClaimLines, ClaimStepLine, ClaimStepLines, LabelLine, LabelLines, Reply,
 };
 use wot_search::Consulted;
-use wot_types::{Fpr, Memory, Steps};
+use wot_types::{Fpr, Memory, Steps, ViewName};
 
 /// The reply to `absence`: why the answer to a question doesn't reach the amount `wanted`, from a view: its paths, and
 /// the least table after them. If the answer does reach it, the reply is its sum. Refused if the view isn't open.
@@ -25,15 +25,16 @@ pub fn absence(
     alloc: Global,
     engine: &mut Engine,
     steps: &mut Steps,
-    asked: &AskedBinding<'_>,
+    view: &ViewName,
+    asked: &Asked<'_>,
 ) -> Result<Reply, Memory>
     requires wanted { 1 ≤ asked.now.wanted }
-    ensures misses { IfOk result (MissesFor engine.old asked.now) }
+    ensures misses { IfOk result (MissesFor engine.old view.now asked.now) }
     ensures keyring { engine.new.keyring ≡ engine.old.keyring }
     ensures views { engine.new.views ≡ engine.old.views }
-    ensures refreshed { IsRefreshed result asked.now.view.now engine.old engine.new steps.old.made steps.new.made }
+    ensures refreshed { IsRefreshed result view.now engine.old engine.new steps.old.made steps.new.made }
 {
-    match engine.parts(asked.view, steps) {
+    match engine.parts(view, steps) {
         Ok(parts) => absence_from(alloc, &parts, asked.target, asked.wanted, asked.uid),
         Err(fault) => reply_to(Refused::from(fault)),
     }

@@ -12,11 +12,11 @@ ghost use Rattle.wot_plain.specs.Answer.{uid_at, step_line, path_lines, amount_r
 use crate::listing::cert_of;
 use std::alloc::Global;
 use wot_auth::Answer;
-use wot_cache::Engine;
+use wot_cache::{Asked, Engine};
 use wot_edge::{Path, Step};
-use wot_plain::{AskedBinding, Refused, reply_to};
+use wot_plain::{Refused, reply_to};
 use wot_script::{AnswerLine, AnswerLines, Reply};
-use wot_types::{Fpr, Memory, Steps, UserId};
+use wot_types::{Fpr, Memory, Steps, UserId, ViewName};
 
 /// The reply to `ask`: how confident one can be that a user ID belongs to a target, from a view. `wanted` is the amount
 /// at which no further path is needed. Refused if the view isn't open.
@@ -24,15 +24,16 @@ pub fn ask(
     alloc: Global,
     engine: &mut Engine,
     steps: &mut Steps,
-    asked: &AskedBinding<'_>,
+    view: &ViewName,
+    asked: &Asked<'_>,
 ) -> Result<Reply, Memory>
     requires wanted { 1 ≤ asked.now.wanted }
-    ensures asks { IfOk result (AsksFor engine.old asked.now) }
+    ensures asks { IfOk result (AsksFor engine.old view.now asked.now) }
     ensures keyring { engine.new.keyring ≡ engine.old.keyring }
     ensures views { engine.new.views ≡ engine.old.views }
-    ensures refreshed { IsRefreshed result asked.now.view.now engine.old engine.new steps.old.made steps.new.made }
+    ensures refreshed { IsRefreshed result view.now engine.old engine.new steps.old.made steps.new.made }
 {
-    match engine.ask(asked.view, asked.target, asked.wanted, asked.uid, steps) {
+    match engine.ask(view, asked.target, asked.wanted, asked.uid, steps) {
         Ok(answer) => amount_reply(alloc, engine, &answer),
         Err(fault) => reply_to(Refused::from(fault)),
     }

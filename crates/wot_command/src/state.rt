@@ -36,9 +36,9 @@ use crate::pending::pending;
 use crate::reasons::explain;
 use crate::store::store;
 use std::alloc::Global;
-use wot_cache::Engine;
+use wot_cache::{Asked, Engine};
 use wot_certd::Shelf;
-use wot_plain::{AskedBinding, Change, Read, ShelfCall, StateCommand, ViewChange, ViewQuestion};
+use wot_plain::{Change, Read, ShelfCall, StateCommand, ViewChange, ViewQuestion};
 use wot_policy::{Ask, Policy};
 use wot_script::Reply;
 use wot_types::{Memory, Steps, ViewName};
@@ -149,26 +149,24 @@ fn answer(
 {
     match what {
         ViewQuestion::Ask(target, wanted, uid) => {
-            let asked = AskedBinding {
-                view,
+            let asked = Asked {
                 target,
                 wanted: *wanted,
                 uid: uid.octets(),
             };
-            ask(alloc, engine, steps, &asked)
+            ask(alloc, engine, steps, view, &asked)
         }
         ViewQuestion::List(wanted) => list(alloc, engine, steps, view, *wanted),
         ViewQuestion::Explain(fpr, uid) => {
             explain(alloc, engine, steps, view, fpr, uid.octets())
         }
         ViewQuestion::Absence(target, wanted, uid) => {
-            let asked = AskedBinding {
-                view,
+            let asked = Asked {
                 target,
                 wanted: *wanted,
                 uid: uid.octets(),
             };
-            absence(alloc, engine, steps, &asked)
+            absence(alloc, engine, steps, view, &asked)
         }
         ViewQuestion::Check(target, claims, labels, uid) => {
             let claim = ClaimedAbsence {

@@ -25,18 +25,18 @@ pub fn after_prefix<'a>(prefix: &[u8], text: &'a [u8]) -> Option<&'a [u8]>
 
 /// A field, and the text after its separator.
 #[derive(Clone, Copy)]
-pub struct Parts<'a> {
+pub struct Cut<'a> {
     pub field: &'a [u8],
     pub rest: &'a [u8],
 }
 
 /// Cuts a text at the first separator.
-pub fn cut_at(separator: u8, text: &[u8]) -> Option<Parts<'_>>
+pub fn cut_at(separator: u8, text: &[u8]) -> Option<Cut<'_>>
     ensures { option_map (λ parts. (parts.field.now, parts.rest.now)) result ≡ cut_at separator text.now }
 {
     for (offset, octet) in text.iter().enumerate() {
         if *octet == separator {
-            return Some(Parts {
+            return Some(Cut {
                 field: &text[..offset],
                 rest: &text[offset + 1..],
             });
@@ -46,7 +46,7 @@ pub fn cut_at(separator: u8, text: &[u8]) -> Option<Parts<'_>>
 }
 
 /// Cuts a text at the first space.
-pub fn cut_field(text: &[u8]) -> Option<Parts<'_>>
+pub fn cut_field(text: &[u8]) -> Option<Cut<'_>>
     ensures { option_map (λ parts. (parts.field.now, parts.rest.now)) result ≡ cut text.now }
 {
     cut_at(b' ', text)

@@ -15,7 +15,7 @@ mod state_line;
 mod uid;
 
 pub use decimal::{read_decimal, read_positive};
-pub use fields::{Parts, after_prefix, cut_at, cut_field};
+pub use fields::{Cut, after_prefix, cut_at, cut_field};
 pub use octets::{Octets, read_hex};
 pub use piece::{Piece, put_pieces, put_text};
 pub use state_line::{

@@ -6,7 +6,7 @@ use Rattle.wot_cache.specs.State.{Engine, StaysButMarks, state_of}
 use Rattle.wot_cursor.specs.Cursors.{Cursors}
 use Rattle.wot_watch.specs.Watches.{Watches}
 use Rattle.wot_command.specs.Lasting.{removes}
-use Rattle.wot_machine.specs.declared.dispatch.Parts.{Parts}
+use Rattle.wot_machine.specs.declared.dispatch.Inner.{Inner}
 use Rattle.wot_script.specs.declared.reply.Reply.{Reply}
 use Rattle.wot_plain.specs.declared.class.Class.{Class}
 use Rattle.wot_plain.specs.declared.class.Class.TheVariants.{State as OfState, Cursor as OfCursor, Watch as OfWatch}
@@ -39,7 +39,7 @@ IsDue m (Some moved) =
     (class : Class) × (reply : Reply) × Paces (kept m) class reply (settled (Some moved) m.cursors)
 
 -- what contracts see of its parts
-abbrev pub machine_of : Parts → Machine
+abbrev pub machine_of : Inner → Machine
 machine_of p = record { engine = p.engine; cursors = p.cursors; watches = p.watches; made = p.steps.made }
 
 -- whether a command only removes a certificate, a verdict, a view, a cursor or a watch, which takes no memory

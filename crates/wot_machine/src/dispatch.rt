@@ -34,7 +34,7 @@ use wot_watch_commands::watch;
 
 /// What a line works on: everything that a machine keeps, except what its watches depend on.
 #[derive(Drop)]
-pub(crate) struct Parts {
+pub(crate) struct Inner {
     pub(crate) alloc: Global,
     pub(crate) engine: Engine,
     pub(crate) cursors: Cursors,
@@ -42,7 +42,7 @@ pub(crate) struct Parts {
     pub(crate) steps: Steps,
 }
 
-impl Parts {
+impl Inner {
     /// Does what a line asks for. A command whose reply may be long changes nothing, except that a cursor moves once
     /// the reply is written.
     pub(crate) fn answer<D: Shelf, F: Fn(Ask) -> bool>(

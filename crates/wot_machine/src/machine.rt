@@ -31,7 +31,7 @@ ghost use Rattle.wot_plain.specs.Watching.{AreLines, IsWatchLine, told_all};
 ghost use Rattle.wot_watch_commands.specs.Stale.{stale_in};
 
 use crate::counts::{Counts, kept_on};
-use crate::dispatch::Parts;
+use crate::dispatch::Inner;
 use std::alloc::Global;
 use std::marker::Model;
 use wot_cache::laws::{change_goes_on, rests_on, views_go_on};
@@ -55,7 +55,7 @@ const ROOM: usize = 128;
 /// watches.
 #[derive(Drop)]
 pub struct Machine {
-    parts: Parts,
+    inner: Inner,
     // What the last reported amounts depend on, if that is known.
     basis: Option<Basis>,
 }
@@ -68,10 +68,10 @@ impl Model for Machine {
 
     ghost Value = { TheMachine };
 
-    ghost view = { λ a. machine_of a.parts };
+    ghost view = { λ a. machine_of a.inner };
 
     ghost invariant = { λ a.
-        (a.parts.engine.keyring.limits ≡ standard_limits) × AreSettled a.parts.engine a.parts.watches a.basis };
+        (a.inner.engine.keyring.limits ≡ standard_limits) × AreSettled a.inner.engine a.inner.watches a.basis };
 }
 
 impl Machine {
@@ -82,21 +82,21 @@ impl Machine {
         ensures watches { result.watches ≡ [] }
         ensures made { result.made ≡ 0 }
     {
-        let parts = Parts {
+        let inner = Inner {
             alloc,
             engine: Engine::new(alloc, Limits::standard()),
             cursors: Cursors::new(alloc),
             watches: Watches::new(alloc),
             steps: Steps::new(),
         };
-        Machine { parts, basis: None }
+        Machine { inner, basis: None }
     }
 
     /// The number of edges made for all questions so far. The count stays at `u64::MAX` when it gets there.
     pub fn made(&self) -> u64
         ensures made { result ≡ self.now.made }
     {
-        self.parts.steps.made
+        self.inner.steps.made
     }
 
     /// Runs one line, without its line feed, and appends its reply. After `Memory`, `out` is unchanged, and so is the
@@ -195,9 +195,9 @@ impl Machine {
         views_go_on();
         rests_on();
         let basis = self.basis.take();
-        let before = Counts::of(&self.parts.engine);
-        let drafted = self.parts.answer(line, shelf, policy)?;
-        self.basis = kept_on(basis, &self.parts.engine, before, &drafted.reply);
+        let before = Counts::of(&self.inner.engine);
+        let drafted = self.inner.answer(line, shelf, policy)?;
+        self.basis = kept_on(basis, &self.inner.engine, before, &drafted.reply);
         Ok(Some(drafted))
     }
 
@@ -229,7 +229,7 @@ impl Machine {
         ensures watches { self.new.watches ≡ self.old.watches }
         ensures made { self.new.made ≡ self.old.made }
     {
-        move_cursor(moved, &mut self.parts.cursors);
+        move_cursor(moved, &mut self.inner.cursors);
     }
 
     /// Appends the watch lines, by name of watch: one for each watch whose amount isn't the last one reported, and one
@@ -250,7 +250,7 @@ impl Machine {
             return Ok(());
         }
         let lines = self.watch_lines()?;
-        let text = text_of(self.parts.alloc, &lines)?;
+        let text = text_of(self.inner.alloc, &lines)?;
         out.extend_from_slice(&text)?;
         self.note_reported(&lines);
         Ok(())
@@ -261,7 +261,7 @@ impl Machine {
         ensures settled { result ≡ true → AreLines (state_of self.old.engine) self.old.watches [] }
         ensures same { self.new ≡ self.old }
     {
-        are_settled(&self.parts.engine, &self.parts.watches, &mut self.basis)
+        are_settled(&self.inner.engine, &self.inner.watches, &mut self.basis)
     }
 
     /// The watch lines. None of them counts as reported yet.
@@ -277,13 +277,13 @@ impl Machine {
         ensures never_less { self.old.made ≤ self.new.made }
     {
         self.basis = None;
-        let mut basis = Basis::new(self.parts.alloc, &self.parts.engine);
-        let steps = &mut self.parts.steps;
+        let mut basis = Basis::new(self.inner.alloc, &self.inner.engine);
+        let steps = &mut self.inner.steps;
         let lines = watch_lines(
-            self.parts.alloc,
-            &mut self.parts.engine,
+            self.inner.alloc,
+            &mut self.inner.engine,
             steps,
-            &self.parts.watches,
+            &self.inner.watches,
             &mut basis,
         )?;
         if lines.is_empty() {
@@ -304,7 +304,7 @@ impl Machine {
             return;
         }
         self.basis = None;
-        tell_all(&mut self.parts.watches, lines);
+        tell_all(&mut self.inner.watches, lines);
     }
 }
 

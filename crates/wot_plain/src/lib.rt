@@ -4,13 +4,11 @@
 //! definitions, and wot_laws speaks of them, so all of these use this crate and not one another.
 #![tactic(auto)]
 
-mod asked;
 mod bindings;
 mod class;
 mod draft;
 mod refusal;
 
-pub use asked::AskedBinding;
 pub use bindings::bind_lines;
 pub use class::{
     Change, Class, CursorCommand, Read, ShelfCall, StateCommand, ViewChange, ViewQuestion,

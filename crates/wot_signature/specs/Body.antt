@@ -4,7 +4,7 @@ use Rattle.std.specs.Prelude.{Option, Some, None}
 use Rattle.std.specs.Int.{w16, w32, from_be_bytes}
 
 -- the signature type, the number of the hash algorithm, and the two areas
-pub record Parts : Type 0 where
+pub record BodyParts : Type 0 where
   pub kind : ℕ
   pub hash : ℕ
   pub hashed : List ℕ
@@ -41,7 +41,7 @@ Some x >>= f = f x
 None >>= f = None
 
 -- The hashed and the unhashed area, each in such a field, if what has to follow them does.
-abbrev pub areas : (List ℕ → Option (List ℕ × List ℕ)) → (List ℕ → Bool) → ℕ → ℕ → List ℕ → Option Parts
+abbrev pub areas : (List ℕ → Option (List ℕ × List ℕ)) → (List ℕ → Bool) → ℕ → ℕ → List ℕ → Option BodyParts
 areas field_at ends kind hash octets = do
   hashed ← field_at octets
   unhashed ← field_at hashed.1
@@ -49,7 +49,7 @@ areas field_at ends kind hash octets = do
 
 -- The parts of a body: the version, the signature type, the key algorithm, the hash algorithm, and the areas of its
 -- version. None if a part is missing or the version is neither 4 nor 6. The salt's length isn't compared with the hash.
-abbrev pub parts_of : List ℕ → Option Parts
+abbrev pub parts_of : List ℕ → Option BodyParts
 parts_of (version ∷ kind ∷ algorithm ∷ hash ∷ rest) =
     if version == 4 then areas short_field_at ends_v4 kind hash rest
     else if version == 6 then areas long_field_at ends_v6 kind hash rest

@@ -1,11 +1,11 @@
 -- What the code borrows from a body.
 use Rattle.std.specs.Prelude.{◌≡◌, Option, Some, None, MatchOption}
-use Rattle.wot_signature.specs.declared.parts.Parts.{Parts as LentParts}
+use Rattle.wot_signature.specs.declared.parts.BodyParts.{BodyParts as LentParts}
 use Rattle.wot_signature.specs.declared.read_body.ReadBody.{ReadBody as LentBody}
-use Rattle.wot_signature.specs.Body.{Parts}
+use Rattle.wot_signature.specs.Body.{BodyParts}
 use Rattle.wot_signature.specs.Signature.{ReadBody}
 
-abbrev pub lent_parts : LentParts → Parts
+abbrev pub lent_parts : LentParts → BodyParts
 lent_parts p = record { kind = p.kind; hash = p.hash; hashed = p.hashed.now; unhashed = p.unhashed.now }
 
 abbrev pub lent_body : LentBody → ReadBody

@@ -8,7 +8,7 @@ use Rattle.wot_subpacket.specs.Area.{subpackets_of, list_of}
 use Rattle.wot_signature.specs.declared.facts.SigFacts.{SigFacts}
 use Rattle.wot_signature.specs.Known.{bodies_of, last_body_of}
 use Rattle.wot_signature.specs.Facts.{facts_in}
-use Rattle.wot_signature.specs.Body.{Parts, parts_of}
+use Rattle.wot_signature.specs.Body.{BodyParts, parts_of}
 
 -- a body that can be parsed: its signature type, the number of its hash algorithm, its hashed subpackets and the octets
 -- of its unhashed area
@@ -18,7 +18,7 @@ pub record ReadBody : Type 0 where
   pub hashed : List Subpacket
   pub unhashed : List ℕ
 
-abbrev pub with_hashed_list : Parts → Result (List Subpacket) AreaFault → Option ReadBody
+abbrev pub with_hashed_list : BodyParts → Result (List Subpacket) AreaFault → Option ReadBody
 with_hashed_list parts (Ok subpackets) =
     Some (record { kind = parts.kind; hash = parts.hash; hashed = subpackets; unhashed = parts.unhashed })
 with_hashed_list parts (Err fault) = None

@@ -9,12 +9,12 @@ use Rattle.wot_subpacket.specs.Subpacket.{Subpacket}
 use Rattle.wot_subpacket.specs.Area.{list_of, subpackets_of}
 use Rattle.wot_signature.specs.declared.facts.SigFacts.{SigFacts}
 use Rattle.wot_signature.specs.Facts.{is_set, number_in}
-use Rattle.wot_signature.specs.Body.{Parts, areas, ends_v4, short_field_at}
+use Rattle.wot_signature.specs.Body.{BodyParts, areas, ends_v4, short_field_at}
 use Rattle.wot_signature.specs.Known.{effectless, last_of}
 use Rattle.wot_signature.specs.Signature.{ReadBody, trimmed, with_hashed_list}
 
 -- the version, the kind, the key algorithm, the hash algorithm, and two areas that two octets each count
-abbrev pub parts_v4 : List ℕ → Option Parts
+abbrev pub parts_v4 : List ℕ → Option BodyParts
 parts_v4 (version ∷ kind ∷ algorithm ∷ hash ∷ rest) = areas short_field_at ends_v4 kind hash rest
 parts_v4 _ = None
 

@@ -16,7 +16,7 @@ ghost use Rattle.wot_signature.specs.Lent.{Lends, lent_parts};
 
 /// The parts of a signature body that say something.
 #[derive(Clone, Copy)]
-pub(crate) struct Parts<'a> {
+pub(crate) struct BodyParts<'a> {
     pub(crate) kind: u8,
     pub(crate) hash: u8,
     pub(crate) hashed: &'a [u8],
@@ -24,7 +24,7 @@ pub(crate) struct Parts<'a> {
 }
 
 /// Cuts a body into its parts. `None` if a part is missing or the version is neither 4 nor 6.
-pub(crate) fn parts_of(body: &[u8]) -> Option<Parts<'_>>
+pub(crate) fn parts_of(body: &[u8]) -> Option<BodyParts<'_>>
     ensures parts { Lends (parts_of_spec body.now) result lent_parts }
     ensures slice { IfSome result (λ parts. IsSliceOf parts.hashed.now body.now) }
 {
@@ -39,7 +39,7 @@ pub(crate) fn parts_of(body: &[u8]) -> Option<Parts<'_>>
 }
 
 /// The areas of version 4. Two octets of the hash and the material follow them.
-fn areas_v4(kind: u8, hash: u8, octets: &[u8]) -> Option<Parts<'_>>
+fn areas_v4(kind: u8, hash: u8, octets: &[u8]) -> Option<BodyParts<'_>>
     ensures parts { Lends (areas short_field_at ends_v4 kind hash octets.now) result lent_parts }
     ensures slice { IfSome result (λ parts. IsSliceOf parts.hashed.now octets.now) }
 {
@@ -48,7 +48,7 @@ fn areas_v4(kind: u8, hash: u8, octets: &[u8]) -> Option<Parts<'_>>
     if rest.len() < 2 {
         return None;
     }
-    Some(Parts {
+    Some(BodyParts {
         kind,
         hash,
         hashed,
@@ -58,7 +58,7 @@ fn areas_v4(kind: u8, hash: u8, octets: &[u8]) -> Option<Parts<'_>>
 
 /// The areas of version 6. Two octets of the hash, an octet with the salt's length, the salt and the material follow
 /// them.
-fn areas_v6(kind: u8, hash: u8, octets: &[u8]) -> Option<Parts<'_>>
+fn areas_v6(kind: u8, hash: u8, octets: &[u8]) -> Option<BodyParts<'_>>
     ensures parts { Lends (areas long_field_at ends_v6 kind hash octets.now) result lent_parts }
     ensures slice { IfSome result (λ parts. IsSliceOf parts.hashed.now octets.now) }
 {
@@ -67,7 +67,7 @@ fn areas_v6(kind: u8, hash: u8, octets: &[u8]) -> Option<Parts<'_>>
     if rest.len() < 3 || rest.len() - 3 < usize::from(rest[2]) {
         return None;
     }
-    Some(Parts {
+    Some(BodyParts {
         kind,
         hash,
         hashed,

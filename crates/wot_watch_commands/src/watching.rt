@@ -20,7 +20,7 @@ ghost use Rattle.wot_plain.specs.Session.{Session, watched};
 use std::alloc::Global;
 use wot_cache::laws::{kept_on_is_order, rests_on};
 use wot_cache::{AskFault, Asked, Basis, Engine};
-use wot_plain::{AskedBinding, Missing, Refused, WatchCommand, reply_to, reply_to_missing};
+use wot_plain::{Missing, Refused, WatchCommand, reply_to, reply_to_missing};
 use wot_script::Reply;
 use wot_types::{Memory, Steps, UserId, ViewName};
 use wot_watch::{Watch, Watches};
@@ -45,13 +45,12 @@ pub fn watch(
 {
     match command {
         WatchCommand::On(view, target, wanted, uid) => {
-            let asked = AskedBinding {
-                view,
+            let asked = Asked {
                 target,
                 wanted: *wanted,
                 uid: uid.octets(),
             };
-            on(alloc, engine, steps, watches, name, &asked)
+            on(alloc, engine, steps, watches, name, view, &asked)
         }
         WatchCommand::Off => Ok(off(watches, name)),
     }
@@ -65,17 +64,19 @@ pub fn on(
     steps: &mut Steps,
     watches: &mut Watches,
     name: &ViewName,
-    asked: &AskedBinding<'_>,
+    view: &ViewName,
+    asked: &Asked<'_>,
 ) -> Result<Reply, Memory>
     requires wanted { 1 ≤ asked.now.wanted }
-    ensures watching { IfOk result (λ reply. OpensFor engine.old watches.old name.now asked.now reply watches.new) }
+    ensures watching { IfOk result (λ reply.
+        OpensFor engine.old watches.old name.now view.now asked.now reply watches.new) }
     ensures stays { StaysButMarks engine.old engine.new }
-    ensures refreshed { IsRefreshed result asked.now.view.now engine.old engine.new steps.old.made steps.new.made }
+    ensures refreshed { IsRefreshed result view.now engine.old engine.new steps.old.made steps.new.made }
     ensures short { IfOk result (λ reply. is_short reply ≡ true) }
     ensures kept { OnErr result (watches.new ≡ watches.old) }
 {
-    match engine.ask(asked.view, asked.target, asked.wanted, asked.uid, steps) {
-        Ok(answer) => begin(alloc, watches, name, asked, answer.sum),
+    match engine.ask(view, asked.target, asked.wanted, asked.uid, steps) {
+        Ok(answer) => begin(alloc, watches, name, view, asked, answer.sum),
         Err(fault) => reply_to(Refused::from(fault)),
     }
 }
@@ -85,20 +86,22 @@ fn begin(
     alloc: Global,
     watches: &mut Watches,
     name: &ViewName,
-    asked: &AskedBinding<'_>,
+    view: &ViewName,
+    asked: &Asked<'_>,
     amount: u32,
 ) -> Result<Reply, Memory>
-    ensures begins { IfOk result (λ reply. BeginsFor watches.old name.now asked.now amount reply watches.new) }
+    ensures begins { IfOk result (λ reply.
+        BeginsFor watches.old name.now view.now asked.now amount reply watches.new) }
     ensures short { IfOk result (λ reply. is_short reply ≡ true) }
     ensures kept { OnErr result (watches.new ≡ watches.old) }
 {
     let shown = name.duplicate(alloc)?;
     let key = name.duplicate(alloc)?;
-    let view = asked.view.duplicate(alloc)?;
+    let of_view = view.duplicate(alloc)?;
     let uid = UserId::new(alloc, asked.uid)?;
     match watches.put(
         key,
-        Watch::new(view, *asked.target, asked.wanted, uid, amount),
+        Watch::new(of_view, *asked.target, asked.wanted, uid, amount),
     ) {
         Ok(()) => Ok(Reply::WatchAmount(shown, amount)),
         Err(fault) => reply_to(Refused::from(fault)),
@@ -174,13 +177,12 @@ fn watch_line(
     ensures never_less { steps.old.made ≤ steps.new.made }
 {
     let target = watch.target();
-    let asked = AskedBinding {
-        view: watch.view(),
+    let asked = Asked {
         target: &target,
         wanted: watch.wanted(),
         uid: watch.uid(),
     };
-    let amount = amount_of(engine, steps, &asked, basis)?;
+    let amount = amount_of(engine, steps, watch.view(), &asked, basis)?;
     match amount {
         None => Ok(Some(Reply::WatchGone(name.duplicate(alloc)?))),
         Some(amount) => {
@@ -196,17 +198,18 @@ fn watch_line(
 fn amount_of(
     engine: &mut Engine,
     steps: &mut Steps,
-    asked: &AskedBinding<'_>,
+    view: &ViewName,
+    asked: &Asked<'_>,
     basis: &mut Basis,
 ) -> Result<Option<u32>, Memory>
     requires present { IsPresent engine.old basis.old }
     ensures rests { IfOk result (λ sum. IfSome sum (λ n.
-        1 ≤ asked.now.wanted → RestsOn engine.old basis.new asked.now n)) }
+        1 ≤ asked.now.wanted → RestsOn engine.old basis.new view.now asked.now n)) }
     ensures nothing { IfOk result (λ sum. IfSome sum (λ n. asked.now.wanted ≡ 0 → n ≡ 0)) }
     ensures grown { HasGrown basis.old basis.new }
-    ensures amount { IfOk result (AmountsTo engine.old asked.now) }
+    ensures amount { IfOk result (AmountsTo engine.old view.now asked.now) }
     ensures asked { 1 ≤ asked.now.wanted →
-        IsRefreshed result asked.now.view.now engine.old engine.new steps.old.made steps.new.made }
+        IsRefreshed result view.now engine.old engine.new steps.old.made steps.new.made }
     ensures unasked { asked.now.wanted ≡ 0 → (engine.new ≡ engine.old) × (steps.new.made ≡ steps.old.made) }
     ensures stays { StaysButMarks engine.old engine.new }
     ensures never_less { steps.old.made ≤ steps.new.made }
@@ -214,18 +217,12 @@ fn amount_of(
     // No command begins a watch that wants nothing.
     let wanted = asked.wanted;
     if wanted == 0 {
-        return match engine.time(asked.view) {
+        return match engine.time(view) {
             Some(_) => Ok(Some(0)),
             None => Ok(None),
         };
     }
-    let (target, uid) = (asked.target, asked.uid);
-    let of_view = Asked {
-        target,
-        wanted,
-        uid,
-    };
-    match engine.sum(asked.view, &of_view, steps, basis) {
+    match engine.sum(view, asked, steps, basis) {
         Ok(sum) => Ok(Some(sum)),
         Err(AskFault::View) => Ok(None),
         Err(AskFault::Memory) => Err(Memory),

@@ -12,7 +12,7 @@ pub returns-in-Err-clause-misses : goal.returns-in-Err-clause-misses
 returns-in-Err-clause-misses c =
     let asked = c.args.asked.now in
     unopened c.parts.result c.reply_to.result c.from.result c.in-Err.fault
-    (view_at c.args.engine.now.views asked.view.now)
+    (view_at c.args.engine.now.views c.args.view.now)
     (λ (v : Option View) (reply : Reply). Misses (state_of c.args.engine.now) v asked.target.now asked.wanted
     asked.uid.now reply)
     c.from.ensures c.reply_to.ensures.reply c.in-Err.ensures.open refl
@@ -20,8 +20,8 @@ returns-in-Err-clause-misses c =
 pub returns-in-Err-clause-refreshed : goal.returns-in-Err-clause-refreshed
 returns-in-Err-clause-refreshed c =
     let asked = c.args.asked.now in
-    let made : IsRefreshed c.parts.result asked.view.now c.args.engine.now c.parts.follows.lender-at-none
+    let made : IsRefreshed c.parts.result c.args.view.now c.args.engine.now c.parts.follows.lender-at-none
     c.args.steps.now.made c.parts.new.steps.made = search rules in
-    refreshed_refused c.parts.result c.reply_to.result c.from.result c.in-Err.fault asked.view.now c.args.engine.now
+    refreshed_refused c.parts.result c.reply_to.result c.from.result c.in-Err.fault c.args.view.now c.args.engine.now
     c.parts.follows.lender-at-none c.args.steps.now.made c.parts.new.steps.made c.from.ensures
     c.reply_to.ensures.reply c.in-Err.ensures.open made

@@ -14,7 +14,7 @@ use Rattle.wot_command.proofs.answer.ask.Goals as goal
 pub amount_reply-requires-clause-few : goal.amount_reply-requires-clause-few
 amount_reply-requires-clause-few c =
     let asked = c.args.asked.now in
-    answer_short (view_at c.args.engine.now.views asked.view.now)
+    answer_short (view_at c.args.engine.now.views c.args.view.now)
     (λ (v : View). question_in (state_of c.args.engine.now) v asked.target.now asked.uid.now) asked.wanted
     c.in-Ok.answer.paths c.in-Ok.ensures.open c.in-Ok.ensures.answer
 
@@ -22,7 +22,7 @@ pub returns-in-Ok-clause-asks : goal.returns-in-Ok-clause-asks
 returns-in-Ok-clause-asks c =
     let asked = c.args.asked.now in
     answer_asks (state_of c.args.engine.now) (state_of c.ask.new.self)
-    (view_at c.args.engine.now.views asked.view.now) asked.target.now asked.wanted asked.uid.now
+    (view_at c.args.engine.now.views c.args.view.now) asked.target.now asked.wanted asked.uid.now
     c.in-Ok.answer.paths c.amount_reply.result c.in-Ok.ensures.open c.in-Ok.ensures.answer
     (same_state c.args.engine.now c.ask.new.self c.ask.ensures.refreshed.stays) c.amount_reply.ensures.reported
 
@@ -35,14 +35,16 @@ returns-in-Ok-clause-views c = c.ask.ensures.refreshed.stays.views
 pub returns-in-Ok-clause-refreshed : goal.returns-in-Ok-clause-refreshed
 returns-in-Ok-clause-refreshed c =
     let asked = c.args.asked.now in
-    refreshed_as c.ask.result c.amount_reply.result (λ ok. ap is_ok c.in-Ok.is) asked.view.now c.args.engine.now c.ask.new.self
+    refreshed_as c.ask.result c.amount_reply.result (λ ok. ap is_ok c.in-Ok.is) c.args.view.now c.args.engine.now
+    c.ask.new.self
     c.args.steps.now.made
     c.ask.new.steps.made c.ask.ensures.refreshed
 
 pub returns-in-Err-clause-asks : goal.returns-in-Err-clause-asks
 returns-in-Err-clause-asks c =
     let asked = c.args.asked.now in
-    unopened c.ask.result c.reply_to.result c.from.result c.in-Err.fault (view_at c.args.engine.now.views asked.view.now)
+    unopened c.ask.result c.reply_to.result c.from.result c.in-Err.fault
+    (view_at c.args.engine.now.views c.args.view.now)
     (λ (v : Option View) (reply : Reply). Asks (state_of c.args.engine.now) v asked.target.now asked.wanted
     asked.uid.now reply) c.from.ensures c.reply_to.ensures.reply c.in-Err.ensures.open refl
 
@@ -55,6 +57,6 @@ returns-in-Err-clause-views c = c.ask.ensures.refreshed.stays.views
 pub returns-in-Err-clause-refreshed : goal.returns-in-Err-clause-refreshed
 returns-in-Err-clause-refreshed c =
     let asked = c.args.asked.now in
-    refreshed_refused c.ask.result c.reply_to.result c.from.result c.in-Err.fault asked.view.now c.args.engine.now
+    refreshed_refused c.ask.result c.reply_to.result c.from.result c.in-Err.fault c.args.view.now c.args.engine.now
     c.ask.new.self c.args.steps.now.made c.ask.new.steps.made c.from.ensures c.reply_to.ensures.reply
     c.in-Err.ensures.open c.ask.ensures.refreshed

@@ -11,7 +11,7 @@ returns-in-Ok-clause-amount c =
     let asked = c.args.asked.now in
     let a = c.args in
     let some = c.if-wanted-eq0.false in
-    sum_has (state_of a.engine.now) (view_at a.engine.now.views asked.view.now) asked.target.now asked.wanted
+    sum_has (state_of a.engine.now) (view_at a.engine.now.views c.args.view.now) asked.target.now asked.wanted
     asked.uid.now c.in-Ok.sum
     (omega (arith, some)) c.in-Ok.ensures.open c.in-Ok.ensures.rested.sum
 
@@ -35,20 +35,20 @@ returns-in-Err-Memory-clause-stays c = c.sum.ensures.refreshed.stays
 pub returns-in-Ok-clause-asked : goal.returns-in-Ok-clause-asked
 returns-in-Ok-clause-asked c = λ some.
     let asked = c.args.asked.now in
-    refreshed_as c.sum.result _ (λ ok. ap is_ok c.in-Ok.is) asked.view.now c.args.engine.now c.sum.new.self
+    refreshed_as c.sum.result _ (λ ok. ap is_ok c.in-Ok.is) c.args.view.now c.args.engine.now c.sum.new.self
     c.args.steps.now.made c.sum.new.steps.made c.sum.ensures.refreshed
 
 pub returns-in-Err-View-clause-asked : goal.returns-in-Err-View-clause-asked
 returns-in-Err-View-clause-asked c = λ some.
     let asked = c.args.asked.now in
-    refreshed_unopened c.sum.result _ asked.view.now c.args.engine.now c.sum.new.self c.args.steps.now.made
+    refreshed_unopened c.sum.result _ c.args.view.now c.args.engine.now c.sum.new.self c.args.steps.now.made
     c.sum.new.steps.made
     (rw c.in-Err-View.field-0-is at c.in-Err-View.ensures.open) c.sum.ensures.refreshed
 
 pub returns-in-Err-Memory-clause-asked : goal.returns-in-Err-Memory-clause-asked
 returns-in-Err-Memory-clause-asked c = λ some.
     let asked = c.args.asked.now in
-    refreshed_fault c.sum.result _ asked.view.now c.args.engine.now c.sum.new.self c.args.steps.now.made
+    refreshed_fault c.sum.result _ c.args.view.now c.args.engine.now c.sum.new.self c.args.steps.now.made
     c.sum.new.steps.made c.sum.ensures.refreshed
 
 pub returns-in-Ok-clause-unasked : goal.returns-in-Ok-clause-unasked

@@ -18,9 +18,9 @@ returns-in-Ok-clause-watching c =
     let a = c.args in
     if_ok c.begin.result _ _ (λ reply begins cursors.
     opens_answered
-    (watched (session_of a.engine.now cursors) a.watches.now) a.name.now asked.view.now asked.target.now asked.wanted
+    (watched (session_of a.engine.now cursors) a.watches.now) a.name.now c.args.view.now asked.target.now asked.wanted
     asked.uid.now
-    (view_at a.engine.now.views asked.view.now)
+    (view_at a.engine.now.views c.args.view.now)
     c.in-Ok.answer.paths c.in-Ok.answer.sum reply c.begin.new.watches c.requires.wanted c.in-Ok.ensures.open
     c.in-Ok.ensures.answer
     c.in-Ok.ensures.sum begins) c.begin.ensures.begins
@@ -32,16 +32,16 @@ pub returns-in-Ok-clause-refreshed : goal.returns-in-Ok-clause-refreshed
 returns-in-Ok-clause-refreshed c =
     let asked = c.args.asked.now in
     refreshed_as c.ask.result c.begin.result
-    (λ ok. ap is_ok c.in-Ok.is) asked.view.now c.args.engine.now c.ask.new.self c.args.steps.now.made
+    (λ ok. ap is_ok c.in-Ok.is) c.args.view.now c.args.engine.now c.ask.new.self c.args.steps.now.made
     c.ask.new.steps.made c.ask.ensures.refreshed
 
 pub returns-in-Err-clause-watching : goal.returns-in-Err-clause-watching
 returns-in-Err-clause-watching c =
     let asked = c.args.asked.now in
     let a = c.args in
-    unopened c.ask.result c.reply_to.result c.from.result c.in-Err.fault (view_at a.engine.now.views asked.view.now)
+    unopened c.ask.result c.reply_to.result c.from.result c.in-Err.fault (view_at a.engine.now.views c.args.view.now)
     (λ (v : Option View) (reply : Reply). (cursors : Cursors) →
-    Opens (watched (session_of a.engine.now cursors) a.watches.now) a.name.now asked.view.now asked.target.now
+    Opens (watched (session_of a.engine.now cursors) a.watches.now) a.name.now c.args.view.now asked.target.now
     asked.wanted asked.uid.now v reply a.watches.now)
     c.from.ensures c.reply_to.ensures.reply c.in-Err.ensures.open (λ cursors. (refl, refl))
 
@@ -51,6 +51,6 @@ returns-in-Err-clause-stays c = c.ask.ensures.refreshed.stays
 pub returns-in-Err-clause-refreshed : goal.returns-in-Err-clause-refreshed
 returns-in-Err-clause-refreshed c =
     let asked = c.args.asked.now in
-    refreshed_refused c.ask.result c.reply_to.result c.from.result c.in-Err.fault asked.view.now c.args.engine.now
+    refreshed_refused c.ask.result c.reply_to.result c.from.result c.in-Err.fault c.args.view.now c.args.engine.now
     c.ask.new.self c.args.steps.now.made c.ask.new.steps.made c.from.ensures c.reply_to.ensures.reply
     c.in-Err.ensures.open c.ask.ensures.refreshed

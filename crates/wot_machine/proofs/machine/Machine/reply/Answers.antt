@@ -31,12 +31,12 @@ returns-clause-makes g c =
     let done : Result (Option DraftReply) Memory = Ok (Some c.in_ok-drafted.drafted) in
     subst (λ (m : Machine). LineMakes done (command_in_line c.args.line.now) m.cursors m.engine c.answer.new.self.engine m.made
     c.answer.new.self.steps.made) c.self.view_is
-    (makes_heard done c.args.line.now c.self.inside.parts.cursors c.self.inside.parts.engine c.answer.new.self.engine
-    c.self.inside.parts.steps.made c.answer.new.self.steps.made
+    (makes_heard done c.args.line.now c.self.inside.inner.cursors c.self.inside.inner.engine c.answer.new.self.engine
+    c.self.inside.inner.steps.made c.answer.new.self.steps.made
     c.if-line-gt-LONGEST.false loud
-    (line_makes_as (Ok c.in_ok-drafted.drafted) done (λ ok. refl) (command_of c.args.line.now) c.self.inside.parts.cursors
-    c.self.inside.parts.engine c.answer.new.self.engine
-    c.self.inside.parts.steps.made c.answer.new.self.steps.made c.in_ok-drafted.ensures.makes))
+    (line_makes_as (Ok c.in_ok-drafted.drafted) done (λ ok. refl) (command_of c.args.line.now) c.self.inside.inner.cursors
+    c.self.inside.inner.engine c.answer.new.self.engine
+    c.self.inside.inner.steps.made c.answer.new.self.steps.made c.in_ok-drafted.ensures.makes))
 
 pub returns-then-line-gt-LONGEST-clause-replied : goal.returns-then-line-gt-LONGEST-clause-replied
 returns-then-line-gt-LONGEST-clause-replied g c =
@@ -61,20 +61,20 @@ invariant_of-self g c = (
 
 pub invariant_of-self-2 : goal.invariant_of-self-2
 invariant_of-self-2 g c =
-    let old = c.self.inside.parts.engine in
+    let old = c.self.inside.inner.engine in
     let new = c.answer.new.self.engine in
     let ran = c.in_ok-drafted.ensures.ran in (
       c.answer.ensures.once.standard,
       settled_told (rows_of c.args.policy.now) c.views_go_on.ensures.turned c.rests_on.ensures.later
           c.change_goes_on.ensures old new
-          c.self.inside.parts.cursors (settled c.in_ok-drafted.drafted.moved c.answer.new.self.cursors)
-          c.self.inside.parts.watches c.answer.new.self.watches
+          c.self.inside.inner.cursors (settled c.in_ok-drafted.drafted.moved c.answer.new.self.cursors)
+          c.self.inside.inner.watches c.answer.new.self.watches
           (command_of c.args.line.now) ran.given c.in_ok-drafted.drafted.reply c.take-basis.result c.kept_on.result
           c.of-before.result.certificates c.of-before.result.changes c.of-before.result.revisions ran.answers
           c.answer.ensures.once.counted
           c.of-before.ensures.certificates c.of-before.ensures.changes c.of-before.ensures.revisions
           c.kept_on.ensures.same c.kept_on.ensures.more c.kept_on.ensures.none c.kept_on.ensures.counted
-          (subst (AreSettled old c.self.inside.parts.watches) (sym c.take-basis.ensures.value) c.self.invariant.1),
+          (subst (AreSettled old c.self.inside.inner.watches) (sym c.take-basis.ensures.value) c.self.invariant.1),
     )
 
 pub returns-clause-asked : goal.returns-clause-asked
@@ -83,10 +83,10 @@ returns-clause-asked g c =
     let done : Result (Option DraftReply) Memory = Ok (Some c.in_ok-drafted.drafted) in
     subst (λ (m : Machine). LineAsks done (command_in_line c.args.line.now) (state_of m.engine)
     (state_of c.answer.new.self.engine) c.args.policy.now c.answer.new.policy) c.self.view_is
-    (asks_heard done c.args.line.now (state_of c.self.inside.parts.engine) (state_of c.answer.new.self.engine)
+    (asks_heard done c.args.line.now (state_of c.self.inside.inner.engine) (state_of c.answer.new.self.engine)
     c.args.policy.now c.answer.new.policy
     c.if-line-gt-LONGEST.false loud
-    (asks_as (Ok c.in_ok-drafted.drafted) done (λ ok. refl) (command_of c.args.line.now) (state_of c.self.inside.parts.engine)
+    (asks_as (Ok c.in_ok-drafted.drafted) done (λ ok. refl) (command_of c.args.line.now) (state_of c.self.inside.inner.engine)
     (state_of c.answer.new.self.engine)
     c.args.policy.now c.answer.new.policy c.in_ok-drafted.ensures.asked))
 
@@ -94,7 +94,7 @@ pub returns-clause-edges : goal.returns-clause-edges
 returns-clause-edges g c =
     let loud : is_silent c.args.line.now ≡ false = search rules in
     subst (λ (m : Machine). LineMarks m.engine (command_in_line c.args.line.now)) c.self.view_is
-    (heard_marks c.self.inside.parts.engine c.args.line.now c.if-line-gt-LONGEST.false loud c.in_ok-drafted.ensures.edges)
+    (heard_marks c.self.inside.inner.engine c.args.line.now c.if-line-gt-LONGEST.false loud c.in_ok-drafted.ensures.edges)
 
 -- ---- what the parts are given
 
@@ -117,7 +117,7 @@ returns-clause-directory g c =
     let done : Result (Option DraftReply) Memory = Ok (Some c.in_ok-drafted.drafted) in
     subst (λ (m : Machine). Touches done (state_of m.engine) (use_of (command_in_line c.args.line.now)) g.D.Shelf.world
     g.D.Shelf.faults c.args.shelf.now c.answer.new.shelf) c.self.view_is
-    (touches_ok c.args.line.now (state_of c.self.inside.parts.engine) g.D.Shelf.world g.D.Shelf.faults
+    (touches_ok c.args.line.now (state_of c.self.inside.inner.engine) g.D.Shelf.world g.D.Shelf.faults
     c.args.shelf.now c.answer.new.shelf c.if-line-gt-LONGEST.false loud (Ok c.in_ok-drafted.drafted) (Some c.in_ok-drafted.drafted)
     c.in_ok-drafted.ensures.directory)
 
@@ -126,7 +126,7 @@ returns-in_err-drafted-clause-directory g c =
     let loud : is_silent c.args.line.now ≡ false = search rules in
     subst (λ (m : Machine). Touches c.from_residual.result (state_of m.engine) (use_of (command_in_line c.args.line.now))
     g.D.Shelf.world g.D.Shelf.faults c.args.shelf.now c.answer.new.shelf) c.self.view_is
-    (touches_err c.args.line.now (state_of c.self.inside.parts.engine) g.D.Shelf.world g.D.Shelf.faults
+    (touches_err c.args.line.now (state_of c.self.inside.inner.engine) g.D.Shelf.world g.D.Shelf.faults
     c.args.shelf.now c.answer.new.shelf c.if-line-gt-LONGEST.false loud _ c.from_residual.result
     c.in_err-drafted.ensures.directory)
 
@@ -150,7 +150,7 @@ pub returns-clause-unchanged : goal.returns-clause-unchanged
 returns-clause-unchanged g c =
     let new = c.answer.new.self.engine in
     subst (λ (m : Machine). state_of new ≡ state_of m.engine → StaysButMarks m.engine new) c.self.view_is
-    (unchanged c.self.inside.parts.engine new c.answer.ensures.once.counted c.answer.ensures.once.still)
+    (unchanged c.self.inside.inner.engine new c.answer.ensures.once.counted c.answer.ensures.once.still)
 
 pub returns-clause-counted : goal.returns-clause-counted
 returns-clause-counted g c =
@@ -166,7 +166,7 @@ pub returns-in_err-drafted-clause-unchanged : goal.returns-in_err-drafted-clause
 returns-in_err-drafted-clause-unchanged g c =
     let new = c.answer.new.self.engine in
     subst (λ (m : Machine). state_of new ≡ state_of m.engine → StaysButMarks m.engine new) c.self.view_is
-    (unchanged c.self.inside.parts.engine new c.answer.ensures.once.counted c.answer.ensures.once.still)
+    (unchanged c.self.inside.inner.engine new c.answer.ensures.once.counted c.answer.ensures.once.still)
 
 pub returns-in_err-drafted-clause-counted : goal.returns-in_err-drafted-clause-counted
 returns-in_err-drafted-clause-counted g c =

@@ -16,7 +16,7 @@ use Rattle.wot_plain.proofs.Results.{if_ok}
 use Rattle.wot_machine.proofs.CommandsInLines.{ran_told_line}
 use Rattle.wot_machine.proofs.Unchanged.{runs_none}
 use Rattle.wot_machine.proofs.Worded.{obeys_worded}
-use Rattle.wot_machine.proofs.dispatch.Parts.answer.Goals as goal
+use Rattle.wot_machine.proofs.dispatch.Inner.answer.Goals as goal
 
 pub run_class-requires-clause-ready : goal.run_class-requires-clause-ready
 run_class-requires-clause-ready g c = c.requires.ready

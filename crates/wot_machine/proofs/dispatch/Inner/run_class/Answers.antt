@@ -14,7 +14,7 @@ use Rattle.wot_machine.proofs.CommandsInLines.{few_turns, kept_told, on_err_told
 use Rattle.wot_machine.proofs.CommandsInLines.{still_turns, told_as, watched_told}
 use Rattle.wot_machine.proofs.Due.{due_alone, due_paced}
 use Rattle.wot_machine.proofs.Removals.{close_only, off_only}
-use Rattle.wot_machine.proofs.dispatch.Parts.run_class.Goals as goal
+use Rattle.wot_machine.proofs.dispatch.Inner.run_class.Goals as goal
 
 -- ---- a command that leaves cursors and watches
 
