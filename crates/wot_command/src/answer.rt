@@ -23,9 +23,9 @@ use wot_types::{Fpr, Memory, Steps, UserId, ViewName};
 pub fn ask(
     alloc: Global,
     engine: &mut Engine,
-    steps: &mut Steps,
     view: &ViewName,
     asked: &Asked<'_>,
+    steps: &mut Steps,
 ) -> Result<Reply, Memory>
     requires wanted { 1 ≤ asked.now.wanted }
     ensures asks { IfOk result (AsksFor engine.old view.now asked.now) }

@@ -154,7 +154,7 @@ fn answer(
                 wanted: *wanted,
                 uid: uid.octets(),
             };
-            ask(alloc, engine, steps, view, &asked)
+            ask(alloc, engine, view, &asked, steps)
         }
         ViewQuestion::List(wanted) => list(alloc, engine, steps, view, *wanted),
         ViewQuestion::Explain(fpr, uid) => {
