@@ -5,7 +5,8 @@ ghost use Rattle.std.specs.Prelude.{◌≡◌, ◌≤◌, length, IfOk};
 ghost use Rattle.wot_edge.specs.Record.{IsRecord};
 ghost use Rattle.wot_edge.specs.Answer.{IsAnswer, amount_of};
 ghost use Rattle.wot_first_path.specs.Looked.{Gains, Widens};
-ghost use Rattle.wot_search.specs.Asked.{HasItsReach, LeadsToAsked, question_of};
+ghost use Rattle.wot_first_path.specs.Asked.{LeadsToAsked};
+ghost use Rattle.wot_search.specs.Asked.{HasItsReach, question_of};
 ghost use Rattle.wot_auth.specs.Agreed.{IsAnswerLocally};
 
 use crate::Answer;

@@ -188,7 +188,7 @@ StaysUnrooted network quest size old new before =
 abbrev pub GainsAfter : (List ℕ → Record) → Told → ℕ → Reached → (Fpr → Type 0) → (Fpr → Type 0) → Type 0
 GainsAfter network quest size old before after =
     IsAfter (quest_of network quest) size old before
-    → Gains (Leads (network quest.uid.now) quest.target.now) before after
+    → Gains (Leads (network quest.asked.uid.now) quest.asked.target.now) before after
 
 -- ---- what a search returns
 

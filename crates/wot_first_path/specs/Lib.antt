@@ -1,3 +1,4 @@
+pub mod Asked
 pub mod Quest
 pub mod Suffix
 pub mod Layer

@@ -18,19 +18,23 @@ pub record Quest : Type 0 where
   pub least : ℕ
   pub goal : Goal
 
+-- the reach of an issuer, by the table of a quest
+abbrev pub reach_in : Told → Fpr → ℕ
+reach_in quest = number_at quest.asked.reach.now
+
 -- the program's quest, given what the network says
 abbrev pub quest_of : (List ℕ → Record) → Told → Quest
 quest_of network quest = record {
-  question = asks (network quest.uid.now) quest.roots.now quest.target.now;
+  question = asks (network quest.asked.uid.now) quest.asked.roots.now quest.asked.target.now;
   used = use_in quest.used.now;
-  reach = number_at quest.reach.now;
+  reach = reach_in quest;
   least = quest.least;
   goal = quest.goal;
 }
 
 -- the places of the quest's table are those of all edges that lead on
 abbrev pub LeadsOn : (List ℕ → Record) → Told → Type 0
-LeadsOn network quest = AreOnward network (number_at quest.reach.now) quest.reach.now.onward
+LeadsOn network quest = AreOnward network (reach_in quest) quest.asked.reach.now.onward
 
 -- what holds for the quest whatever the network says
 abbrev pub WhateverTold : Told → (Quest → Type 0) → Type 0

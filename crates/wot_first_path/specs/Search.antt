@@ -10,4 +10,4 @@ quest_in network search = quest_of (network search.roads.now) search.quest.now
 
 -- what the network says if asked for its user ID
 abbrev pub record_in : {R : Type 0} → (R → List ℕ → Record) → Search R → Record
-record_in network search = network search.roads.now search.quest.now.uid.now
+record_in network search = network search.roads.now search.quest.now.asked.uid.now

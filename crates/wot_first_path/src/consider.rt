@@ -75,7 +75,7 @@ fn may_stand<R: Roads>(
 ) -> Result<bool, Memory>
     requires row { (id : List ℕ) → Has (edges_into (R.network roads.now id) edge.now.target) edge.now }
     requires known { known ≡ true → IsUsable (R.network roads.now) edge.now }
-    ensures { IfOk result (λ may. EachRow (R.network roads.now quest.now.uid.now) edge.now
+    ensures { IfOk result (λ may. EachRow (R.network roads.now quest.now.asked.uid.now) edge.now
         (λ row. may_stand_of size row ≡ may)) }
 {
     if !is_usable(roads, known, edge) {
@@ -84,7 +84,7 @@ fn may_stand<R: Roads>(
     if size == 0 {
         return Ok(true);
     }
-    roads.scope(edge, quest.uid)
+    roads.scope(edge, quest.asked.uid)
 }
 
 /// Keeps a node for its issuer if its edge may come there.
@@ -107,8 +107,9 @@ fn keep<R: Roads, N: Notes>(
     ensures gains { Gains (λ fpr. fpr ≡ node.step.issuer) (N.noted notes.old) (N.noted notes.new) }
 {
     notes.note(&node.step.issuer)?;
-    if may_stand(search.roads, search.quest, search.size, hint.usable, edge)? {
-        return put(reached, node, search.quest.reach.issuer_place(hint.place));
+    let quest = search.quest;
+    if may_stand(search.roads, quest, search.size, hint.usable, edge)? {
+        return put(reached, node, quest.asked.reach.issuer_place(hint.place));
     }
     Ok(())
 }

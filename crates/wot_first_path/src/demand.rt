@@ -19,14 +19,14 @@ use wot_types::compare_fprs;
 pub fn demand<R: Roads>(roads: &R, quest: &Quest, size: u8) -> Demand
     ensures { result ≡ demand_of (quest_of (R.network roads.now) quest.now).question size }
 {
-    demand_at(roads, quest.target, quest.uid, size)
+    demand_at(roads, quest.asked.target, quest.asked.uid, size)
 }
 
 /// Whether the issuer of an edge may come this far before the target.
 fn reaches(quest: &Quest, size: u8, place: usize, edge: &EdgeFacts) -> bool
     ensures { (network : List ℕ → Record) → result ≡ nat_lt size ((quest_of network quest.now).reach edge.now.issuer) }
 {
-    size < quest.reach.get_near(place, &edge.issuer)
+    size < quest.asked.reach.get_near(place, &edge.issuer)
 }
 
 /// Whether a residual amount is enough for the quest.
@@ -52,7 +52,7 @@ pub fn candidate(
         → result ≡ candidate_of (quest_of network quest.now) demand size width edge.now }
 {
     // Few edges meet the demand, and the test looks at the edge only.
-    if !meets(quest.target, demand, edge) {
+    if !meets(quest.asked.target, demand, edge) {
         return None;
     }
     if !reaches(quest, size, place, edge) {

@@ -4,8 +4,7 @@
 ghost use Rattle.std.specs.Prelude.{◌≡◌, ◌≤◌, ◌<◌, ℕ, List, OnOk};
 ghost use Rattle.wot_edge.specs.Record.{IsRecord};
 ghost use Rattle.wot_reach.specs.Onward.{AreAllUsableIf, AreUsableIf, LeadsOnInto, MatterBefore};
-ghost use Rattle.wot_first_path.specs.Quest.{LeadsOn};
-ghost use Rattle.wot_reach.specs.Reach.{number_at};
+ghost use Rattle.wot_first_path.specs.Quest.{LeadsOn, reach_in};
 ghost use Rattle.wot_first_path.specs.Looked.{Gains, IsNear, Widens};
 ghost use Rattle.wot_first_path.specs.Growth.{ConsidersInto};
 ghost use Rattle.wot_first_path.specs.Search.{record_in};
@@ -61,9 +60,10 @@ pub fn extend<R: Roads, N: Notes>(
     ensures paid { N.total notes.new ≤ N.total notes.old }
     ensures gains { Gains (IsNear (record_in R.network search.now) at.now) (N.noted notes.old) (N.noted notes.new) }
 {
-    let place = search.quest.reach.place_known(known, at);
-    let start = search.quest.reach.start(place);
-    match search.quest.reach.onward(place, at) {
+    let quest = search.quest;
+    let place = quest.asked.reach.place_known(known, at);
+    let start = quest.asked.reach.start(place);
+    match quest.asked.reach.onward(place, at) {
         Some(onward) => {
             if search.size == 0 {
                 extend_all(search, at, start, onward.all_usable, reached, notes)
@@ -87,8 +87,7 @@ fn extend_onward<R: Roads, N: Notes>(
     requires some { 0 < search.now.size }
     requires size { search.now.size < 255 }
     requires lawful { (id : List ℕ) → IsRecord (R.network search.now.roads.now id) }
-    requires leads { LeadsOnInto (R.network search.now.roads.now) (number_at search.now.quest.now.reach.now) at.now
-        onward.now }
+    requires leads { LeadsOnInto (R.network search.now.roads.now) (reach_in search.now.quest.now) at.now onward.now }
     ensures all { OnOk result (ConsidersInto N.noted R.network search.now at.now
         reached.old reached.new notes.old notes.new) }
     ensures grows { Widens (N.noted notes.old) (N.noted notes.new) }
@@ -145,7 +144,7 @@ fn extend_by<R: Roads, N: Notes>(
 ) -> Result<(), Memory>
     requires size { search.now.size < 255 }
     requires lawful { (id : List ℕ) → IsRecord (R.network search.now.roads.now id) }
-    requires needs { MatterBefore (R.network search.now.roads.now) (number_at search.now.quest.now.reach.now)
+    requires needs { MatterBefore (R.network search.now.roads.now) (reach_in search.now.quest.now)
         search.now.size at.now edges.now }
     requires usable { AreUsableIf (R.network search.now.roads.now) hints.usable edges.now }
     ensures all { OnOk result (ConsidersInto N.noted R.network search.now at.now

@@ -3,10 +3,10 @@
 //! It uses `grow` and `first_of_layer`, and `specs/Growth.antt`. `wot_search` runs it twice, first for the greatest
 //! amount and then for the least list.
 ghost use Rattle.std.specs.Prelude.{◌≡◌, ◌≤◌, ℕ, List, [], ◌∷◌, IfOk};
-ghost use Rattle.wot_edge.specs.Leads.{Leads};
 ghost use Rattle.wot_edge.specs.Record.{IsRecord};
 ghost use Rattle.wot_first_path.specs.Growth.{IsAfterPath, IsSmall, IsResult, IsLookedBy};
 ghost use Rattle.wot_first_path.specs.Looked.{Gains, Widens};
+ghost use Rattle.wot_first_path.specs.Asked.{LeadsToAsked};
 ghost use Rattle.wot_first_path.specs.Quest.{LeadsOn, quest_of};
 
 use crate::first_of_layer::first_of_layer;
@@ -49,10 +49,9 @@ pub fn first<R: Roads, N: Notes>(
     ensures grows { Widens (N.noted notes.old) (N.noted notes.new) }
     ensures falls { N.budget notes.new ≤ N.budget notes.old }
     ensures paid { N.total notes.new ≤ N.total notes.old }
-    ensures leads { Gains (Leads (R.network roads.now quest.now.uid.now) quest.now.target.now)
-        (N.noted notes.old) (N.noted notes.new) }
+    ensures leads { Gains (LeadsToAsked (R.network roads.now) quest.now.asked) (N.noted notes.old) (N.noted notes.new) }
 {
-    let mut reached = begin(alloc, quest.target)?;
+    let mut reached = begin(alloc, quest.asked.target)?;
     first_from(alloc, roads, quest, &mut reached, notes)
 }
 
@@ -69,7 +68,7 @@ pub fn first_from<R: Roads, N: Notes>(
     requires onward { LeadsOn (R.network roads.now) quest.now }
     requires small { IsSmall (quest_of (R.network roads.now) quest.now) }
     requires nodes { reached.old.nodes.entries ≡ [] }
-    requires layer { reached.old.layer.items ≡ quest.now.target.now ∷ [] }
+    requires layer { reached.old.layer.items ≡ quest.now.asked.target.now ∷ [] }
     ensures first { IfOk result (λ found. IsResult (quest_of (R.network roads.now) quest.now) found) }
     ensures after { IfOk result (IsAfterPath (quest_of (R.network roads.now) quest.now) reached.new
         (N.noted notes.new)) }
@@ -77,8 +76,7 @@ pub fn first_from<R: Roads, N: Notes>(
     ensures grows { Widens (N.noted notes.old) (N.noted notes.new) }
     ensures falls { N.budget notes.new ≤ N.budget notes.old }
     ensures paid { N.total notes.new ≤ N.total notes.old }
-    ensures leads { Gains (Leads (R.network roads.now quest.now.uid.now) quest.now.target.now)
-        (N.noted notes.old) (N.noted notes.new) }
+    ensures leads { Gains (LeadsToAsked (R.network roads.now) quest.now.asked) (N.noted notes.old) (N.noted notes.new) }
 {
     'layers: for size in 0..255u8 {
         advance(alloc, roads, quest, size, reached, notes)?;

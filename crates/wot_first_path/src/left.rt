@@ -15,5 +15,5 @@ pub fn left_of_root(quest: &Quest, fpr: &Fpr) -> u8
     ensures { (network : List ℕ → Record)
         → result ≡ root_left (quest_of network quest.now).question (use_in quest.now.used.now) fpr.now }
 {
-    remaining(quest.roots.get(fpr), quest.used.root(fpr))
+    remaining(quest.asked.roots.get(fpr), quest.used.root(fpr))
 }

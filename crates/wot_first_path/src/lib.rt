@@ -4,6 +4,7 @@
 //! on what is noted of them. `docs/SEARCH.md` explains how it works.
 #![tactic(auto)]
 
+mod asked;
 mod choose;
 mod collect;
 mod consider;
@@ -21,6 +22,7 @@ mod quest;
 mod reached;
 mod search;
 
+pub use asked::Asked;
 pub use consulted::{Consulted, ConsultedIter};
 pub use first_of_layer::path_from;
 pub use first_path::{begin, first, first_from};

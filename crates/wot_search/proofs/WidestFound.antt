@@ -8,7 +8,7 @@ use Rattle.wot_first_path.specs.Growth.{IsResult, IsLookedBy}
 use Rattle.wot_first_path.proofs.Layers.{looked_grows}
 use Rattle.wot_reach.specs.Reach.{number_at}
 use Rattle.wot_reach.proofs.Within.{Holds}
-use Rattle.wot_search.specs.declared.asked.Asked.{Asked}
+use Rattle.wot_first_path.specs.declared.asked.Asked.{Asked}
 use Rattle.wot_search.specs.Asked.{question_of}
 use Rattle.wot_search.specs.Widest.{widest_of, IsWidestNoted, IsWidestOrSpent}
 use Rattle.wot_search.proofs.NextOfTwo.{spent_next, spent_local}

@@ -3,14 +3,13 @@ use Rattle.std.specs.Prelude.{◌≡◌, ℕ, List, Vec, Option, Some, None}
 use Rattle.std.specs.declared.alloc.Global.{Global}
 use Rattle.wot_types.specs.declared.fpr.Fpr.{Fpr}
 use Rattle.wot_edge.specs.declared.path.Path.{Path}
-use Rattle.wot_edge.specs.Leads.{Leads}
 use Rattle.wot_edge.specs.Path.{Question, asks}
 use Rattle.wot_edge.specs.Record.{Record}
 use Rattle.wot_edge.specs.Sums.{Sums, use_in}
 use Rattle.wot_search.specs.Nexting.{IsNextWhereAgreed}
 use Rattle.wot_search.specs.Offers.{AreNextFor, AreNextWhereAgreed, TakesWhereAgreed}
 use Rattle.wot_reach.specs.Reach.{Table, IsReach, number_at}
-use Rattle.wot_search.specs.declared.asked.Asked.{Asked}
+use Rattle.wot_first_path.specs.declared.asked.Asked.{Asked}
 
 -- the question, given what the network says
 abbrev pub question_of : (List ℕ → Record) → Asked → Question
@@ -19,10 +18,6 @@ question_of network asked = asks (network asked.uid.now) asked.roots.now asked.t
 -- the reach is one of this network and of the roots
 abbrev pub HasItsReach : (List ℕ → Record) → Asked → Type 0
 HasItsReach network asked = IsReach network asked.roots.now asked.reach.now
-
--- what leads to the target by rows
-abbrev pub LeadsToAsked : (List ℕ → Record) → Asked → Fpr → Type 0
-LeadsToAsked network asked fpr = Leads (network asked.uid.now) asked.target.now fpr
 
 -- a reach that leaves nothing out
 abbrev pub HasAll : Table → Type 0

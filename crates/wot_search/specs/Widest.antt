@@ -11,7 +11,7 @@ use Rattle.wot_first_path.specs.Growth.{IsResult}
 use Rattle.wot_first_path.specs.Looked.{IsLooked}
 use Rattle.wot_first_path.specs.Quest.{Quest}
 use Rattle.wot_reach.specs.Reach.{number_at}
-use Rattle.wot_search.specs.declared.asked.Asked.{Asked}
+use Rattle.wot_first_path.specs.declared.asked.Asked.{Asked}
 use Rattle.wot_search.specs.Asked.{question_of, HasAll, IsNextLocally}
 use Rattle.wot_search.specs.Offers.{AreNext}
 

@@ -7,13 +7,12 @@ ghost use Rattle.wot_search.specs.Asked.{HasItsReach, question_of};
 ghost use Rattle.wot_search.specs.Below.{IsNextBelow, next_of};
 ghost use Rattle.wot_search.specs.Offers.{AreOffersFor, first_path};
 
-use crate::asked::Asked;
 use crate::offered::{drop_spent, first_of, open_offer};
 use crate::offers::offers_after;
 use crate::widest::widest;
 use std::alloc::Global;
 use wot_edge::{Path, Roads, Used};
-use wot_first_path::Unnoted;
+use wot_first_path::{Asked, Unnoted};
 use wot_types::Memory;
 
 /// What comes next.

@@ -11,14 +11,14 @@ ghost use Rattle.wot_edge.specs.Record.{IsRecord};
 ghost use Rattle.wot_edge.specs.Roots.{root_amount};
 ghost use Rattle.wot_edge.specs.Sums.{use_in};
 ghost use Rattle.wot_first_path.specs.Looked.{Gains, Widens};
-ghost use Rattle.wot_search.specs.Asked.{IsNextLocally, HasItsReach, LeadsToAsked, question_of};
+ghost use Rattle.wot_first_path.specs.Asked.{LeadsToAsked};
+ghost use Rattle.wot_search.specs.Asked.{IsNextLocally, HasItsReach, question_of};
 ghost use Rattle.wot_search.specs.Nexting.{IsNextOfAgreeing};
 
-use crate::asked::Asked;
 use crate::widest::widest;
 use std::alloc::Global;
 use wot_edge::{Path, Roads, Roots, Used};
-use wot_first_path::{Consulted, Goal, Notes, Quest, first};
+use wot_first_path::{Asked, Consulted, Goal, Notes, Quest, first};
 use wot_reach::Reach;
 use wot_types::{Fpr, Memory};
 
@@ -102,11 +102,8 @@ pub fn next_path_within<R: Roads, N: Notes>(
     };
     bound_amounts(asked.roots);
     let least = Quest {
-        roots: asked.roots,
+        asked: *asked,
         used,
-        reach: asked.reach,
-        target: asked.target,
-        uid: asked.uid,
         goal: Goal::Least,
         least: amount,
     };

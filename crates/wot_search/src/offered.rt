@@ -6,16 +6,16 @@ ghost use Rattle.std.specs.Prelude.{◌≡◌, ◌≤◌, nat_le, IfOk, OnOk};
 ghost use Rattle.wot_edge.specs.Answer.{IsNextOrSpent};
 ghost use Rattle.wot_edge.specs.Path.{step_left};
 ghost use Rattle.wot_edge.specs.Sums.{use_in};
-ghost use Rattle.wot_search.specs.Asked.{HasItsReach, LeadsToAsked, TakesLocally, question_of};
+ghost use Rattle.wot_first_path.specs.Asked.{LeadsToAsked};
+ghost use Rattle.wot_search.specs.Asked.{HasItsReach, TakesLocally, question_of};
 ghost use Rattle.wot_first_path.specs.Looked.{Gains, Widens};
 ghost use Rattle.wot_search.specs.Offers.{AreOffersFor, IsOpenOffer, KeepsOffers};
 ghost use Rattle.wot_search.specs.Offers.{first_path, is_first_spent, is_left, left_at};
 
-use crate::asked::Asked;
 use crate::offers::next_paths_within;
 use std::alloc::Global;
 use wot_edge::{Path, Roads, Roots, Step, Used, left_of_step, remaining};
-use wot_first_path::Notes;
+use wot_first_path::{Asked, Notes};
 use wot_types::{Fpr, Memory};
 
 /// The residual amount of a root.

@@ -9,7 +9,8 @@ ghost use Rattle.wot_edge.specs.Record.{IsRecord};
 ghost use Rattle.wot_edge.specs.Roots.{NoneOver};
 ghost use Rattle.wot_edge.specs.Sums.{use_in};
 ghost use Rattle.wot_search.specs.Asked.{AreNextIfSome, AreNextLocally, AreNextLocallyIfSome};
-ghost use Rattle.wot_search.specs.Asked.{HasItsReach, LeadsToAsked, question_of};
+ghost use Rattle.wot_first_path.specs.Asked.{LeadsToAsked};
+ghost use Rattle.wot_search.specs.Asked.{HasItsReach, question_of};
 ghost use Rattle.wot_first_path.specs.Growth.{IsAfter};
 ghost use Rattle.wot_first_path.specs.Looked.{Gains, Widens};
 ghost use Rattle.wot_search.specs.Offers.{AddsOffer, AreFoundOffers, AreNextFor, AreOfferedBy, AreWide, IsOfferIf};
@@ -17,15 +18,14 @@ ghost use Rattle.wot_search.specs.Widest.{AreNextByWidest, IsWidest};
 ghost use Rattle.wot_first_path.specs.Quest.{LeadsOn, WhateverTold, quest_of};
 ghost use Rattle.wot_first_path.specs.Reached.{look};
 
-use crate::asked::Asked;
 use crate::next::bound_amounts;
 use crate::widest::widest;
 use std::alloc::Global;
 use std::collections::BTreeMap;
 use wot_edge::{Path, Roads, Roots, Used};
 use wot_first_path::{
-    Choice, Goal, Node, Notes, Quest, Reached, Unnoted, advance, begin, first_from, left_of_root,
-    node_at, path_from,
+    Asked, Choice, Goal, Node, Notes, Quest, Reached, Unnoted, advance, begin, first_from,
+    left_of_root, node_at, path_from,
 };
 use wot_types::{Fpr, Memory};
 
@@ -41,7 +41,7 @@ fn layers_of<R: Roads>(
     ensures after { IfOk result (λ reached. IsAfter (quest_of (R.network roads.now) quest.now) count reached
         (λ fpr. Unit {0})) }
 {
-    let mut reached = begin(alloc, quest.target)?;
+    let mut reached = begin(alloc, quest.asked.target)?;
     'layers: for size in 0..count {
         advance(alloc, roads, quest, size, &mut reached, &mut Unnoted)?;
     }
@@ -104,10 +104,10 @@ fn offers_of(
     size: u8,
 ) -> Result<Vec<Path>, Memory>
     ensures { IfOk result (λ paths. WhateverTold quest.now (λ q. AreOfferedBy q (look nodes.now) size
-        quest.now.roots.now paths.items)) }
+        quest.now.asked.roots.now paths.items)) }
 {
     let mut paths = Vec::new(alloc);
-    'roots: for (fpr, _amount) in quest.roots.iter() {
+    'roots: for (fpr, _amount) in quest.asked.roots.iter() {
         put_offer(alloc, quest, nodes, size, &fpr, &mut paths)?;
     }
     Ok(paths)
@@ -123,7 +123,7 @@ pub(crate) fn offers_by<R: Roads>(
     requires lawful { (id : List ℕ) → IsRecord (R.network roads.now id) }
     requires onward { LeadsOn (R.network roads.now) quest.now }
     ensures { IfOk result (λ paths. AreFoundOffers (quest_of (R.network roads.now) quest.now) size
-        quest.now.roots.now paths.items) }
+        quest.now.asked.roots.now paths.items) }
 {
     let reached = layers_of(alloc, roads, quest, size)?;
     let paths = offers_of(alloc, quest, &reached.nodes, size)?;
@@ -150,11 +150,8 @@ pub(crate) fn offers_after<R: Roads>(
     // The order of the roots, as a fact.
     let _count = asked.roots.len();
     let quest = Quest {
-        roots: asked.roots,
+        asked: *asked,
         used,
-        reach: asked.reach,
-        target: asked.target,
-        uid: asked.uid,
         goal: Goal::Least,
         least: wide.amount,
     };
@@ -222,11 +219,8 @@ fn next_paths_by_one<R: Roads, N: Notes>(
     // The order of the roots, as a fact.
     let _count = asked.roots.len();
     let any = Quest {
-        roots: asked.roots,
+        asked: *asked,
         used,
-        reach: asked.reach,
-        target: asked.target,
-        uid: asked.uid,
         goal: Goal::Least,
         least: 1,
     };

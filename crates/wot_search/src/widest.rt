@@ -4,14 +4,14 @@
 ghost use Rattle.std.specs.Prelude.{◌≤◌, ℕ, List, IfOk};
 ghost use Rattle.wot_edge.specs.Record.{IsRecord};
 ghost use Rattle.wot_first_path.specs.Looked.{Gains, Widens};
-ghost use Rattle.wot_search.specs.Asked.{HasItsReach, LeadsToAsked};
+ghost use Rattle.wot_first_path.specs.Asked.{LeadsToAsked};
+ghost use Rattle.wot_search.specs.Asked.{HasItsReach};
 ghost use Rattle.wot_search.specs.Widest.{IsWidestNoted, IsWidestOrSpent};
 
-use crate::asked::Asked;
 use crate::next::bound_amounts;
 use std::alloc::Global;
 use wot_edge::{Path, Roads, Used};
-use wot_first_path::{Goal, Notes, Quest, first};
+use wot_first_path::{Asked, Goal, Notes, Quest, first};
 use wot_types::Memory;
 
 /// Finds a path of the greatest amount, one with the fewest edges. `None` if no valid path of positive amount is left.
@@ -38,11 +38,8 @@ pub(crate) fn widest<R: Roads, N: Notes>(
     }
     bound_amounts(asked.roots);
     let quest = Quest {
-        roots: asked.roots,
+        asked: *asked,
         used,
-        reach: asked.reach,
-        target: asked.target,
-        uid: asked.uid,
         goal: Goal::Widest,
         least: 1,
     };

@@ -13,7 +13,7 @@ returns-in-None-clause-all g c =
     (sym (c.wanted.ensures (g.R.Roads.network c.args.search.now.roads.now)) ∙ c.in-None.is) in
     record {
       grows = λ rest r growing. advances_refl quest c.args.search.now.size c.args.reached.now growing;
-      taken = taken_none quest c.args.search.now.size c.args.rest.width c.args.edge.now (c.requires.lawful c.args.search.now.quest.now.uid.now)
+      taken = taken_none quest c.args.search.now.size c.args.rest.width c.args.edge.now (c.requires.lawful c.args.search.now.quest.now.asked.uid.now)
           (look c.args.reached.now.nodes) c.args.reached.now.layer.items w;
       noted = λ noted. noted;
       seen = λ noted rest long. noted_none quest c.args.search.now.size c.args.rest.width c.args.edge.now
@@ -26,8 +26,8 @@ returns-in_ok-keep-in-Some-clause-all g c =
     let size = c.args.search.now.size in
     let width = c.args.rest.width in
     let edge = c.args.edge.now in
-    let good = c.requires.lawful c.args.search.now.quest.now.uid.now in
-    let has = c.requires.row c.args.search.now.quest.now.uid.now in
+    let good = c.requires.lawful c.args.search.now.quest.now.asked.uid.now in
+    let has = c.requires.row c.args.search.now.quest.now.asked.uid.now in
     let w = rw (c.facts.ensures.facts, c.requires.demand) at
     (sym (c.wanted.ensures (g.R.Roads.network c.args.search.now.roads.now)) ∙ c.in-Some.is) in
     let kept = c.in_ok-keep-in-Some.ensures in

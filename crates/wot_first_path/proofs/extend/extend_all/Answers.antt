@@ -7,7 +7,7 @@ use Rattle.wot_first_path.proofs.extend.extend_all.Goals as goal
 pub extend_by-requires-clause-usable : goal.extend_by-requires-clause-usable
 extend_by-requires-clause-usable g c =
     subst (AreUsableIf (g.R.Roads.network c.args.search.now.roads.now) c.args.usable)
-    (sym (c.rows-edges.ensures.rows c.args.search.now.quest.now.uid.now)) (c.requires.usable c.args.search.now.quest.now.uid.now)
+    (sym (c.rows-edges.ensures.rows c.args.search.now.quest.now.asked.uid.now)) (c.requires.usable c.args.search.now.quest.now.asked.uid.now)
 
 pub extend_by-requires-clause-needs : goal.extend_by-requires-clause-needs
 extend_by-requires-clause-needs g c = record {

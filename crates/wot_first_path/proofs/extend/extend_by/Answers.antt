@@ -29,7 +29,7 @@ consider-requires-clause-known g c known =
 
 pub returns-in_err-consider-clause-gains : goal.returns-in_err-consider-clause-gains
 returns-in_err-consider-clause-gains g c fpr h =
-    let uid = c.args.search.now.quest.now.uid.now in
+    let uid = c.args.search.now.quest.now.asked.uid.now in
     let network = g.R.Roads.network c.args.search.now.roads.now uid in
     let edges = c.args.edges.now in
     let x = c.edge-item.result in
@@ -44,15 +44,15 @@ returns-in_err-consider-clause-gains g c fpr h =
 
 pub edges-preserved : goal.edges-preserved
 edges-preserved g c =
-    let network = g.R.Roads.network c.args.search.now.roads.now c.args.search.now.quest.now.uid.now in
+    let network = g.R.Roads.network c.args.search.now.roads.now c.args.search.now.quest.now.asked.uid.now in
     let quest = quest_of (g.R.Roads.network c.args.search.now.roads.now) c.args.search.now.quest.now in
     let size = c.args.search.now.size in
     let edges = c.args.edges.now in
     let x = c.edge-item.result in
     let i = c.edges.edge-index in
     let has = subst (λ (e : EdgeFacts). Has edges e) (sym c.edge-item.is) (has_at edges i x c.edges-test.true) in
-    let into = c.requires.needs.into c.args.search.now.quest.now.uid.now x has in
-    let t = (edge_into network (c.requires.lawful c.args.search.now.quest.now.uid.now) c.args.at.now x into).1 in
+    let into = c.requires.needs.into c.args.search.now.quest.now.asked.uid.now x has in
+    let t = (edge_into network (c.requires.lawful c.args.search.now.quest.now.asked.uid.now) c.args.at.now x into).1 in
     let inv = c.edges.invariant in
     let ok = c.in_ok-consider.ensures in
     let one = ok.all in
@@ -89,7 +89,7 @@ pub returns-clause-all : goal.returns-clause-all
 returns-clause-all g c =
     let quest = quest_of (g.R.Roads.network c.args.search.now.roads.now) c.args.search.now.quest.now in
     let inv = c.edges.invariant in
-    let all = c.requires.needs.all c.args.search.now.quest.now.uid.now in
+    let all = c.requires.needs.all c.args.search.now.quest.now.asked.uid.now in
     record {
       grows = inv.grows;
       taken = λ ready rest begins k.

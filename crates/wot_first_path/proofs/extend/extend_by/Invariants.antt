@@ -26,5 +26,5 @@ invariant-edges g l =
       widens : Widens (g.N.Notes.noted l.fn.notes) (g.N.Notes.noted l.notes);
       falls : g.N.Notes.budget l.notes ≤ g.N.Notes.budget l.fn.notes;
       paid : g.N.Notes.total l.notes ≤ g.N.Notes.total l.fn.notes;
-      gains : Gains (IsNear (network l.search.quest.now.uid.now) l.at) (g.N.Notes.noted l.fn.notes) (g.N.Notes.noted l.notes);
+      gains : Gains (IsNear (network l.search.quest.now.asked.uid.now) l.at) (g.N.Notes.noted l.fn.notes) (g.N.Notes.noted l.notes);
     }

@@ -39,7 +39,7 @@ returns-in-Some-clause-first g c =
     let ok = c.in_ok-advance.ensures in
     let after = ok.after inv.after in
     let first_of_layer = turned quest c.layers.size c.advance.new.reached (g.N.Notes.noted c.advance.new.notes) _
-    (c.requires.lawful c.args.quest.now.uid.now) c.requires.small after (ok.unrooted inv.after inv.unrooted)
+    (c.requires.lawful c.args.quest.now.asked.uid.now) c.requires.small after (ok.unrooted inv.after inv.unrooted)
     (c.in_ok-first_of_layer.ensures (g.R.Roads.network c.args.roads.now)) in
     first_result quest (c.layers.size + 1) c.in-Some.path
     (subst (λ (o : Option Path). IsTurn quest found (c.layers.size + 1) o) c.in-Some.is first_of_layer)
@@ -52,7 +52,7 @@ returns-in-Some-clause-looked g c =
     let ok = c.in_ok-advance.ensures in
     let after = ok.after inv.after in
     let first_of_layer = turned quest c.layers.size c.advance.new.reached (g.N.Notes.noted c.advance.new.notes) _
-    (c.requires.lawful c.args.quest.now.uid.now) c.requires.small after (ok.unrooted inv.after inv.unrooted)
+    (c.requires.lawful c.args.quest.now.asked.uid.now) c.requires.small after (ok.unrooted inv.after inv.unrooted)
     (c.in_ok-first_of_layer.ensures (g.R.Roads.network c.args.roads.now)) in
     let f = subst (λ (o : Option Path). IsTurn quest found (c.layers.size + 1) o) c.in-Some.is first_of_layer in
     let l = f.long in
@@ -67,7 +67,7 @@ layers-preserved g c =
     let ok = c.in_ok-advance.ensures in
     let after = ok.after inv.after in
     let first_of_layer = turned quest c.layers.size c.advance.new.reached (g.N.Notes.noted c.advance.new.notes) _
-    (c.requires.lawful c.args.quest.now.uid.now) c.requires.small after (ok.unrooted inv.after inv.unrooted)
+    (c.requires.lawful c.args.quest.now.asked.uid.now) c.requires.small after (ok.unrooted inv.after inv.unrooted)
     (c.in_ok-first_of_layer.ensures (g.R.Roads.network c.args.roads.now)) in
     record {
       after = subst (λ (m : ℕ). IsAfter quest m c.advance.new.reached (g.N.Notes.noted c.advance.new.notes))
@@ -150,7 +150,7 @@ returns-in-Some-clause-after g c =
     let ok = c.in_ok-advance.ensures in
     let after = ok.after inv.after in
     let first_of_layer = turned quest c.layers.size c.advance.new.reached (g.N.Notes.noted c.advance.new.notes) _
-    (c.requires.lawful c.args.quest.now.uid.now) c.requires.small after (ok.unrooted inv.after inv.unrooted)
+    (c.requires.lawful c.args.quest.now.asked.uid.now) c.requires.small after (ok.unrooted inv.after inv.unrooted)
     (c.in_ok-first_of_layer.ensures (g.R.Roads.network c.args.roads.now)) in
     let f = subst (λ (o : Option Path). IsTurn quest found (c.layers.size + 1) o) c.in-Some.is first_of_layer in
     let l = f.long in

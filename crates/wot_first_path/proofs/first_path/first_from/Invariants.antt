@@ -16,6 +16,6 @@ invariant-layers g l =
       grows : Widens (g.N.Notes.noted l.fn.notes) (g.N.Notes.noted l.notes);
       falls : g.N.Notes.budget l.notes ≤ g.N.Notes.budget l.fn.notes;
       paid : g.N.Notes.total l.notes ≤ g.N.Notes.total l.fn.notes;
-      leads : Gains (Leads (network l.quest.uid.now) l.quest.target.now) (g.N.Notes.noted l.fn.notes)
+      leads : Gains (Leads (network l.quest.asked.uid.now) l.quest.asked.target.now) (g.N.Notes.noted l.fn.notes)
           (g.N.Notes.noted l.notes);
     }

@@ -22,5 +22,5 @@ invariant-layer g l =
       widens : Widens (g.N.Notes.noted l.fn.notes) (g.N.Notes.noted l.notes);
       falls : g.N.Notes.budget l.notes ≤ g.N.Notes.budget l.fn.notes;
       paid : g.N.Notes.total l.notes ≤ g.N.Notes.total l.fn.notes;
-      gains : Gains (IsNearOne (network l.search.quest.now.uid.now) l.layer) (g.N.Notes.noted l.fn.notes) (g.N.Notes.noted l.notes);
+      gains : Gains (IsNearOne (network l.search.quest.now.asked.uid.now) l.layer) (g.N.Notes.noted l.fn.notes) (g.N.Notes.noted l.notes);
     }

@@ -14,7 +14,7 @@ roots-preserved c =
     let more = λ (network : List ℕ → Record) (others : List Path)
     (b : AreOfferedBy (quest_of network c.args.quest.now) (look c.args.nodes.now) c.args.size c.next.new.self others).
     offered_more (quest_of network c.args.quest.now) (look c.args.nodes.now) c.args.size (c.in-Some.fpr, c.in-Some._amount)
-    c.next.new.self c.args.quest.now.roots.now c.roots.paths.items c.put_offer.new.paths.items
+    c.next.new.self c.args.quest.now.asked.roots.now c.roots.paths.items c.put_offer.new.paths.items
     (c.in_ok-put_offer.ensures network)
     (λ ps m. c.roots.invariant.2 network ps
     (subst (λ (rs : List (Fpr × ℕ)). AreOfferedBy (quest_of network c.args.quest.now) (look c.args.nodes.now)
@@ -25,7 +25,7 @@ pub returns : goal.returns
 returns c network =
     let quest = quest_of network c.args.quest.now in
     let found = look c.args.nodes.now in
-    subst (λ (ps : List Path). AreOfferedBy quest found c.args.size c.args.quest.now.roots.now ps)
+    subst (λ (ps : List Path). AreOfferedBy quest found c.args.size c.args.quest.now.asked.roots.now ps)
     (append-nil c.roots.paths.items)
     (c.roots.invariant.2 network []
     (subst (λ (rs : List (Fpr × ℕ)). AreOfferedBy quest found c.args.size rs []) (sym c.in-None.ensures.steps.0)

@@ -12,4 +12,4 @@ invariant-roots l =
     × (goal.iterator-roots).is_finite l.fpr-iterator
     × ((network : List ℕ → Record) (others : List Path)
     → AreOfferedBy (quest_of network l.quest) (look l.nodes) l.size l.fpr-iterator others
-    → AreOfferedBy (quest_of network l.quest) (look l.nodes) l.size l.quest.roots.now (l.paths.items ++ others))
+    → AreOfferedBy (quest_of network l.quest) (look l.nodes) l.size l.quest.asked.roots.now (l.paths.items ++ others))

@@ -1,6 +1,6 @@
 //! A question to a search: roots, target, user ID, and the table of reach.
 //!
-//! `specs/Asked.antt` relates it to the question of `wot_edge`. Searches turn it into a `Quest`.
+//! `wot_search` relates it to the question of `wot_edge` (`specs/Asked.antt` there). A `Quest` is one search for it.
 use wot_edge::Roots;
 use wot_reach::Reach;
 use wot_types::Fpr;
