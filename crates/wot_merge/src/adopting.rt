@@ -1,10 +1,11 @@
 //! Keeps a certificate of a key that isn't kept yet: marked by a policy, and otherwise as it was read. So an import of
 //! one new certificate copies nothing. `put_new` has the contract of a merge by `staging`, and is logged and counted as
 //! one. wot_keyring calls it.
-ghost use Rattle.std.specs.Prelude.{◌≡◌, ◌∷◌, [], None, IfOk, OnOk};
+ghost use Rattle.std.specs.Prelude.{◌≡◌, ◌≤◌, ◌^◌, ◌∷◌, [], None, IfOk, OnErr, OnOk};
 ghost use Rattle.wot_policy.specs.Kept.{IsFaithful, rows_of};
 ghost use Rattle.wot_component.specs.Asking.{AsksOnOk};
 ghost use Rattle.wot_component.specs.Judged.{sound_of};
+ghost use Rattle.wot_component.specs.Text.{size_of};
 ghost use Rattle.wot_keyring_spec.specs.Kept.{AreSortedByFpr, AreJudged};
 ghost use Rattle.wot_merge.specs.Staging.{AsksForNew, AsksToJoin, Counts, IsMergedOn, IsStaged, IsTally};
 ghost use Rattle.wot_merge.specs.Staging.{StillLeadsBack, TellsClash, clash_at, found_for, kept_with};
@@ -20,7 +21,8 @@ use wot_keyring_spec::Kept;
 use wot_policy::{Ask, Policy};
 use wot_types::{Fpr, Memory};
 
-/// The step that keeps a certificate of a new key, marked by a policy.
+/// The step that keeps a certificate of a new key, marked by a policy. Only a certificate of 2^62 octets doesn't fit in
+/// memory.
 fn adopt<F: Fn(Ask) -> bool>(
     mut cert: Cert,
     terms: &Terms,
@@ -28,6 +30,7 @@ fn adopt<F: Fn(Ask) -> bool>(
 ) -> Result<Staged, Memory>
     requires faithful { IsFaithful F.Fn policy.old }
     ensures step { IfOk result (IsStaged (rows_of policy.old) terms.now.stamp terms.now.limit None cert) }
+    ensures great { OnErr result (2 ^ 62 ≤ size_of cert) }
     ensures asked { AsksOnOk result policy.old policy.new (λ k. k ≡ sound_of cert) }
     ensures faithful { IsFaithful F.Fn policy.new }
 {

@@ -1,6 +1,6 @@
 //! The totals that limits are compared with: sizes, signatures and certificates that are too long, and how much of an
 //! import was new. `staging` updates them at each step, so that no limit needs a walk over the keyring.
-ghost use Rattle.std.specs.Prelude.{◌≡◌, ◌+◌, ◌≤◌, ◌<◌, ◌^◌, IfOk, OnOk, true};
+ghost use Rattle.std.specs.Prelude.{◌≡◌, ◌+◌, ◌≤◌, ◌<◌, ◌^◌, IfOk, OnOk, OnErr, true, false};
 ghost use Rattle.wot_component.specs.Text.{size_of};
 ghost use Rattle.wot_merge.specs.Staging.{CanMove, Moves, Weighs};
 
@@ -36,14 +36,16 @@ pub struct Tally {
 
 /// Whether memory can hold a certificate.
 pub fn is_held(cert: &Cert) -> bool
-    ensures { result ≡ true → size_of cert.now < 2 ^ 62 }
+    ensures held { result ≡ true → size_of cert.now < 2 ^ 62 }
+    ensures great { result ≡ false → 2 ^ 62 ≤ size_of cert.now }
 {
     cert.size() < MOST
 }
 
 /// Whether memory can hold both certificates merged.
 pub fn are_held(a: &Cert, b: &Cert) -> bool
-    ensures { result ≡ true → size_of a.now + size_of b.now < 2 ^ 63 }
+    ensures held { result ≡ true → size_of a.now + size_of b.now < 2 ^ 63 }
+    ensures great { result ≡ false → 2 ^ 62 ≤ size_of a.now + size_of b.now }
 {
     a.size() < MOST && b.size() < MOST
 }
@@ -64,7 +66,8 @@ pub fn weigh_cert(cert: &Cert, limit: u64) -> Weight
 /// A total after one part replaces another.
 fn moved(total: u64, before: u64, after: u64) -> Result<u64, Memory>
     requires { before ≤ total + after }
-    ensures { IfOk result (λ new. new + before ≡ total + after) }
+    ensures moved { IfOk result (λ new. new + before ≡ total + after) }
+    ensures great { OnErr result (2 ^ 64 ≤ total + after) }
 {
     match total.checked_add(after) {
         Some(both) => Ok(both - before),
@@ -89,7 +92,8 @@ fn moved_weight(total: &Weight, before: &Weight, after: &Weight) -> Result<Weigh
 
 /// Their sum, unless it overflows.
 fn plus(count: u64, more: u64) -> Result<u64, Memory>
-    ensures { IfOk result (λ sum. sum ≡ count + more) }
+    ensures sum { IfOk result (λ sum. sum ≡ count + more) }
+    ensures great { OnErr result (2 ^ 64 ≤ count + more) }
 {
     match count.checked_add(more) {
         Some(sum) => Ok(sum),

@@ -12,7 +12,7 @@ pub weigh_cert-after-requires : goal.weigh_cert-after-requires
 weigh_cert-after-requires g c =
     few_marked (rows_of c.args.policy.now) c.args.cert c.judge.new.self c.judge.ensures.judged
     (c.marks_weigh_nothing.ensures.judged_text (rows_of c.args.policy.now) c.args.cert)
-    (c.is_held.ensures c.if-not-is_held.false)
+    (c.is_held.ensures.held c.if-not-is_held.false)
 
 pub overflow_sub-others : goal.overflow_sub-others
 overflow_sub-others g c =
@@ -25,7 +25,7 @@ returns-clause-step g c =
     let items = c.items-others.ensures.items in
     let others =
     counts_others rows c.args.cert c.judge.new.self c.items-others.result items c.judge.ensures.judged
-    (c.marks_weigh_nothing.ensures.judged_items rows c.args.cert) (c.is_held.ensures c.if-not-is_held.false) in
+    (c.marks_weigh_nothing.ensures.judged_items rows c.args.cert) (c.is_held.ensures.held c.if-not-is_held.false) in
     step_first rows c.args.terms.now.stamp c.args.terms.now.limit c.args.cert c.judge.new.self
     c.weigh_cert-after.result (c.items-others.result - 1) c.args.terms.now.stamp c.judge.ensures.judged
     c.weigh_cert-after.ensures.weighs others

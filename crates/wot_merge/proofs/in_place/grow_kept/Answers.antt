@@ -18,7 +18,7 @@ weigh_cert-requires g c =
     let j = judged (rows_of c.args.policy.now) c.args.cert.now in
     union_few c.grow.new.self c.args.kept.now.cert c.args.cert.now j c.in-Ok.ensures.union
     (c.united_grows.ensures.together c.args.kept.now.cert j) (c.marks_weigh_nothing.ensures.judged_text
-    (rows_of c.args.policy.now) c.args.cert.now) (c.are_held.ensures c.if-not-are_held.false)
+    (rows_of c.args.policy.now) c.args.cert.now) (c.are_held.ensures.held c.if-not-are_held.false)
 
 pub returns-in-Ok-clause-grows : goal.returns-in-Ok-clause-grows
 returns-in-Ok-clause-grows g c =
