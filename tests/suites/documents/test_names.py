@@ -12,7 +12,7 @@ from pages import ROOT, Page, Span, page, pages
 # The most lines of a page.
 SIZES = {
     "README.md": 110,
-    "docs/ARCHITECTURE.md": 280,
+    "docs/ARCHITECTURE.md": 300,
     "docs/CHANGING.md": 200,
     "docs/SEARCH.md": 180,
 }
