@@ -50,16 +50,16 @@ class Door:
 
 
 class Service:
-    def __init__(self, hub: LineIntake, keyrings: Keyrings, directory: Directory, settings: Settings, pool: ReaderPool,
-                 ending: Ending) -> None:
-        self._hub = hub
+    def __init__(self, intake: LineIntake, keyrings: Keyrings, directory: Directory, settings: Settings,
+                 pool: ReaderPool, ending: Ending) -> None:
+        self._intake = intake
         self._keyrings = keyrings
         self._directory = directory
         self._settings = settings
-        self._shares = Shares(bounds(), hub.lag)
+        self._shares = Shares(bounds(), intake.lag)
         self._ending = ending
-        self._answering = Answering(hub, directory, keyrings, self._status)
-        self._sessions, self._relayed = TendedSessions(hub, self._closed), TendedSessions(hub, self._closed)
+        self._answering = Answering(intake, directory, keyrings, self._status)
+        self._sessions, self._relayed = TendedSessions(intake, self._closed), TendedSessions(intake, self._closed)
         self._pool = pool
         self._count = 0
         self._relays: set[asyncio.Task[object]] = set()
@@ -75,19 +75,20 @@ class Service:
         self._ending.watch(self._begin_end, self._remove_sockets)
         self._doors = doors
         self._shares.has_others = any(door.listening.users is None for door in doors)
-        warden = loop.create_task(end_stopped(self._hub.report))
+        warden = loop.create_task(end_stopped(self._intake.report))
         try:
             if not await self._is_started():
                 return
             for door in doors:
                 door.listening.open()
-            acceptor = Acceptor(self._shares.has_room, self._hub.report)
+            acceptor = Acceptor(self._shares.has_room, self._intake.report)
             for door in doors:
                 acceptor.listen(door.listening.socket, partial(self._serve, self._rights(door)))
-            self._pool.begin(self._shares, self._serve_relayed, self._hub.held.count, self._hub.loaded is not None)
+            is_sliced = self._intake.loaded is not None
+            self._pool.begin(self._shares, self._serve_relayed, self._intake.held.count, is_sliced)
             notify("READY=1")
             self._last_used = loop.time()
-            loading = loop.create_task(self._hub.load())
+            loading = loop.create_task(self._intake.load())
             loading.add_done_callback(self._loaded)
             beside = [loop.create_task(work) for work in (
                 self._look_around(), self._keyrings.watch(), self._answering.learn(), self._confirm())]
@@ -104,7 +105,7 @@ class Service:
         finally:
             self._begin_end()
             await self._directory.close()
-            await self._hub.close()
+            await self._intake.close()
             warden.cancel()
 
     def _begin_end(self) -> None:
@@ -118,7 +119,7 @@ class Service:
     async def _is_started(self) -> bool:
         """Waits until there is an engine; False if the service is to end before."""
         loop = asyncio.get_running_loop()
-        starting, ended = loop.create_task(self._hub.start()), loop.create_task(self._end.wait())
+        starting, ended = loop.create_task(self._intake.start()), loop.create_task(self._end.wait())
         done, _ = await asyncio.wait((starting, ended), return_when=asyncio.FIRST_COMPLETED)
         ended.cancel()
         if starting in done:
@@ -135,19 +136,20 @@ class Service:
 
     def _report_exception(self, loop: asyncio.AbstractEventLoop, context: dict[str, Any]) -> None:
         """What nobody has caught is one line for people, and no end of the service."""
-        self._hub.report(f"{context['message']}: {context.get('exception')!r}")
+        self._intake.report(f"{context['message']}: {context.get('exception')!r}")
 
     async def _serve(self, rights: Rights, connected: socket.socket) -> None:
         """Serves a client here, unless a reader does."""
         self._count += 1
         if not self._pool.hand_over(connected, self._count, rights):
-            session = Session(self._count, self._hub, self._answering.answer, rights, self._shares, self._sessions.add)
+            session = Session(self._count, self._intake, self._answering.answer, rights, self._shares,
+                              self._sessions.add)
             await asyncio.get_running_loop().connect_accepted_socket(lambda: session, connected)
 
     def _serve_relayed(self, connected: socket.socket, number: int, actor: Actor, may_change: bool) -> None:
         """Answers the lines that a reader passes on for a client of its own."""
         connected.setblocking(False)
-        session = RelaySession(number, self._hub, self._answering.answer, may_change, self._shares,
+        session = RelaySession(number, self._intake, self._answering.answer, may_change, self._shares,
                                self._relayed.add, actor)
         loop = asyncio.get_running_loop()
         task: asyncio.Task[object] = loop.create_task(loop.connect_accepted_socket(lambda: session, connected))
@@ -179,8 +181,8 @@ class Service:
 
     async def _confirm(self) -> None:
         """Has readers know how old their answers may be, whose database others change too."""
-        while self._pool.is_used and isinstance(self._hub.database, Shared):
-            self._pool.published.confirm(None if self._hub.standby is None else self._hub.age)
+        while self._pool.is_used and isinstance(self._intake.database, Shared):
+            self._pool.published.confirm(None if self._intake.standby is None else self._intake.age)
             await asyncio.sleep(_BETWEEN_CONFIRMATIONS)
 
     def _is_upgraded(self) -> bool:
@@ -197,18 +199,18 @@ class Service:
         acceptor.close()
 
     def _status(self) -> list[tuple[str, object]]:
-        pids, loaded = self._hub.pids, self._hub.loaded
-        return [("budget", self._hub.budget), ("loaded", "all" if loaded is None else loaded),
+        pids, loaded = self._intake.pids, self._intake.loaded
+        return [("budget", self._intake.budget), ("loaded", "all" if loaded is None else loaded),
                 ("engines", len(pids)), ("memory", sum(map(_resident, [os.getpid(), *pids, *self._pool.pids]))),
                 ("clients", len(self._sessions) + self._pool.clients), ("readers", self._pool.ready),
                 ("process", os.getpid()),
-                ("database", self._hub.database.name), ("state", self._hub.state),
-                ("age", int(self._hub.age)), ("version", VERSION), *self._status_of_shared()]
+                ("database", self._intake.database.name), ("state", self._intake.state),
+                ("age", int(self._intake.age)), ("version", VERSION), *self._status_of_shared()]
 
     def _status_of_shared(self) -> list[tuple[str, object]]:
-        if not isinstance(self._hub.database, Shared):
+        if not isinstance(self._intake.database, Shared):
             return []
-        return [("confirmed-by", self._hub.standby or "-"), ("ledger", self._hub.database.ledger_fault or "ok")]
+        return [("confirmed-by", self._intake.standby or "-"), ("ledger", self._intake.database.ledger_fault or "ok")]
 
 
 def _own_file() -> tuple[int, int]:

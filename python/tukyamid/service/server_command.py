@@ -88,10 +88,10 @@ def serve(given: argparse.Namespace) -> int:
 
         async def run() -> None:
             access = Access(database, order, pool)
-            hub = LineIntake([*_program(given), "run"], given.engines, access, given.budget, given.max_age)
+            intake = LineIntake([*_program(given), "run"], given.engines, access, given.budget, given.max_age)
             directory = Directory([*_program(given), "run"], (given.directory or default_directory()).absolute())
-            keyrings = Keyrings(hub, _verifier(given))
-            await Service(hub, keyrings, directory, settings, pool, Ending(access.report)).serve(doors)
+            keyrings = Keyrings(intake, _verifier(given))
+            await Service(intake, keyrings, directory, settings, pool, Ending(access.report)).serve(doors)
 
         event_loop.run(run)
     return ENDED

@@ -130,10 +130,13 @@ class Client:
         return self.rest()
 
     def rest(self):
-        pieces = [self._rest]
+        return b"".join(self.pieces())
+
+    def pieces(self):
+        """All that still comes, as it comes."""
+        yield self._rest
         while piece := self.socket.recv(65536):
-            pieces.append(piece)
-        return b"".join(pieces)
+            yield piece
 
 
 class Server:

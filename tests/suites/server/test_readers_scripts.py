@@ -6,10 +6,10 @@ import random
 import signal
 import threading
 import unittest
-from concurrent.futures import ThreadPoolExecutor
 
 from outside import Client, alone, cut, needs_engine, with_reply
 from reading import ReadServer, Replay, is_refused
+from talking import talk_at_once
 from world import Chatter, World
 
 READERS = 3
@@ -18,32 +18,6 @@ READERS = 3
 def lines_of(chatter, count):
     """A dump has all that is committed when it is read, which may be more than its reader has by then."""
     return [line for line in chatter.lines(count) if line != b"dump"]
-
-
-def talk(path, name, lines, seed, between):
-    """Sends lines in bursts of some size; gives what was heard, also if the connection is cut."""
-    draw = random.Random(seed)
-    heard = bytearray()
-    with Client(path) as client, ThreadPoolExecutor(1) as pool, contextlib.suppress(OSError):
-        client.send(name)
-        heard += client.read_line() + b"\n"
-        rest = pool.submit(all_of, client, heard)
-        place = 0
-        with contextlib.suppress(OSError):
-            while place < len(lines):
-                size = draw.choice([1, 3, 20])
-                between()
-                client.send(*lines[place:place + size])
-                place += size
-            client.send_no_more()
-        rest.result()
-    return bytes(heard)
-
-
-def all_of(client, heard):
-    heard += client._rest
-    while piece := client.socket.recv(65536):
-        heard += piece
 
 
 @needs_engine
@@ -68,11 +42,7 @@ class Scripts(unittest.TestCase):
             heard = {first: client.end()}
         spoken = {b"keys client-%d" % place: lines_of(self.new_chatter(world, 1000 * seed + place, place), length)
                   for place in range(count)}
-        with ThreadPoolExecutor(count) as pool:
-            talks = {name: pool.submit(talk, server.path, name, lines, seed + place, between)
-                     for place, (name, lines) in enumerate(spoken.items())}
-        heard.update({name: one.result() for name, one in talks.items()})
-        return {first: world.lines(), **spoken}, heard
+        return {first: world.lines(), **spoken}, heard | talk_at_once(server.path, spoken, seed, between)
 
     def check(self, server, spoken, heard, is_cut=False):
         """Compares reply by reply; of a client that was cut those that it got whole. Gives how many there were."""

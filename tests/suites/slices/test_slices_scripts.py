@@ -7,9 +7,9 @@ import random
 import signal
 import threading
 import unittest
-from concurrent.futures import ThreadPoolExecutor
 
 from outside import Client, Server, cut, expected, needs_engine, with_reply
+from talking import talk_at_once
 from world import Chatter, World
 
 BUDGET = 10
@@ -30,23 +30,6 @@ class Asking(Chatter):
         return front + [self._pick(makers)() for _ in range(count)]
 
 
-def talk(path, name, lines, seed, between=lambda: None):
-    """Sends lines in bursts of some size; gives what was heard."""
-    draw = random.Random(seed)
-    with Client(path) as client, ThreadPoolExecutor(1) as reader:
-        client.send(name)
-        head = client.read_line() + b"\n"
-        replies = reader.submit(client.rest)
-        place = 0
-        while place < len(lines):
-            size = draw.choice([1, 3, 20])
-            between()
-            client.send(*lines[place:place + size])
-            place += size
-        client.send_no_more()
-        return head + replies.result()
-
-
 @needs_engine
 class Scripts(unittest.TestCase):
     def new_world(self, seed):
@@ -62,10 +45,7 @@ class Scripts(unittest.TestCase):
             first.send(*world.lines())
             first.end()
         spoken = {b"keys client-%d" % place: Asking(world, seed * 1000 + place).lines(length) for place in range(count)}
-        with ThreadPoolExecutor(count) as pool:
-            talks = {name: pool.submit(talk, server.path, name, lines, seed + place, between)
-                     for place, (name, lines) in enumerate(spoken.items())}
-        return spoken, {name: one.result() for name, one in talks.items()}
+        return spoken, talk_at_once(server.path, spoken, seed, between)
 
     def check(self, server, world, spoken, heard):
         """Compares reply by reply; gives how many questions were refused for the budget, of how many."""

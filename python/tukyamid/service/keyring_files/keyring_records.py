@@ -12,10 +12,10 @@ LEFT_OVER = ""  # Signatures that wait, though the keyring that they came with i
 class Records:
     """`known` is what was recorded when it was last asked for."""
 
-    def __init__(self, hub: LineIntake) -> None:
-        self._hub = hub
+    def __init__(self, intake: LineIntake) -> None:
+        self._intake = intake
         self.known: list[Source] = []
-        self._in_database = LastKnown(lambda: hub.is_away, lambda: hub.find(lambda finder: finder.sources()))
+        self._in_database = LastKnown(lambda: intake.is_away, lambda: intake.find(lambda finder: finder.sources()))
 
     async def all(self) -> list[Source]:
         """If the database can't be read, what was there the last time."""
@@ -30,9 +30,9 @@ class Records:
         return next((one for one in await self.all() if one.name == name), None)
 
     async def put(self, source: Source) -> None:
-        await self._hub.write(lambda: self._hub.database.put_source(source))
+        await self._intake.write(lambda: self._intake.database.put_source(source))
 
     async def drop(self, name: str) -> bool:
         """Whether it was there."""
-        await self._hub.write(lambda: self._hub.database.drop_loaded(name))
-        return await self._hub.write(lambda: self._hub.database.drop_source(name))
+        await self._intake.write(lambda: self._intake.database.drop_loaded(name))
+        return await self._intake.write(lambda: self._intake.database.drop_source(name))

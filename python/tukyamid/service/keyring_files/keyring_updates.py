@@ -37,17 +37,17 @@ class Contents:
 class Keyrings:
     """Reads one keyring at a time. `verifier` returns the words that start the verifier."""
 
-    def __init__(self, hub: LineIntake, verifier: Callable[[], Sequence[str]]) -> None:
-        self._hub = hub
-        self._verification = Verification(hub, verifier)
+    def __init__(self, intake: LineIntake, verifier: Callable[[], Sequence[str]]) -> None:
+        self._intake = intake
+        self._verification = Verification(intake, verifier)
         self._lock = asyncio.Lock()
         self._files = FileChanges()
         # What couldn't be read for want of a verifier; and what was read but for a part, which its fault says.
         self._unread: set[str] = set()
         self._partly: set[str] = set()
-        self._records = Records(hub)
-        self._rounds = Rounds(hub, self._records, self._verification)
-        self._large = LargeUpdates(hub, self._records, self._verification, self._lock, self._rounds.set_why)
+        self._records = Records(intake)
+        self._rounds = Rounds(intake, self._records, self._verification)
+        self._large = LargeUpdates(intake, self._records, self._verification, self._lock, self._rounds.set_why)
 
     @property
     def is_busy(self) -> bool:
@@ -114,7 +114,7 @@ class Keyrings:
             except Exception as error:  # Whatever it was, the keyrings are looked after again.
                 said = str(error) if isinstance(error, (DatabaseFault, OSError)) else repr(error)
                 if said != reported:
-                    self._hub.report(said)
+                    self._intake.report(said)
                 reported = said
             await self._files.wait(all(one.is_verified for one in self._records.known))
 
@@ -187,14 +187,14 @@ class Keyrings:
                 self._files.note_read(name, stamp)
         except NotVerified as error:
             if source.fault != str(error):
-                self._hub.report(str(error))
+                self._intake.report(str(error))
         except Unreadable as error:
             if await self._records.of(name) is None:
                 return  # It isn't watched any more.
             self._partly.discard(name)
             await self._files.note_unreadable(name)
             if source.fault != str(error):
-                self._hub.report(str(error))
+                self._intake.report(str(error))
                 await self._records.put(replace(source, fault=str(error)))
             if not source.is_verified:
                 self._rounds.imported[name] = replace(source, digest=SEEN, fault=str(error))
@@ -208,7 +208,7 @@ class Keyrings:
         self._rounds.set_why(BEGUN)
         await self._records.put(Source(name, UNVERIFIED, total, BEGUN))
         lines = (b"import " + one.hex().encode() for one in octets)
-        refused = await make_changes(self._hub, lines, actor, Progress(say, "certificates", total))
+        refused = await make_changes(self._intake, lines, actor, Progress(say, "certificates", total))
         fault = fault_of(refused, total, contents.read.left_out)
         self._note_imported(Source(name, contents.digest, total, fault))
 

@@ -127,8 +127,8 @@ class LargeFile:
 class Load:
     """One large keyring while it is loaded."""
 
-    def __init__(self, hub: LineIntake, name: str, verifier: Sequence[str]) -> None:
-        self._hub = hub
+    def __init__(self, intake: LineIntake, name: str, verifier: Sequence[str]) -> None:
+        self._intake = intake
         self._name = name
         self._verifier = verifier
         self.share = 0.0  # How much of it is loaded, from 0 to 1.
@@ -148,7 +148,7 @@ class Load:
 
     async def parts(self, progress: Progress) -> AsyncGenerator[Part, None]:
         """Those that are still to be loaded, one of them read ahead."""
-        before = {one.file: one for one in await self._hub.find(lambda finder: finder.loaded(self._name))}
+        before = {one.file: one for one in await self._intake.find(lambda finder: finder.loaded(self._name))}
         sizes = await asyncio.to_thread(_sizes, self._name)
         total, done = max(1, sum(sizes.values())), 0
         for path in sizes:
@@ -163,13 +163,13 @@ class Load:
 
     async def take(self, part: Part, actor: Actor, progress: Progress) -> None:
         """Imports a part, and notes that."""
-        refused = await make_imports(self._hub, part.read.octets, actor, progress)
+        refused = await make_imports(self._intake, part.read.octets, actor, progress)
         loaded = part.loaded
         if refused:
             loaded = replace(loaded, fault=_joined(loaded.fault, [
                 f"{refused} of {len(part.read.octets)} certificates were refused"]))
         self.files[loaded.file] = loaded
-        await self._hub.write(lambda: self._hub.database.put_loaded(self._name, loaded))
+        await self._intake.write(lambda: self._intake.database.put_loaded(self._name, loaded))
         self.share = progress.share or 0.0
 
 

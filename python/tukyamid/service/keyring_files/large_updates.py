@@ -22,9 +22,9 @@ from .watched_files import Unreadable
 class LargeUpdates:
     """`lock` is held while anything is made of a keyring. `report` is called with how far a load is."""
 
-    def __init__(self, hub: LineIntake, records: Records, verification: Verification, lock: asyncio.Lock,
+    def __init__(self, intake: LineIntake, records: Records, verification: Verification, lock: asyncio.Lock,
                  report: Callable[[str], None]) -> None:
-        self._hub = hub
+        self._intake = intake
         self._records = records
         self._verification = verification
         self._lock = lock
@@ -37,7 +37,7 @@ class LargeUpdates:
 
     async def note_unchanged(self, name: str, files: FileChanges) -> bool:
         """Whether all of a keyring is loaded as it is now. Then that is noted."""
-        loaded = await self._hub.find(lambda finder: finder.loaded(name))
+        loaded = await self._intake.find(lambda finder: finder.loaded(name))
         stamp = await asyncio.to_thread(stamp_of, name)
         is_unchanged = await asyncio.to_thread(are_whole, name, loaded)
         if is_unchanged:
@@ -51,9 +51,9 @@ class LargeUpdates:
             async with self._lock:
                 source = await self._records.of(name)
                 if is_asked and (source is None or source.is_verified):
-                    await self._hub.write(lambda: self._hub.database.drop_loaded(name))
+                    await self._intake.write(lambda: self._intake.database.drop_loaded(name))
                 await self._put(source or Source(name), 0.0)
-            load = Load(self._hub, name, self._verification.program()[:-2])
+            load = Load(self._intake, name, self._verification.program()[:-2])
             await self._take_all(load, name, actor, say)
             return await self._loaded(load, name, source)
 
@@ -80,5 +80,5 @@ class LargeUpdates:
     async def _put(self, source: Source, share: float) -> None:
         why = f"{100 * share:.0f} % is loaded, and then all is verified"
         self._report(why)
-        self._verification.left = (await self._hub.find(lambda finder: finder.figures())).pending
+        self._verification.left = (await self._intake.find(lambda finder: finder.figures())).pending
         await self._records.put(replace(source, digest=UNVERIFIED, fault=why))

@@ -17,8 +17,8 @@ _MOST_KEPT = 20_000
 class NamedKeys:
     """Keeps those that were named last: few keys certify much."""
 
-    def __init__(self, hub: LineIntake) -> None:
-        self._hub = hub
+    def __init__(self, intake: LineIntake) -> None:
+        self._intake = intake
         self._kept: dict[bytes, bytes] = {}  # By its ID, the packets of each kept key that has this ID.
         self._lock = asyncio.Lock()
 
@@ -35,7 +35,7 @@ class NamedKeys:
     async def _found(self, part: Sequence[Unlooked]) -> tuple[list[bytes], frozenset[bytes]]:
         named = frozenset[bytes]().union(*(one.named for one in part))
         unknown = named.difference(self._kept)
-        found = await self._hub.search(lambda finder: finder.keys_of_ids(unknown))
+        found = await self._intake.search(lambda finder: finder.keys_of_ids(unknown))
         if len(self._kept) > _MOST_KEPT:
             self._kept = {key_id: self._kept[key_id] for key_id in named.difference(unknown)}
         for key_id, front in found:

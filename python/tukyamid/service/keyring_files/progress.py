@@ -54,19 +54,20 @@ def _spelled(seconds: float) -> str:
     return f"{seconds / 60:.0f} min" if seconds < 6000 else f"{seconds / 3600:.1f} h"
 
 
-async def make_changes(hub: LineIntake, lines: Iterable[bytes], actor: Actor, progress: Progress | None = None) -> int:
+async def make_changes(intake: LineIntake, lines: Iterable[bytes], actor: Actor,
+                       progress: Progress | None = None) -> int:
     """Has these changes made, some of them ahead of their replies; returns the number of refused ones. DatabaseFault if
     the database couldn't take some of them."""
-    return len(await _refused(hub, ((line, 1) for line in lines), actor, progress))
+    return len(await _refused(intake, ((line, 1) for line in lines), actor, progress))
 
 
-async def make_imports(hub: LineIntake, certificates: Sequence[bytes], actor: Actor, progress: Progress) -> int:
+async def make_imports(intake: LineIntake, certificates: Sequence[bytes], actor: Actor, progress: Progress) -> int:
     """Has certificates imported, several with each line; returns the number of refused ones. Those of a line that is
     refused are imported one by one."""
     groups = list(_grouped(certificates))
-    refused = await _refused(hub, ((_import(b"".join(group)), len(group)) for group in groups), actor, progress)
+    refused = await _refused(intake, ((_import(b"".join(group)), len(group)) for group in groups), actor, progress)
     again = [one for place in refused for one in groups[place]]
-    return len(await _refused(hub, ((_import(one), 0) for one in again), actor, progress))
+    return len(await _refused(intake, ((_import(one), 0) for one in again), actor, progress))
 
 
 def _import(octets: bytes) -> bytes:
@@ -86,7 +87,7 @@ def _grouped(certificates: Iterable[bytes]) -> Iterator[list[bytes]]:
         yield group
 
 
-async def _refused(hub: LineIntake, lines: Iterable[tuple[bytes, int]], actor: Actor,
+async def _refused(intake: LineIntake, lines: Iterable[tuple[bytes, int]], actor: Actor,
                    progress: Progress | None) -> list[int]:
     """Has these changes made, each of which advances the progress; returns the places of the refused ones."""
     room, refused, failed = asyncio.Semaphore(_AHEAD), list[int](), 0
@@ -100,7 +101,7 @@ async def _refused(hub: LineIntake, lines: Iterable[tuple[bytes, int]], actor: A
 
     for place, (line, weight) in enumerate(lines):
         await room.acquire()
-        hub.change(line, actor, partial(done, place))
+        intake.change(line, actor, partial(done, place))
         if progress is not None:
             progress.advance(weight)
     for _ in range(_AHEAD):

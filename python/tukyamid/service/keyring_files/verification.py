@@ -34,10 +34,10 @@ class Verification:
     """`verifier` returns the words that start the verifier. `left` is how many signatures wait for it, None if that
     isn't known."""
 
-    def __init__(self, hub: LineIntake, verifier: Callable[[], Sequence[str]]) -> None:
-        self._hub = hub
+    def __init__(self, intake: LineIntake, verifier: Callable[[], Sequence[str]]) -> None:
+        self._intake = intake
         self._verifier = verifier
-        self._parts = VerifiedParts(hub)
+        self._parts = VerifiedParts(intake)
         self.left: int | None = None
 
     def program(self) -> tuple[str, ...]:
@@ -56,7 +56,7 @@ class Verification:
     async def run(self, actor: Actor, say: Say) -> int:
         """Verifies what waits, with all certificates' keys, for one go. Returns how many verdicts are new."""
         # Also without a verifier, since the number that wait for it is reported.
-        self.left = await self._hub.search(lambda finder: finder.count_unlooked())
+        self.left = await self._intake.search(lambda finder: finder.count_unlooked())
         return await self._go(self.program()[:-2], actor, Progress(say, "signatures", self.left))
 
     async def _go(self, words: Sequence[str], actor: Actor, progress: Progress) -> int:
@@ -73,16 +73,16 @@ class Verification:
 
     async def _make(self, verified: Verified, actor: Actor) -> None:
         """Makes verdicts, and notes what was looked at when they are committed."""
-        if not self._hub.takes_verdicts:
+        if not self._intake.takes_verdicts:
             lines = (b"verdict %s %s" % (number.hex().encode(), b"good " + issuer.hex().encode() if issuer else b"bad")
                      for number, issuer in verified.verdicts.items())
-            await make_changes(self._hub, lines, actor)
-            await self._hub.put_looked(_looked(verified, verified.part))
+            await make_changes(self._intake, lines, actor)
+            await self._intake.put_looked(_looked(verified, verified.part))
             return
         for some in _in_groups(verified.part):
             verdicts = [(number, verified.verdicts[number]) for one in some for number in one.numbers
                         if number in verified.verdicts]
-            await self._hub.set_verdicts(verdicts, _looked(verified, some),
+            await self._intake.set_verdicts(verdicts, _looked(verified, some),
                                          [bytes.fromhex(keys_of(one.octets)[0]) for one in some], actor)
 
 

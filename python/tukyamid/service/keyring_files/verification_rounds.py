@@ -24,8 +24,8 @@ class Rounds:
     """`imported` is what was imported as a whole and waits to be verified: each keyring as it is recorded then. `why`
     says why it waits."""
 
-    def __init__(self, hub: LineIntake, records: Records, verification: Verification) -> None:
-        self._hub = hub
+    def __init__(self, intake: LineIntake, records: Records, verification: Verification) -> None:
+        self._intake = intake
         self._records = records
         self._verification = verification
         self.attempts = Attempts(verification)
@@ -56,7 +56,7 @@ class Rounds:
             await self._verify(itself(), lambda text: None)
         except (NotVerified, OSError) as error:
             if why_of(error) != before:
-                self._hub.report(why_of(error))
+                self._intake.report(why_of(error))
 
     async def _verify(self, actor: Actor, say: Say) -> int:
         """Verifies what waits, and records for each keyring that this is done, or why it isn't."""

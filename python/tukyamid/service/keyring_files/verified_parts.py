@@ -44,9 +44,9 @@ class Verified:
 class VerifiedParts:
     """`has_left` is whether the last go has left something."""
 
-    def __init__(self, hub: LineIntake) -> None:
-        self._hub = hub
-        self._keys = NamedKeys(hub)
+    def __init__(self, intake: LineIntake) -> None:
+        self._intake = intake
+        self._keys = NamedKeys(intake)
         self._slow: set[int] = set()  # Certificates whose signatures take long.
         self.has_left = False
 
@@ -86,7 +86,7 @@ class VerifiedParts:
         """What waits, each once."""
         for is_slow in (False, True) if slow else (False,):
             place = -1
-            while part := await self._hub.search(
+            while part := await self._intake.search(
                     lambda finder: finder.unlooked(place, _MOST_CERTIFICATES, _MOST_OCTETS)):
                 place = part[-1].place
                 if some := [one for one in part if (one.place in slow) is is_slow]:

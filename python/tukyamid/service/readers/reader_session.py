@@ -47,13 +47,13 @@ class RelayedChanges(OwnChanges):
 
 
 class ReaderSession(Session):
-    def __init__(self, number: int, hub: ReaderIntake, answering: ReaderAnswering, rights: Rights, shares: Shares,
+    def __init__(self, number: int, intake: ReaderIntake, answering: ReaderAnswering, rights: Rights, shares: Shares,
                  made: Callable[[Session], None], connect: Connect) -> None:
-        super().__init__(number, hub, answering.answer, rights, shares, made)
-        self._line_intake = hub
+        super().__init__(number, intake, answering.answer, rights, shares, made)
+        self._line_intake = intake
         self._needed = 0  # The number of the last change that its lines have to see.
         self.relay = Relay(lambda: connect(number, self.actor, rights.may_change), self._give_up)
-        self._changes = RelayedChanges(hub, number, self._begin_again, self._give_up)
+        self._changes = RelayedChanges(intake, number, self._begin_again, self._give_up)
         self._changes.relay = self.relay
 
     def buffer_updated(self, nbytes: int) -> None:
@@ -90,8 +90,8 @@ class ReaderSession(Session):
 class ReaderAnswering:
     """Lookups are answered from the database, and the rest by the service."""
 
-    def __init__(self, hub: ReaderIntake, answering: Answering) -> None:
-        self._hub = hub
+    def __init__(self, intake: ReaderIntake, answering: Answering) -> None:
+        self._intake = intake
         self._answering = answering
 
     async def answer(self, session: Session, slot: Slot, line: bytes) -> None:
@@ -99,15 +99,15 @@ class ReaderAnswering:
         if is_relayed(line):
             session.outbox.answer(slot, await self._relayed(session, line))
             return
-        published = self._hub.published
+        published = self._intake.published
         needed = published.number
         reply = await self._answering.reply(session, line)
         try:  # What was looked up may be newer than what is published.
-            seen = await self._hub.find(lambda finder: finder.log(1))
+            seen = await self._intake.find(lambda finder: finder.log(1))
             number = seen[0].number if seen else 0
             await published.reach(number)
         except DatabaseFault as fault:
-            self._hub.report(str(fault))
+            self._intake.report(str(fault))
             number = -1
         session.outbox.answer(slot, reply if number >= needed else FAULT)
         session.see()

@@ -24,9 +24,9 @@ class _Counted:
 
 
 class RelaySession(Session):
-    def __init__(self, number: int, hub: LineIntake, helper: Helper, may_change: bool, shares: Shares,
+    def __init__(self, number: int, intake: LineIntake, helper: Helper, may_change: bool, shares: Shares,
                  made: Callable[[Session], None], actor: Actor) -> None:
-        super().__init__(number, hub, helper, Rights(may_change), _Counted(shares), made)
+        super().__init__(number, intake, helper, Rights(may_change), _Counted(shares), made)
         self._given = actor
 
     def _peer(self) -> Actor:

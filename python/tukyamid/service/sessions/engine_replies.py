@@ -17,11 +17,11 @@ async def asked(session: Session, line: bytes, is_change: bool, noted: bytes | N
 
     def begun() -> None:
         if noted is not None:
-            (session.hub.note_change if is_change else session.hub.note)(session.number, noted)
+            (session.line_intake.note_change if is_change else session.line_intake.note)(session.number, noted)
 
     if is_change:
-        session.hub.change(line, session.actor, done, begun)
+        session.line_intake.change(line, session.actor, done, begun)
     else:
         begun()
-        session.hub.ask(line, done)
+        session.line_intake.ask(line, done)
     return await answered

@@ -64,12 +64,12 @@ def listed(head: bytes, lines: list[bytes]) -> bytes:
 
 
 class Answering:
-    def __init__(self, hub: LineIntake, directory: Directory, keyrings: Keyrings, status: Status) -> None:
-        self._hub = hub
+    def __init__(self, intake: LineIntake, directory: Directory, keyrings: Keyrings, status: Status) -> None:
+        self._intake = intake
         self._directory = directory
         self._keyrings = keyrings
         self._status = status
-        self._known = LastKnown(lambda: hub.is_away, lambda: hub.find(lambda finder: finder.figures()))
+        self._known = LastKnown(lambda: intake.is_away, lambda: intake.find(lambda finder: finder.figures()))
 
     async def answer(self, session: Session, slot: Slot, line: bytes) -> None:
         """Answers one line."""
@@ -88,14 +88,14 @@ class Answering:
             return failed.reply
 
     def _would_be_too_old(self, line: bytes) -> bool:
-        return self._hub.is_too_old and line.partition(b" ")[2].partition(b" ")[0] in QUESTIONS_OF_THE_SERVICE
+        return self._intake.is_too_old and line.partition(b" ")[2].partition(b" ")[0] in QUESTIONS_OF_THE_SERVICE
 
     async def _of_directory(self, session: Session, line: bytes) -> bytes | None:
         word, _, rest = line.partition(b" ")
         if word == b"load":
             reply, octets = await self._directory.load(line)
             if octets is None:
-                session.hub.note(session.number, line)
+                session.line_intake.note(session.number, line)
                 return reply
             return await asked(session, b"import " + octets.hex().encode(), is_change=True, noted=line)
         exported = await asked(session, b"export " + rest, is_change=False, noted=line)
@@ -113,15 +113,15 @@ class Answering:
             case b"issuers" if _FPR.fullmatch(text):
                 return await self._issuers_reply(session, bytes.fromhex(text.decode()))
             case b"certified" if _FPR.fullmatch(text):
-                return await session.hub.find(lambda finder: listed(b"service certified", [
+                return await session.line_intake.find(lambda finder: listed(b"service certified", [
                     b"on %d %s" % (depth, hexlify(fpr))
                     for fpr, depth in finder.certified(bytes.fromhex(text.decode()))]))
             case b"holders" if _KEY.fullmatch(text):
                 return await self._holders_reply(session, text.decode().lower())
             case b"excerpt":
-                return await excerpt_reply(session.hub, text)
+                return await excerpt_reply(session.line_intake, text)
             case b"log" if _COUNT.fullmatch(text):
-                return await log_reply(session.hub, int(text))
+                return await log_reply(session.line_intake, int(text))
             case b"unverified" if line == b"service unverified":
                 return await self._unverified_reply(session)
             case b"keyring":
@@ -130,15 +130,15 @@ class Answering:
 
     async def learn(self) -> None:
         """Reads the figures of a shared database, so that they can be reported while it can't be reached."""
-        if isinstance(self._hub.database, Shared):
+        if isinstance(self._intake.database, Shared):
             with contextlib.suppress(DatabaseFault):
                 await self._figures()
 
     async def _figures(self) -> tuple[Figures, int]:
         """The database's figures and its count of watched keyrings; if it can't be read, those of the last time."""
         figures, sources = await self._known.value(), len(await self._keyrings.sources())
-        if isinstance(self._hub.database, Shared) and self._hub.count is not None:
-            figures = replace(figures, change=self._hub.count)  # It may have what the engines don't have yet.
+        if isinstance(self._intake.database, Shared) and self._intake.count is not None:
+            figures = replace(figures, change=self._intake.count)  # It may have what the engines don't have yet.
         return figures, sources
 
     async def _status_reply(self, session: Session) -> bytes:
@@ -154,10 +154,10 @@ class Answering:
     @staticmethod
     async def _count_pending(session: Session, figures: Figures | None = None) -> int:
         """As an engine counts them; of a sliced keyring, as the database does or did the last time."""
-        if figures is not None and session.hub.is_away and session.hub.loaded is not None:
+        if figures is not None and session.line_intake.is_away and session.line_intake.loaded is not None:
             return figures.pending
         try:
-            count = await session.hub.pending()
+            count = await session.line_intake.pending()
         except DatabaseFault:
             if figures is None:
                 raise
@@ -188,7 +188,7 @@ class Answering:
             return listed(b"service find", [f"bind {one.fpr} {write_user_id(one.user_id)}".encode()
                                             for one in _FOUND_BY[word](finder, octets)])
 
-        return await (session.hub.search(look) if word in _SEARCHES else session.hub.find(look))
+        return await (session.line_intake.search(look) if word in _SEARCHES else session.line_intake.find(look))
 
     async def _issuers_reply(self, session: Session, fpr: bytes) -> bytes:
         def look(finder: Finder) -> bytes:
@@ -197,14 +197,14 @@ class Answering:
                 return _REFUSED_ABSENT
             return listed(b"service issuers", [f"by {one.hex()} {issuer.hex()}".encode() for one, issuer in issuers])
 
-        return await session.hub.find(look)
+        return await session.line_intake.find(look)
 
     @staticmethod
     async def _holders_reply(session: Session, key: str) -> bytes:
         """The certificates that have this key as their primary key or as a subkey, first those whose primary key it
         is. If there are too many, an attacker may have made them, and none is chosen."""
         key_id = bytes.fromhex(key if len(key) == 16 else key[:16] if len(key) == 64 else key[-16:])
-        found = await session.hub.find(lambda finder: finder.holders(key_id, _MOST_HOLDERS + 1))
+        found = await session.line_intake.find(lambda finder: finder.holders(key_id, _MOST_HOLDERS + 1))
         if len(found) > _MOST_HOLDERS or sum(map(len, found)) > _MOST_HOLDING_OCTETS:
             return _REFUSED_FULL
         holders = [(keys[0], octets) for octets in found

@@ -16,12 +16,12 @@ from ..storage.read_ahead import LONG_LINE
 class OwnChanges:
     """`resume` is called when lines behind a change may begin, and `give_up` when something fails."""
 
-    def __init__(self, hub: LineIntake, number: int, resume: Callable[[], None],
+    def __init__(self, intake: LineIntake, number: int, resume: Callable[[], None],
                  give_up: Callable[[Exception], None]) -> None:
         self.actor = Actor(-1, -1)
         self.waiting = 0
         self.is_reading = False  # A long line, behind which all others wait.
-        self._hub = hub
+        self._intake = intake
         self._number = number
         self._resume = resume
         self._give_up = give_up
@@ -36,7 +36,7 @@ class OwnChanges:
             self._task = asyncio.get_running_loop().create_task(self._change_long(line, done))
 
     def _change(self, line: bytes, done: Done) -> None:
-        self._hub.change(line, self.actor, done, partial(self._begun, line))
+        self._intake.change(line, self.actor, done, partial(self._begun, line))
 
     async def _change_long(self, line: bytes, done: Done) -> None:
         """Has a long change made once another thread has read it."""
@@ -55,5 +55,5 @@ class OwnChanges:
         self.waiting -= 1
         if len(line) > LONG_LINE:
             Capacity.forget(line)
-        self._hub.note_change(self._number, line)
+        self._intake.note_change(self._number, line)
         self._resume()

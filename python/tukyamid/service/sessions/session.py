@@ -33,11 +33,11 @@ _BUFFER = bytearray(1 << 15)
 class Session(asyncio.BufferedProtocol):
     """Takes lines and hands them on at once, up to a bound; replies go out in the order of their lines."""
 
-    def __init__(self, number: int, hub: LineIntake, helper: Helper, rights: Rights, shares: Joining,
+    def __init__(self, number: int, line_intake: LineIntake, helper: Helper, rights: Rights, shares: Joining,
                  made: Callable[[Session], None]) -> None:
         """`made` is called once the connection is there."""
         self.number = number
-        self.hub = hub
+        self.line_intake = line_intake
         self.rights = rights
         self.actor = Actor(NOBODY, NOBODY)
         self._loop = asyncio.get_running_loop()
@@ -46,7 +46,7 @@ class Session(asyncio.BufferedProtocol):
         self._made = made
         self._shares = shares
         self._views = Views(rights.most_views)
-        self._changes = OwnChanges(hub, number, self._begin_lines, self._give_up)
+        self._changes = OwnChanges(line_intake, number, self._begin_lines, self._give_up)
         self._is_beginning = self._is_ended = False
         self._task: asyncio.Task[None] | None = None
 
@@ -62,9 +62,9 @@ class Session(asyncio.BufferedProtocol):
             return
         self._views.budget = share.views
         self.intake = Intake(share, self, self._transport)
-        self.watches = self.hub.watches(self.outbox, self._views, share)
-        self.cursors = self.hub.cursors(self._views, share)
-        self.hub.clients.add(self)
+        self.watches = self.line_intake.watches(self.outbox, self._views, share)
+        self.cursors = self.line_intake.cursors(self._views, share)
+        self.line_intake.clients.add(self)
         self._made(self)
         if not self.rights.admit(self.actor):
             self._give_up(PermissionError(f"user {self.actor.uid} may not use this socket"))
@@ -96,8 +96,8 @@ class Session(asyncio.BufferedProtocol):
         self.outbox.close()
         if self._task is not None:
             self._task.cancel()
-        if self in self.hub.clients:
-            self.hub.clients.discard(self)
+        if self in self.line_intake.clients:
+            self.line_intake.clients.discard(self)
             self.watches.close()
             self.cursors.close()
             self.intake.close()
@@ -143,7 +143,7 @@ class Session(asyncio.BufferedProtocol):
     def _has_room(self, line: bytes) -> bool:
         """Whether one more line may be under way."""
         slots, word = self.outbox.slots, line.partition(b" ")[0]
-        if self._changes.is_reading or not self.hub.takes(line):
+        if self._changes.is_reading or not self.line_intake.takes(line):
             return False
         if not self.outbox.is_done:
             if len(slots) >= _MOST_LINES or self.outbox.octets + len(line) > _MOST_OCTETS or word in ALONE:
@@ -158,7 +158,7 @@ class Session(asyncio.BufferedProtocol):
         slot = Slot(word, len(line or b""))
         self.outbox.add(slot)
         self.intake.begin(slot)
-        is_too_old = self.hub.most_age is not None and word in QUESTIONS and self.hub.is_too_old
+        is_too_old = word in QUESTIONS and self.line_intake.is_too_old
         if line is None or is_too_old:
             self.outbox.answer(slot, FAULT if is_too_old else REFUSED_LONG)
             return
@@ -169,18 +169,18 @@ class Session(asyncio.BufferedProtocol):
             self._changes.begin(line, partial(self._answered, slot))
             return
         if line == b"dump":
-            self.hub.snapshot(partial(self._dumped, slot, list(self._views.lines())),
-                              partial(self.hub.note, self.number, line))
+            dumped = partial(self._dumped, slot, list(self._views.lines()))
+            self.line_intake.snapshot(dumped, partial(self.line_intake.note, self.number, line))
             return
-        self.hub.note(self.number, line)
+        self.line_intake.note(self.number, line)
         if word in MAY_CHANGE and not self.rights.may_change:
             self.outbox.answer(slot, REFUSED_READ_ONLY)
         elif word in OF_A_VIEW:
             self._ask_view(slot, line)
         elif line == b"keys":
-            self.hub.keys(partial(self._answered, slot))
+            self.line_intake.keys(partial(self._answered, slot))
         elif word in OF_THE_KEYRING:
-            self.hub.ask(line, partial(self._answered, slot))
+            self.line_intake.ask(line, partial(self._answered, slot))
         elif word == b"view":
             self._take_view(slot, line)
         elif word == b"watch":
@@ -192,10 +192,10 @@ class Session(asyncio.BufferedProtocol):
 
     def _answered(self, slot: Slot, reply: bytes | Pieces | None, count: int) -> None:
         try:
-            if self.hub.most_age is not None and reply and slot.word in WITHOUT_EFFECT and self.hub.is_too_old:
+            if reply and slot.word in WITHOUT_EFFECT and self.line_intake.is_too_old:
                 reply = FAULT  # It has grown old meanwhile.
             elif reply is None:
-                self.hub.report(f"client {self.number} is disconnected: its line killed the engine several times")
+                self.line_intake.report(f"client {self.number} is disconnected: a line killed the engine several times")
             elif slot.finish is not None and isinstance(reply, bytes):
                 reply = slot.finish(reply, count)
             self.outbox.answer(slot, reply)
@@ -208,10 +208,10 @@ class Session(asyncio.BufferedProtocol):
         view = self._views.get(name)
         if not is_name(name):
             self.outbox.answer(slot, REFUSED_LINE)
-        elif view is None:
-            self.hub.ask(b"%s -%s%s" % (word, space, rest), partial(self._answered, slot))  # No view has this name.
-        elif self.hub.early is not None:
-            self.hub.early.question(word, view.value, space + rest, partial(self._answered, slot))
+        elif view is None:  # No view has the name `-` in its place.
+            self.line_intake.ask(b"%s -%s%s" % (word, space, rest), partial(self._answered, slot))
+        elif self.line_intake.early is not None:
+            self.line_intake.early.question(word, view.value, space + rest, partial(self._answered, slot))
         else:
             self.watches.ask(name, word, view.value, space + rest, partial(self._answered, slot))
 
@@ -241,10 +241,10 @@ class Session(asyncio.BufferedProtocol):
 
     def drop(self, why: str) -> None:
         """Ends the connection at once."""
-        self.hub.report(f"client {self.number} {why} and is disconnected")
+        self.line_intake.report(f"client {self.number} {why} and is disconnected")
         self.outbox.drop()
 
     def _give_up(self, error: Exception) -> None:
-        self.hub.report(f"client {self.number}: {error!r}")
+        self.line_intake.report(f"client {self.number}: {error!r}")
         self.intake.lines.clear()
         self.outbox.drop()

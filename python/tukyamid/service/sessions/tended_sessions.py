@@ -18,8 +18,8 @@ _MOST_SPOOLED = 256 << 20  # Octets of long replies of one user that aren't read
 class TendedSessions:
     """`closed` is called when one has ended."""
 
-    def __init__(self, hub: LineIntake, closed: Callable[[Session], None]) -> None:
-        self._hub = hub
+    def __init__(self, line_intake: LineIntake, closed: Callable[[Session], None]) -> None:
+        self._line_intake = line_intake
         self._closed = closed
         self._sessions: set[Session] = set()
         self._log = LogGrowth()
@@ -40,17 +40,17 @@ class TendedSessions:
         now = asyncio.get_running_loop().time()
         for session in list(self._sessions):
             if session.outbox.drop_where_unread(now, patience):
-                self._hub.report(f"client {session.number} doesn't read its replies and is disconnected")
+                self._line_intake.report(f"client {session.number} doesn't read its replies and is disconnected")
             elif session.intake.holds_up_others(now, patience):
                 session.drop("doesn't finish its long line")
         self._drop_slowest()
         self._drop_largest()
-        self._hub.cut_stuck()
+        self._line_intake.cut_stuck()
 
     def _drop_slowest(self) -> None:
         """Drops the client that has read for longest from the database as it was: its log grows until that is over."""
         reading = [session for session in self._sessions if session.outbox.pinned_since < float("inf")]
-        if self._log.grown(self._hub.database.log_octets(), bool(reading)) > _LARGEST_LOG:
+        if self._log.grown(self._line_intake.database.log_octets(), bool(reading)) > _LARGEST_LOG:
             min(reading, key=lambda one: one.outbox.pinned_since).drop("reads the keyring too slowly")
 
     def _drop_largest(self) -> None:
