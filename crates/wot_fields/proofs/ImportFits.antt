@@ -14,11 +14,10 @@ use Rattle.wot_types.specs.SigNumber.{number_of_digits}
 use Rattle.wot_types.specs.ViewName.{view_name_of}
 use Rattle.wot_types.specs.declared.number.SigNumber.{SigNumber}
 use Rattle.wot_fields.specs.Decimal.{decimal_up_to}
-use Rattle.wot_fields.specs.Fields.{◌>>=◌, behind, cut, read_behind}
-use Rattle.wot_fields.specs.StateLine.{IsWithin, import_of, judgement_of, root_of, setting_of, state_line_of, verdict_of}
-use Rattle.wot_fields.specs.StateLine.{view_of}
+use Rattle.wot_fields.specs.Fields.{◌>>=◌, behind, cut, field, octets_of_hex, read_behind}
+use Rattle.wot_fields.specs.StateLine.{IsWithin, judgement_of, root_of, setting_of, state_line_of}
 use Rattle.wot_fields.specs.declared.state_line.StateLine.{StateLine}
-use Rattle.wot_fields.specs.declared.state_line.StateLine.TheVariants.{Import, Good, Bad, Unjudge, Time, Close}
+use Rattle.wot_fields.specs.declared.state_line.StateLine.TheVariants.{Import, Good, Bad, Unjudge, Time, Root, Close}
 
 pub behind_short : (prefix text rest : List ℕ) → behind prefix text ≡ Some rest → length rest ≤ length text
 behind_short [] text rest e = let same : text ≡ rest = cc in omega (arith, ap length same)
@@ -61,8 +60,7 @@ module _ (size : ℕ) where
   abbrev Within : Option StateLine → Type 0
   Within o = IfSome o (IsWithin size)
 
-  import_within : (text : List ℕ) → length text ≤ size → Within (import_of text)
-  unfolding import_of
+  import_within : (text : List ℕ) → length text ≤ size → Within (option_map Import (octets_of_hex text))
   import_within text short = decoded (decode_of text) refl
     where
       even : (b : Bool) (r : Result (List ℕ) FromHexError) (octets : List ℕ)
@@ -88,8 +86,7 @@ module _ (size : ℕ) where
       (chosen_keeps (IsWithin size) (bytes_eq text (codes "bad")) (Bad number) none tt
       (chosen_keeps (IsWithin size) (bytes_eq text (codes "none")) (Unjudge number) None tt tt))
 
-  verdict_within : (text : List ℕ) → Within (verdict_of text)
-  unfolding verdict_of
+  verdict_within : (text : List ℕ) → Within (field number_of_digits judgement_of text)
   verdict_within text =
       bound_keeps (IsWithin size) (cut text) _ (λ first c.
       bound_keeps (IsWithin size) (number_of_digits first.0) _ (λ number n. judgement_within number first.1))
@@ -99,7 +96,7 @@ module _ (size : ℕ) where
   root_within view text =
       bound_keeps (IsWithin size) (cut text) _ (λ first c.
       bound_keeps (IsWithin size) (fpr_of_digits first.0) _ (λ fpr f.
-      bound_keeps (IsWithin size) (decimal_up_to 255 first.1) _ (λ amount a. tt)))
+      mapped_keeps (IsWithin size) (Root view fpr) (decimal_up_to 255 first.1) (λ amount a. tt)))
 
   setting_within : (view text : List ℕ) → Within (setting_of view text)
   unfolding setting_of
@@ -113,8 +110,7 @@ module _ (size : ℕ) where
       (λ rest b. root_within view rest)
       (chosen_keeps (IsWithin size) (bytes_eq text (codes "close")) (Close view) None tt tt))
 
-  view_within : (text : List ℕ) → Within (view_of text)
-  unfolding view_of
+  view_within : (text : List ℕ) → Within (field view_name_of setting_of text)
   view_within text =
       bound_keeps (IsWithin size) (cut text) _ (λ first c.
       bound_keeps (IsWithin size) (view_name_of first.0) _ (λ view v. setting_within view first.1))
@@ -122,12 +118,16 @@ module _ (size : ℕ) where
   line_within : (line : List ℕ) → length line ≤ size → Within (state_line_of line)
   unfolding state_line_of
   line_within line short =
-      let view : Option StateLine = read_behind (behind (codes "view ") line) view_of None in
-      let verdict : Option StateLine = read_behind (behind (codes "verdict ") line) verdict_of view in
-      behind_keeps (IsWithin size) (behind (codes "import ") line) import_of verdict
+      let import : List ℕ → Option StateLine = λ digits. option_map Import (octets_of_hex digits) in
+      let view : Option StateLine = read_behind (behind (codes "view ") line) (field view_name_of setting_of) None in
+      let verdict : Option StateLine =
+      read_behind (behind (codes "verdict ") line) (field number_of_digits judgement_of) view in
+      behind_keeps (IsWithin size) (behind (codes "import ") line) import verdict
       (λ rest b. import_within rest (omega (arith, behind_short (codes "import ") line rest b, short)))
-      (behind_keeps (IsWithin size) (behind (codes "verdict ") line) verdict_of view (λ rest b. verdict_within rest)
-      (behind_keeps (IsWithin size) (behind (codes "view ") line) view_of None (λ rest b. view_within rest) tt))
+      (behind_keeps (IsWithin size) (behind (codes "verdict ") line) (field number_of_digits judgement_of) view
+      (λ rest b. verdict_within rest)
+      (behind_keeps (IsWithin size) (behind (codes "view ") line) (field view_name_of setting_of) None
+      (λ rest b. view_within rest) tt))
 
 pub fits_line : (text : List ℕ) (line : StateLine) → state_line_of text ≡ Some line → IsWithin (length text) line
 fits_line text line e =

@@ -12,8 +12,8 @@ use Rattle.wot_types.specs.declared.fpr.Fpr.{Fpr}
 use Rattle.wot_types.specs.declared.number.SigNumber.{SigNumber}
 use Rattle.wot_fields.specs.Decimal.{decimal_up_to}
 use Rattle.wot_fields.specs.Fields.{◌>>=◌, cut, octets_of_hex}
-use Rattle.wot_fields.specs.StateLine.{IsOneLine, IsPrinted, import_of, judgement_of, most_octets, root_of, setting_of}
-use Rattle.wot_fields.specs.StateLine.{spelling, state_line_of, verdict_of, view_of}
+use Rattle.wot_fields.specs.StateLine.{IsOneLine, IsPrinted, judgement_of, most_octets, root_of, setting_of}
+use Rattle.wot_fields.specs.StateLine.{spelling, state_line_of}
 use Rattle.wot_fields.specs.Texts.{joined}
 use Rattle.wot_fields.specs.declared.state_line.StateLine.{StateLine}
 use Rattle.wot_fields.specs.declared.state_line.StateLine.TheVariants.{Import, Good, Bad, Unjudge, Time, Root, Close}
@@ -33,14 +33,14 @@ name_reads name h = rw h refl
 
 pub import_reads : (digits octets : List ℕ) → octets_of_hex digits ≡ Some octets
     → state_line_of (joined (codes "import " ∷ digits ∷ [])) ≡ Some (Import octets)
-unfolding state_line_of import_of
+unfolding state_line_of
 import_reads digits octets e =
     ap (λ text. option_map Import (octets_of_hex text)) (append-nil digits) ∙ ap (option_map Import) e
 
 verdict_reads : (digits text : List ℕ) (number : SigNumber) (line : StateLine) → Spaceless digits
     → number_of_digits digits ≡ Some number → judgement_of number text ≡ Some line
     → state_line_of (codes "verdict " ++ (digits ++ 32 ∷ text)) ≡ Some line
-unfolding state_line_of verdict_of
+unfolding state_line_of
 verdict_reads digits text number line free number_is e =
     bound (cut (digits ++ 32 ∷ text)) (digits, text)
     (λ first. number_of_digits first.0 >>= (λ n. judgement_of n first.1))
@@ -82,7 +82,7 @@ none_reads ns number free number_is =
 setting_reads : (name text : List ℕ) (line : StateLine) → is_view_name name ≡ true
     → setting_of name text ≡ Some line
     → state_line_of (codes "view " ++ (name ++ 32 ∷ text)) ≡ Some line
-unfolding state_line_of view_of
+unfolding state_line_of
 setting_reads name text line h e =
     bound (cut (name ++ 32 ∷ text)) (name, text)
     (λ first. view_name_of first.0 >>= (λ view. setting_of view first.1))
@@ -107,10 +107,10 @@ root_of_parts : (name ds text : List ℕ) (fpr : Fpr) (amount : ℕ) → Spacele
 unfolding root_of
 root_of_parts name ds text fpr amount free fpr_is amount_is =
     bound (cut (ds ++ 32 ∷ text)) (ds, text)
-    (λ first. fpr_of_digits first.0 >>= (λ f. decimal_up_to 255 first.1 >>= (λ a. Some (Root name f a))))
+    (λ first. fpr_of_digits first.0 >>= (λ f. option_map (Root name f) (decimal_up_to 255 first.1)))
     (cut_spaceless ds text free)
-    ∙ bound (fpr_of_digits ds) fpr (λ f. decimal_up_to 255 text >>= (λ a. Some (Root name f a))) fpr_is
-    ∙ bound (decimal_up_to 255 text) amount (λ a. Some (Root name fpr a)) amount_is
+    ∙ bound (fpr_of_digits ds) fpr (λ f. option_map (Root name f) (decimal_up_to 255 text)) fpr_is
+    ∙ ap (option_map (Root name fpr)) amount_is
 
 root_set : (name text : List ℕ) → setting_of name (codes "root " ++ text) ≡ root_of name text
 unfolding setting_of

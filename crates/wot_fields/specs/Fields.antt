@@ -32,6 +32,15 @@ cut_at separator (octet ∷ octets) =
 abbrev pub cut : List ℕ → Option (List ℕ × List ℕ)
 cut text = cut_at 32 text
 
+-- a field before this separator, read so, and then what follows the separator, given the field's value
+abbrev pub field_before : {A B : Type 0} → ℕ → (List ℕ → Option A) → (A → List ℕ → Option B) → List ℕ → Option B
+field_before separator read next text =
+    cut_at separator text >>= (λ parts. read parts.0 >>= (λ value. next value parts.1))
+
+-- a field before a space, and then what follows it
+abbrev pub field : {A B : Type 0} → (List ℕ → Option A) → (A → List ℕ → Option B) → List ℕ → Option B
+field read next text = field_before 32 read next text
+
 -- the octets that pairs of hexadecimal digits, in either case, spell
 abbrev pub octets_of_hex : List ℕ → Option (List ℕ)
 octets_of_hex digits = result_ok (decode_of digits)

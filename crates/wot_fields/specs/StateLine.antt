@@ -12,7 +12,7 @@ use Rattle.wot_types.specs.SigNumber.{number_digits, number_of_digits}
 use Rattle.wot_types.specs.ViewName.{view_name_of}
 use Rattle.wot_types.specs.declared.number.SigNumber.{SigNumber}
 use Rattle.wot_fields.specs.Decimal.{decimal_up_to}
-use Rattle.wot_fields.specs.Fields.{◌>>=◌, behind, cut, octets_of_hex, read_behind}
+use Rattle.wot_fields.specs.Fields.{behind, field, octets_of_hex, read_behind}
 use Rattle.wot_fields.specs.Texts.{joined}
 use Rattle.wot_fields.specs.declared.state_line.StateLine.{StateLine}
 use Rattle.wot_fields.specs.declared.state_line.StateLine.TheVariants.{Import, Good, Bad, Unjudge, Time, Root, Close}
@@ -49,10 +49,6 @@ pub record IsOneLine (most : ℕ) (text : List ℕ) : Type 0 where
 
 -- ---- read
 
--- after `import `: HEX
-unfoldable pub import_of : List ℕ → Option StateLine
-import_of digits = option_map Import (octets_of_hex digits)
-
 -- after `verdict NUM `: `good FPR`, `bad` or `none`
 unfoldable pub judgement_of : SigNumber → List ℕ → Option StateLine
 judgement_of number text =
@@ -61,20 +57,10 @@ judgement_of number text =
     else if bytes_eq text (codes "none") then Some (Unjudge number)
     else None)
 
--- after `verdict `: NUM and the rest
-unfoldable pub verdict_of : List ℕ → Option StateLine
-verdict_of text = do
-  first ← cut text
-  number ← number_of_digits first.0
-  judgement_of number first.1
-
 -- after `view V root `: FPR A
 unfoldable pub root_of : List ℕ → List ℕ → Option StateLine
-root_of view text = do
-  first ← cut text
-  fpr ← fpr_of_digits first.0
-  amount ← decimal_up_to 255 first.1
-  Some (Root view fpr amount)
+root_of view text =
+    field fpr_of_digits (λ fpr digits. option_map (Root view fpr) (decimal_up_to 255 digits)) text
 
 -- after `view V `: `time T`, `root FPR A` or `close`
 unfoldable pub setting_of : List ℕ → List ℕ → Option StateLine
@@ -83,19 +69,13 @@ setting_of view text =
     read_behind (behind (codes "root ") text) (root_of view) (
     if bytes_eq text (codes "close") then Some (Close view) else None))
 
--- after `view `: V and the rest
-unfoldable pub view_of : List ℕ → Option StateLine
-view_of text = do
-  first ← cut text
-  view ← view_name_of first.0
-  setting_of view first.1
-
--- what such a line sets; None for any other line
+-- What such a line sets; None for any other line. After `import `: HEX. After `verdict `: NUM and the rest. After
+-- `view `: V and the rest.
 unfoldable pub state_line_of : List ℕ → Option StateLine
 state_line_of line =
-    read_behind (behind (codes "import ") line) import_of (
-    read_behind (behind (codes "verdict ") line) verdict_of (
-    read_behind (behind (codes "view ") line) view_of None))
+    read_behind (behind (codes "import ") line) (λ digits. option_map Import (octets_of_hex digits)) (
+    read_behind (behind (codes "verdict ") line) (field number_of_digits judgement_of) (
+    read_behind (behind (codes "view ") line) (field view_name_of setting_of) None))
 
 -- an import has at most half as many octets as its line
 abbrev pub IsWithin : ℕ → StateLine → Type 0

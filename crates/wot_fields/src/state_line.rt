@@ -5,10 +5,12 @@
 ghost use Rattle.std.specs.Prelude.{◌≡◌, ◌++◌, IfOk, OnOk, OnErr};
 ghost use Rattle.std.specs.Option.{option_map};
 ghost use Rattle.wot_types.specs.Fpr.{fpr_of_digits};
+ghost use Rattle.wot_types.specs.SigNumber.{number_of_digits};
+ghost use Rattle.wot_types.specs.ViewName.{view_name_of};
 ghost use Rattle.wot_fields.specs.Appends.{Appends};
 ghost use Rattle.wot_fields.specs.Decimal.{decimal_up_to};
-ghost use Rattle.wot_fields.specs.StateLine.{IsPrinted, import_of, judgement_of, root_of, setting_of, spelling};
-ghost use Rattle.wot_fields.specs.StateLine.{state_line_of, verdict_of, view_of};
+ghost use Rattle.wot_fields.specs.Fields.{field, octets_of_hex};
+ghost use Rattle.wot_fields.specs.StateLine.{IsPrinted, judgement_of, root_of, setting_of, spelling, state_line_of};
 
 use crate::Piece::{Decimal, Hex, Key, Signature, Text};
 use crate::laws::state_line_is_read;
@@ -142,9 +144,8 @@ pub fn print_state_line(line: &StateLine, out: &mut Vec<u8>) -> Result<(), Memor
 
 // ---- read
 
-#[tactic(auto, unfolding(crate::specs::StateLine::import_of))]
 fn read_import(alloc: Global, digits: &[u8]) -> Result<Option<StateLine>, Memory>
-    ensures { IfOk result (λ line. line ≡ import_of digits.now) }
+    ensures { IfOk result (λ line. line ≡ option_map StateLine.Import (octets_of_hex digits.now)) }
 {
     match read_hex(alloc, digits)? {
         Some(octets) => Ok(Some(StateLine::Import(octets))),
@@ -175,9 +176,8 @@ fn read_judgement(number: SigNumber, text: &[u8]) -> Option<StateLine>
     None
 }
 
-#[tactic(auto, unfolding(crate::specs::StateLine::verdict_of))]
 fn read_verdict(text: &[u8]) -> Option<StateLine>
-    ensures { result ≡ verdict_of text.now }
+    ensures { result ≡ field number_of_digits judgement_of text.now }
 {
     let first = cut_field(text)?;
     let number = SigNumber::read(first.field)?;
@@ -217,9 +217,8 @@ fn read_setting(view: ViewName, text: &[u8]) -> Option<StateLine>
     None
 }
 
-#[tactic(auto, unfolding(crate::specs::StateLine::view_of))]
 fn read_view(alloc: Global, text: &[u8]) -> Result<Option<StateLine>, Memory>
-    ensures { IfOk result (λ line. line ≡ view_of text.now) }
+    ensures { IfOk result (λ line. line ≡ field view_name_of setting_of text.now) }
 {
     let Some(first) = cut_field(text) else {
         return Ok(None);
