@@ -15,7 +15,7 @@ use Rattle.wot_reply_lines.specs.declared.claims.ClaimStepLine.{ClaimStepLine}
 use Rattle.wot_reply_lines.specs.declared.claims.LabelLine.{LabelLine}
 use Rattle.wot_fields.specs.Decimal.{is_decimal, positive_up_to}
 use Rattle.wot_fields.specs.Fields.{◌>>=◌, cut_at}
-use Rattle.wot_fields.proofs.ImportFits.{bound_keeps, so}
+use Rattle.wot_fields.proofs.ImportFits.{bound_keeps, mapped_keeps, so}
 use Rattle.wot_reply_lines.proofs.Items.{parts_of}
 
 -- there is at most one part more than octets
@@ -89,7 +89,7 @@ unfolding label_of
 label_positive text =
     bound_keeps IsLabelSpelled (cut_at 61 text) _ (λ parts c.
     bound_keeps IsLabelSpelled (fpr_of_digits parts.0) _ (λ fpr f.
-    bound_keeps IsLabelSpelled (positive_up_to 255 parts.1) _
+    mapped_keeps IsLabelSpelled (λ n. record { 0 = fpr; 1 = n }) (positive_up_to 255 parts.1)
     (λ n e. (positive_wanted 255 parts.1 n e, positive_most 255 parts.1 n e))))
 
 any_step : (text : List ℕ) → IfSome (step_of text) (λ step. Unit {0})

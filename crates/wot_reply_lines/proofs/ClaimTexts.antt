@@ -1,16 +1,17 @@
 -- Claimed paths and labels are printed and read back.
 use Rattle.std.proofs.Common.{◌≡◌, ℕ, ◌+◌, ◌*◌, ◌<◌, ◌≤◌, ◌^◌, true, List, [], ◌∷◌, ◌++◌, length, Option, Some, refl}
-use Rattle.std.proofs.Common.{◌∙◌, arith, length-append}
+use Rattle.std.proofs.Common.{ap, ◌∙◌, arith, length-append}
 use Rattle.std.specs.Prelude.{nat_le, if◌then◌else◌, None}
 use Rattle.std.specs.Fmt.{decimal}
 use Rattle.std.specs.List.{AllByRecursion, flat_map}
+use Rattle.std.specs.Option.{option_map}
 use Rattle.std.proofs.lemmas.Bool.{le-leb}
 use Rattle.std.proofs.lemmas.Fmt.{length-decimal-le}
 use Rattle.hex.specs.Hex.{lower_digits}
 use Rattle.wot_types.specs.Fpr.{digits_of, fpr_of_digits, octets_of}
 use Rattle.wot_types.specs.declared.fpr.Fpr.{Fpr}
 use Rattle.wot_reply_lines.specs.ClaimLaws.{IsClaimPrinted, IsLabelPrinted, IsStepPrinted}
-use Rattle.wot_reply_lines.specs.Claims.{claim_of, claim_text, claims_of, field_of, field_text, IsPathSpelled}
+use Rattle.wot_reply_lines.specs.Claims.{claim_of, claim_text, field_of, field_text, IsPathSpelled}
 use Rattle.wot_reply_lines.specs.Claims.{is_rising, items_of, items_text, label_of, label_text, labels_of, most_paths}
 use Rattle.wot_reply_lines.specs.Claims.{step_of, step_text}
 use Rattle.wot_fields.specs.Decimal.{decimal_up_to, positive_up_to}
@@ -44,11 +45,11 @@ unfolding step_of lacks_test
 step_reads step key number =
     bound (cut_at 46 (step_text step)) (digits_of step.0, decimal step.1)
     (λ parts. fpr_of_digits parts.0 >>=
-    (λ issuer. decimal_up_to 4294967295 parts.1 >>= (λ place. Some (record { 0 = issuer; 1 = place }))))
+    (λ issuer. option_map (λ place. record { 0 = issuer; 1 = place }) (decimal_up_to 4294967295 parts.1)))
     (cut_lacking 46 (digits_of step.0) (decimal step.1) (lacks_digits 46 (octets_of step.0) (omega arith) refl))
     ∙ bound (fpr_of_digits (digits_of step.0)) step.0
-    (λ issuer. decimal_up_to 4294967295 (decimal step.1) >>= (λ place. Some (record { 0 = issuer; 1 = place }))) key
-    ∙ bound (decimal_up_to 4294967295 (decimal step.1)) step.1 (λ place. Some (record { 0 = step.0; 1 = place })) number
+    (λ issuer. option_map (λ place. record { 0 = issuer; 1 = place }) (decimal_up_to 4294967295 (decimal step.1))) key
+    ∙ ap (option_map (λ place. record { 0 = step.0; 1 = place })) number
 
 pub step_printed : (step : ClaimStepLine) → fpr_of_digits (digits_of step.0) ≡ Some step.0
     → decimal_up_to 4294967295 (decimal step.1) ≡ Some step.1 → step.1 < 2 ^ 64 → IsStepPrinted step
@@ -81,11 +82,12 @@ label_reads : (label : LabelLine) → fpr_of_digits (digits_of label.0) ≡ Some
 unfolding label_of lacks_test
 label_reads label key number =
     bound (cut_at 61 (label_text label)) (digits_of label.0, decimal label.1)
-    (λ parts. fpr_of_digits parts.0 >>= (λ fpr. positive_up_to 255 parts.1 >>= (λ n. Some (record { 0 = fpr; 1 = n }))))
+    (λ parts. fpr_of_digits parts.0
+    >>= (λ fpr. option_map (λ n. record { 0 = fpr; 1 = n }) (positive_up_to 255 parts.1)))
     (cut_lacking 61 (digits_of label.0) (decimal label.1) (lacks_digits 61 (octets_of label.0) (omega arith) refl))
     ∙ bound (fpr_of_digits (digits_of label.0)) label.0
-    (λ fpr. positive_up_to 255 (decimal label.1) >>= (λ n. Some (record { 0 = fpr; 1 = n }))) key
-    ∙ bound (positive_up_to 255 (decimal label.1)) label.1 (λ n. Some (record { 0 = label.0; 1 = n })) number
+    (λ fpr. option_map (λ n. record { 0 = fpr; 1 = n }) (positive_up_to 255 (decimal label.1))) key
+    ∙ ap (option_map (λ n. record { 0 = label.0; 1 = n })) number
 
 pub label_printed : (label : LabelLine) → fpr_of_digits (digits_of label.0) ≡ Some label.0
     → positive_up_to 255 (decimal label.1) ≡ Some label.1 → label.1 < 2 ^ 64 → IsLabelPrinted label
@@ -221,7 +223,7 @@ length-claims_field (claim ∷ claims) all =
     omega (arith, later, parts, all.0.size)
 
 pub claims_field : (claims : List ClaimLine) → AllByRecursion IsClaimPrinted claims
-    → IsField claims_of (1 + most_paths claims) (field_text claim_text claims) claims
+    → IsField (field_of claim_of) (1 + most_paths claims) (field_text claim_text claims) claims
 claims_field claims all = record {
   back = field_read claim_of claim_text claims
       (all_follow IsClaimPrinted (IsItem 44 claim_of claim_text) claims

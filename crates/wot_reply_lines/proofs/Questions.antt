@@ -1,13 +1,14 @@
 -- A printed question is read back, and a question that was read wants at least 1.
 use Rattle.std.proofs.Common.{◌≡◌, ℕ, ◌≤◌, List, [], ◌∷◌, ◌++◌, Option, Some, None, refl, ap, ◌∙◌, append-nil}
 use Rattle.std.specs.Prelude.{codes, IfSome}
+use Rattle.std.specs.Option.{option_map}
 use Rattle.wot_types.specs.Fpr.{fpr_of_digits}
 use Rattle.wot_types.specs.declared.fpr.Fpr.{Fpr}
 use Rattle.wot_fields.specs.Decimal.{positive_up_to}
 use Rattle.wot_fields.specs.Fields.{◌>>=◌, cut}
 use Rattle.wot_fields.specs.Texts.{joined}
 use Rattle.wot_fields.specs.Uid.{unescaped}
-use Rattle.wot_fields.proofs.ImportFits.{so}
+use Rattle.wot_fields.proofs.ImportFits.{mapped_keeps, so}
 use Rattle.wot_fields.proofs.Spaceless.{Spaceless, cut_spaceless}
 use Rattle.wot_fields.proofs.StateLines.{bound}
 use Rattle.wot_reply_lines.specs.Question.{question_of}
@@ -28,16 +29,16 @@ unfolding question_of
 question_reads_as ds ws us uid fpr wanted free fpr_is free_too wanted_is uid_is =
     bound (cut (asking ds ws us)) (ds, ws ++ 32 ∷ us)
     (λ second. fpr_of_digits second.0 >>= (λ f. cut second.1 >>= (λ third. positive_up_to 4294967295 third.0
-    >>= (λ w. unescaped third.1 >>= (λ u. Some (question f w u))))))
+    >>= (λ w. option_map (question f w) (unescaped third.1)))))
     (cut_spaceless ds (ws ++ 32 ∷ us) free)
     ∙ bound (fpr_of_digits ds) fpr
     (λ f. cut (ws ++ 32 ∷ us) >>= (λ third. positive_up_to 4294967295 third.0
-    >>= (λ w. unescaped third.1 >>= (λ u. Some (question f w u))))) fpr_is
+    >>= (λ w. option_map (question f w) (unescaped third.1)))) fpr_is
     ∙ bound (cut (ws ++ 32 ∷ us)) (ws, us)
-    (λ third. positive_up_to 4294967295 third.0 >>= (λ w. unescaped third.1 >>= (λ u. Some (question fpr w u))))
+    (λ third. positive_up_to 4294967295 third.0 >>= (λ w. option_map (question fpr w) (unescaped third.1)))
     (cut_spaceless ws us free_too)
-    ∙ bound (positive_up_to 4294967295 ws) wanted (λ w. unescaped us >>= (λ u. Some (question fpr w u))) wanted_is
-    ∙ bound (unescaped us) uid (λ u. Some (question fpr wanted u)) uid_is
+    ∙ bound (positive_up_to 4294967295 ws) wanted (λ w. option_map (question fpr w) (unescaped us)) wanted_is
+    ∙ ap (option_map (question fpr wanted)) uid_is
 
 pub question_reads : (ds ws us uid : List ℕ) (fpr : Fpr) (wanted : ℕ) → Spaceless ds → fpr_of_digits ds ≡ Some fpr
     → Spaceless ws → positive_up_to 4294967295 ws ≡ Some wanted → unescaped us ≡ Some uid
@@ -63,7 +64,8 @@ all_want : (text : List ℕ) → IfSome (question_of text) (λ q. 1 ≤ q.wanted
 unfolding question_of
 all_want text =
     bound_wants (cut text) _ (λ first. bound_wants (fpr_of_digits first.0) _ (λ fpr. bound_wants (cut first.1) _
-    (λ second. numbered_wants second.0 _ (λ n some. bound_wants (unescaped second.1) _ (λ uid. some))
+    (λ second. numbered_wants second.0 _ (λ n some.
+    mapped_keeps (λ (q : Question). 1 ≤ q.wanted) (question fpr n) (unescaped second.1) (λ uid u. some))
     (positive_up_to 4294967295 second.0) refl)))
 
 pub question_wants : (text : List ℕ) (q : Question) → question_of text ≡ Some q → 1 ≤ q.wanted

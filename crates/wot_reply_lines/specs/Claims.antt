@@ -8,7 +8,7 @@ use Rattle.std.specs.Ordering.{is_lt}
 use Rattle.std.specs.Str.{bytes_eq}
 use Rattle.wot_types.specs.Fpr.{digits_of, fpr_cmp, fpr_of_digits}
 use Rattle.wot_fields.specs.Decimal.{decimal_up_to, positive_up_to}
-use Rattle.wot_fields.specs.Fields.{◌>>=◌, cut_at}
+use Rattle.wot_fields.specs.Fields.{◌>>=◌, field_before}
 use Rattle.wot_reply_lines.specs.declared.claims.ClaimLine.{ClaimLine}
 use Rattle.wot_reply_lines.specs.declared.claims.ClaimStepLine.{ClaimStepLine}
 use Rattle.wot_reply_lines.specs.declared.claims.LabelLine.{LabelLine}
@@ -29,7 +29,7 @@ abbrev pub items_text : {A : Type 0} → ℕ → (A → List ℕ) → List A →
 items_text separator text [] = []
 items_text separator text (item ∷ items) = text item ++ flat_map (λ other. separator ∷ text other) items
 
--- `-` for none, or items that are separated by `,`
+-- PATHS and TABLE: `-` for none, or items that are separated by `,`
 abbrev pub field_of : {A : Type 0} → (List ℕ → Option A) → List ℕ → Option (List A)
 field_of read text = if bytes_eq text (codes "-") then Some [] else items_of 44 read text
 
@@ -41,39 +41,26 @@ field_text text (item ∷ items) = items_text 44 text (item ∷ items)
 
 -- FPR, `.` and the index of the user ID
 unfoldable pub step_of : List ℕ → Option ClaimStepLine
-step_of text = do
-  parts ← cut_at 46 text
-  issuer ← fpr_of_digits parts.0
-  place ← decimal_up_to 4294967295 parts.1
-  Some (record { 0 = issuer; 1 = place })
+step_of text = field_before 46 fpr_of_digits (λ issuer digits.
+    option_map (λ place. record { 0 = issuer; 1 = place }) (decimal_up_to 4294967295 digits)) text
 
 abbrev pub step_text : ClaimStepLine → List ℕ
 step_text step = digits_of step.0 ++ 46 ∷ decimal step.1
 
 -- an amount, `/` and at most 255 steps with `/` between them
 unfoldable pub claim_of : List ℕ → Option ClaimLine
-claim_of text = do
-  parts ← cut_at 47 text
-  amount ← positive_up_to 255 parts.0
-  steps ← items_of 47 step_of parts.1
-  if nat_le (length steps) 255 then Some (record { 0 = amount; 1 = steps }) else None
+claim_of text = field_before 47 (positive_up_to 255) (λ amount rest. items_of 47 step_of rest >>= (λ steps.
+    if nat_le (length steps) 255 then Some (record { 0 = amount; 1 = steps }) else None)) text
 
 abbrev pub claim_text : ClaimLine → List ℕ
 claim_text claim = decimal claim.0 ++ 47 ∷ items_text 47 step_text claim.1
-
--- PATHS
-abbrev pub claims_of : List ℕ → Option (List ClaimLine)
-claims_of text = field_of claim_of text
 
 -- ---- labels
 
 -- FPR, `=` and a label
 unfoldable pub label_of : List ℕ → Option LabelLine
-label_of text = do
-  parts ← cut_at 61 text
-  fpr ← fpr_of_digits parts.0
-  label ← positive_up_to 255 parts.1
-  Some (record { 0 = fpr; 1 = label })
+label_of text = field_before 61 fpr_of_digits (λ fpr digits.
+    option_map (λ label. record { 0 = fpr; 1 = label }) (positive_up_to 255 digits)) text
 
 abbrev pub label_text : LabelLine → List ℕ
 label_text label = digits_of label.0 ++ 61 ∷ decimal label.1

@@ -1,23 +1,20 @@
 -- A question in a line.
 use Rattle.std.specs.Prelude.{ℕ, ◌≡◌, List, [], ◌∷◌, Option, Some, codes}
 use Rattle.std.specs.Fmt.{decimal}
+use Rattle.std.specs.Option.{option_map}
 use Rattle.wot_types.specs.Fpr.{digits_of, fpr_of_digits}
 use Rattle.wot_types.specs.declared.fpr.Fpr.{Fpr}
 use Rattle.wot_fields.specs.Decimal.{positive_up_to}
-use Rattle.wot_fields.specs.Fields.{◌>>=◌, cut}
+use Rattle.wot_fields.specs.Fields.{field}
 use Rattle.wot_fields.specs.Texts.{joined}
 use Rattle.wot_fields.specs.Uid.{escaped, unescaped}
 use Rattle.wot_reply_lines.specs.declared.question.Question.{Question}
 
 -- FPR N UID; UID is the rest of the line
 unfoldable pub question_of : List ℕ → Option Question
-question_of text = do
-  first ← cut text
-  fpr ← fpr_of_digits first.0
-  second ← cut first.1
-  wanted ← positive_up_to 4294967295 second.0
-  uid ← unescaped second.1
-  Some (record { fpr = fpr; wanted = wanted; uid = uid })
+question_of text =
+    field fpr_of_digits (λ fpr. field (positive_up_to 4294967295) (λ wanted uid.
+    option_map (λ octets. record { fpr = fpr; wanted = wanted; uid = octets }) (unescaped uid))) text
 
 -- FPR N UID
 abbrev pub question_parts : Fpr → ℕ → List ℕ → List (List ℕ)

@@ -6,7 +6,7 @@ ghost use Rattle.std.specs.Prelude.{◌≡◌, ◌++◌, ◌∷◌, ℕ, List, O
 ghost use Rattle.std.specs.List.{flat_map};
 ghost use Rattle.std.specs.Option.{option_map};
 ghost use Rattle.wot_fields.specs.Appends.{Appends};
-ghost use Rattle.wot_reply_lines.specs.Claims.{claim_of, claim_parts, claim_text, claims_of};
+ghost use Rattle.wot_reply_lines.specs.Claims.{claim_of, claim_parts, claim_text};
 ghost use Rattle.wot_reply_lines.specs.Claims.{field_of, field_text, is_rising};
 ghost use Rattle.wot_reply_lines.specs.Claims.{items_of, items_text, label_of, label_text, labels_of, step_of};
 ghost use Rattle.wot_reply_lines.specs.Claims.{step_text};
@@ -129,7 +129,7 @@ fn read_field<T: Item>(alloc: Global, text: &[u8]) -> Result<Option<Vec<T>>, Mem
 
 /// Reads claimed paths.
 pub fn read_claims(alloc: Global, text: &[u8]) -> Result<Option<ClaimLines>, Memory>
-    ensures { IfOk result (λ claims. claims ≡ claims_of text.now) }
+    ensures { IfOk result (λ claims. claims ≡ field_of claim_of text.now) }
 {
     match read_field::<ClaimLine>(alloc, text)? {
         Some(claims) => Ok(Some(Lines::from_vec(claims))),

@@ -7,7 +7,7 @@ use Rattle.std.specs.Str.{bytes_eq}
 use Rattle.std.proofs.lemmas.Bool.{and_parts}
 use Rattle.wot_types.specs.Fpr.{fpr_of_digits}
 use Rattle.wot_types.specs.ViewName.{view_name_of}
-use Rattle.wot_reply_lines.specs.Claims.{claim_of, claims_of, IsPathSpelled, labels_of}
+use Rattle.wot_reply_lines.specs.Claims.{claim_of, field_of, IsPathSpelled, labels_of}
 use Rattle.wot_fields.specs.Decimal.{positive_up_to}
 use Rattle.wot_fields.specs.Fields.{◌>>=◌, behind, cut, read_behind}
 use Rattle.wot_fields.specs.StateLine.{IsWithin, state_line_of}
@@ -21,8 +21,7 @@ use Rattle.wot_reply_lines.specs.declared.question.Question.{Question}
 use Rattle.wot_reply_lines.proofs.ClaimBounds.{claim_spelled, field_keeps, labels_rise, positive_wanted}
 use Rattle.wot_reply_lines.proofs.Questions.{question_wants}
 use Rattle.wot_script.proofs.WordLines.{When, when}
-use Rattle.wot_script.specs.Grammar.{about_of, checked_of, command_for, command_of, explained_of, other_of, over_of}
-use Rattle.wot_script.specs.Grammar.{paced_of, single_of, view_of, watch_of, watched_of}
+use Rattle.wot_script.specs.Grammar.{about_of, command_for, command_of, other_of, over_of, single_of, view_of, watch_of}
 use Rattle.wot_script.specs.OneWord.{has_word, word_of}
 use Rattle.wot_script.specs.Spelling.{HasSpelling, FitsLine}
 use Rattle.wot_fields.specs.Uid.{unescaped}
@@ -31,7 +30,7 @@ use Rattle.wot_script.specs.declared.read.About.{About}
 use Rattle.wot_script.specs.declared.read.About.TheVariants.{Asked, Listed, Explained, Missed, Checked, Paced}
 use Rattle.wot_script.specs.declared.read.About.TheVariants.{Watched}
 use Rattle.wot_script.specs.declared.command.Command.TheVariants.{Import, Load, Store, Remove, Ask, Explain, Export}
-use Rattle.wot_script.specs.declared.command.Command.TheVariants.{Absence, CursorOver, CursorNext, CursorClose}
+use Rattle.wot_script.specs.declared.command.Command.TheVariants.{Absence, Check, CursorOver, CursorNext, CursorClose}
 use Rattle.wot_script.specs.declared.command.Command.TheVariants.{WatchOn, WatchOff, Pending, Keys, Dump}
 
 module _ (size : ℕ) where
@@ -103,14 +102,14 @@ module _ (size : ℕ) where
       mapped (λ (q : Question). Absence view q.fpr q.wanted q.uid) (question_of text)
       (λ q e. (question_wants text q e, tt))
 
-  checked_spelled : (view text : List ℕ) → length text ≤ size → Spelled (checked_of view text)
-  unfolding checked_of
+  checked_spelled : (view text : List ℕ) → length text ≤ size → Spelled (about_of Checked view text)
   checked_spelled view text short =
       bound (cut text) _ (λ first f. bound (fpr_of_digits first.0) _ (λ fpr d.
-      bound (cut first.1) _ (λ second s. bound (claims_of second.0) _ (λ claims c.
+      bound (cut first.1) _ (λ second s. bound (field_of claim_of second.0) _ (λ claims c.
       bound (cut second.1) _ (λ third t. bound (labels_of third.0) _ (λ labels l.
-      bound (unescaped third.1) _ (λ uid u.
-      let paths = so _ (claims_of second.0) claims c (field_keeps IsPathSpelled claim_of claim_spelled second.0) in
+      mapped (Check view fpr claims labels) (unescaped third.1) (λ uid u.
+      let paths = so _ (field_of claim_of second.0) claims c
+      (field_keeps IsPathSpelled claim_of claim_spelled second.0) in
       let table = so _ (labels_of third.0) labels l (labels_rise third.0) in (
         record { paths = paths.0; numbers = table.0; rise = table.1 },
         omega (arith, short, paths.1, cut_short 32 text first f, cut_short 32 first.1 second s),
@@ -121,27 +120,25 @@ module _ (size : ℕ) where
       mapped (Command.List view) (positive_up_to 4294967295 digits)
       (λ wanted e. (positive_wanted 4294967295 digits wanted e, tt))
 
-  explained_spelled : (view text : List ℕ) → Spelled (explained_of view text)
-  unfolding explained_of
+  explained_spelled : (view text : List ℕ) → Spelled (about_of Explained view text)
   explained_spelled view text =
       bound (cut text)
-      (λ second. fpr_of_digits second.0 >>= (λ fpr. unescaped second.1 >>= (λ uid. Some (Explain view fpr uid))))
-      (λ second e. bound (fpr_of_digits second.0) (λ fpr. unescaped second.1 >>= (λ uid. Some (Explain view fpr uid)))
-      (λ fpr f. bound (unescaped second.1) (λ uid. Some (Explain view fpr uid)) (λ uid u. (tt, tt))))
+      (λ second. fpr_of_digits second.0 >>= (λ fpr. option_map (Explain view fpr) (unescaped second.1)))
+      (λ second e. bound (fpr_of_digits second.0) (λ fpr. option_map (Explain view fpr) (unescaped second.1))
+      (λ fpr f. mapped (Explain view fpr) (unescaped second.1) (λ uid u. (tt, tt))))
 
   over_spelled : (cursor text : List ℕ) → Spelled (over_of cursor text)
   unfolding over_of
   over_spelled cursor text =
       bound (cut text)
       (λ first. view_name_of first.0 >>=
-      (λ view. positive_up_to 4294967295 first.1 >>= (λ wanted. Some (CursorOver cursor view wanted))))
+      (λ view. option_map (CursorOver cursor view) (positive_up_to 4294967295 first.1)))
       (λ first e. bound (view_name_of first.0)
-      (λ view. positive_up_to 4294967295 first.1 >>= (λ wanted. Some (CursorOver cursor view wanted)))
-      (λ view v. bound (positive_up_to 4294967295 first.1) (λ wanted. Some (CursorOver cursor view wanted))
+      (λ view. option_map (CursorOver cursor view) (positive_up_to 4294967295 first.1))
+      (λ view v. mapped (CursorOver cursor view) (positive_up_to 4294967295 first.1)
       (λ wanted w. (positive_wanted 4294967295 first.1 wanted w, tt))))
 
-  paced_spelled : (cursor text : List ℕ) → Spelled (paced_of cursor text)
-  unfolding paced_of
+  paced_spelled : (cursor text : List ℕ) → Spelled (about_of Paced cursor text)
   paced_spelled cursor text =
       let next : List ℕ → Option Command =
       λ digits. option_map (CursorNext cursor) (positive_up_to 4294967295 digits) in
@@ -159,14 +156,13 @@ module _ (size : ℕ) where
   watch_spelled watch text =
       bound (cut text)
       (λ first. view_name_of first.0 >>=
-      (λ view. question_of first.1 >>= (λ (q : Question). Some (WatchOn watch view q.fpr q.wanted q.uid))))
+      (λ view. option_map (λ (q : Question). WatchOn watch view q.fpr q.wanted q.uid) (question_of first.1)))
       (λ first e. bound (view_name_of first.0)
-      (λ view. question_of first.1 >>= (λ (q : Question). Some (WatchOn watch view q.fpr q.wanted q.uid)))
-      (λ view v. bound (question_of first.1) (λ (q : Question). Some (WatchOn watch view q.fpr q.wanted q.uid))
+      (λ view. option_map (λ (q : Question). WatchOn watch view q.fpr q.wanted q.uid) (question_of first.1))
+      (λ view v. mapped (λ (q : Question). WatchOn watch view q.fpr q.wanted q.uid) (question_of first.1)
       (λ q e. (question_wants first.1 q e, tt))))
 
-  watched_spelled : (watch text : List ℕ) → Spelled (watched_of watch text)
-  unfolding watched_of
+  watched_spelled : (watch text : List ℕ) → Spelled (about_of Watched watch text)
   watched_spelled watch text =
       let off : Option Command = if bytes_eq text (codes "off") then Some (WatchOff watch) else None in
       behind_either (behind (codes "on ") text) (watch_of watch) off (watch_spelled watch)

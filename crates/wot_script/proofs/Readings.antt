@@ -6,7 +6,7 @@ use Rattle.wot_types.specs.Fpr.{fpr_of_digits}
 use Rattle.wot_types.specs.ViewName.{is_view_name, view_name_of}
 use Rattle.wot_types.specs.declared.fpr.Fpr.{Fpr}
 use Rattle.wot_types.specs.declared.name.Name.{Name}
-use Rattle.wot_reply_lines.specs.Claims.{claims_of, labels_of}
+use Rattle.wot_reply_lines.specs.Claims.{claim_of, field_of, labels_of}
 use Rattle.wot_reply_lines.specs.declared.claims.ClaimLine.{ClaimLine}
 use Rattle.wot_reply_lines.specs.declared.claims.LabelLine.{LabelLine}
 use Rattle.wot_fields.specs.Decimal.{positive_up_to}
@@ -14,9 +14,7 @@ use Rattle.wot_fields.specs.Fields.{◌>>=◌, cut}
 use Rattle.wot_reply_lines.specs.Entry.{entry_of}
 use Rattle.wot_reply_lines.specs.Question.{question_of}
 use Rattle.wot_reply_lines.specs.declared.question.Question.{Question}
-use Rattle.wot_script.specs.Grammar.{about_of, checked_of, command_for, command_of, explained_of, other_of, over_of}
-use Rattle.wot_script.specs.Grammar.{view_of}
-use Rattle.wot_script.specs.Grammar.{paced_of, watch_of, watched_of}
+use Rattle.wot_script.specs.Grammar.{about_of, command_for, command_of, other_of, over_of, view_of, watch_of}
 use Rattle.wot_fields.specs.Texts.{joined}
 use Rattle.wot_fields.specs.Uid.{unescaped}
 use Rattle.wot_script.specs.declared.command.Command.{Command}
@@ -93,14 +91,13 @@ list_reads name ws wanted h e =
 
 explained_reads : (name ds us uid : List ℕ) (fpr : Fpr) → Spaceless ds → fpr_of_digits ds ≡ Some fpr
     → unescaped us ≡ Some uid
-    → explained_of name (ds ++ 32 ∷ us) ≡ Some (Explain name fpr uid)
-unfolding explained_of
+    → about_of Explained name (ds ++ 32 ∷ us) ≡ Some (Explain name fpr uid)
 explained_reads name ds us uid fpr free fpr_is uid_is =
     bound (cut (ds ++ 32 ∷ us)) (ds, us)
-    (λ second. fpr_of_digits second.0 >>= (λ f. unescaped second.1 >>= (λ u. Some (Explain name f u))))
+    (λ second. fpr_of_digits second.0 >>= (λ f. option_map (Explain name f) (unescaped second.1)))
     (cut_spaceless ds us free)
-    ∙ bound (fpr_of_digits ds) fpr (λ f. unescaped us >>= (λ u. Some (Explain name f u))) fpr_is
-    ∙ bound (unescaped us) uid (λ u. Some (Explain name fpr u)) uid_is
+    ∙ bound (fpr_of_digits ds) fpr (λ f. option_map (Explain name f) (unescaped us)) fpr_is
+    ∙ ap (option_map (Explain name fpr)) uid_is
 
 pub explain_reads : (name ds us uid : List ℕ) (fpr : Fpr) → is_view_name name ≡ true → Spaceless ds
     → fpr_of_digits ds ≡ Some fpr → unescaped us ≡ Some uid
@@ -111,10 +108,9 @@ explain_reads name ds us uid fpr h free fpr_is uid_is =
     (explained_reads name ds (us ++ []) uid fpr free fpr_is (ap unescaped (append-nil us) ∙ uid_is))
 
 checked_reads : (name ds cs ls us uid : List ℕ) (fpr : Fpr) (claims : List ClaimLine) (labels : List LabelLine)
-    → Spaceless ds → fpr_of_digits ds ≡ Some fpr → Spaceless cs → claims_of cs ≡ Some claims → Spaceless ls
+    → Spaceless ds → fpr_of_digits ds ≡ Some fpr → Spaceless cs → field_of claim_of cs ≡ Some claims → Spaceless ls
     → labels_of ls ≡ Some labels → unescaped us ≡ Some uid
-    → checked_of name (ds ++ 32 ∷ (cs ++ 32 ∷ (ls ++ 32 ∷ us))) ≡ Some (Check name fpr claims labels uid)
-unfolding checked_of
+    → about_of Checked name (ds ++ 32 ∷ (cs ++ 32 ∷ (ls ++ 32 ∷ us))) ≡ Some (Check name fpr claims labels uid)
 checked_reads name ds cs ls us uid fpr claims labels df d cf c lf l u =
     rw (
       cut_spaceless ds (cs ++ 32 ∷ (ls ++ 32 ∷ us)) df,
@@ -127,7 +123,8 @@ checked_reads name ds cs ls us uid fpr claims labels df d cf c lf l u =
     ) refl
 
 pub check_reads : (name ds cs ls us uid : List ℕ) (fpr : Fpr) (claims : List ClaimLine) (labels : List LabelLine)
-    → is_view_name name ≡ true → Spaceless ds → fpr_of_digits ds ≡ Some fpr → Spaceless cs → claims_of cs ≡ Some claims
+    → is_view_name name ≡ true → Spaceless ds → fpr_of_digits ds ≡ Some fpr
+    → Spaceless cs → field_of claim_of cs ≡ Some claims
     → Spaceless ls → labels_of ls ≡ Some labels → unescaped us ≡ Some uid
     → command_of (joined
     (codes "check " ∷ name ∷ codes " " ∷ ds ∷ codes " " ∷ cs ∷ codes " " ∷ ls ∷ codes " " ∷ us ∷ []))
@@ -143,19 +140,19 @@ over_reads_of : (name view ws : List ℕ) (wanted : ℕ) → is_view_name view �
 unfolding over_of
 over_reads_of name view ws wanted h e =
     bound (cut (view ++ 32 ∷ ws)) (view, ws)
-    (λ first. view_name_of first.0 >>= (λ v. positive_up_to 4294967295 first.1 >>= (λ w. Some (CursorOver name v w))))
+    (λ first. view_name_of first.0 >>= (λ v. option_map (CursorOver name v) (positive_up_to 4294967295 first.1)))
     (cut_spaceless view ws (spaceless_view_name view h))
-    ∙ bound (view_name_of view) view (λ v. positive_up_to 4294967295 ws >>= (λ w. Some (CursorOver name v w)))
+    ∙ bound (view_name_of view) view (λ v. option_map (CursorOver name v) (positive_up_to 4294967295 ws))
     (name_reads view h)
-    ∙ bound (positive_up_to 4294967295 ws) wanted (λ w. Some (CursorOver name view w)) e
+    ∙ ap (option_map (CursorOver name view)) e
 
-paced_reads : (name text : List ℕ) (command : Command) → is_view_name name ≡ true → paced_of name text ≡ Some command
+paced_reads : (name text : List ℕ) (command : Command) → is_view_name name ≡ true
+    → about_of Paced name text ≡ Some command
     → command_of (codes "cursor " ++ (name ++ 32 ∷ text)) ≡ Some command
 unfolding command_of other_of state_line_of
 paced_reads name text command h e = view_reads Paced name text command h e
 
-over_paced : (name text : List ℕ) → paced_of name (codes "over " ++ text) ≡ over_of name text
-unfolding paced_of
+over_paced : (name text : List ℕ) → about_of Paced name (codes "over " ++ text) ≡ over_of name text
 over_paced name text = refl
 
 pub over_reads : (name view ws : List ℕ) (wanted : ℕ) → is_view_name name ≡ true → is_view_name view ≡ true
@@ -168,8 +165,7 @@ over_reads name view ws wanted h k e =
     ∙ over_reads_of name view (ws ++ []) wanted k (ap (positive_up_to 4294967295) (append-nil ws) ∙ e))
 
 next_paced : (name digits : List ℕ) (count : ℕ) → positive_up_to 4294967295 digits ≡ Some count
-    → paced_of name (codes "next " ++ (digits ++ [])) ≡ Some (CursorNext name count)
-unfolding paced_of
+    → about_of Paced name (codes "next " ++ (digits ++ [])) ≡ Some (CursorNext name count)
 next_paced name digits count e =
     ap (λ text. option_map (CursorNext name) (positive_up_to 4294967295 text)) (append-nil digits)
     ∙ ap (option_map (CursorNext name)) e
@@ -180,8 +176,7 @@ pub next_reads : (name digits : List ℕ) (count : ℕ) → is_view_name name �
 next_reads name digits count h e =
     paced_reads name (codes "next " ++ (digits ++ [])) (CursorNext name count) h (next_paced name digits count e)
 
-end_paced : (name : List ℕ) → paced_of name (codes "close") ≡ Some (CursorClose name)
-unfolding paced_of
+end_paced : (name : List ℕ) → about_of Paced name (codes "close") ≡ Some (CursorClose name)
 end_paced name = refl
 
 pub end_reads : (name : List ℕ) → is_view_name name ≡ true
@@ -194,20 +189,19 @@ unfolding watch_of
 watch_reads name view text q h e =
     bound (cut (view ++ 32 ∷ text)) (view, text)
     (λ first. view_name_of first.0 >>=
-    (λ v. question_of first.1 >>= (λ (o : Question). Some (WatchOn name v o.fpr o.wanted o.uid))))
+    (λ v. option_map (λ (o : Question). WatchOn name v o.fpr o.wanted o.uid) (question_of first.1)))
     (cut_spaceless view text (spaceless_view_name view h))
     ∙ bound (view_name_of view) view
-    (λ v. question_of text >>= (λ (o : Question). Some (WatchOn name v o.fpr o.wanted o.uid))) (name_reads view h)
-    ∙ bound (question_of text) q (λ (o : Question). Some (WatchOn name view o.fpr o.wanted o.uid)) e
+    (λ v. option_map (λ (o : Question). WatchOn name v o.fpr o.wanted o.uid) (question_of text)) (name_reads view h)
+    ∙ ap (option_map (λ (o : Question). WatchOn name view o.fpr o.wanted o.uid)) e
 
 watched_reads : (name text : List ℕ) (command : Command) → is_view_name name ≡ true
-    → watched_of name text ≡ Some command
+    → about_of Watched name text ≡ Some command
     → command_of (codes "watch " ++ (name ++ 32 ∷ text)) ≡ Some command
 unfolding command_of other_of state_line_of
 watched_reads name text command h e = view_reads Watched name text command h e
 
-on_watched : (name text : List ℕ) → watched_of name (codes "on " ++ text) ≡ watch_of name text
-unfolding watched_of
+on_watched : (name text : List ℕ) → about_of Watched name (codes "on " ++ text) ≡ watch_of name text
 on_watched name text = refl
 
 pub on_reads : (name view text : List ℕ) (q : Question) → is_view_name name ≡ true → is_view_name view ≡ true
@@ -218,8 +212,7 @@ on_reads name view text q h k e =
     watched_reads name (codes "on " ++ (view ++ 32 ∷ text)) (WatchOn name view q.fpr q.wanted q.uid) h
     (on_watched name (view ++ 32 ∷ text) ∙ watch_reads name view text q k e)
 
-off_watched : (name : List ℕ) → watched_of name (codes "off") ≡ Some (WatchOff name)
-unfolding watched_of
+off_watched : (name : List ℕ) → about_of Watched name (codes "off") ≡ Some (WatchOff name)
 off_watched name = refl
 
 pub off_reads : (name : List ℕ) → is_view_name name ≡ true

@@ -5,11 +5,11 @@ use Rattle.std.specs.Str.{bytes_eq}
 use Rattle.std.specs.Option.{option_map, option_or}
 use Rattle.wot_types.specs.Fpr.{fpr_of_digits}
 use Rattle.wot_types.specs.ViewName.{view_name_of}
-use Rattle.wot_reply_lines.specs.Claims.{claims_of, labels_of}
+use Rattle.wot_reply_lines.specs.Claims.{claim_of, field_of, labels_of}
 use Rattle.wot_reply_lines.specs.Entry.{entry_of}
 use Rattle.wot_reply_lines.specs.Question.{question_of}
 use Rattle.wot_fields.specs.Decimal.{positive_up_to}
-use Rattle.wot_fields.specs.Fields.{◌>>=◌, behind, cut, read_behind}
+use Rattle.wot_fields.specs.Fields.{behind, field, read_behind}
 use Rattle.wot_fields.specs.StateLine.{state_line_of}
 use Rattle.wot_script.specs.OneWord.{word_of}
 use Rattle.wot_fields.specs.Uid.{unescaped}
@@ -35,73 +35,39 @@ command_for (lines.Time view t) = Time view t
 command_for (lines.Root view fpr amount) = Root view fpr amount
 command_for (lines.Close view) = Close view
 
--- after `explain V `: FPR UID; UID is the rest of the line
-unfoldable pub explained_of : List ℕ → List ℕ → Option Command
-explained_of view text = do
-  second ← cut text
-  fpr ← fpr_of_digits second.0
-  uid ← unescaped second.1
-  Some (Explain view fpr uid)
-
--- after `check V `: FPR PATHS TABLE UID; UID is the rest of the line
-unfoldable pub checked_of : List ℕ → List ℕ → Option Command
-checked_of view text = do
-  first ← cut text
-  fpr ← fpr_of_digits first.0
-  second ← cut first.1
-  claims ← claims_of second.0
-  third ← cut second.1
-  labels ← labels_of third.0
-  uid ← unescaped third.1
-  Some (Check view fpr claims labels uid)
-
 -- after `cursor C over `: V N
 unfoldable pub over_of : List ℕ → List ℕ → Option Command
-over_of cursor text = do
-  first ← cut text
-  view ← view_name_of first.0
-  wanted ← positive_up_to 4294967295 first.1
-  Some (CursorOver cursor view wanted)
+over_of cursor text =
+    field view_name_of (λ view digits. option_map (CursorOver cursor view) (positive_up_to 4294967295 digits)) text
 
--- after `cursor C `: `over V N`, `next K` or `close`
-unfoldable pub paced_of : List ℕ → List ℕ → Option Command
-paced_of cursor text =
+-- after `watch W on `: V and a question
+unfoldable pub watch_of : List ℕ → List ℕ → Option Command
+watch_of watch text =
+    field view_name_of (λ view rest. option_map (λ q. WatchOn watch view q.fpr q.wanted q.uid) (question_of rest)) text
+
+-- What follows the name of a view, a cursor or a watch, by what the line is about. After `ask V ` and `absence V `: a
+-- question; `list V `: N; `explain V `: FPR UID; `check V `: FPR PATHS TABLE UID; `cursor C `: `over V N`, `next K` or
+-- `close`; `watch W `: `on V FPR N UID` or `off`. UID is the rest of the line.
+abbrev pub about_of : About → List ℕ → List ℕ → Option Command
+about_of Asked view text = option_map (λ q. Ask view q.fpr q.wanted q.uid) (question_of text)
+about_of Listed view text = option_map (Command.List view) (positive_up_to 4294967295 text)
+about_of Explained view text = field fpr_of_digits (λ fpr uid. option_map (Explain view fpr) (unescaped uid)) text
+about_of Missed view text = option_map (λ q. Absence view q.fpr q.wanted q.uid) (question_of text)
+about_of Checked view text =
+    field fpr_of_digits (λ fpr. field (field_of claim_of) (λ claims. field labels_of (λ labels uid.
+    option_map (Check view fpr claims labels) (unescaped uid)))) text
+about_of Paced cursor text =
     read_behind (behind (codes "over ") text) (over_of cursor) (
     read_behind (behind (codes "next ") text)
     (λ digits. option_map (CursorNext cursor) (positive_up_to 4294967295 digits)) (
     if bytes_eq text (codes "close") then Some (CursorClose cursor) else None))
-
--- after `watch W on `: V and a question
-unfoldable pub watch_of : List ℕ → List ℕ → Option Command
-watch_of watch text = do
-  first ← cut text
-  view ← view_name_of first.0
-  question ← question_of first.1
-  Some (WatchOn watch view question.fpr question.wanted question.uid)
-
--- after `watch W `: `on V FPR N UID` or `off`
-unfoldable pub watched_of : List ℕ → List ℕ → Option Command
-watched_of watch text =
+about_of Watched watch text =
     read_behind (behind (codes "on ") text) (watch_of watch) (
     if bytes_eq text (codes "off") then Some (WatchOff watch) else None)
 
--- what follows the name of a view, a cursor or a watch, by what the line is about; `ask V ` and `absence V ` are
--- followed by a question, `list V ` by N
-abbrev pub about_of : About → List ℕ → List ℕ → Option Command
-about_of Asked view text = option_map (λ q. Ask view q.fpr q.wanted q.uid) (question_of text)
-about_of Listed view text = option_map (Command.List view) (positive_up_to 4294967295 text)
-about_of Explained view text = explained_of view text
-about_of Missed view text = option_map (λ q. Absence view q.fpr q.wanted q.uid) (question_of text)
-about_of Checked view text = checked_of view text
-about_of Paced cursor text = paced_of cursor text
-about_of Watched watch text = watched_of watch text
-
 -- V, C or W, and what follows its space
 abbrev pub view_of : About → List ℕ → Option Command
-view_of about text = do
-  first ← cut text
-  view ← view_name_of first.0
-  about_of about view first.1
+view_of about text = field view_name_of (about_of about) text
 
 -- a line without any of these prefixes: a command of one word
 unfoldable pub single_of : List ℕ → Option Command

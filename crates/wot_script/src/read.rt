@@ -5,9 +5,9 @@
 //! command with fields is a function here and a clause there.
 ghost use Rattle.std.specs.Prelude.{◌≡◌, length, Some, None, IfOk, IsErrOf};
 ghost use Rattle.std.specs.Option.{option_map};
-ghost use Rattle.wot_script.specs.Grammar.{about_of, checked_of, command_for, command_of, explained_of, other_of};
-ghost use Rattle.wot_script.specs.Grammar.{over_of, paced_of, view_of, watch_of, watched_of};
-ghost use Rattle.wot_script.specs.declared.read.About.TheVariants.{Asked, Listed, Missed};
+ghost use Rattle.wot_script.specs.Grammar.{about_of, command_for, command_of, other_of, over_of, view_of, watch_of};
+ghost use Rattle.wot_script.specs.declared.read.About.TheVariants.{Asked, Listed, Explained, Missed, Checked, Paced};
+ghost use Rattle.wot_script.specs.declared.read.About.TheVariants.{Watched};
 ghost use Rattle.wot_script.specs.Spelling.{HasSpelling, FitsLine};
 ghost use Rattle.wot_fields.specs.Decimal.{positive_up_to};
 ghost use Rattle.wot_reply_lines.specs.Entry.{entry_of};
@@ -93,9 +93,8 @@ fn read_missed(alloc: Global, view: ViewName, text: &[u8]) -> Result<Option<Comm
     Ok(Some(Command::Absence(view, fpr, wanted, uid)))
 }
 
-#[tactic(auto, unfolding(crate::specs::Grammar::checked_of))]
 fn read_checked(alloc: Global, view: ViewName, text: &[u8]) -> Result<Option<Command>, Memory>
-    ensures { IfOk result (λ command. command ≡ checked_of view text.now) }
+    ensures { IfOk result (λ command. command ≡ about_of Checked view text.now) }
 {
     let Some(first) = cut_field(text) else {
         return Ok(None);
@@ -128,9 +127,8 @@ fn read_listed(view: ViewName, digits: &[u8]) -> Option<Command>
     Some(Command::List(view, wanted))
 }
 
-#[tactic(auto, unfolding(crate::specs::Grammar::explained_of))]
 fn read_explained(alloc: Global, view: ViewName, text: &[u8]) -> Result<Option<Command>, Memory>
-    ensures { IfOk result (λ command. command ≡ explained_of view text.now) }
+    ensures { IfOk result (λ command. command ≡ about_of Explained view text.now) }
 {
     let Some(second) = cut_field(text) else {
         return Ok(None);
@@ -167,9 +165,8 @@ fn read_next(cursor: ViewName, digits: &[u8]) -> Option<Command>
     Some(Command::CursorNext(cursor, count))
 }
 
-#[tactic(auto, unfolding(crate::specs::Grammar::paced_of))]
 fn read_paced(alloc: Global, cursor: ViewName, text: &[u8]) -> Result<Option<Command>, Memory>
-    ensures { IfOk result (λ command. command ≡ paced_of cursor text.now) }
+    ensures { IfOk result (λ command. command ≡ about_of Paced cursor text.now) }
 {
     if let Some(rest) = after_prefix(b"over ", text) {
         return read_over(alloc, cursor, rest);
@@ -200,9 +197,8 @@ fn read_watch(alloc: Global, watch: ViewName, text: &[u8]) -> Result<Option<Comm
     Ok(Some(Command::WatchOn(watch, view, fpr, wanted, uid)))
 }
 
-#[tactic(auto, unfolding(crate::specs::Grammar::watched_of))]
 fn read_watched(alloc: Global, watch: ViewName, text: &[u8]) -> Result<Option<Command>, Memory>
-    ensures { IfOk result (λ command. command ≡ watched_of watch text.now) }
+    ensures { IfOk result (λ command. command ≡ about_of Watched watch text.now) }
 {
     if let Some(rest) = after_prefix(b"on ", text) {
         return read_watch(alloc, watch, rest);
