@@ -1,15 +1,14 @@
 """Random lines of many clients over several readers: each client hears what one engine would say."""
 
-import contextlib
 import os
 import random
 import signal
 import threading
 import unittest
 
+from bursts import talk_at_once
 from outside import Client, alone, cut, needs_engine, with_reply
 from reading import ReadServer, Replay, is_refused
-from talking import talk_at_once
 from world import Chatter, World
 
 READERS = 3

@@ -8,9 +8,10 @@ from pathlib import Path
 
 import test_slices_scripts
 from alone_cluster import OneServer
+from bursts import talk
 from outside import Client
 from talking import dump_of, log_of, status_of, told, wait_until_same
-from test_slices_scripts import BUDGET, Asking, talk
+from test_slices_scripts import BUDGET, Asking
 from tukyamid.service.storage.database import Actor
 from tukyamid.service.storage.sqlite_database import Sqlite
 from world import World

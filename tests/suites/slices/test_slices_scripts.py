@@ -8,8 +8,8 @@ import signal
 import threading
 import unittest
 
+from bursts import talk_at_once
 from outside import Client, Server, cut, expected, needs_engine, with_reply
-from talking import talk_at_once
 from world import Chatter, World
 
 BUDGET = 10
